@@ -1,0 +1,2 @@
+pub mod LastSent
+pub mod Telling

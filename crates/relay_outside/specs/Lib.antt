@@ -1,0 +1,12 @@
+pub mod Clocks
+pub mod Failures
+pub mod KeyTape
+pub mod Keys
+pub mod Lines
+pub mod LinesTape
+pub mod Link
+pub mod LinkTape
+pub mod PortTape
+pub mod Ports
+pub mod SinkTape
+pub mod Told

@@ -1,0 +1,50 @@
+-- What a device tells of its calls, and when its count of faults rises.
+-- A device tells `Some` list of its calls, each with its answer, or `None` where it tells nothing (any more).
+use Rattle.std.specs.Prelude.{◌≡◌, ℕ, ◌+◌, ◌-◌, ◌^◌, ◌≤◌, min, Bool, true, false, Option, Some, None, Result, Ok, Err, OnErr, List, [], ◌∷◌, ◌++◌}
+
+-- the calls, where the device tells them
+abbrev pub where_told : {C : Type 0} → Bool → List C → Option (List C)
+where_told true calls = Some calls
+where_told false calls = None
+
+-- of a device that still tells: its list is the earlier one with this call behind it.
+-- One that stopped says nothing, and never tells again
+abbrev pub Gains : {C : Type 0} → Option (List C) → Option (List C) → C → Type 0
+Gains old None call = Unit {0}
+Gains None (Some new) call = ⊥
+Gains (Some old) (Some new) call = new ≡ old ++ call ∷ []
+
+-- the same of several calls, of which P holds
+abbrev pub Gained : {C : Type 0} → Option (List C) → Option (List C) → (List C → Type 0) → Type 0
+Gained old None P = Unit {0}
+Gained None (Some new) P = ⊥
+Gained (Some old) (Some new) P = (more : List _) × (new ≡ old ++ more) × P more
+
+-- a device that was just opened, where it tells its list, has not been called
+abbrev pub StartsEmpty : {C : Type 0} → Option (List C) → Type 0
+StartsEmpty None = Unit {0}
+StartsEmpty (Some calls) = calls ≡ []
+
+-- what holds of the list, where it is told
+abbrev pub WhereTold : {C : Type 0} → Option (List C) → (List C → Type 0) → Type 0
+WhereTold None P = Unit {0}
+WhereTold (Some calls) P = P calls
+
+-- whether the call was answered Ok
+abbrev pub is_done : {T E : Type 0} → Result T E → Bool
+is_done (Ok value) = true
+is_done (Err error) = false
+
+-- the count of faults rose; one that stands at its end, 2 ^ 64 - 1, counts as risen
+abbrev pub Rose : ℕ → ℕ → Type 0
+Rose before now = min (before + 1) (2 ^ 64 - 1) ≤ now
+
+-- the count never falls, and a fault is answered only where it rose
+pub record HasCause {T E : Type 0} (before now : ℕ) (result : Result T E) : Type 0 where
+  pub later : before ≤ now
+  pub failed : OnErr result (Rose before now)
+
+-- a moment between the least and the greatest, where these are told
+abbrev pub WhereInRange : Option (ℕ × ℕ) → ℕ → Type 0
+WhereInRange None moment = Unit {0}
+WhereInRange (Some range) moment = (range.0 ≤ moment) × (moment ≤ range.1)

@@ -1,0 +1,25 @@
+/// The moments of the control loop, in milliseconds.
+pub trait Timer {
+    ghost use Rattle.std.specs.Prelude.{ℕ, Option, List};
+    ghost use Rattle.relay_outside.specs.Told.{Gains};
+
+    /// The moments that were answered since the timer was made, where it tells them.
+    ghost told: { Self → Option (List ℕ) };
+
+    /// The moment of this call.
+    fn now(&mut self) -> u64
+        ensures { Gains (told self.old) (told self.new) result };
+}
+
+/// The moment that the lanes of media share, in milliseconds.
+pub trait Clock {
+    ghost use Rattle.std.specs.Prelude.{ℕ, ◌≤◌, Option};
+    ghost use Rattle.relay_outside.specs.Told.{WhereInRange};
+
+    /// The least and the greatest moment of this clock, where it tells them.
+    ghost range: { Self → Option (ℕ × ℕ) };
+
+    /// A moment in the clock's range.
+    fn now(&self) -> u64
+        ensures { WhereInRange (range self.now) result };
+}

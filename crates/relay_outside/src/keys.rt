@@ -1,0 +1,32 @@
+use crate::answers::Failed;
+
+/// A draw from a key source.
+#[derive(Drop)]
+pub enum KeyCall {
+    /// A master key of 16 bytes and its salt of 14 (RFC 3711 section 8.2).
+    Drawn {
+        /// The thirty bytes.
+        key: [u8; 30],
+    },
+    /// The draw failed.
+    Failed,
+}
+
+/// The source of master keys and salts.
+pub trait KeySource {
+    ghost use Rattle.std.specs.Prelude.{ℕ, Option, List};
+    ghost use Rattle.relay_outside.specs.Told.{Gains, HasCause};
+    ghost use Rattle.relay_outside.specs.Keys.{drawn_as};
+    ghost use Rattle.relay_outside.specs.declared.keys.KeyCall.{KeyCall};
+
+    /// The draws since the source was made, where it tells them.
+    ghost told: { Self → Option (List KeyCall) };
+
+    /// The count of faults.
+    ghost faults: { Self → ℕ };
+
+    /// Draws a master key and its salt.
+    fn draw(&mut self) -> Result<[u8; 30], Failed>
+        ensures told { Gains (told self.old) (told self.new) (drawn_as result) }
+        ensures cause { HasCause (faults self.old) (faults self.new) result };
+}

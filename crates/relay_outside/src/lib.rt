@@ -1,0 +1,36 @@
+//! The outside of the relay, as traits: sockets, ports, keys, time and lines.
+//! Each trait says what its calls mean by a list of what was called and answered, and by a count of
+//! Nothing here opens a socket: the devices that do stand with the programs that use them.
+#![tactic(auto)]
+
+mod address;
+mod answers;
+mod calls;
+mod clocks;
+mod failing;
+mod gates;
+mod keys;
+mod lines;
+mod link;
+mod memory;
+mod ports;
+mod settings;
+
+pub use address::{Addr, Family, Ip};
+pub use answers::{Failed, LineRead, OutOfMemory, Taken};
+pub use calls::{CallList, Copied};
+pub use clocks::{Clock, Timer};
+pub use failing::Failing;
+pub use gates::Gate;
+pub use keys::{KeyCall, KeySource};
+pub use lines::{LineCall, LineGiven, LineSink, LineSource, WriteCall};
+pub use link::{ControlLink, LinkCall, LinkGiven};
+pub use memory::clock::{HandClock, HandTimer};
+pub use memory::gate::OpenGate;
+pub use memory::keys::SteadyKeys;
+pub use memory::lines::SteadyLines;
+pub use memory::link::{LinkGift, MemoryLink, SteadyLink};
+pub use memory::ports::{Arrivals, Packet, SteadyIn, SteadyMaker, SteadyOut};
+pub use memory::sink::{MemorySink, SteadySink};
+pub use ports::{InCall, InEnd, InGiven, OutCall, OutEnd, PortCall, PortMaker};
+pub use settings::{Config, Flags};

@@ -1,0 +1,91 @@
+ghost use Rattle.std.specs.Prelude.{◌≡◌, ◌↔◌, Some, [], IsTrue, IsSome, IsOk, IfOk, MatchOption, length};
+
+use super::fill::fill;
+use crate::answers::{Failed, LineRead};
+use crate::calls::{CallList, Copied};
+use crate::lines::{LineCall, LineGiven, LineSource};
+use std::alloc::Global;
+use std::marker::Model;
+
+/// The record of a read that gave a line; `None` where its bytes could not be copied.
+fn text_call(alloc: Global, room: usize, bytes: &[u8]) -> Option<LineCall>
+    ensures { MatchOption result (Unit {0}) (λ call. call ≡ LineCall.Line room (LineGiven.Text bytes.now)) }
+{
+    match Copied::of(alloc, bytes) {
+        Some(bytes) => {
+            let given = LineGiven::Text { bytes };
+            Some(LineCall::Line { room, given })
+        }
+        None => None,
+    }
+}
+
+/// A line source in memory that never fails: it gives its lines in order, and then the end.
+#[derive(Drop)]
+pub struct SteadyLines {
+    alloc: Global,
+    told: CallList<LineCall>,
+    lines: Vec<Copied>,
+    next: usize,
+}
+
+impl Model for SteadyLines {
+    ghost use Rattle.std.specs.Prelude.{drop};
+    ghost use Rattle.relay_outside.specs.LinesTape.{LinesTape};
+
+    ghost Value = { LinesTape };
+
+    ghost view = { λ source. record { told = source.told; lines = drop source.next source.lines.items } };
+}
+
+impl SteadyLines {
+    /// A source of these lines, each without its line feed.
+    pub fn new(alloc: Global, lines: Vec<Copied>) -> SteadyLines
+        ensures { result ≡ record { told = Some []; lines = lines.items } }
+    {
+        SteadyLines {
+            alloc,
+            told: CallList::new(alloc),
+            lines,
+            next: 0,
+        }
+    }
+
+    /// Whether the source still tells its list.
+    pub fn tells(&self) -> bool
+        ensures { IsTrue result ↔ IsSome self.now.told }
+    {
+        self.told.tells()
+    }
+}
+
+impl LineSource for SteadyLines {
+    ghost use Rattle.std.specs.Prelude.{◌≡◌, IfOk, IsOk, length};
+    ghost use Rattle.relay_outside.specs.Told.{Gains, HasCause};
+    ghost use Rattle.relay_outside.specs.Lines.{FitsLine, line_given};
+    ghost use Rattle.relay_outside.specs.LinesTape.{GivesLine};
+
+    ghost told = { λ source. source.told };
+
+    ghost faults = { λ source. 0 };
+
+    fn line(&mut self, buf: &mut [u8]) -> Result<LineRead, Failed>
+        ensures within { FitsLine result (length buf.old) }
+        ensures told { Gains self.old.told self.new.told (LineCall.Line (length buf.old) (line_given result buf.new)) }
+        ensures cause { HasCause 0 0 result }
+        ensures done { IsOk result }
+        ensures line { IfOk result (λ answer. GivesLine self.old.lines self.new.lines answer buf.new) }
+    {
+        let room = buf.len();
+        let Some(line) = self.lines.get(self.next) else {
+            let given = LineGiven::End;
+            self.told.note(Some(LineCall::Line { room, given }));
+            return Ok(LineRead::End);
+        };
+        self.next += 1;
+        let len = fill(buf, line.as_slice());
+        let call = text_call(self.alloc, room, &buf[..len]);
+        self.told.note(call);
+        Ok(LineRead::Text { len })
+    }
+}

@@ -1,0 +1,31 @@
+use crate::address::Ip;
+
+/// The flags of an offer or an answer that say whose packets are taken, and where packets go.
+#[derive(Clone, Copy, PartialEq, Eq, Debug)]
+pub struct Flags {
+    /// `strict source`: once a source is learned, packets of any other are refused.
+    pub strict: bool,
+    /// `media handover`: a later source takes the place of the learned one.
+    pub handover: bool,
+    /// `asymmetric`: nothing is learned; packets go to the signalled address.
+    pub asymmetric: bool,
+}
+
+/// What the relay is run with.
+#[derive(Clone, Copy, PartialEq, Eq, Debug)]
+pub struct Config {
+    /// The address that is written into descriptions and on which ports are opened, of version 4.
+    pub interface: Ip,
+    /// The same of version 6, where there is one.
+    pub interface6: Option<Ip>,
+    /// The lowest port of the range for media.
+    pub port_min: u16,
+    /// The highest port of the range for media.
+    pub port_max: u16,
+    /// After how many milliseconds without a packet a committed call ends.
+    pub timeout_ms: u64,
+    /// After how many milliseconds an offer that was never answered ends.
+    pub offer_timeout_ms: u64,
+    /// How many calls may be live at a time.
+    pub max_sessions: u32,
+}
