@@ -1,0 +1,5 @@
+pub mod Finding
+pub mod Numbers
+pub mod OneWay
+pub mod Reading
+pub mod Fitting
