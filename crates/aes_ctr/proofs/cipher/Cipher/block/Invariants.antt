@@ -1,0 +1,6 @@
+use Rattle.std.proofs.Common.{◌≡◌, ◌-◌}
+use Rattle.aes_ctr.specs.Aes.{rounds, key_schedule}
+use Rattle.aes_ctr.proofs.cipher.Cipher.block.Given as goal
+
+abbrev pub invariant-rounds : goal.invariant-rounds
+invariant-rounds l = l.state ≡ rounds (key_schedule l.self) l.fn.input (l.round - 1)

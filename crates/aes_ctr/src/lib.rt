@@ -1,0 +1,14 @@
+//! AES-128 (FIPS 197) and its counter mode (RFC 3711, section 4.1.1), as SRTP uses them.
+//!
+//! A `Cipher` is made of a key once and keeps the key schedule. `block` enciphers one block, and
+//! `apply` enciphers or deciphers bytes in place, with the keystream from a counter on.
+#![tactic(auto)]
+
+mod cipher;
+mod key_schedule;
+mod state;
+mod substitution;
+#[cfg(test)]
+mod tests;
+
+pub use cipher::Cipher;

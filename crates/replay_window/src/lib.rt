@@ -1,0 +1,14 @@
+//! The replay window of SRTP and SRTCP: which packet index a sequence number stands for, and whether that index may still
+//! be taken. A `Window` stands for the list of all indices that were noted in it, of which it keeps the last 128; `near`
+//! estimates an index by RFC 3711 section 3.3.1, `fresh` and `note` are the check and the update of section 3.3.2.
+//!
+//! Module `answers` has what a window answers, `window` the window; `specs/Indices.antt` says what the answers mean.
+#![tactic(auto)]
+
+mod answers;
+#[cfg(test)]
+mod tests;
+mod window;
+
+pub use answers::{Fresh, Near};
+pub use window::{Window, near_is_nearest};

@@ -1,0 +1,126 @@
+ghost use Rattle.std.specs.Prelude.{◌≡◌, ◌<◌, ◌^◌};
+ghost use Rattle.std.specs.Option.{ForSome};
+
+use crate::answers::{Fresh, Near};
+
+/// How many indices, counted from the greatest downwards, a window tells apart.
+const SIZE: u64 = 128;
+
+/// The numbers of a cycle of sequence numbers.
+const CYCLE: u64 = 65_536;
+
+/// Half a cycle: a number that is further away lies in another cycle.
+const HALF_CYCLE: u64 = 32_768;
+
+/// The cycles of packet indices: an index is below 2^48.
+const CYCLES: u64 = 4_294_967_296;
+
+/// What a place holds where no index was noted: no index, since it isn't below 2^48.
+const NO_INDEX: u64 = u64::MAX;
+
+/// The indices that were noted, of which those are kept that aren't too old.
+#[derive(Drop)]
+pub struct Window {
+    /// The greatest noted index.
+    greatest: Option<u64>,
+    /// At each remainder by 128 the last noted index with that remainder. Of the indices that aren't too old only one has
+    /// it, so the place tells whether that one was noted.
+    recent: [u64; 128],
+    ghost in_range: { ForSome greatest (λ index. index < 2 ^ 48) },
+}
+
+impl Window {
+    ghost use Rattle.std.specs.Prelude.{ℕ, List, [], ◌∷◌};
+    ghost use Rattle.replay_window.specs.declared.answers.Fresh.TheVariants.{Yes};
+    ghost use Rattle.replay_window.specs.Indices.{near, fresh};
+    ghost use Rattle.replay_window.specs.Windows.{StandsFor, IsIndex};
+
+    /// A window in which nothing was noted.
+    pub fn new() -> Window
+        ensures { StandsFor result [] }
+    {
+        let recent = [NO_INDEX; 128];
+        Window {
+            greatest: None,
+            recent,
+        }
+    }
+
+    /// The index nearest to the greatest noted one among those that end in `seq`; at a tie the one in the greatest's own
+    /// cycle, and `seq` itself where nothing was noted.
+    #[tactic(auto, unfolding(crate::specs::Indices::near))]
+    pub fn near(&self, seq: u16) -> Near
+        ensures nearest { (noted : List ℕ) → StandsFor self.now noted → result ≡ near noted seq }
+        ensures index { IsIndex result }
+    {
+        let seq = u64::from(seq);
+        let Some(greatest) = self.greatest else {
+            return Near::At(seq);
+        };
+        near_to(greatest, seq)
+    }
+
+    /// Whether `index` may be taken.
+    #[tactic(auto, unfolding(crate::specs::Indices::fresh))]
+    pub fn fresh(&self, index: u64) -> Fresh
+        requires { index < 2 ^ 48 }
+        ensures { (noted : List ℕ) → StandsFor self.now noted → result ≡ fresh noted index }
+    {
+        if let Some(greatest) = self.greatest
+            && index + SIZE <= greatest
+        {
+            return Fresh::TooOld;
+        }
+        if self.recent[(index % SIZE) as usize] == index {
+            return Fresh::Used;
+        }
+        Fresh::Yes
+    }
+
+    /// Notes `index`, which `fresh` has to allow.
+    pub fn note(&mut self, index: u64)
+        requires { index < 2 ^ 48 }
+        ensures { (noted : List ℕ) → StandsFor self.old noted → fresh noted index ≡ Yes → StandsFor self.new (index ∷ noted) }
+    {
+        self.recent[(index % SIZE) as usize] = index;
+        self.greatest = match self.greatest {
+            None => Some(index),
+            Some(greatest) => Some(greatest.max(index)),
+        };
+    }
+}
+
+ghost use Rattle.std.specs.Prelude.{ℕ};
+ghost use Rattle.replay_window.specs.Indices.{IsNearest, as_index, nearest_lifted};
+
+// The index nearest to `greatest` among those that end in `seq`: by the halves of the cycle (RFC 3711 section 3.3.1).
+fn near_to(greatest: u64, seq: u64) -> Near
+    requires greatest { greatest < 2 ^ 48 }
+    requires seq { seq < 65536 }
+    ensures { result ≡ as_index (nearest_lifted greatest seq) }
+{
+    let cycle = greatest / CYCLE;
+    let last = greatest % CYCLE;
+    let own = cycle * CYCLE + seq;
+    if last + HALF_CYCLE < seq {
+        if cycle == 0 {
+            Near::Below
+        } else {
+            Near::At(own - CYCLE)
+        }
+    } else if seq + HALF_CYCLE < last {
+        if cycle + 1 == CYCLES {
+            Near::Beyond
+        } else {
+            Near::At(own + CYCLE)
+        }
+    } else {
+        Near::At(own)
+    }
+}
+
+/// A law, and no work: of all whole numbers that end in a sequence number, those below zero among them, `near` takes the
+/// one nearest to the greatest noted index (RFC 3711 section 3.3.1), and at a tie the one in that index's own cycle.
+pub fn near_is_nearest()
+    ensures { (top : ℕ) (seq : ℕ) → seq < 65536 → IsNearest top seq (nearest_lifted top seq) }
+{}

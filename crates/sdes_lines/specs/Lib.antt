@@ -1,0 +1,2 @@
+pub mod CryptoLine
+pub mod Reading

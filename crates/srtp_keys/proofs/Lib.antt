@@ -1,0 +1,2 @@
+pub mod Authenticating
+pub mod Deriving

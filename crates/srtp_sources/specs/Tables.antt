@@ -1,0 +1,17 @@
+-- What a table of sources keeps of the notes.
+use Rattle.std.specs.Prelude.{ℕ, ◌≡◌, ◌<◌, Bool, List, take, slice_index, slice_index_or}
+use Rattle.rtp_packet.specs.declared.head.Half.{Half}
+use Rattle.replay_window.specs.declared.window.Window.{Window}
+use Rattle.replay_window.specs.Windows.{StandsFor}
+use Rattle.srtp_sources.specs.declared.sources.Sources.{Sources}
+use Rattle.srtp_sources.specs.Notes.{Note, sources, indices, is_room_in}
+
+-- the table stands for the notes of a half: it has their sources, and of each a window that stands for its indices
+pub record SourcesFor (half : Half) (table : Sources) (notes : List Note) : Type 0 where
+  pub known : take table.count table.ssrcs ≡ sources half notes
+  pub each : (place : ℕ) (other : Window) → place < table.count
+      → StandsFor (slice_index_or table.windows place other) (indices half (slice_index table.ssrcs place) notes)
+
+-- the table knows the source, or has a place for it
+unfoldable pub can_note : Sources → ℕ → Bool
+can_note table ssrc = is_room_in (take table.count table.ssrcs) ssrc

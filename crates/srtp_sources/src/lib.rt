@@ -1,0 +1,14 @@
+//! What the contexts of SRTP and of SRTCP have in common. `Sources` keeps, for at most 32 sources, the indices that were
+//! taken or sent under a key, each in a replay window; it stands for a plain list of notes. `packet_counter` is the
+//! counter with which the keystream of a packet begins.
+//!
+//! Module `sources` has the table, `counter` the counter; `specs/Notes.antt` says what follows from a list of notes.
+#![tactic(auto)]
+
+mod counter;
+mod sources;
+#[cfg(test)]
+mod tests;
+
+pub use counter::packet_counter;
+pub use sources::Sources;

@@ -1,0 +1,124 @@
+ghost use Rattle.std.specs.Prelude.{◌≤◌};
+
+use replay_window::{Fresh, Near, Window};
+
+/// How many sources a table keeps. None gives way to another, since that would forget which indices were used.
+const MOST: usize = 32;
+
+/// The sources of one half under one key, and of each the indices that were taken or sent. It can't be cloned.
+#[derive(Drop)]
+pub struct Sources {
+    /// The SSRCs of the known sources, in the order in which they came.
+    ssrcs: [u32; 32],
+    /// The windows of the same sources.
+    windows: [Window; 32],
+    /// How many sources are known.
+    count: usize,
+    ghost within: { count ≤ 32 },
+}
+
+impl Sources {
+    ghost use Rattle.std.specs.Prelude.{◌≡◌, ◌<◌, ◌^◌, ◌==◌, List, [], ◌∷◌, ℕ, IfSome, position, slice_index, slice_index_or, slice_set, ◌+◌, true, take};
+    ghost use Rattle.replay_window.specs.declared.window.Window.{Window};
+    ghost use Rattle.rtp_packet.specs.declared.head.Half.{Half};
+    ghost use Rattle.replay_window.specs.declared.answers.Fresh.TheVariants.{Yes};
+    ghost use Rattle.replay_window.specs.Indices.{near, fresh};
+    ghost use Rattle.replay_window.specs.Windows.{IsIndex, StandsFor};
+    ghost use Rattle.srtp_sources.specs.Notes.{Note, indices, has_room};
+    ghost use Rattle.srtp_sources.specs.Tables.{SourcesFor, can_note};
+
+    /// A table without a source.
+    pub fn new() -> Sources
+        ensures { (half : Half) → SourcesFor half result [] }
+    {
+        Sources {
+            ssrcs: [0; 32],
+            windows: std::array::from_fn(|_| Window::new()),
+            count: 0,
+        }
+    }
+
+    // Where a known source stands.
+    fn place(&self, ssrc: u32) -> Option<usize>
+        ensures first { result ≡ position (λ known. known == ssrc) (take self.now.count self.now.ssrcs) }
+        ensures found { IfSome result (λ place. (place < self.now.count) × (slice_index self.now.ssrcs place ≡ ssrc)) }
+    {
+        self.ssrcs[..self.count]
+            .iter()
+            .position(|known| *known == ssrc)
+    }
+
+    /// The index that a sequence number of a source most likely stands for.
+    pub fn near(&self, ssrc: u32, seq: u16) -> Near
+        ensures nearest { (half : Half) (notes : List Note) → SourcesFor half self.now notes → result ≡ near (indices half ssrc notes) seq }
+        ensures index { IsIndex result }
+    {
+        match self.place(ssrc) {
+            Some(place) => self.windows[place].near(seq),
+            None => Near::At(u64::from(seq)),
+        }
+    }
+
+    /// Whether an index of a source may be taken.
+    pub fn fresh(&self, ssrc: u32, index: u64) -> Fresh
+        requires { index < 2 ^ 48 }
+        ensures { (half : Half) (notes : List Note) → SourcesFor half self.now notes → result ≡ fresh (indices half ssrc notes) index }
+    {
+        match self.place(ssrc) {
+            Some(place) => self.windows[place].fresh(index),
+            None => Fresh::Yes,
+        }
+    }
+
+    /// Whether the source is known or may still come in.
+    pub fn has_room(&self, ssrc: u32) -> bool
+        ensures room { result ≡ can_note self.now ssrc }
+        ensures notes { (half : Half) (notes : List Note) → SourcesFor half self.now notes → result ≡ has_room half ssrc notes }
+    {
+        self.count < MOST || self.place(ssrc).is_some()
+    }
+
+    /// Notes an index of a source, which `fresh` has to allow.
+    pub fn note(&mut self, ssrc: u32, index: u64)
+        requires index { index < 2 ^ 48 }
+        requires room { can_note self.old ssrc ≡ true }
+        ensures { (half : Half) (notes : List Note) → SourcesFor half self.old notes → fresh (indices half ssrc notes) index ≡ Yes → SourcesFor half self.new (record { half = half; ssrc = ssrc; index = index } ∷ notes) }
+    {
+        match self.place(ssrc) {
+            Some(place) => note_at(&mut self.windows, place, index),
+            None => self.enter(ssrc, index),
+        }
+    }
+
+    // Takes in a new source with its first index.
+    fn enter(&mut self, ssrc: u32, index: u64)
+        requires index { index < 2 ^ 48 }
+        requires room { self.old.count < 32 }
+        ensures ssrcs { self.new.ssrcs ≡ slice_set self.old.ssrcs self.old.count ssrc }
+        ensures count { self.new.count ≡ self.old.count + 1 }
+        ensures here { (other : Window) → StandsFor (slice_index_or self.new.windows self.old.count other) (index ∷ []) }
+        ensures elsewhere { (at : ℕ) (other : Window) → at < self.old.count → slice_index_or self.new.windows at other ≡ slice_index_or self.old.windows at other }
+    {
+        let mut window = Window::new();
+        window.note(index);
+        self.ssrcs[self.count] = ssrc;
+        self.windows[self.count] = window;
+        self.count += 1;
+    }
+}
+
+ghost use Rattle.std.specs.Prelude.{◌≡◌, ◌≢◌, ◌<◌, ◌^◌, ℕ, List, ◌∷◌, slice_index_or};
+ghost use Rattle.replay_window.specs.declared.window.Window.{Window};
+ghost use Rattle.replay_window.specs.Indices.{fresh};
+ghost use Rattle.replay_window.specs.Windows.{StandsFor};
+ghost use Rattle.replay_window.specs.declared.answers.Fresh.TheVariants.{Yes};
+
+// Notes an index in the window at `place`.
+fn note_at(windows: &mut [Window; 32], place: usize, index: u64)
+    requires place { place < 32 }
+    requires index { index < 2 ^ 48 }
+    ensures here { (noted : List ℕ) (other : Window) → StandsFor (slice_index_or windows.old place other) noted → fresh noted index ≡ Yes → StandsFor (slice_index_or windows.new place other) (index ∷ noted) }
+    ensures elsewhere { (at : ℕ) (other : Window) → at ≢ place → slice_index_or windows.new at other ≡ slice_index_or windows.old at other }
+{
+    windows[place].note(index);
+}
