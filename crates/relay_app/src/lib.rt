@@ -1,0 +1,19 @@
+//! The relay as one call: `run` reads the words of a command line, drives the devices that it is handed,
+//! and answers how it ended. Its contract says what was taken, sent and printed, for every status.
+//! The program `rtpengine` makes the real devices and calls it.
+#![tactic(auto)]
+
+mod app;
+mod control;
+mod numbers;
+mod reply;
+mod serve;
+mod status;
+mod totals;
+mod words;
+
+pub use app::run;
+pub use status::Status;
+
+#[cfg(test)]
+mod tests;

@@ -1,0 +1,41 @@
+/// How a call of `run` ended.
+#[derive(Clone, Copy, PartialEq, Eq, Debug)]
+pub enum Status {
+    /// `serve`: the control link answered that it gives no more.
+    Ok,
+    /// The words are not those of a command.
+    Usage,
+    /// The control link met a fault when it was bound or asked for a datagram.
+    ControlFault,
+    /// The sink met a fault; this takes the place of any other status.
+    PrintFault,
+    /// Memory was refused.
+    OutOfMemory,
+    /// `replay`: a line of the script is faulty. Not answered yet.
+    ScriptFault,
+    /// `serve`: as many takes as `--turns` allows gave a datagram or nothing.
+    TurnsSpent,
+    /// `replay`: the script's source met a fault. Not answered yet.
+    ScriptRead,
+}
+
+impl Status {
+    ghost use Rattle.std.specs.Prelude.{◌≡◌};
+    ghost use Rattle.relay_app.specs.Numbered.{status_number};
+
+    /// The exit status of the program: 0, and 2 to 8.
+    pub fn number(self) -> u8
+        ensures { result ≡ status_number self }
+    {
+        match self {
+            Status::Ok => 0,
+            Status::Usage => 2,
+            Status::ControlFault => 3,
+            Status::PrintFault => 4,
+            Status::OutOfMemory => 5,
+            Status::ScriptFault => 6,
+            Status::TurnsSpent => 7,
+            Status::ScriptRead => 8,
+        }
+    }
+}

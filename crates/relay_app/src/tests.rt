@@ -1,0 +1,277 @@
+use crate::{Status, run};
+use relay_outside::{
+    Addr, ControlLink, HandClock, HandTimer, Ip, LineSink, LinkGift, MemoryLink, MemorySink,
+    OpenGate, SteadyKeys, SteadyLines, SteadyLink, SteadyMaker, SteadySink, WriteCall,
+};
+use std::alloc::Global;
+use std::process::Abort;
+use std::test::Fail;
+
+const CALLER: Addr = Addr {
+    ip: Ip::V4([192, 0, 2, 10]),
+    port: 5060,
+};
+
+const SERVE: [&str; 2] = ["serve", "--interface=203.0.113.1"];
+
+/// Runs the words over this link and sink, and devices in memory beside them.
+fn run_over<N: ControlLink, O: LineSink>(
+    alloc: Global,
+    words: &[&str],
+    link: &mut N,
+    sink: &mut O,
+) -> Status {
+    run(
+        &(),
+        alloc,
+        words,
+        link,
+        &mut SteadyMaker::new(alloc, Vec::new(alloc)),
+        &mut SteadyKeys::new(alloc),
+        &mut HandTimer::new(alloc, Vec::new(alloc)),
+        &HandClock::new(0),
+        &OpenGate::new(),
+        &mut SteadyLines::new(alloc, Vec::new(alloc)),
+        sink,
+    )
+}
+
+fn link_of(alloc: Global, datagrams: &[&[u8]]) -> Result<SteadyLink, Fail> {
+    let mut gifts = Vec::new(alloc);
+    for datagram in datagrams {
+        gifts.push(LinkGift::datagram(alloc, CALLER, datagram)?)?;
+    }
+    Ok(SteadyLink::new(alloc, gifts))
+}
+
+/// Compares the one line that a sink was given.
+fn assert_line(rt: &impl Abort, calls: Option<&[WriteCall]>, want: &[u8]) {
+    match calls {
+        Some([WriteCall::Write { line, .. }]) => assert_eq!(rt; line.as_slice(), want),
+        _ => assert!(rt; false, "not one line"),
+    }
+}
+
+#[test]
+fn each_datagram_gets_its_reply(rt: HostRuntime) -> Result<(), Fail> {
+    let alloc = rt.alloc();
+    let cases: [(&[u8], &[u8]); 6] = [
+        (b"5323_1 d7:command4:pinge", b"5323_1 d6:result4:ponge"),
+        (
+            b"1 d7:command3:fooe",
+            b"1 d12:error-reason20:unrecognized command6:result5:errore",
+        ),
+        (
+            b"2 d3:fooe",
+            b"2 d12:error-reason20:unrecognized command6:result5:errore",
+        ),
+        (
+            b"3 ",
+            b"3 d12:error-reason20:unrecognized command6:result5:errore",
+        ),
+        (b"4 d3:foo3:bar7:command4:pinge", b"4 d6:result4:ponge"),
+        (b"5 d7:command4:ping7:command3:fooe", b"5 d6:result4:ponge"),
+    ];
+    for (datagram, want) in cases {
+        let mut link = link_of(alloc, &[datagram])?;
+        let mut sink = SteadySink::new(alloc);
+        assert_eq!(rt; run_over(alloc, &SERVE, &mut link, &mut sink), Status::Ok);
+        let Some((to, reply)) = link.last_sent() else {
+            assert!(rt; false, "no reply");
+            return Ok(());
+        };
+        assert_eq!(rt; to, CALLER);
+        assert_eq!(rt; reply, want);
+        assert_line(
+            &rt,
+            sink.calls(),
+            b"turns 1 datagrams 1 replies 1 sent 0 refused 0 lost 0\n",
+        );
+    }
+    Ok(())
+}
+
+#[test]
+fn a_datagram_without_a_frame_gets_silence(rt: HostRuntime) -> Result<(), Fail> {
+    let alloc = rt.alloc();
+    for datagram in [b"abc".as_slice(), b"", b" d7:command4:pinge"] {
+        let mut link = link_of(alloc, &[datagram])?;
+        let mut sink = SteadySink::new(alloc);
+        assert_eq!(rt; run_over(alloc, &SERVE, &mut link, &mut sink), Status::Ok);
+        assert!(rt; link.tells() && link.last_sent().is_none());
+        assert_line(
+            &rt,
+            sink.calls(),
+            b"turns 1 datagrams 1 replies 0 sent 0 refused 0 lost 0\n",
+        );
+    }
+    Ok(())
+}
+
+#[test]
+fn the_turns_are_spent(rt: HostRuntime) -> Result<(), Fail> {
+    let alloc = rt.alloc();
+    let ping = b"5323_1 d7:command4:pinge".as_slice();
+    let mut link = link_of(alloc, &[ping, ping])?;
+    let mut sink = SteadySink::new(alloc);
+    let words = [
+        "serve",
+        "--turns=1",
+        "--interface=203.0.113.1",
+        "--listen-ng=127.0.0.1:7000",
+    ];
+    assert_eq!(rt;
+        run_over(alloc, &words, &mut link, &mut sink),
+        Status::TurnsSpent
+    );
+    assert_line(
+        &rt,
+        sink.calls(),
+        b"turns 1 datagrams 1 replies 1 sent 0 refused 0 lost 0\n",
+    );
+    Ok(())
+}
+
+#[test]
+fn faults_end_the_run_or_are_counted_out(rt: HostRuntime) -> Result<(), Fail> {
+    let alloc = rt.alloc();
+    // the number of the failing call of the link, of the failing write, the status, the line
+    let cases: [(u64, u64, Status, &[u8]); 4] = [
+        (
+            2,
+            0,
+            Status::ControlFault,
+            b"turns 0 datagrams 0 replies 0 sent 0 refused 0 lost 0\n",
+        ),
+        (
+            3,
+            0,
+            Status::Ok,
+            b"turns 1 datagrams 1 replies 0 sent 0 refused 0 lost 0\n",
+        ),
+        (
+            0,
+            1,
+            Status::PrintFault,
+            b"turns 1 datagrams 1 replies 1 sent 0 refused 0 lost 0\n",
+        ),
+        (
+            2,
+            1,
+            Status::PrintFault,
+            b"turns 0 datagrams 0 replies 0 sent 0 refused 0 lost 0\n",
+        ),
+    ];
+    for (link_fails, sink_fails, status, line) in cases {
+        let mut gifts = Vec::new(alloc);
+        gifts.push(LinkGift::datagram(alloc, CALLER, b"5323_1 d7:command4:pinge")?)?;
+        let mut link = MemoryLink::new(alloc, gifts, [link_fails].to_vec(alloc)?);
+        let mut sink = MemorySink::new(alloc, [sink_fails].to_vec(alloc)?);
+        assert_eq!(rt; run_over(alloc, &SERVE, &mut link, &mut sink), status);
+        assert_line(&rt, sink.calls(), line);
+    }
+    Ok(())
+}
+
+#[test]
+fn a_bind_that_fails_prints_no_line(rt: HostRuntime) -> Result<(), Fail> {
+    let alloc = rt.alloc();
+    let mut link = MemoryLink::new(alloc, Vec::new(alloc), [1].to_vec(alloc)?);
+    let mut sink = SteadySink::new(alloc);
+    assert_eq!(rt;
+        run_over(alloc, &SERVE, &mut link, &mut sink),
+        Status::ControlFault
+    );
+    assert!(rt; matches!(sink.calls(), Some([])));
+    Ok(())
+}
+
+#[test]
+fn other_words_print_the_usage(rt: HostRuntime) -> Result<(), Fail> {
+    let alloc = rt.alloc();
+    let cases: [&[&str]; 16] = [
+        &[],
+        &["replay"],
+        &["serve"],
+        &["serve", "--interface"],
+        &["serve", "--interface=203.0.113"],
+        &["serve", "--interface=203.0.113.256"],
+        &["serve", "--interface=203.0.113.1.1"],
+        &[
+            "serve",
+            "--interface=203.0.113.1",
+            "--interface=203.0.113.1",
+        ],
+        &["serve", "--interface=203.0.113.1", "--turns=0"],
+        &["serve", "--interface=203.0.113.1", "--turns=01"],
+        &[
+            "serve",
+            "--interface=203.0.113.1",
+            "--turns=1000000000000001",
+        ],
+        &["serve", "--interface=203.0.113.1", "--listen-ng=127.0.0.1"],
+        &[
+            "serve",
+            "--interface=203.0.113.1",
+            "--listen-ng=127.0.0.1:65536",
+        ],
+        &["serve", "--interface=203.0.113.1", "--port-min=1024"],
+        &["--interface=203.0.113.1", "serve"],
+        &["serve", "--interface=203.0.113.1", "serve"],
+    ];
+    for words in cases {
+        let mut link = link_of(alloc, &[])?;
+        let mut sink = SteadySink::new(alloc);
+        assert_eq!(rt; run_over(alloc, words, &mut link, &mut sink), Status::Usage);
+        let Some([WriteCall::Write { line, done: true }]) = sink.calls() else {
+            assert!(rt; false, "not one line");
+            return Ok(());
+        };
+        assert!(rt; line.as_slice().starts_with(b"usage: rtpengine"));
+    }
+    Ok(())
+}
+
+#[test]
+fn words_of_serve_are_read(rt: HostRuntime) -> Result<(), Fail> {
+    let alloc = rt.alloc();
+    let cases: [&[&str]; 3] = [
+        &["serve", "--interface=203.000.113.001"],
+        &[
+            "serve",
+            "--turns=1000000000000000",
+            "--interface=0.0.0.0",
+            "--listen-ng=255.255.255.255:65535",
+        ],
+        &[
+            "serve",
+            "--interface=203.0.113.1",
+            "--listen-ng=127.0.0.1:0",
+        ],
+    ];
+    for words in cases {
+        let mut link = link_of(alloc, &[])?;
+        assert_eq!(rt;
+            run_over(alloc, words, &mut link, &mut SteadySink::new(alloc)),
+            Status::Ok
+        );
+    }
+    Ok(())
+}
+
+#[test]
+fn statuses_have_their_numbers(rt: HostRuntime) {
+    let cases = [
+        (Status::Ok, 0),
+        (Status::Usage, 2),
+        (Status::ControlFault, 3),
+        (Status::PrintFault, 4),
+        (Status::OutOfMemory, 5),
+        (Status::ScriptFault, 6),
+        (Status::TurnsSpent, 7),
+        (Status::ScriptRead, 8),
+    ];
+    for (status, number) in cases {
+        assert_eq!(rt; status.number(), number);
+    }
+}

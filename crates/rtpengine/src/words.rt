@@ -1,0 +1,31 @@
+use std::alloc::Global;
+use std::env;
+use std::io::ErrorKind;
+
+/// The words of the command line behind the program's name.
+#[derive(Drop)]
+pub(crate) enum Words {
+    /// They are text.
+    Read(Vec<String>),
+    /// One of them isn't UTF-8.
+    NotText,
+    /// Memory was refused.
+    OutOfMemory,
+}
+
+/// Reads the words behind the program's name.
+pub(crate) fn read_words(rt: &HostRuntime, alloc: Global) -> Words {
+    let args = match env::args(rt) {
+        Ok(args) => args,
+        Err(error) => {
+            return match error.kind() {
+                ErrorKind::InvalidData => Words::NotText,
+                _ => Words::OutOfMemory,
+            };
+        }
+    };
+    match args.skip(1).collect(alloc) {
+        Ok(words) => Words::Read(words),
+        Err(_) => Words::OutOfMemory,
+    }
+}
