@@ -1,0 +1,4 @@
+pub mod PacketLemmas
+pub mod Buffers
+pub mod Judging
+pub mod Sending

@@ -1,0 +1,77 @@
+-- How a packet that is to be sent is judged: which answer comes in which case, and that a packet that is sent has a fresh
+-- index.
+use Rattle.std.proofs.Common.{◌≡◌, ◌≢◌, ℕ, ◌+◌, ◌<◌, ◌≤◌, Bool, true, false, List, ◌∷◌, length, take, Option, Some, None, arith, sym, ◌∙◌, ap, subst, refl}
+use Rattle.std.specs.Prelude.{Result, Ok, Err, if◌then◌else◌}
+use Rattle.std.specs.Option.{option_map_or}
+use Rattle.rtp_packet.specs.declared.head.Half.TheVariants.{Rtp}
+use Rattle.rtp_packet.specs.declared.head.RtpHead.{RtpHead}
+use Rattle.rtp_packet.specs.Head.{rtp_head}
+use Rattle.sdes_lines.specs.declared.crypto_line.Suite.{Suite}
+use Rattle.replay_window.specs.declared.answers.Near.{Near}
+use Rattle.replay_window.specs.declared.answers.Near.TheVariants.{At, Below, Beyond}
+use Rattle.replay_window.specs.declared.answers.Fresh.{Fresh}
+use Rattle.replay_window.specs.declared.answers.Fresh.TheVariants.{Yes, TooOld, Used}
+use Rattle.replay_window.specs.Indices.{near, fresh}
+use Rattle.srtp_keys.specs.declared.faults.ProtectFault.{ProtectFault}
+use Rattle.srtp_keys.specs.declared.faults.ProtectFault.TheVariants as fault
+use Rattle.srtp_sources.specs.Notes.{Note, indices, has_room}
+use Rattle.srtp_context.specs.declared.outbound.OutRtp.{OutRtp}
+use Rattle.srtp_context.specs.Packets.{protect, Writes}
+use Rattle.srtp_context.specs.Wrapping.{Wrapped, index_by, index_near, sent_index, wrapped_at, wrapping}
+use Rattle.srtp_context.specs.Contexts.{OutFor, WrapsTo}
+
+pub near_is : (notes : List Note) (found : RtpHead) (nearest : Near) → nearest ≡ near (indices Rtp found.ssrc notes) found.seq
+    → index_near found.ssrc notes nearest ≡ sent_index notes found
+unfolding sent_index
+near_is notes found nearest at = ap (index_near found.ssrc notes) at
+
+-- a packet that is sent has a fresh index
+fresh_by : (ssrc : ℕ) (notes : List Note) (index given : ℕ) (answer : Fresh) → answer ≡ fresh (indices Rtp ssrc notes) given
+    → Ok index ≡ index_by ssrc notes given answer → fresh (indices Rtp ssrc notes) index ≡ Yes
+fresh_by ssrc notes index given TooOld is sent = cc
+fresh_by ssrc notes index given Used is sent = cc
+fresh_by ssrc notes index given Yes is sent = by_room (has_room Rtp ssrc notes) sent
+  where
+    by_room : (room : Bool) → ◌≡◌ {A = Result ℕ ProtectFault} (Ok index) (if room then Ok given else Err fault.TooManySources)
+        → fresh (indices Rtp ssrc notes) index ≡ Yes
+    by_room true sent = let same : index ≡ given = cc in ap (λ i. fresh (indices Rtp ssrc notes) i) same ∙ sym is
+    by_room false sent = cc
+
+fresh_near : (ssrc : ℕ) (notes : List Note) (index : ℕ) (nearest : Near)
+    → Ok index ≡ index_near ssrc notes nearest → fresh (indices Rtp ssrc notes) index ≡ Yes
+fresh_near ssrc notes index Below sent = cc
+fresh_near ssrc notes index Beyond sent = cc
+fresh_near ssrc notes index (At given) sent = fresh_by ssrc notes index given (fresh (indices Rtp ssrc notes) given) refl sent
+
+pub sent_fresh : (notes : List Note) (found : RtpHead) (index : ℕ) → Ok index ≡ sent_index notes found
+    → fresh (indices Rtp found.ssrc notes) index ≡ Yes
+unfolding sent_index
+sent_fresh notes found index sent = fresh_near found.ssrc notes index (near (indices Rtp found.ssrc notes) found.seq) sent
+
+wrapping_is : (master : List ℕ) (suite : Suite) (notes : List Note) (packet : List ℕ) (found : RtpHead) (sent : Result ℕ ProtectFault)
+    → rtp_head packet ≡ Some found → sent ≡ sent_index notes found
+    → wrapping master suite notes packet ≡ wrapped_at master suite packet found sent
+unfolding wrapping
+wrapping_is master suite notes packet found sent head is =
+    ap (λ o. option_map_or (λ h. wrapped_at master suite packet h (sent_index notes h)) o (Err fault.TooOld)) head
+    ∙ ap (wrapped_at master suite packet found) (sym is)
+
+pub refuses : (master : List ℕ) (suite : Suite) (notes : List Note) (context : OutRtp) (buf : List ℕ) (len : ℕ) (found : RtpHead)
+    (cause : ProtectFault)
+    → rtp_head (take len buf) ≡ Some found → Err cause ≡ sent_index notes found
+    → WrapsTo (wrapping master suite notes (take len buf)) master suite notes context context buf buf (Err cause)
+refuses master suite notes context buf len found cause head is =
+    let P : Result Wrapped ProtectFault → Type 0 = λ o. WrapsTo o master suite notes context context buf buf (Err cause) in
+    subst P (sym (wrapping_is master suite notes (take len buf) found (Err cause) head is))
+    (record { answer = refl; buffer = refl; context = refl })
+
+pub sends : (master : List ℕ) (suite : Suite) (notes : List Note) (old new : OutRtp) (buf buf_new : List ℕ) (len size index : ℕ)
+    (found : RtpHead)
+    → rtp_head (take len buf) ≡ Some found → Ok index ≡ sent_index notes found
+    → Writes (protect master suite (take len buf) index) buf buf_new size
+    → OutFor master suite new (record { half = Rtp; ssrc = found.ssrc; index = index } ∷ notes)
+    → WrapsTo (wrapping master suite notes (take len buf)) master suite notes old new buf buf_new (Ok (size, index))
+sends master suite notes old new buf buf_new len size index found head is written for =
+    let P : Result Wrapped ProtectFault → Type 0 = λ o. WrapsTo o master suite notes old new buf buf_new (Ok (size, index)) in
+    subst P (sym (wrapping_is master suite notes (take len buf) found (Ok index) head is))
+    (record { answer = ap (λ n. Ok (n, index)) written.length_is; buffer = written.buffer; context = for })

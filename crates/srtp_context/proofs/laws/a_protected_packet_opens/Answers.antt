@@ -1,0 +1,5 @@
+use Rattle.srtp_context.proofs.PacketLemmas.{protect-opens}
+use Rattle.srtp_context.proofs.laws.a_protected_packet_opens.Goals as goal
+
+pub returns : goal.returns
+returns c = protect-opens

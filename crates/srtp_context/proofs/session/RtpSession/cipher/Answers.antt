@@ -1,0 +1,7 @@
+use Rattle.std.proofs.Common.{◌∙◌, ap, ◌≡◌}
+use Rattle.srtp_context.specs.Packets.{packet_keystream}
+use Rattle.srtp_context.proofs.session.RtpSession.cipher.Goals as goal
+
+pub returns : goal.returns
+unfolding packet_keystream
+returns c master suite for = cc

@@ -1,0 +1,5 @@
+pub mod Packets
+pub mod Opening
+pub mod Wrapping
+pub mod Sessions
+pub mod Contexts

@@ -1,0 +1,96 @@
+ghost use Rattle.std.specs.Prelude.{ℕ, [], true, ◌≡◌, ◌+◌, ◌<◌, ◌≤◌, ◌^◌, List, length, take, IsSome, IfOk, OnErr};
+ghost use Rattle.rtp_packet.specs.declared.head.Half.TheVariants.{Rtp};
+ghost use Rattle.rtp_packet.specs.Head.{rtp_head};
+ghost use Rattle.sdes_lines.specs.declared.crypto_line.Suite.{Suite};
+ghost use Rattle.replay_window.specs.Indices.{fresh};
+ghost use Rattle.srtp_sources.specs.Notes.{Note, indices};
+ghost use Rattle.srtp_sources.specs.Tables.{SourcesFor, can_note};
+ghost use Rattle.srtp_context.specs.Packets.{tag_size};
+ghost use Rattle.srtp_context.specs.Wrapping.{wrapping, sent_index, index_by};
+
+use crate::session::{RtpSession, tag_size};
+use replay_window::{Fresh, Near};
+use rtp_packet::{RtpHead, rtp};
+use sdes_lines::Suite;
+use srtp_keys::{ProtectFault, RtpKey};
+use srtp_sources::Sources;
+
+/// The state of RTP packets that are sent under one master key. It can't be cloned, so that no index is used twice.
+#[derive(Drop)]
+pub struct OutRtp {
+    session: RtpSession,
+    sources: Sources,
+}
+
+impl OutRtp {
+    ghost use Rattle.srtp_context.specs.Contexts.{OutFor, WrapsTo};
+
+    /// The context of a drawn key, which has protected no packet.
+    pub fn new(key: RtpKey, suite: Suite) -> OutRtp
+        ensures { OutFor key.bytes suite result [] }
+    {
+        OutRtp {
+            session: RtpSession::new(&key.into_bytes(), suite),
+            sources: Sources::new(),
+        }
+    }
+
+    /// Protects in place the packet in the buffer's first `len` bytes, and answers the length of the protected packet and
+    /// the index that it used. The tag takes at most 10 bytes behind the packet.
+    ///
+    /// The index is the nearest to the greatest that the source used; it may not be too old or used before, a new source
+    /// must have room, and the key must not be spent (RFC 3711 sections 3.3.1 and 9.2). After a refusal nothing has
+    /// changed.
+    pub fn protect(&mut self, buf: &mut [u8], len: usize) -> Result<(usize, u64), ProtectFault>
+        requires room { len + 10 ≤ length buf.old }
+        requires size { len < 2 ^ 31 }
+        requires packet { IsSome (rtp_head (take len buf.old)) }
+        ensures fits { IfOk result (λ sent. sent.0 ≤ len + 10) }
+        ensures refused { OnErr result ((self.new ≡ self.old) × (buf.new ≡ buf.old)) }
+        ensures wraps { (master : List ℕ) (suite : Suite) (notes : List Note) → OutFor master suite self.old notes → WrapsTo (wrapping master suite notes (take len buf.old)) master suite notes self.old self.new buf.old buf.new result }
+    {
+        let Some(found) = rtp(&buf[..len]) else {
+            unreachable!();
+        };
+        match self.sent_index(found) {
+            Err(cause) => Err(cause),
+            Ok(index) => {
+                let size = self.session.wrap(buf, len, found, index);
+                self.sources.note(found.ssrc, index);
+                Ok((size, index))
+            }
+        }
+    }
+
+    // The index under which a packet with this head is sent.
+    fn sent_index(&self, found: RtpHead) -> Result<u64, ProtectFault>
+        ensures index { IfOk result (λ index. index < 2 ^ 48) }
+        ensures room { IfOk result (λ _. can_note self.now.sources found.ssrc ≡ true) }
+        ensures sent { (notes : List Note) → SourcesFor Rtp self.now.sources notes → result ≡ sent_index notes found }
+    {
+        match self.sources.near(found.ssrc, found.seq) {
+            Near::At(index) => self.allowed(found.ssrc, index),
+            Near::Below => Err(ProtectFault::TooOld),
+            Near::Beyond => Err(ProtectFault::KeySpent),
+        }
+    }
+
+    // The index, where it wasn't used and its source is known or has room.
+    fn allowed(&self, ssrc: u32, index: u64) -> Result<u64, ProtectFault>
+        requires { index < 2 ^ 48 }
+        ensures index { IfOk result (λ allowed. allowed ≡ index) }
+        ensures room { IfOk result (λ _. can_note self.now.sources ssrc ≡ true) }
+        ensures allowed { (notes : List Note) → SourcesFor Rtp self.now.sources notes → result ≡ index_by ssrc notes index (fresh (indices Rtp ssrc notes) index) }
+    {
+        match self.sources.fresh(ssrc, index) {
+            Fresh::TooOld => Err(ProtectFault::TooOld),
+            Fresh::Used => Err(ProtectFault::IndexUsed),
+            Fresh::Yes => {
+                if !self.sources.has_room(ssrc) {
+                    return Err(ProtectFault::TooManySources);
+                }
+                Ok(index)
+            }
+        }
+    }
+}

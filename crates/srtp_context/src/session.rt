@@ -1,0 +1,114 @@
+ghost use Rattle.std.specs.Prelude.{ℕ, ◌≡◌, ◌+◌, ◌/◌, ◌<◌, ◌≤◌, ◌^◌, ◌++◌, List, Some, length, take};
+ghost use Rattle.sdes_lines.specs.declared.crypto_line.Suite.{Suite};
+ghost use Rattle.aes_ctr.specs.Keystream.{xored};
+ghost use Rattle.srtp_context.specs.Packets.{tag_size, packet_keystream, code_of, is_authentic, protect, opened, Writes};
+ghost use Rattle.rtp_packet.specs.Head.{rtp_head};
+
+use aes_ctr::Cipher;
+use rtp_packet::{Half, RtpHead};
+use sdes_lines::Suite;
+use srtp_keys::{MacKey, Session, derive};
+use srtp_sources::packet_counter;
+
+/// How many bytes a suite's authentication tag has (RFC 3711 section 4.2, RFC 4568 section 6.2).
+pub(crate) fn tag_size(suite: Suite) -> usize
+    ensures { result ≡ tag_size suite }
+{
+    match suite {
+        Suite::Tag80 => 10,
+        Suite::Tag32 => 4,
+    }
+}
+
+/// The keys of an RTP session (RFC 3711 section 4.3).
+#[derive(Drop)]
+pub(crate) struct RtpSession {
+    /// The cipher under the session's encryption key.
+    cipher: Cipher,
+    /// The key of the authentication tags.
+    mac: MacKey,
+    /// What the counters of packets begin from.
+    salt: [u8; 14],
+    /// The suite, which sets the length of the tag.
+    pub(crate) suite: Suite,
+}
+
+impl RtpSession {
+    ghost use Rattle.srtp_context.specs.Sessions.{SessionFor};
+
+    /// The session of a master key of 16 bytes with a master salt of 14 behind it.
+    pub(crate) fn new(master: &[u8; 30], suite: Suite) -> RtpSession
+        ensures { SessionFor master.now suite result }
+    {
+        let Session { cipher, auth, salt } = derive(master, Half::Rtp);
+        RtpSession {
+            cipher,
+            mac: MacKey::new(&auth),
+            salt,
+            suite,
+        }
+    }
+
+    /// Enciphers or deciphers what stands behind a packet's head.
+    pub(crate) fn cipher(&self, payload: &mut [u8], ssrc: u32, index: u64)
+        requires { index < 2 ^ 48 }
+        ensures { (master : List ℕ) (suite : Suite) → SessionFor master suite self.now → payload.new ≡ xored payload.old (packet_keystream master ssrc index (length payload.old)) }
+    {
+        let counter = packet_counter(&self.salt, ssrc, index);
+        self.cipher.apply(payload, counter);
+    }
+
+    /// The code of a packet, of which the tag is the first bytes.
+    pub(crate) fn code(&self, packet: &[u8], index: u64) -> [u8; 20]
+        requires size { length packet.now < 2 ^ 31 }
+        requires index { index < 2 ^ 48 }
+        ensures { (master : List ℕ) (suite : Suite) → SessionFor master suite self.now → result ≡ code_of master packet.now index }
+    {
+        let rollover = (index / 65_536) as u32;
+        self.mac.tag(packet, &rollover.to_be_bytes())
+    }
+
+    /// Whether the bytes end with the tag of what stands before it.
+    pub(crate) fn is_authentic(&self, bytes: &[u8], index: u64) -> bool
+        requires size { length bytes.now < 2 ^ 31 }
+        requires tag { tag_size self.now.suite ≤ length bytes.now }
+        requires index { index < 2 ^ 48 }
+        ensures { (master : List ℕ) (suite : Suite) → SessionFor master suite self.now → result ≡ is_authentic master suite bytes.now index }
+    {
+        let size = tag_size(self.suite);
+        let end = bytes.len() - size;
+        let code = self.code(&bytes[..end], index);
+        bytes[end..] == code[..size]
+    }
+
+    /// Protects in place the packet with this head in the buffer's first `len` bytes, and answers its new length.
+    pub(crate) fn wrap(&self, buf: &mut [u8], len: usize, found: RtpHead, index: u64) -> usize
+        requires room { len + 10 ≤ length buf.old }
+        requires size { len < 2 ^ 31 }
+        requires head { rtp_head (take len buf.old) ≡ Some found }
+        requires within { found.head ≤ len }
+        requires index { index < 2 ^ 48 }
+        ensures fits { result ≤ len + 10 }
+        ensures writes { (master : List ℕ) (suite : Suite) → SessionFor master suite self.now → Writes (protect master suite (take len buf.old) index) buf.old buf.new result }
+    {
+        self.cipher(&mut buf[found.head..len], found.ssrc, index);
+        let code = self.code(&buf[..len], index);
+        let size = tag_size(self.suite);
+        buf[len..len + size].copy_from_slice(&code[..size]);
+        len + size
+    }
+
+    /// Opens in place the packet with this head in the buffer's first `len` bytes, and answers the plain packet's length.
+    pub(crate) fn open(&self, buf: &mut [u8], len: usize, found: RtpHead, index: u64) -> usize
+        requires held { len ≤ length buf.old }
+        requires head { rtp_head (take len buf.old) ≡ Some found }
+        requires tag { found.head + tag_size self.now.suite ≤ len }
+        requires index { index < 2 ^ 48 }
+        ensures fits { result ≤ len }
+        ensures writes { (master : List ℕ) (suite : Suite) → SessionFor master suite self.now → Writes (opened master suite (take len buf.old) index) buf.old buf.new result }
+    {
+        let end = len - tag_size(self.suite);
+        self.cipher(&mut buf[found.head..end], found.ssrc, index);
+        end
+    }
+}
