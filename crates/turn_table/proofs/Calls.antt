@@ -1,0 +1,110 @@
+-- What a hand knows after each step of a call, and after the whole call.
+use Rattle.std.proofs.Common.{◌≡◌, ◌≢◌, ◌⊎◌, ℕ, ◌+◌, ◌*◌, ◌^◌, ◌<◌, ◌≤◌, Bool, true, false, eqb, List, [], ◌∷◌, Option, Some, None, sym, refl, ap, ◌∙◌, subst, inl, inr, ⊎_elim, arith, eq-eqb, ne_eqb}
+use Rattle.std.specs.Bool.{MatchBool}
+use mathlib.Core.Option.{none}
+use mathlib.Core.Path.{Path}
+use mathlib.Core.Logic.{dite}
+use native.Mathlib.Decide.{ℕ_discrete}
+use Rattle.atomic_table.specs.Table.{step, rest}
+use Rattle.turn_table.specs.declared.view.View.{View}
+use Rattle.turn_table.specs.declared.view.Phase.{Phase}
+use Rattle.turn_table.specs.declared.view.Phase.TheVariants.{Nothing, Marked, Out, Held, Counted}
+use Rattle.turn_table.specs.Histories.{seen_at, phase_at}
+use Rattle.turn_table.specs.Steps.{Sat, noted, phased, gained, entry, with_count, emptied_phase, reached_phase, number_of, WasTaken, Given, marked, looked, counted, returned, emptied, reached, finished, freed}
+use Rattle.turn_table.proofs.Lists.{seen_here, seen_else, phase_here, phase_else, nothing_or}
+
+same_or : (j k : ℕ) → (j ≡ k) ⊎ (j ≢ k)
+same_or j k = dite (ℕ_discrete j k) (λ e. inl e) (λ ne. inr ne)
+
+-- a place that the hand may take has no turn of the hand's
+pub no_turn : {S : Type 0} (ts : List (ℕ × Phase S)) (k : ℕ) → ((j : ℕ) → phase_at ts j ≢ Nothing → j < k) → phase_at ts k ≡ Nothing
+no_turn ts k may = ⊎_elim (λ e. e) (λ ne. absurd (let h = may k ne in omega arith)) (nothing_or (phase_at ts k))
+
+-- what was found in the slot
+pub got_is : {S : Type 0} (k : ℕ) (x r : S) (cs : List (ℕ × S)) → (k, x) ∷ [] ≡ (k, r) ∷ cs → x ≡ r
+got_is {S} k x r cs e = let p : ◌≡◌ {A = ℕ × S} (k, x) (k, r) = cc in ap (λ z. z.1) p
+
+pub held_out : {S : Type 0} (k : ℕ) (x : S) (cs : List (ℕ × S)) → cs ≡ (k, x) ∷ [] → (y : S) × (cs ≡ (k, y) ∷ rest cs)
+held_out k x cs e = (x, e ∙ ap (λ l. (k, x) ∷ rest l) (sym e))
+
+pub sees : (ns : List (ℕ × ℕ)) (k n : ℕ) → seen_at ns k ≤ n → (seen_at ((k, n) ∷ ns) k ≡ n) × ((j : ℕ) → j ≢ k → seen_at ((k, n) ∷ ns) j ≡ seen_at ns j)
+sees ns k n low = (let h = seen_here ns k n in omega arith, λ j ne. seen_else ns k n j ne)
+
+either_way : {P Q : Type 0} (b : Bool) → MatchBool b P Q → (b ≡ true → P) × (b ≡ false → Q)
+either_way true h = ((λ _. h), λ e. absurd cc)
+either_way false h = ((λ e. absurd cc), λ _. h)
+
+module _ {S E O : Type 0} (relates : S → E → O → S → Type 0) (reserved : E → Type 0) where
+  pub after_mark : (k r : ℕ) (v : View S E O) (m m' : Sat S E O) → Path (Sat S E O) m (v, []) → marked relates reserved (step 0 (2 * k) 0 1 none) m r m'
+      → (r ≡ 0 → (x : S) × Path (Sat S E O) m' (phased k (Marked x) v, (k, Some x) ∷ [])) × (r ≢ 0 → Path (Sat S E O) m' (v, []) × WasTaken relates reserved k v)
+  after_mark k r v m m' e t = let h = either_way (eqb r 0) (subst (λ z. marked relates reserved (step 0 (2 * k) 0 1 none) z r m') e t k refl) in
+      ((λ q. h.0 (eq-eqb r 0 q)), λ q. h.1 (ne_eqb r 0 q))
+
+  given_before : (k : ℕ) (p : Phase S) (v : View S E O) (n : ℕ) (x : S) → Given relates reserved k (phased k p v) n x → Given relates reserved k v n x
+  given_before k p v n x g = record { history = g.history; long = g.long; start = g.start; starts = g.starts; leaves = g.leaves; named = g.named; own = g.own; above = g.above; main = g.main }
+
+  -- the seat has the mark, and has read the count
+  pub after_count : (k n : ℕ) (x : S) (v : View S E O) (m m' : Sat S E O) → Path (Sat S E O) m (phased k (Marked x) v, (k, Some x) ∷ []) → counted relates reserved (step 0 (2 * k + 1) 0 0 none) m n m'
+      → Path (Sat S E O) m' (phased k (Out n x) (noted k n (phased k (Marked x) v)), (k, Some x) ∷ []) × (seen_at v.seen k ≤ n) × (n ≤ 2 ^ 56) × Given relates reserved k v n x
+  after_count k n x v m m' e t =
+      let h = subst (λ z. counted relates reserved (step 0 (2 * k + 1) 0 0 none) z n m') e t k refl in
+      let p = phase_here v.turns k (Marked x) in
+      (h.0 ∙ ap (λ q. (phased k (with_count n q) (noted k n (phased k (Marked x) v)), (k, Some x) ∷ [])) p, h.1, h.2, given_before k (Marked x) v n x (h.3 x p))
+
+module _ {S E O : Type 0} where
+  pub after_look : (k n : ℕ) (v : View S E O) (m m' : Sat S E O) → Path (Sat S E O) m (v, []) → looked (step 0 (2 * k + 1) 0 0 none) m n m' → Path (Sat S E O) m' (noted k n v, []) × (seen_at v.seen k ≤ n) × (n ≤ 2 ^ 56)
+  after_look k n v m m' e t = subst (λ z. looked (step 0 (2 * k + 1) 0 0 none) z n m') e t k refl
+
+  pub after_return : (k : ℕ) (v : View S E O) (c : List (ℕ × Option S)) (m m' : Sat S E O) → Path (Sat S E O) m (v, c) → returned (step 0 (2 * k) 0 0 none) m 0 m' → Path (Sat S E O) m' (phased k Nothing v, rest c)
+  after_return k v c m m' e t = subst (λ z. returned (step 0 (2 * k) 0 0 none) z 0 m') e t k refl
+
+  pub after_empty : (k n : ℕ) (x : S) (v : View S E O) (c : List (ℕ × Option S)) (r : ℕ) (m m' : Sat S E O) → Path (Sat S E O) m (phased k (Out n x) v, c) → emptied (step 0 (2 * k) 0 0 none) m r m' → Path (Sat S E O) m' (phased k (Held n x) (phased k (Out n x) v), rest c)
+  after_empty k n x v c r m m' e t = subst (λ z. emptied (step 0 (2 * k) 0 0 none) z r m') e t k refl ∙ ap (λ q. (phased k (emptied_phase q) (phased k (Out n x) v), rest c)) (phase_here v.turns k (Out n x))
+
+  pub after_reach : (k n : ℕ) (x : S) (v : View S E O) (r : ℕ) (m m' : Sat S E O) → Path (Sat S E O) m (v, []) → phase_at v.turns k ≡ Held n x → reached (step 0 (2 * k) 0 0 none) m r m'
+      → Path (Sat S E O) m' (phased k (Out n x) v, (k, None) ∷ []) × (n < 2 ^ 56)
+  after_reach k n x v r m m' e p t = let h = subst (λ z. reached (step 0 (2 * k) 0 0 none) z r m') e t k refl in
+      (h.0 ∙ ap (λ q. (phased k (reached_phase q) v, (k, None) ∷ [])) p, h.1 n x p)
+
+  pub after_finish : (k n l : ℕ) (x y : S) (event : E) (outcome : O) (v : View S E O) (m m' : Sat S E O) → Path (Sat S E O) m (phased k (Out n x) v, (k, Some y) ∷ []) → finished event outcome (step 0 (2 * k + 1) l 0 none) m l m'
+      → Path (Sat S E O) m' (phased k (Counted y) (noted k l (gained (entry k n event outcome) (phased k (Out n x) v))), []) × (seen_at v.seen k ≤ n)
+  after_finish k n l x y event outcome v m m' e t =
+      let h = subst (λ z. finished event outcome (step 0 (2 * k + 1) l 0 none) z l m') e t k refl in
+      let p : number_of (phase_at ((k, Out n x) ∷ v.turns) k) ≡ n = ap number_of (phase_here v.turns k (Out n x)) in
+      (h.0 ∙ ap (λ q. (phased k (Counted y) (noted k l (gained (entry k q event outcome) (phased k (Out n x) v))), [])) p, let s = h.1 in omega arith)
+
+  pub after_free : (k : ℕ) (v : View S E O) (m m' : Sat S E O) → Path (Sat S E O) m (v, []) → freed (step 0 (2 * k) 0 0 none) m 0 m' → Path (Sat S E O) m' (phased k Nothing v, [])
+  after_free k v m m' e t = subst (λ z. freed (step 0 (2 * k) 0 0 none) z 0 m') e t k refl
+
+-- the two turns and what was seen, after the whole of a call
+module _ {S E O : Type 0} where
+  abbrev pub taken_view : ℕ → ℕ → S → View S E O → View S E O
+  taken_view k n x v = phased k (Held n x) (phased k (Out n x) (noted k n (phased k (Marked x) v)))
+
+  abbrev pub returned_view : ℕ → ℕ → S → View S E O → View S E O
+  returned_view k n x v = phased k Nothing (phased k (Out n x) (noted k n (phased k (Marked x) v)))
+
+  abbrev pub put_view : ℕ → ℕ → S → S → E → O → View S E O → View S E O
+  put_view k n x y event outcome v = phased k Nothing (phased k (Counted y) (noted k (n + 1) (gained (entry k n event outcome) (phased k (Out n x) v))))
+
+  abbrev pub SameKnown : View S E O → View S E O → Type 0
+  SameKnown v w = (w.starts ≡ v.starts) × (w.parts ≡ v.parts) × (w.main ≡ v.main)
+
+  abbrev pub Saw : ℕ → ℕ → View S E O → View S E O → Type 0
+  Saw k n v w = (seen_at w.seen k ≡ n) × ((j : ℕ) → j ≢ k → seen_at w.seen j ≡ seen_at v.seen j)
+
+  abbrev pub OtherTurns : ℕ → View S E O → View S E O → Type 0
+  OtherTurns k v w = (j : ℕ) → j ≢ k → phase_at w.turns j ≡ phase_at v.turns j
+
+  pub taken_turns : (k n : ℕ) (x : S) (v : View S E O) → (phase_at (taken_view k n x v).turns k ≡ Held n x) × OtherTurns k v (taken_view k n x v)
+  taken_turns k n x v = let a = (k, Marked x) ∷ v.turns in let b = (k, Out n x) ∷ a in
+      (phase_here b k (Held n x), λ j ne. phase_else b k (Held n x) j ne ∙ (phase_else a k (Out n x) j ne ∙ phase_else v.turns k (Marked x) j ne))
+
+  pub returned_turns : (k n : ℕ) (x : S) (v : View S E O) → phase_at v.turns k ≡ Nothing → (j : ℕ) → phase_at (returned_view k n x v).turns j ≡ phase_at v.turns j
+  returned_turns k n x v none_yet j = let a = (k, Marked x) ∷ v.turns in let b = (k, Out n x) ∷ a in
+      ⊎_elim (λ e. ap (phase_at ((k, Nothing) ∷ b)) e ∙ (phase_here b k Nothing ∙ (sym none_yet ∙ ap (phase_at v.turns) (sym e))))
+      (λ ne. phase_else b k Nothing j ne ∙ (phase_else a k (Out n x) j ne ∙ phase_else v.turns k (Marked x) j ne)) (same_or j k)
+
+  pub put_turns : (k n : ℕ) (x y : S) (event : E) (outcome : O) (v : View S E O) → (phase_at (put_view k n x y event outcome v).turns k ≡ Nothing) × OtherTurns k v (put_view k n x y event outcome v)
+  put_turns k n x y event outcome v = let a = (k, Out n x) ∷ v.turns in let b = (k, Counted y) ∷ a in
+      (phase_here b k Nothing, λ j ne. phase_else b k Nothing j ne ∙ (phase_else a k (Counted y) j ne ∙ phase_else v.turns k (Out n x) j ne))

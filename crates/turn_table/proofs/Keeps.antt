@@ -1,0 +1,333 @@
+-- Each kind of step keeps the rule.
+use Rattle.std.proofs.Common.{◌≡◌, ◌≢◌, ℕ, suc, ◌+◌, ◌*◌, ◌^◌, ◌<◌, ◌≤◌, Bool, true, false, eqb, List, [], ◌∷◌, length, set, get_or, Option, Some, None, slice_get, sym, refl, ap, ◌∙◌, subst, inl, inr, ⊎_elim, arith, length-set, get_or-set_other, get_or-set_same, eq-eqb, ne_eqb}
+use Rattle.std.specs.Bool.{MatchBool}
+use Rattle.std.proofs.lemmas.Option.{slice_get_within}
+use Rattle.std.proofs.lemmas.List.{set-get_or}
+use mathlib.Core.Option.{some, none, some-injective}
+use mathlib.Core.Logic.{dite}
+use mathlib.Core.Path.{Path}
+use native.Mathlib.Decide.{ℕ_discrete}
+use lib.ListN.{get_elem?}
+use prog.Atomic.{either}
+use Rattle.atomic_table.specs.Table.{State, step, Act, keeps, takes, gives, stepped, carried_after, Valid, Allows}
+use Rattle.atomic_table.proofs.Lists.{set_here, set_else, set_again}
+use Rattle.turn_table.specs.declared.machine.Entry.{Entry}
+use Rattle.turn_table.specs.declared.view.View.{View}
+use Rattle.turn_table.specs.declared.view.Phase.{Phase}
+use Rattle.turn_table.specs.declared.view.Phase.TheVariants.{Nothing, Marked, Out, Held, Counted}
+use Rattle.turn_table.specs.Histories.{In, one_if, seen_at, phase_at, times, Leaves}
+use Rattle.turn_table.specs.Kept.{Matches, Stands, PlaceOk, Kept}
+use Rattle.turn_table.specs.Steps.{Sat, noted, phased, with_count, emptied_phase, reached_phase, number_of, WasTaken, Given, marked, looked, counted, returned, emptied, reached, freed}
+use Rattle.turn_table.proofs.Lists.{total_two, total_some, get_there, seen_here, seen_else, phase_here, phase_else, times_in, below_in}
+use Rattle.turn_table.proofs.Moved.{Homes, rephased, reviewed}
+
+-- the cell of a turn that the seat has
+pub mine_is : {S : Type 0} (cell : ℕ × Phase S) (id : ℕ) (p q : Phase S) → Matches cell id p → p ≡ q → q ≢ Nothing → (cell.0 ≡ suc id) × (cell.1 ≡ q)
+mine_is cell id p q (inl m) e ne = (m.0, m.1 ∙ e)
+mine_is cell id p q (inr m) e ne = absurd (ne (sym e ∙ m.1))
+
+-- a place that the seat says nothing of, where no seat has it
+pub not_held : {S : Type 0} (cell : ℕ × Phase S) (id : ℕ) (p : Phase S) → Matches cell id p → p ≡ Nothing → (0 < cell.0 → cell.1 ≢ Nothing) → cell.0 ≢ suc id
+not_held cell id p (inl m) e held is = held (omega arith) (m.1 ∙ e)
+not_held cell id p (inr m) e held is = m.0 is
+
+double : (k j : ℕ) → 2 * k ≡ 2 * j → k ≡ j
+double k j e = omega arith
+
+pub double_more : (k j : ℕ) → 2 * k + 1 ≡ 2 * j + 1 → k ≡ j
+double_more k j e = omega arith
+
+-- the other places' words after a write of one of this place's
+far_mark : (ws : List ℕ) (k n : ℕ) → (j : ℕ) → j ≢ k → (get_or (set ws (2 * k) n) (2 * j) 0 ≡ get_or ws (2 * j) 0) × (get_or (set ws (2 * k) n) (2 * j + 1) 0 ≡ get_or ws (2 * j + 1) 0)
+far_mark ws k n j ne = (get_or-set_other ws (2 * k) (2 * j) n 0 (λ e. ne (omega arith)), get_or-set_other ws (2 * k) (2 * j + 1) n 0 (λ e. omega arith))
+
+pub far_count : (ws : List ℕ) (k n : ℕ) → (j : ℕ) → j ≢ k → (get_or (set ws (2 * k + 1) n) (2 * j) 0 ≡ get_or ws (2 * j) 0) × (get_or (set ws (2 * k + 1) n) (2 * j + 1) 0 ≡ get_or ws (2 * j + 1) 0)
+far_count ws k n j ne = (get_or-set_other ws (2 * k + 1) (2 * j) n 0 (λ e. omega arith), get_or-set_other ws (2 * k + 1) (2 * j + 1) n 0 (λ e. ne (omega arith)))
+
+module _ {S E O : Type 0} (relates : S → E → O → S → Type 0) (reserved : E → Type 0) (starts : List S) where
+  abbrev St : Type 0
+  St = State (Option S) (View S E O)
+
+  abbrev Rule : St → Type 0
+  Rule = Kept relates reserved starts
+
+  -- the place, with its start state
+  pub begun : (s : St) (r : Rule s) (k slots : ℕ) → length s.homes ≡ slots → k < slots → (a : S) × (slice_get starts k ≡ Some a)
+  begun s r k slots deep h = let e = r.long in get_there starts k (omega arith)
+
+  -- what the seat noted is no more than the counts, also after a look at the place k
+  noted_low : (s : St) (r : Rule s) (id : ℕ) (v : View S E O) → get_elem? s.views id ≡ some v → (k n : ℕ) → n ≡ length (r.log k) → (j : ℕ) → seen_at ((k, n) ∷ v.seen) j ≤ length (r.log j)
+  noted_low s r id v at k n e j = let h = (r.seat id v at).seen j in dite (ℕ_discrete j k)
+      (λ (q : j ≡ k). let p = seen_here v.seen k n in subst (λ i. seen_at ((k, n) ∷ v.seen) i ≤ length (r.log i)) (sym q)
+      (let h' = (r.seat id v at).seen k in omega arith))
+      (λ (ne : j ≢ k). let p = seen_else v.seen k n j ne in omega arith)
+
+  -- kind 3, won or not
+  module _ (slots id k : ℕ) (v : View S E O) (inside : k < slots) (live : 0 < v.parts) (none_yet : phase_at v.turns k ≡ Nothing)
+      (s : St) (r : Rule s) (deep : length s.homes ≡ slots) (at : get_elem? s.views id ≡ some v) (a : S) (start : slice_get starts k ≡ Some a) where
+    abbrev Found : Bool → Type 0
+    Found b = (w : View S E O) × (act : Act (Option S)) × Valid s.homes [] act × Rule (stepped s (2 * k) (either b 1 (get_or s.words (2 * k) 0)) id [] w act)
+        × ((j : ℕ) → 2 * k ≡ 2 * j → MatchBool b ((x : S) × Path (Sat S E O) (w, carried_after [] act) (phased j (Marked x) v, (j, Some x) ∷ [])) (Path (Sat S E O) (w, carried_after [] act) (v, []) × WasTaken relates reserved j v))
+
+    abbrev ok : PlaceOk relates s.words s.homes (r.log k) (r.cells k) k a
+    ok = r.place k a start
+
+    won : get_or s.words (2 * k) 0 ≡ 0 → Found true
+    won zero_there =
+        let empty : (r.cells k).0 ≡ 0 = let m = ok.mark in omega arith in
+        let h = subst (Stands relates s.homes k (r.log k) a) (ok.free empty) ok.stands in
+        let x : S = h.0 in
+        let wide = r.wide in let long : k < length s.homes = omega arith in (
+          phased k (Marked x) v,
+          takes k (Some x),
+          h.1,
+          rephased relates reserved starts s r k a start id v at live v.seen ((k, Marked x) ∷ v.turns) (suc id, Marked x) (set s.words (2 * k) 1) (set s.homes k none) (length-set s.words (2 * k) 1) (length-set s.homes k none)
+              (λ j ne. let f = far_mark s.words k 1 j ne in (f.0, f.1, set_else s.homes k j none ne))
+              record {
+                mark = get_or-set_same s.words (2 * k) 1 0 (omega arith) ∙ (omega arith);
+                count = get_or-set_other s.words (2 * k) (2 * k + 1) 1 0 (λ e. omega arith) ∙ ok.count;
+                low = ok.low;
+                named = ok.named;
+                free = λ e. absurd (omega arith);
+                held = λ _ e. absurd cc;
+                stands = (set_here s.homes k none long, h.2);
+              }
+              (inl empty) (inr refl) (r.seat id v at).seen (inl (refl, sym (phase_here v.turns k (Marked x)))) (λ j ne. phase_else v.turns k (Marked x) j ne),
+          λ j e. (x, ap (λ i. (phased i (Marked x) v, (i, Some x) ∷ [])) (double k j e)),
+        )
+
+    lost : get_or s.words (2 * k) 0 ≢ 0 → Found false
+    lost there =
+        let m = ok.mark in let some_one : 0 < (r.cells k).0 = omega arith in
+        let o = r.owned k some_one in
+        let same : (stepped s (2 * k) (get_or s.words (2 * k) 0) id [] v keeps) ≡ s = λ i. record { words = set-get_or s.words (2 * k) 0 i; homes = s.homes; views = set_again s.views id v at i } in
+        let theirs = r.seat o.0 o.1 o.3 in
+        let their_phase : (r.cells k).1 ≡ phase_at o.1.turns k = ⊎_elim (λ t. t.1) (λ t. absurd (t.0 o.2)) (theirs.turns k) in (
+          v,
+          keeps,
+          tt,
+          subst Rule (sym same) r,
+          λ j e. (
+            refl,
+            subst (λ i. WasTaken relates reserved i v) (double k j e) record {
+              state = s;
+              kept = subst (λ z. Kept relates reserved z s) (sym ((r.seat id v at).same live)) r;
+              mark = omega arith;
+              seat = id;
+              mine = at;
+              other = o.0;
+              view = o.1;
+              theirs = o.3;
+              apart = λ p. not_held (r.cells k) id (phase_at v.turns k) ((r.seat id v at).turns k) none_yet ok.held (o.2 ∙ ap suc p);
+              has = λ p. ok.held some_one (their_phase ∙ p);
+            },
+          ),
+        )
+
+    found : Found (eqb (get_or s.words (2 * k) 0) 0)
+    found = dite (ℕ_discrete (get_or s.words (2 * k) 0) 0)
+        (λ e. subst Found (sym (eq-eqb (get_or s.words (2 * k) 0) 0 e)) (won e))
+        (λ ne. subst Found (sym (ne_eqb (get_or s.words (2 * k) 0) 0 ne)) (lost ne))
+
+  pub marks : (slots id k : ℕ) (v : View S E O) → k < slots → 0 < v.parts → phase_at v.turns k ≡ Nothing
+      → Allows Rule slots id (v, []) (2 * k) (λ n. either (eqb n 0) 1 n) (marked relates reserved (step slots (2 * k) 0 1 none) (v, []))
+  marks slots id k v inside live none_yet s r deep at small = let b = begun s r k slots deep inside in found slots id k v inside live none_yet s r deep at b.0 b.1
+
+  -- kind 4, by a hand that lost
+  pub looks : (slots id k : ℕ) (v : View S E O) → k < slots → 0 < v.parts
+      → Allows Rule slots id (v, []) (2 * k + 1) (λ n. n) (looked (step slots (2 * k + 1) 0 0 none) (v, []))
+  looks slots id k v inside live s r deep at small =
+      let b = begun s r k slots deep inside in
+      let ok = r.place k b.0 b.1 in
+      let n : ℕ = get_or s.words (2 * k + 1) 0 in
+      let count : n ≡ length (r.log k) = ok.count in
+      let low = ok.low in
+      let seen = (r.seat id v at).seen k in (
+        noted k n v,
+        keeps,
+        tt,
+        subst (λ ws. Rule record { words = ws; homes = s.homes; views = set s.views id (noted k n v) }) (sym (set-get_or s.words (2 * k + 1) 0))
+            (reviewed relates reserved starts s r id v at live ((k, n) ∷ v.seen) (noted_low s r id v at k n count)),
+        λ j e. subst (λ i. Path (Sat S E O) (noted k n v, []) (noted i n v, []) × (seen_at v.seen i ≤ n) × (n ≤ 2 ^ 56)) (double_more k j e) (refl, omega arith, omega arith),
+      )
+
+  one_main : (s : St) (r : Rule s) (i j : ℕ) (v w : View S E O) → get_elem? s.views i ≡ some v → get_elem? s.views j ≡ some w → v.main ≡ true → w.main ≡ true → v ≡ w
+  one_main s r i j v w at at' main main' = dite (ℕ_discrete i j)
+      (λ e. some-injective v w (sym at ∙ (ap (get_elem? s.views) e ∙ at')))
+      (λ ne. absurd (
+      let t = total_two (λ (u : View S E O). one_if u.main) s.views i j v w ne at at' in
+      let p : one_if v.main ≡ 1 = ap one_if main in
+      let q : one_if w.main ≡ 1 = ap one_if main' in
+      let h = r.one in omega arith))
+
+  -- each entry of a history stands in the list of some seat
+  pub in_some : (s : St) (r : Rule s) (k i : ℕ) (e : Entry E O) → slice_get (r.log k) i ≡ Some e → (j : ℕ) × (u : View S E O) × (get_elem? s.views j ≡ some u) × In e u.entries
+  in_some s r k i e there =
+      let low = slice_get_within (r.log k) i e there in
+      let one = r.once k i in let b = below_in i (length (r.log k)) low in
+      let o = total_some (λ (u : View S E O). times k i u.entries) s.views (omega arith) in
+      let f = times_in k i o.1.entries o.3 in
+      let tied = ((r.seat o.0 o.1 o.2).tied f.0 f.1).1 in
+      let same : Some f.0 ≡ Some e = sym (subst (λ (z : ℕ × ℕ). slice_get (r.log z.0) z.1 ≡ Some f.0) (λ c. (f.2 c, f.3 c)) tied) ∙ there in
+      let here : f.0 ≡ e = cc in
+      (o.0, o.1, o.2, subst (λ z. In z o.1.entries) here f.1)
+
+  -- the reserved entries are the main seat's
+  reserved_own : (s : St) (r : Rule s) (id : ℕ) (v : View S E O) → get_elem? s.views id ≡ some v → v.main ≡ true → (k i : ℕ) (e : Entry E O) → slice_get (r.log k) i ≡ Some e → reserved e.event → In e v.entries
+  reserved_own s r id v at main k i e there is = let o = in_some s r k i e there in by o.0 o.1 o.2 o.3 o.1.main refl
+    where
+      by : (j : ℕ) (u : View S E O) → get_elem? s.views j ≡ some u → In e u.entries → (b : Bool) → u.main ≡ b → In e v.entries
+      by j u at' h true main' = subst (λ (z : View S E O). In e z.entries) (one_main s r j id u v at' at main' main) h
+      by j u at' h false side = absurd ((r.seat j u at').plain side e h is)
+
+  given : (s : St) (r : Rule s) (id : ℕ) (v : View S E O) → get_elem? s.views id ≡ some v → 0 < v.parts → (k : ℕ) (a : S) → slice_get starts k ≡ Some a → PlaceOk relates s.words s.homes (r.log k) (r.cells k) k a
+      → (n : ℕ) → n ≡ length (r.log k) → (x : S) → Leaves relates a (r.log k) x → Given relates reserved k v n x
+  given s r id v at live k a start ok n count x leaves =
+      let own : (e : Entry E O) → In e v.entries → e.place ≡ k → slice_get (r.log k) e.number ≡ Some e = λ e h p. subst (λ j. slice_get (r.log j) e.number ≡ Some e) p ((r.seat id v at).tied e h).1 in record {
+        history = r.log k;
+        long = sym count;
+        start = a;
+        starts = ap (λ l. slice_get l k) ((r.seat id v at).same live) ∙ start;
+        leaves = leaves;
+        named = ok.named;
+        own = own;
+        above = λ e h p. let w = slice_get_within (r.log k) e.number e (own e h p) in omega arith;
+        main = λ main i e there is. reserved_own s r id v at main k i e there is;
+      }
+
+  -- kind 4, by the hand that has the mark
+  pub counts : (slots id k : ℕ) (v : View S E O) (c : List (ℕ × Option S)) → k < slots → 0 < v.parts → (x : S) → phase_at v.turns k ≡ Marked x
+      → Allows Rule slots id (v, c) (2 * k + 1) (λ n. n) (counted relates reserved (step slots (2 * k + 1) 0 0 none) (v, c))
+  counts slots id k v c inside live x phase s r deep at small =
+      let b = begun s r k slots deep inside in
+      let ok = r.place k b.0 b.1 in
+      let n : ℕ = get_or s.words (2 * k + 1) 0 in
+      let count : n ≡ length (r.log k) = ok.count in
+      let low = ok.low in
+      let seen = (r.seat id v at).seen k in
+      let m = mine_is (r.cells k) id (phase_at v.turns k) (Marked x) ((r.seat id v at).turns k) phase (λ e. absurd cc) in
+      let h = subst (Stands relates s.homes k (r.log k) b.0) m.1 ok.stands in
+      let w : View S E O = phased k (Out n x) (noted k n v) in
+      let now : phased k (with_count n (phase_at v.turns k)) (noted k n v) ≡ w = ap (λ p. phased k (with_count n p) (noted k n v)) phase in (
+        w,
+        keeps,
+        tt,
+        subst (λ ws. Rule record { words = ws; homes = s.homes; views = set s.views id w }) (sym (set-get_or s.words (2 * k + 1) 0))
+            (rephased relates reserved starts s r k b.0 b.1 id v at live ((k, n) ∷ v.seen) ((k, Out n x) ∷ v.turns) (suc id, Out n x) s.words s.homes refl refl (λ j ne. (refl, refl, refl))
+            record {
+              mark = let q = ok.mark in let z = m.0 in omega arith;
+              count = count;
+              low = low;
+              named = ok.named;
+              free = λ e. absurd (omega arith);
+              held = λ _ e. absurd cc;
+              stands = (h.0, count, h.1);
+            }
+            (inr m.0) (inr refl) (noted_low s r id v at k n count) (inl (refl, sym (phase_here v.turns k (Out n x)))) (λ j ne. phase_else v.turns k (Out n x) j ne)),
+        λ j e. subst (λ i. Path (Sat S E O) (w, c) (phased i (with_count n (phase_at v.turns i)) (noted i n v), c) × (seen_at v.seen i ≤ n) × (n ≤ 2 ^ 56) × ((y : S) → phase_at v.turns i ≡ Marked y → Given relates reserved i v n y)) (double_more k j e) (
+          ap (λ u. (u, c)) (sym now),
+          omega arith,
+          omega arith,
+          λ y q. let same : Marked x ≡ Marked y = sym phase ∙ q in let x≡y : x ≡ y = cc in subst (Given relates reserved k v n) x≡y (given s r id v at live k b.0 b.1 ok n count x h.1),
+        ),
+      )
+
+  -- a step by the hand that has the place, which moves the slot and the phase alone
+  turned_to : (slots id k : ℕ) (v : View S E O) → k < slots → 0 < v.parts → (p q : Phase S) → p ≢ Nothing → q ≢ Nothing → phase_at v.turns k ≡ p
+      → (s : St) (r : Rule s) → length s.homes ≡ slots → get_elem? s.views id ≡ some v → (homes' : Homes S) → length homes' ≡ length s.homes
+      → ((j : ℕ) → j ≢ k → get_elem? homes' j ≡ get_elem? s.homes j)
+      → ((a : S) → Stands relates s.homes k (r.log k) a p → Stands relates homes' k (r.log k) a q)
+      → Rule record { words = s.words; homes = homes'; views = set s.views id (phased k q v) }
+  turned_to slots id k v inside live p q some_p some_q phase s r deep at homes' as_deep same stands =
+      let b = begun s r k slots deep inside in
+      let ok = r.place k b.0 b.1 in
+      let m = mine_is (r.cells k) id (phase_at v.turns k) p ((r.seat id v at).turns k) phase some_p in
+      rephased relates reserved starts s r k b.0 b.1 id v at live v.seen ((k, q) ∷ v.turns) (suc id, q) s.words homes' refl as_deep (λ j ne. (refl, refl, same j ne))
+      record {
+        mark = let e = ok.mark in let z = m.0 in omega arith;
+        count = ok.count;
+        low = ok.low;
+        named = ok.named;
+        free = λ e. absurd (omega arith);
+        held = λ _. some_q;
+        stands = stands b.0 (subst (Stands relates s.homes k (r.log k) b.0) m.1 ok.stands);
+      }
+      (inr m.0) (inr refl) (r.seat id v at).seen (inl (refl, sym (phase_here v.turns k q))) (λ j ne. phase_else v.turns k q j ne)
+
+  -- kind 6, after which the slot is home and empty
+  pub empties : (slots id k : ℕ) (v : View S E O) → k < slots → 0 < v.parts → (n : ℕ) (x : S) → phase_at v.turns k ≡ Out n x → n < 2 ^ 56
+      → Allows Rule slots id (v, (k, None) ∷ []) (2 * k) (λ n. n) (emptied (step slots (2 * k) 0 0 none) (v, (k, None) ∷ []))
+  empties slots id k v inside live n x phase low s r deep at small =
+      let w : View S E O = phased k (Held n x) v in (
+        w,
+        gives,
+        tt,
+        subst (λ ws. Rule record { words = ws; homes = set s.homes k (some None); views = set s.views id w }) (sym (set-get_or s.words (2 * k) 0))
+            (turned_to slots id k v inside live (Out n x) (Held n x) (λ e. absurd cc) (λ e. absurd cc) phase s r deep at (set s.homes k (some None)) (length-set s.homes k (some None))
+            (λ j ne. set_else s.homes k j (some None) ne) (λ a h. (set_here s.homes k (some None) (omega arith), h.1, low, h.2))),
+        λ j e. subst (λ i. Path (Sat S E O) (w, []) (phased i (emptied_phase (phase_at v.turns i)) v, [])) (double k j e) (ap (λ p. (phased k (emptied_phase p) v, [])) (sym phase)),
+      )
+
+  -- the empty slot is fetched
+  pub reaches : (slots id k : ℕ) (v : View S E O) → k < slots → 0 < v.parts → (n : ℕ) (x : S) → phase_at v.turns k ≡ Held n x
+      → Allows Rule slots id (v, []) (2 * k) (λ n. n) (reached (step slots (2 * k) 0 0 none) (v, []))
+  reaches slots id k v inside live n x phase s r deep at small =
+      let w : View S E O = phased k (Out n x) v in
+      let b = begun s r k slots deep inside in
+      let ok = r.place k b.0 b.1 in
+      let m = mine_is (r.cells k) id (phase_at v.turns k) (Held n x) ((r.seat id v at).turns k) phase (λ e. absurd cc) in
+      let h = subst (Stands relates s.homes k (r.log k) b.0) m.1 ok.stands in (
+        w,
+        takes k None,
+        h.0,
+        subst (λ ws. Rule record { words = ws; homes = set s.homes k none; views = set s.views id w }) (sym (set-get_or s.words (2 * k) 0))
+            (turned_to slots id k v inside live (Held n x) (Out n x) (λ e. absurd cc) (λ e. absurd cc) phase s r deep at (set s.homes k none) (length-set s.homes k none)
+            (λ j ne. set_else s.homes k j none ne) (λ a h'. (set_here s.homes k none (omega arith), h'.1, h'.3))),
+        λ j e. subst (λ i. Path (Sat S E O) (w, (k, None) ∷ []) (phased i (reached_phase (phase_at v.turns i)) v, (i, None) ∷ []) × ((n' : ℕ) (y : S) → phase_at v.turns i ≡ Held n' y → n' < 2 ^ 56)) (double k j e)
+            (ap (λ p. (phased k (reached_phase p) v, (k, None) ∷ [])) (sym phase), λ n' y q. let same : Held n x ≡ Held n' y = sym phase ∙ q in let e' : n ≡ n' = ap number_of same in let l = h.2 in omega arith),
+      )
+
+  -- kind 8: the mark is free, and the state is home, or goes home unchanged
+  released : (slots id k : ℕ) (v : View S E O) → k < slots → 0 < v.parts → (p : Phase S) → p ≢ Nothing → phase_at v.turns k ≡ p
+      → (s : St) (r : Rule s) → length s.homes ≡ slots → get_elem? s.views id ≡ some v → (homes' : Homes S) → length homes' ≡ length s.homes
+      → ((j : ℕ) → j ≢ k → get_elem? homes' j ≡ get_elem? s.homes j)
+      → ((a : S) → Stands relates s.homes k (r.log k) a p → Stands relates homes' k (r.log k) a Nothing)
+      → Rule record { words = set s.words (2 * k) 0; homes = homes'; views = set s.views id (phased k Nothing v) }
+  released slots id k v inside live p some_p phase s r deep at homes' as_deep same stands =
+      let b = begun s r k slots deep inside in
+      let ok = r.place k b.0 b.1 in
+      let wide = r.wide in
+      let m = mine_is (r.cells k) id (phase_at v.turns k) p ((r.seat id v at).turns k) phase some_p in
+      rephased relates reserved starts s r k b.0 b.1 id v at live v.seen ((k, Nothing) ∷ v.turns) (0, Nothing) (set s.words (2 * k) 0) homes' (length-set s.words (2 * k) 0) as_deep
+      (λ j ne. let f = far_mark s.words k 0 j ne in (f.0, f.1, same j ne))
+      record {
+        mark = get_or-set_same s.words (2 * k) 0 0 (omega arith) ∙ (omega arith);
+        count = get_or-set_other s.words (2 * k) (2 * k + 1) 0 0 (λ e. omega arith) ∙ ok.count;
+        low = ok.low;
+        named = ok.named;
+        free = λ _. refl;
+        held = λ e. absurd (omega arith);
+        stands = stands b.0 (subst (Stands relates s.homes k (r.log k) b.0) m.1 ok.stands);
+      }
+      (inr m.0) (inl refl) (r.seat id v at).seen (inr ((λ e. omega arith), phase_here v.turns k Nothing)) (λ j ne. phase_else v.turns k Nothing j ne)
+
+  pub frees : (slots id k : ℕ) (v : View S E O) → k < slots → 0 < v.parts → (y : S) → phase_at v.turns k ≡ Counted y
+      → Allows Rule slots id (v, []) (2 * k) (λ _. 0) (λ _. freed (step slots (2 * k) 0 0 none) (v, []) 0)
+  frees slots id k v inside live y phase s r deep at small = (
+    phased k Nothing v,
+    keeps,
+    tt,
+    released slots id k v inside live (Counted y) (λ e. absurd cc) phase s r deep at s.homes refl (λ j ne. refl) (λ a h. (y, h.0, h.1)),
+    λ j e. ap (λ i. (phased i Nothing v, [])) (double k j e),
+  )
+
+  pub returns : (slots id k : ℕ) (v : View S E O) → k < slots → 0 < v.parts → (n : ℕ) (x : S) → phase_at v.turns k ≡ Out n x
+      → Allows Rule slots id (v, (k, Some x) ∷ []) (2 * k) (λ _. 0) (λ _. returned (step slots (2 * k) 0 0 none) (v, (k, Some x) ∷ []) 0)
+  returns slots id k v inside live n x phase s r deep at small = (
+    phased k Nothing v,
+    gives,
+    tt,
+    released slots id k v inside live (Out n x) (λ e. absurd cc) phase s r deep at (set s.homes k (some (Some x))) (length-set s.homes k (some (Some x))) (λ j ne. set_else s.homes k j (some (Some x)) ne)
+        (λ a h. (x, set_here s.homes k (some (Some x)) (omega arith), h.2)),
+    λ j e. ap (λ i. (phased i Nothing v, [])) (double k j e),
+  )

@@ -1,0 +1,7 @@
+pub mod Histories
+pub mod Kept
+pub mod Steps
+pub mod Hands
+pub mod Places
+pub mod Lending
+pub mod Room

@@ -1,0 +1,126 @@
+-- What each atomic step tells the hand that makes it: `m` and `m'` are the hand's seat before and after, `e` is the number found.
+use Rattle.std.specs.Prelude.{◌≡◌, ◌≢◌, ℕ, ◌+◌, ◌-◌, ◌*◌, ◌^◌, ◌<◌, ◌≤◌, true, false, eqb, List, [], ◌∷◌, ◌++◌, length, slice_index, slice_get, Option, Some, None}
+use Rattle.std.specs.Bool.{MatchBool}
+use mathlib.Core.Option.{some}
+use lib.ListN.{get_elem?}
+use Rattle.atomic_table.specs.Table.{State, Me, Step, rest}
+use Rattle.turn_table.specs.declared.machine.Entry.{Entry}
+use Rattle.turn_table.specs.declared.view.View.{View}
+use Rattle.turn_table.specs.declared.view.Phase.{Phase}
+use Rattle.turn_table.specs.declared.view.Phase.TheVariants.{Nothing, Marked, Out, Held, Counted}
+use Rattle.turn_table.specs.Histories.{In, seen_at, phase_at, Named, Leaves}
+use Rattle.turn_table.specs.Kept.{Kept}
+
+abbrev pub Sat : Type 0 → Type 0 → Type 0 → Type 0
+Sat S E O = Me (Option S) (View S E O)
+
+abbrev pub At : Type 0 → Type 0
+At S = Step (Option S)
+
+abbrev pub entry : {E O : Type 0} → ℕ → ℕ → E → O → Entry E O
+entry k n event outcome = record { place = k; number = n; event = event; outcome = outcome }
+
+module _ {S : Type 0} where
+  abbrev pub number_of : Phase S → ℕ
+  number_of (Out n x) = n
+  number_of (Held n x) = n
+  number_of _ = 0
+
+  -- the count was read
+  abbrev pub with_count : ℕ → Phase S → Phase S
+  with_count n (Marked x) = Out n x
+  with_count n p = p
+
+  -- the empty slot went home
+  abbrev pub emptied_phase : Phase S → Phase S
+  emptied_phase (Out n x) = Held n x
+  emptied_phase p = p
+
+  -- the empty slot is out again
+  abbrev pub reached_phase : Phase S → Phase S
+  reached_phase (Held n x) = Out n x
+  reached_phase p = p
+
+  -- the new state goes home from the seat's hands
+  abbrev pub counted_phase : List (ℕ × Option S) → Phase S
+  counted_phase ((k, Some y) ∷ c) = Counted y
+  counted_phase c = Nothing
+
+module _ {S E O : Type 0} where
+  abbrev pub noted : ℕ → ℕ → View S E O → View S E O
+  noted k n v = record v { seen = (k, n) ∷ v.seen }
+
+  abbrev pub phased : ℕ → Phase S → View S E O → View S E O
+  phased k p v = record v { turns = (k, p) ∷ v.turns }
+
+  abbrev pub gained : Entry E O → View S E O → View S E O
+  gained e v = record v { entries = v.entries ++ e ∷ [] }
+
+  -- a hand with one part is cut off
+  abbrev pub cut_left : View S E O → View S E O
+  cut_left v = record v { parts = v.parts - 1 }
+
+  abbrev pub cut_right : View S E O → View S E O
+  cut_right v = record { starts = v.starts; entries = []; seen = v.seen; parts = 1; main = false; turns = [] }
+
+  abbrev pub glued : View S E O → View S E O → View S E O
+  glued v w = record v { entries = v.entries ++ w.entries; seen = v.seen ++ w.seen; parts = v.parts + w.parts }
+
+-- At one moment, in which the rule held and this hand knew what it knows, the place's mark was set, and another hand had the place's turn
+pub record WasTaken {S E O : Type 0} (relates : S → E → O → S → Type 0) (reserved : E → Type 0) (k : ℕ) (v : View S E O) : Type 0 where
+  pub state : State (Option S) (View S E O)
+  pub kept : Kept relates reserved v.starts state
+  pub mark : slice_index state.words (2 * k) ≡ 1
+  pub seat : ℕ
+  pub mine : get_elem? state.views seat ≡ some v
+  pub other : ℕ
+  pub view : View S E O
+  pub theirs : get_elem? state.views other ≡ some view
+  pub apart : other ≢ seat
+  pub has : phase_at view.turns k ≢ Nothing
+
+-- The state x is what the place's history leaves. It has n entries, the hand's own of this place among them, at their numbers; and, for the main hand, each of its reserved entries is the hand's own
+pub record Given {S E O : Type 0} (relates : S → E → O → S → Type 0) (reserved : E → Type 0) (k : ℕ) (v : View S E O) (n : ℕ) (x : S) : Type 0 where
+  pub history : List (Entry E O)
+  pub long : length history ≡ n
+  pub start : S
+  pub starts : slice_get v.starts k ≡ Some start
+  pub leaves : Leaves relates start history x
+  pub named : Named k history
+  pub own : (e : Entry E O) → In e v.entries → e.place ≡ k → slice_get history e.number ≡ Some e
+  pub above : (e : Entry E O) → In e v.entries → e.place ≡ k → e.number < n
+  pub main : v.main ≡ true → (i : ℕ) (e : Entry E O) → slice_get history i ≡ Some e → reserved e.event → In e v.entries
+
+module _ {S E O : Type 0} where
+  -- the mark was 0 and is set, and the state is out with this seat; or another hand had the turn
+  abbrev pub marked : (S → E → O → S → Type 0) → (E → Type 0) → At S → Sat S E O → ℕ → Sat S E O → Type 0
+  marked relates reserved st m e m' = (k : ℕ) → st.word ≡ 2 * k →
+      MatchBool (eqb e 0) ((x : S) × (m' ≡ (phased k (Marked x) m.0, (k, Some x) ∷ m.1))) ((m' ≡ m) × WasTaken relates reserved k m.0)
+
+  abbrev pub looked : At S → Sat S E O → ℕ → Sat S E O → Type 0
+  looked st m e m' = (k : ℕ) → st.word ≡ 2 * k + 1 → (m' ≡ (noted k e m.0, m.1)) × (seen_at m.0.seen k ≤ e) × (e ≤ 2 ^ 56)
+
+  abbrev pub counted : (S → E → O → S → Type 0) → (E → Type 0) → At S → Sat S E O → ℕ → Sat S E O → Type 0
+  counted relates reserved st m e m' = (k : ℕ) → st.word ≡ 2 * k + 1 →
+      (m' ≡ (phased k (with_count e (phase_at m.0.turns k)) (noted k e m.0), m.1)) × (seen_at m.0.seen k ≤ e) × (e ≤ 2 ^ 56)
+      × ((x : S) → phase_at m.0.turns k ≡ Marked x → Given relates reserved k m.0 e x)
+
+  -- the state goes home unchanged, and the mark is free
+  abbrev pub returned : At S → Sat S E O → ℕ → Sat S E O → Type 0
+  returned st m e m' = (k : ℕ) → st.word ≡ 2 * k → m' ≡ (phased k Nothing m.0, rest m.1)
+
+  abbrev pub emptied : At S → Sat S E O → ℕ → Sat S E O → Type 0
+  emptied st m e m' = (k : ℕ) → st.word ≡ 2 * k → m' ≡ (phased k (emptied_phase (phase_at m.0.turns k)) m.0, rest m.1)
+
+  abbrev pub reached : At S → Sat S E O → ℕ → Sat S E O → Type 0
+  reached st m e m' = (k : ℕ) → st.word ≡ 2 * k →
+      (m' ≡ (phased k (reached_phase (phase_at m.0.turns k)) m.0, (k, None) ∷ m.1)) × ((n : ℕ) (x : S) → phase_at m.0.turns k ≡ Held n x → n < 2 ^ 56)
+
+  -- the new state goes home, the count is raised, and the entry is this hand's
+  abbrev pub finished : E → O → At S → Sat S E O → ℕ → Sat S E O → Type 0
+  finished event outcome st m e m' = (k : ℕ) → st.word ≡ 2 * k + 1 →
+      (m' ≡ (phased k (counted_phase m.1) (noted k e (gained (entry k (number_of (phase_at m.0.turns k)) event outcome) m.0)), rest m.1))
+      × (seen_at m.0.seen k ≤ number_of (phase_at m.0.turns k))
+
+  abbrev pub freed : At S → Sat S E O → ℕ → Sat S E O → Type 0
+  freed st m e m' = (k : ℕ) → st.word ≡ 2 * k → m' ≡ (phased k Nothing m.0, m.1)

@@ -1,0 +1,75 @@
+//! The table, the hands that step on it, and a turn.
+ghost use Rattle.std.specs.Prelude.{◌≡◌, ◌*◌, ◌^◌, ◌<◌, ◌≤◌, [], length};
+
+use crate::cased::Cased;
+use crate::machine::Machine;
+use crate::room::Room;
+use crate::view::{Rule, View};
+use atomic_table::{Seat, Table};
+use std::alloc::Global;
+use std::snapshot::Snapshot;
+
+/// Numbered places, each with a state that changes only under its place's own turn.
+///
+/// Threads share it by reference. It has to be closed, by the hand that has all parts.
+pub struct Turns<M: Machine> {
+    pub(crate) table: Table<
+        Option<Cased<M::State>>,
+        View<M::State, M::Event, M::Outcome>,
+        Snapshot<Vec<M::State>>,
+        Rule<M>,
+        Global,
+    >,
+    pub(crate) room: Room<M::State>,
+    ghost wide: { table.shared.table_id.words ≡ 2 * table.shared.table_id.slots },
+    ghost few: { (0 < table.shared.table_id.slots) × (table.shared.table_id.slots < 2 ^ 59) },
+    ghost roomy: { table.shared.table_id.slots ≤ room.table.shared.key },
+}
+
+/// What a thread makes its turns with. It is moved, never copied.
+///
+/// Contracts see in it the table's start states, the list of the entries that it made, what it has seen of each
+/// front, its number of the table's 1,024 parts, and whether it is the main hand.
+/// A hand that is let go keeps its parts, so that its table can't be closed any more.
+pub struct Hand<M: Machine> {
+    pub(crate) seat: Seat<Option<Cased<M::State>>, View<M::State, M::Event, M::Outcome>>,
+    ghost empty: { seat.me.1 ≡ [] },
+    ghost live: { 0 < seat.me.0.parts },
+    ghost long: { length seat.me.0.starts ≡ seat.table_id.slots },
+}
+
+/// The right to change the state of one place, which no other hand has meanwhile. It has to be put back.
+pub struct Turn<M: Machine> {
+    pub(crate) state: Cased<M::State>,
+    pub(crate) taken: Snapshot<M::State>,
+    pub(crate) place: usize,
+    pub(crate) front: u64,
+}
+
+/// The turn was another hand's, or the place's numbers are spent.
+#[derive(Clone, Copy, Debug, PartialEq, Eq)]
+pub struct Busy {
+    /// The place's front, as it was seen just after. It is at most 2^56.
+    pub front: u64,
+}
+
+/// There was no memory for a table.
+#[derive(Clone, Copy, Debug, PartialEq, Eq)]
+pub struct OutOfMemory;
+
+impl<M: Machine> Hand<M> {
+    pub(crate) fn into_seat(
+        self,
+    ) -> Seat<Option<Cased<M::State>>, View<M::State, M::Event, M::Outcome>>
+        ensures { result ≡ self.seat }
+    {
+        let Hand { seat } = self;
+        seat
+    }
+}
+
+impl<M: Machine> Drop for Hand<M> {
+    fn drop(self) {
+        let Self { seat: _ } = self;
+    }
+}
