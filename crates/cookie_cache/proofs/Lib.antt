@@ -1,0 +1,4 @@
+pub mod Recent
+pub mod Finding
+pub mod Matching
+pub mod Latest

@@ -1,0 +1,3 @@
+pub mod Keepings
+pub mod Caches
+pub mod Latest

@@ -1,0 +1,16 @@
+//! The first replies to the commands of the ng control protocol, kept so that a command that comes again under its
+//! cookie gets its first reply and is not executed again. A `CookieCache` stands for the list of all replies that were
+//! given to it; it answers from the last 4,096 of them, for less than a minute each, and never by a clock that goes back.
+//!
+//! Module `cache` has the cache, `kept_reply` one reply in it, `law` a law about which reply is found;
+//! `specs/Keepings.antt` names that reply, and `specs/Latest.antt` says what it is as a relation.
+#![tactic(auto)]
+
+mod cache;
+mod kept_reply;
+mod law;
+#[cfg(test)]
+mod tests;
+
+pub use cache::CookieCache;
+pub use law::kept_is_latest;
