@@ -1,0 +1,5 @@
+pub mod PacketLemmas
+pub mod Buffers
+pub mod Tallying
+pub mod Judging
+pub mod Sending

@@ -1,0 +1,103 @@
+ghost use Rattle.std.specs.Prelude.{ℕ, [], true, ◌≡◌, ◌<◌, ◌≤◌, ◌^◌, List, length, take, IsSome, IfOk, OnErr};
+ghost use Rattle.rtp_packet.specs.declared.head.Half.TheVariants.{Rtcp};
+ghost use Rattle.rtp_packet.specs.Head.{rtcp_ssrc};
+ghost use Rattle.replay_window.specs.Indices.{fresh};
+ghost use Rattle.srtp_sources.specs.Notes.{Note, indices};
+ghost use Rattle.srtp_sources.specs.Tables.{SourcesFor, can_note};
+ghost use Rattle.srtcp_context.specs.Opening.{opening, taken_index, index_by};
+
+use crate::session::{RtcpSession, read_word};
+use replay_window::Fresh;
+use rtp_packet::rtcp;
+use srtp_keys::UnprotectFault;
+use srtp_sources::Sources;
+
+/// The bytes of the shortest SRTCP packet: 8 that stay clear, 4 with the index, 10 of the tag.
+const SHORTEST: usize = 22;
+
+/// The bit above the index.
+const ENCIPHERED: u32 = 2_147_483_648;
+
+/// The state of received RTCP packets under one master key. It can't be cloned.
+#[derive(Drop)]
+pub struct InRtcp {
+    session: RtcpSession,
+    sources: Sources,
+}
+
+impl InRtcp {
+    ghost use Rattle.srtcp_context.specs.Contexts.{InFor, OpensTo};
+
+    /// The context of a master key of 16 bytes with a master salt of 14 behind it, which has taken no packet.
+    pub fn new(key: &[u8; 30]) -> InRtcp
+        ensures { InFor key.now result [] }
+    {
+        InRtcp {
+            session: RtcpSession::new(key),
+            sources: Sources::new(),
+        }
+    }
+
+    /// Checks and opens in place the packet in the buffer's first `len` bytes, and answers the length of the plain packet.
+    ///
+    /// The checks are, in this order and before any byte changes: its length, its tag, the index that it carries against
+    /// those of its source, and the number of sources (RFC 3711 section 3.4). A packet without the E bit is checked alike
+    /// and taken as it is. After a refusal nothing has changed.
+    pub fn unprotect(&mut self, buf: &mut [u8], len: usize) -> Result<usize, UnprotectFault>
+        requires held { len ≤ length buf.old }
+        requires size { len < 2 ^ 31 }
+        requires packet { IsSome (rtcp_ssrc (take len buf.old)) }
+        ensures fits { IfOk result (λ size. size ≤ len) }
+        ensures refused { OnErr result ((self.new ≡ self.old) × (buf.new ≡ buf.old)) }
+        ensures opens { (master : List ℕ) (notes : List Note) → InFor master self.old notes → OpensTo (opening master notes (take len buf.old)) master notes self.old self.new buf.old buf.new result }
+    {
+        let Some(ssrc) = rtcp(&buf[..len]) else {
+            unreachable!();
+        };
+        match self.taken_index(&buf[..len], ssrc) {
+            Err(cause) => Err(cause),
+            Ok(index) => {
+                let size = self.session.open(buf, len, ssrc);
+                self.sources.note(ssrc, index);
+                Ok(size)
+            }
+        }
+    }
+
+    // The index under which a packet of this source is taken.
+    fn taken_index(&self, bytes: &[u8], ssrc: u32) -> Result<u64, UnprotectFault>
+        requires { length bytes.now < 2 ^ 31 }
+        ensures index { IfOk result (λ index. index < 2 ^ 48) }
+        ensures long { IfOk result (λ _. 22 ≤ length bytes.now) }
+        ensures room { IfOk result (λ _. can_note self.now.sources ssrc ≡ true) }
+        ensures taken { (master : List ℕ) (notes : List Note) → InFor master self.now notes → result ≡ taken_index master notes bytes.now ssrc }
+    {
+        if bytes.len() < SHORTEST {
+            return Err(UnprotectFault::Short);
+        }
+        if !self.session.is_authentic(bytes) {
+            return Err(UnprotectFault::NotAuthentic);
+        }
+        let word = read_word(bytes);
+        self.allowed(ssrc, u64::from(word % ENCIPHERED))
+    }
+
+    // The index, where the window allows it and its source is known or has room.
+    fn allowed(&self, ssrc: u32, index: u64) -> Result<u64, UnprotectFault>
+        requires { index < 2 ^ 48 }
+        ensures index { IfOk result (λ allowed. allowed ≡ index) }
+        ensures room { IfOk result (λ _. can_note self.now.sources ssrc ≡ true) }
+        ensures allowed { (notes : List Note) → SourcesFor Rtcp self.now.sources notes → result ≡ index_by ssrc notes index (fresh (indices Rtcp ssrc notes) index) }
+    {
+        match self.sources.fresh(ssrc, index) {
+            Fresh::TooOld => Err(UnprotectFault::TooOld),
+            Fresh::Used => Err(UnprotectFault::Replayed),
+            Fresh::Yes => {
+                if !self.sources.has_room(ssrc) {
+                    return Err(UnprotectFault::TooManySources);
+                }
+                Ok(index)
+            }
+        }
+    }
+}

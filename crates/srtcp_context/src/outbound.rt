@@ -1,0 +1,76 @@
+ghost use Rattle.std.specs.Prelude.{ℕ, [], true, ◌≡◌, ◌+◌, ◌<◌, ◌≤◌, ◌^◌, List, length, take, IsSome, IfOk, OnErr};
+ghost use Rattle.rtp_packet.specs.Head.{rtcp_ssrc};
+ghost use Rattle.srtp_sources.specs.Notes.{Note};
+ghost use Rattle.srtcp_context.specs.Wrapping.{wrapping, sent_index};
+ghost use Rattle.srtcp_context.specs.Counting.{CountsFor, can_count};
+
+use crate::counts::Counts;
+use crate::session::RtcpSession;
+use rtp_packet::rtcp;
+use srtp_keys::{ProtectFault, RtcpKey};
+
+/// One more than the greatest index.
+const INDICES: u32 = 2_147_483_648;
+
+/// The state of RTCP packets that are sent under one master key. It can't be cloned, so that no index is used twice.
+#[derive(Drop)]
+pub struct OutRtcp {
+    session: RtcpSession,
+    counts: Counts,
+}
+
+impl OutRtcp {
+    ghost use Rattle.srtcp_context.specs.Contexts.{OutFor, WrapsTo};
+
+    /// The context of a drawn key, which has protected no packet.
+    pub fn new(key: RtcpKey) -> OutRtcp
+        ensures { OutFor key.bytes result [] }
+    {
+        OutRtcp {
+            session: RtcpSession::new(&key.into_bytes()),
+            counts: Counts::new(),
+        }
+    }
+
+    /// Protects in place the packet in the buffer's first `len` bytes, and answers the length of the protected packet and
+    /// the index that it used. Index and tag take 14 bytes behind the packet.
+    ///
+    /// The indices of a source count from 0; a new source must have room, and the index must be below 2^31 (RFC 3711
+    /// sections 3.4 and 9.2). After a refusal nothing has changed.
+    pub fn protect(&mut self, buf: &mut [u8], len: usize) -> Result<(usize, u64), ProtectFault>
+        requires room { len + 14 ≤ length buf.old }
+        requires size { len < 2 ^ 31 }
+        requires packet { IsSome (rtcp_ssrc (take len buf.old)) }
+        ensures fits { IfOk result (λ sent. sent.0 ≡ len + 14) }
+        ensures refused { OnErr result ((self.new ≡ self.old) × (buf.new ≡ buf.old)) }
+        ensures wraps { (master : List ℕ) (notes : List Note) → OutFor master self.old notes → WrapsTo (wrapping master notes (take len buf.old)) master notes self.old self.new buf.old buf.new result }
+    {
+        let Some(ssrc) = rtcp(&buf[..len]) else {
+            unreachable!();
+        };
+        match self.sent_index(ssrc) {
+            Err(cause) => Err(cause),
+            Ok(index) => {
+                let size = self.session.wrap(buf, len, ssrc, index);
+                self.counts.advance(ssrc, index);
+                Ok((size, u64::from(index)))
+            }
+        }
+    }
+
+    // The index under which the next packet of this source is sent.
+    fn sent_index(&self, ssrc: u32) -> Result<u32, ProtectFault>
+        ensures index { IfOk result (λ index. index < 2 ^ 31) }
+        ensures room { IfOk result (λ _. can_count self.now.counts ssrc ≡ true) }
+        ensures sent { (notes : List Note) → CountsFor self.now.counts notes → result ≡ sent_index notes ssrc }
+    {
+        if !self.counts.has_room(ssrc) {
+            return Err(ProtectFault::TooManySources);
+        }
+        let next = self.counts.next(ssrc);
+        if next >= INDICES {
+            return Err(ProtectFault::KeySpent);
+        }
+        Ok(next)
+    }
+}
