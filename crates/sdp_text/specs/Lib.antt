@@ -1,0 +1,9 @@
+pub mod Room
+pub mod Lines
+pub mod Pieces
+pub mod Hosts
+pub mod Roles
+pub mod LineFaults
+pub mod Parts
+pub mod Reading
+pub mod Limits
