@@ -1,0 +1,35 @@
+-- The first line of a section that is one of those looked for.
+use Rattle.std.proofs.Common.{◌≡◌, ℕ, zero, suc, ◌-◌, ◌<◌, true, false, List, ◌∷◌, Option, Some, None, refl, arith, inl, inr}
+use Rattle.sdes_lines.specs.declared.crypto_line.CryptoLine.{CryptoLine}
+use Rattle.sdp_text.specs.Roles.{is_media}
+use Rattle.sdp_edit.specs.Places.{up_to_media}
+use Rattle.sdp_edit.specs.Choosing.{section_lines, IsFirstOf, IsKeyOf, IsLineOf}
+
+-- the section's lines begin behind this `m=` line
+pub section_here : (line : List ℕ) (more : List (List ℕ)) (left : ℕ) → is_media line ≡ true → left ≡ 0
+    → section_lines left (line ∷ more) ≡ up_to_media more
+section_here line more left media none = rw (none, media) refl
+
+pub section_next : (line : List ℕ) (more : List (List ℕ)) (left : ℕ) → is_media line ≡ true → 0 < left
+    → section_lines left (line ∷ more) ≡ section_lines (left - 1) more
+section_next line more zero media some = absurd (omega arith)
+section_next line more (suc left) media some =
+    let one : suc left - 1 ≡ left = omega arith in
+    rw (media, one) refl
+
+pub section_on : (line : List ℕ) (more : List (List ℕ)) (left : ℕ) → is_media line ≡ false
+    → section_lines left (line ∷ more) ≡ section_lines left more
+section_on line more zero media = rw media refl
+section_on line more (suc left) media = rw media refl
+
+-- the section ends at an `m=` line
+pub first_none : (P : CryptoLine → Type 0) (line : List ℕ) (more : List (List ℕ)) → is_media line ≡ true → IsFirstOf P (up_to_media (line ∷ more)) None
+first_none P line more media = rw media refl
+
+pub first_here : (P : CryptoLine → Type 0) (line : List ℕ) (more : List (List ℕ)) (key : CryptoLine) → is_media line ≡ false → IsLineOf P line key
+    → IsFirstOf P (up_to_media (line ∷ more)) (Some key)
+first_here P line more key media is = rw media (inl (is, refl))
+
+pub first_later : (P : CryptoLine → Type 0) (line : List ℕ) (more : List (List ℕ)) (r : Option CryptoLine) → is_media line ≡ false → IsKeyOf P line None
+    → IsFirstOf P (up_to_media more) r → IsFirstOf P (up_to_media (line ∷ more)) r
+first_later P line more r media none first = rw media (inr (none, first))

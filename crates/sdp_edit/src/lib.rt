@@ -1,0 +1,34 @@
+//! Rewrites a session description: the ports, protocols, addresses and crypto lines that the proxy puts
+//! in place of those of the side that sent it. The edited text is stated line by line in `specs/`: what
+//! becomes of each line, and which lines are added after it. All other lines are passed on unchanged.
+//!
+//! - `edits`: what is to be written in each section
+//! - `place`, `ahead`: what the lines before and behind a line say of it
+//! - `attribute`: which attributes are removed
+//! - `image`: what becomes of a line
+//! - `field`, `text`: the texts of rewritten lines
+//! - `rewritten`: the lines that are written
+//! - `step`: one line's part of the edited text
+//! - `editing`: the edited text and its length
+//! - `choosing`: which crypto line of a section is used
+#![tactic(auto)]
+
+mod ahead;
+mod attribute;
+mod choosing;
+#[cfg(test)]
+mod descriptions;
+mod editing;
+mod edits;
+mod field;
+mod image;
+mod place;
+mod rewritten;
+mod step;
+#[cfg(test)]
+mod tests;
+mod text;
+
+pub use choosing::{choose, choose_among};
+pub use editing::{edit, edit_into, edit_len};
+pub use edits::{Edit, SectionEdit, SectionEdits};
