@@ -1,6 +1,4 @@
-mod Cuts
 mod Loops
-mod Octets
 mod Options
 mod Pings
 mod Steps

@@ -6,7 +6,8 @@ use Rattle.std.specs.Str.{bytes_eq}
 use Rattle.relay_outside.specs.declared.address.Addr.{Addr}
 use Rattle.relay_outside.specs.declared.address.Ip.{Ip}
 use Rattle.relay_outside.specs.declared.address.Ip.TheVariants.{V4}
-use Rattle.relay_app.specs.Numbers.{ipv4_bytes, whole_number}
+use Rattle.sdp_text.specs.Hosts.{ipv4_bytes}
+use Rattle.relay_app.specs.Numbers.{whole_number}
 use Rattle.relay_app.specs.declared.words.Settings.{Settings}
 
 -- an IPv4 address

@@ -1,32 +1,7 @@
-ghost use Rattle.std.specs.Prelude.{◌≡◌, ℕ, ◌≤◌, ◌<◌, ◌==◌, ◌^◌, ◌∷◌, length, map, min, IfSome};
-ghost use Rattle.std.specs.List.{position_or_len};
-ghost use Rattle.std.specs.Option.{option_copied, option_map};
-ghost use Rattle.relay_app.specs.Numbers.{pieces, pieces_after, is_digit, number, at_most, has_leading_zero, whole_number, octet, all_some, exactly, ipv4_bytes};
-
-/// The place of the first byte `stop`, or the length.
-fn place_of(text: &[u8], stop: u8) -> usize
-    ensures place { result ≡ position_or_len (λ b. b == stop) text.now }
-    ensures within { result ≤ length text.now }
-{
-    for (i, byte) in text.iter().enumerate() {
-        if *byte == stop {
-            return i;
-        }
-    }
-    text.len()
-}
-
-/// The piece before the first byte `stop`, and what follows that byte.
-pub(crate) fn cut(text: &[u8], stop: u8) -> (&[u8], Option<&[u8]>)
-    ensures { pieces stop text.now ≡ result.0.now ∷ pieces_after stop (option_copied result.1) }
-{
-    let at = place_of(text, stop);
-    if at < text.len() {
-        (&text[..at], Some(&text[at + 1..]))
-    } else {
-        (text, None)
-    }
-}
+ghost use Rattle.std.specs.Prelude.{◌≡◌, ◌≤◌, ◌<◌, ◌^◌, min, IfSome};
+ghost use Rattle.std.specs.Option.{option_map};
+ghost use Rattle.sdp_text.specs.Pieces.{is_digit, number, at_most};
+ghost use Rattle.relay_app.specs.Numbers.{has_leading_zero, whole_number};
 
 /// The decimal number that a text is, where it is no greater than the limit; leading zeros are allowed.
 fn read_number(text: &[u8], limit: u64) -> Option<u64>
@@ -82,39 +57,5 @@ pub(crate) fn read_whole_number(text: &[u8], limit: u64) -> Option<u64>
         None
     } else {
         read_number(text, limit)
-    }
-}
-
-fn read_octet(text: &[u8]) -> Option<u8>
-    ensures { result ≡ octet text.now }
-{
-    match read_number(text, 255) {
-        Some(value) => Some(value as u8),
-        None => None,
-    }
-}
-
-/// The four bytes of an IPv4 address: four decimal numbers of at most 255, joined by dots.
-pub(crate) fn read_ipv4(text: &[u8]) -> Option<[u8; 4]>
-    ensures { result ≡ ipv4_bytes text.now }
-{
-    let (first, rest) = cut(text, b'.');
-    let a = read_octet(first)?;
-    let (second, rest) = cut(rest?, b'.');
-    let b = read_octet(second)?;
-    let (third, rest) = cut(rest?, b'.');
-    let c = read_octet(third)?;
-    let (fourth, rest) = cut(rest?, b'.');
-    let d = read_octet(fourth)?;
-    exactly_four(a, b, c, d, rest)
-}
-
-/// Four numbers, where nothing follows them.
-fn exactly_four(a: u8, b: u8, c: u8, d: u8, rest: Option<&[u8]>) -> Option<[u8; 4]>
-    ensures { result ≡ exactly 4 (option_map (λ more. a ∷ more) (option_map (λ more. b ∷ more) (option_map (λ more. c ∷ more) (option_map (λ more. d ∷ more) (all_some (map octet (pieces_after 46 (option_copied rest.entry)))))))) }
-{
-    match rest {
-        None => Some([a, b, c, d]),
-        Some(_) => None,
     }
 }

@@ -4,8 +4,9 @@ ghost use Rattle.relay_app.specs.Words.{value_after, values_of, is_option, ipv4,
 ghost use Rattle.relay_app.specs.Numbers.{whole_number};
 ghost use Rattle.relay_app.specs.Given.{IsGiven};
 
-use crate::numbers::{read_ipv4, read_whole_number};
+use crate::numbers::read_whole_number;
 use relay_outside::{Addr, Ip};
+use sdp_text::{Host, read_ipv4};
 
 /// What the words of `serve` say.
 #[derive(Clone, Copy)]
@@ -86,8 +87,8 @@ fn read_ip(text: &[u8]) -> Option<Ip>
     ensures { result ≡ ipv4 text.now }
 {
     match read_ipv4(text) {
-        Some(bytes) => Some(Ip::V4(bytes)),
-        None => None,
+        Some(Host::V4(bytes)) => Some(Ip::V4(bytes)),
+        _ => None,
     }
 }
 

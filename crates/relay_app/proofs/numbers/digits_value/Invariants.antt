@@ -1,6 +1,6 @@
 use Rattle.std.proofs.Common.{◌≡◌, ◌≤◌, min, take, true}
 use Rattle.std.specs.List.{list_all}
-use Rattle.relay_app.specs.Numbers.{is_digit, decimal_value}
+use Rattle.sdp_text.specs.Pieces.{is_digit, decimal_value}
 use Rattle.relay_app.proofs.numbers.digits_value.Given as goal
 
 -- what the digits so far say
