@@ -1,0 +1,3 @@
+pub mod Sources
+pub mod Words
+pub mod Told

@@ -1,0 +1,36 @@
+-- A dictionary never tells that the body is none, and what it tells is how the body is read.
+use Rattle.std.proofs.Common.{◌≡◌, ℕ, List, Option, Some, None, Result, Ok, Err, codes}
+use Rattle.ng_bencode.specs.Tree.{Dict, Entries}
+use Rattle.ng_bencode.specs.Spells.{Spells}
+use Rattle.ng_command.specs.Values.{text_at}
+use Rattle.ng_command.specs.Effects.{kind_of}
+use Rattle.ng_command.specs.Faults.{first_wrong, first_unsupported, fault_by}
+use Rattle.ng_command.specs.Said.{Said, meaning}
+use Rattle.ng_command.specs.Reading.{kind_or_fault, kind_named, or_fault, told_by, told, Agrees, IsRead}
+use Rattle.ng_command.specs.declared.kind.Kind.{Kind}
+use Rattle.ng_command.specs.declared.fault.KeyName.{KeyName}
+use Rattle.ng_command.specs.declared.fault.CommandFault.{CommandFault}
+use Rattle.ng_command.specs.declared.fault.CommandFault.TheVariants.{Malformed, NoCommand, Unrecognized, Key, Unsupported, OutOfMemory}
+use Rattle.ng_command.specs.declared.command.Command.{Command}
+
+by_keys : (wrong unsupported : Option KeyName) (says : Said) → or_fault (fault_by wrong unsupported) says ≡ Err Malformed → ⊥
+by_keys (Some key) unsupported says e = cc
+by_keys None (Some key) says e = cc
+by_keys None None says e = cc
+
+by_kind : (kind : Option Kind) (pairs : Entries) → told_by (kind_or_fault kind) pairs ≡ Err Malformed → ⊥
+by_kind None pairs e = cc
+by_kind (Some kind) pairs e = by_keys (first_wrong kind pairs) (first_unsupported kind pairs) (meaning kind pairs) e
+
+by_name : (name : Option (List ℕ)) (pairs : Entries) → told_by (kind_named name) pairs ≡ Err Malformed → ⊥
+by_name None pairs e = cc
+by_name (Some name) pairs e = by_kind (kind_of name) pairs e
+
+pub read_so : (body : List ℕ) (pairs : Entries) (result : Result Command CommandFault) → Spells body (Dict pairs) → Agrees (told pairs) result → IsRead body result
+read_so body pairs (Ok command) spells agrees = (pairs, spells, agrees)
+read_so body pairs (Err Malformed) spells agrees = absurd (by_name (text_at pairs (codes "command")) pairs agrees)
+read_so body pairs (Err NoCommand) spells agrees = (pairs, spells, agrees)
+read_so body pairs (Err Unrecognized) spells agrees = (pairs, spells, agrees)
+read_so body pairs (Err (Key key)) spells agrees = (pairs, spells, agrees)
+read_so body pairs (Err (Unsupported key)) spells agrees = (pairs, spells, agrees)
+read_so body pairs (Err OutOfMemory) spells agrees = tt

@@ -1,0 +1,81 @@
+-- What the keys of a command say, where they say it in the right form.
+use Rattle.std.specs.Prelude.{ℕ, pos, negsuc, List, [], ◌∷◌, Bool, false, not, ◌&&◌, Option, Some, None, codes, min, find, if◌then◌else◌}
+use Rattle.std.specs.List.{starts_with}
+use Rattle.std.specs.Option.{option_map}
+use Rattle.std.specs.Prelude.{nat_eq}
+use Rattle.std.specs.Str.{bytes_eq}
+use Rattle.ng_bencode.specs.Tree.{Tree, Int, Bytes, Items, Dict, no_items, item, Entries}
+use Rattle.ng_bencode.specs.Lookup.{value_at}
+use Rattle.relay_outside.specs.declared.address.Ip.{Ip}
+use Rattle.relay_outside.specs.declared.address.Ip.TheVariants as ips
+use Rattle.relay_outside.specs.declared.settings.Flags.{Flags}
+use Rattle.sdp_text.specs.declared.proto.Proto.{Proto}
+use Rattle.sdp_text.specs.declared.proto.Proto.TheVariants.{Avp, Avpf, Savp, Savpf}
+use Rattle.sdp_text.specs.Hosts.{ipv4_bytes}
+use Rattle.ng_command.specs.Values.{words_of, has_word}
+use Rattle.ng_command.specs.declared.kind.Kind.{Kind}
+use Rattle.ng_command.specs.declared.kind.Kind.TheVariants as kinds
+
+-- the commands by their names
+abbrev pub commands : List (List ℕ × Kind)
+commands =
+    (codes "ping", kinds.Ping) ∷ (codes "offer", kinds.Offer) ∷ (codes "answer", kinds.Answer)
+    ∷ (codes "delete", kinds.Delete) ∷ (codes "query", kinds.Query) ∷ (codes "list", kinds.List) ∷ []
+
+abbrev pub kind_of : List ℕ → Option Kind
+kind_of name = option_map (λ command. command.1) (find (λ command. bytes_eq name command.0) commands)
+
+-- the flags of a command
+abbrev pub has_flag : Entries → List ℕ → Bool
+has_flag pairs flag = has_word flag (words_of (value_at pairs (codes "flags")))
+
+abbrev pub flags_of : Entries → Flags
+flags_of pairs = record {
+  strict = has_flag pairs (codes "strict source");
+  handover = has_flag pairs (codes "media handover");
+  asymmetric = has_flag pairs (codes "asymmetric");
+}
+
+-- the word of what is to be replaced
+abbrev pub replaces : Entries → List ℕ → Bool
+replaces pairs word = has_word word (words_of (value_at pairs (codes "replace")))
+
+-- the addresses signalled are those of `received from`, and not those of the description
+abbrev pub signals_source : Entries → Bool
+signals_source pairs = has_flag pairs (codes "SIP source address") && not (has_flag pairs (codes "trust address"))
+
+-- the address of `received from`: a list of the two byte strings `IP4` and an IPv4 address
+abbrev pub address_in : List ℕ → List ℕ → Option Ip
+address_in family address = if bytes_eq family (codes "IP4") then option_map ips.V4 (ipv4_bytes address) else None
+
+abbrev pub address_of : Option Tree → Option Ip
+address_of (Some (Items (item (Bytes family) (item (Bytes address) no_items)))) = address_in family address
+address_of other = None
+
+abbrev pub source_of : Entries → Option Ip
+source_of pairs = if signals_source pairs then address_of (value_at pairs (codes "received from")) else None
+
+-- the four protocols of a section that is relayed
+abbrev pub protocols : List (List ℕ × Proto)
+protocols = (codes "RTP/AVP", Avp) ∷ (codes "RTP/AVPF", Avpf) ∷ (codes "RTP/SAVP", Savp) ∷ (codes "RTP/SAVPF", Savpf) ∷ []
+
+abbrev pub protocol_of : List ℕ → Option Proto
+protocol_of name = option_map (λ protocol. protocol.1) (find (λ protocol. bytes_eq name protocol.0) protocols)
+
+abbrev pub protocol_in : Option (List ℕ) → Option Proto
+protocol_in None = None
+protocol_in (Some name) = protocol_of name
+
+-- SRTP keyed by DTLS (RFC 5764 section 8)
+abbrev pub is_dtls : Option (List ℕ) → Bool
+is_dtls None = false
+is_dtls (Some name) = starts_with nat_eq name (codes "UDP/TLS/")
+
+-- how many calls `list` names: 32 where nothing says so, and 200 at most
+abbrev pub limit_of : Option Tree → Option ℕ
+limit_of None = Some 32
+limit_of (Some (Int (pos n))) = Some (min 200 n)
+limit_of (Some (Int (negsuc n))) = None
+limit_of (Some (Bytes text)) = None
+limit_of (Some (Items items)) = None
+limit_of (Some (Dict pairs)) = None

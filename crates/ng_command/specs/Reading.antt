@@ -1,0 +1,50 @@
+-- How the body of a control datagram is read.
+use Rattle.std.specs.Prelude.{◌≡◌, ℕ, List, Option, Some, None, Result, Ok, Err, codes}
+use Rattle.ng_bencode.specs.Tree.{Dict, Entries}
+use Rattle.ng_bencode.specs.Spells.{Spells}
+use Rattle.ng_command.specs.Values.{text_at}
+use Rattle.ng_command.specs.Effects.{kind_of}
+use Rattle.ng_command.specs.Faults.{fault_of}
+use Rattle.ng_command.specs.Said.{Said, said, meaning}
+use Rattle.ng_command.specs.declared.kind.Kind.{Kind}
+use Rattle.ng_command.specs.declared.fault.CommandFault.{CommandFault}
+use Rattle.ng_command.specs.declared.fault.CommandFault.TheVariants.{Malformed, NoCommand, Unrecognized, Key, Unsupported, OutOfMemory}
+use Rattle.ng_command.specs.declared.command.Command.{Command}
+
+abbrev pub kind_or_fault : Option Kind → Result Kind CommandFault
+kind_or_fault None = Err Unrecognized
+kind_or_fault (Some kind) = Ok kind
+
+-- the command that is named, or why there is none
+abbrev pub kind_named : Option (List ℕ) → Result Kind CommandFault
+kind_named None = Err NoCommand
+kind_named (Some name) = kind_or_fault (kind_of name)
+
+abbrev pub or_fault : Option CommandFault → Said → Result Said CommandFault
+or_fault (Some fault) says = Err fault
+or_fault None says = Ok says
+
+abbrev pub told_by : Result Kind CommandFault → Entries → Result Said CommandFault
+told_by (Err fault) pairs = Err fault
+told_by (Ok kind) pairs = or_fault (fault_of kind pairs) (meaning kind pairs)
+
+-- what the dictionary of a command says, or its first fault
+abbrev pub told : Entries → Result Said CommandFault
+told pairs = told_by (kind_named (text_at pairs (codes "command"))) pairs
+
+-- the answer agrees with what is told; want of memory may stand in its place
+abbrev pub Agrees : Result Said CommandFault → Result Command CommandFault → Type 0
+Agrees expected (Ok command) = expected ≡ Ok (said command)
+Agrees expected (Err OutOfMemory) = Unit {0}
+Agrees expected (Err Malformed) = expected ≡ Err Malformed
+Agrees expected (Err NoCommand) = expected ≡ Err NoCommand
+Agrees expected (Err Unrecognized) = expected ≡ Err Unrecognized
+Agrees expected (Err (Key key)) = expected ≡ Err (Key key)
+Agrees expected (Err (Unsupported key)) = expected ≡ Err (Unsupported key)
+
+-- The body of a datagram is read so. `Malformed` comes exactly where the body spells no dictionary, and
+-- every other answer but want of memory is what the dictionary tells.
+abbrev pub IsRead : List ℕ → Result Command CommandFault → Type 0
+IsRead body (Err Malformed) = (pairs : Entries) → Spells body (Dict pairs) → ⊥
+IsRead body (Err OutOfMemory) = Unit {0}
+IsRead body result = (pairs : Entries) × Spells body (Dict pairs) × Agrees (told pairs) result

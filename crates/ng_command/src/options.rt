@@ -1,0 +1,172 @@
+//! What the keys of a command say, where they say it in the right form.
+ghost use Rattle.std.specs.Prelude.{◌≡◌, ◌∷◌, [], codes, Some};
+ghost use Rattle.std.specs.Option.{option_copied};
+ghost use Rattle.ng_bencode.specs.Row.{list_in};
+ghost use Rattle.ng_bencode.specs.Tree.{tree_of, trees_of, pairs_of, Items, Int};
+ghost use Rattle.ng_bencode.specs.Lookup.{value_at};
+ghost use Rattle.ng_command.specs.Effects.{has_flag, flags_of, replaces, signals_source, address_in, address_of, source_of, protocol_of, protocol_in, is_dtls, limit_of};
+ghost use Rattle.ng_command.specs.Said.{options_of};
+
+use crate::command::Options;
+use crate::values::{has_word, text_of};
+use ng_bencode::{Pairs, Values, lookup};
+use relay_outside::{Flags, Ip};
+use sdp_text::{Host, Proto, read_ipv4};
+
+/// How many calls `list` names where nothing says so, and at most.
+pub(crate) const DEFAULT_LIMIT: u32 = 32;
+
+const MAX_LIMIT: u32 = 200;
+
+/// Whether the flag is set.
+pub(crate) fn has_flag(pairs: &Pairs, flag: &[u8]) -> bool
+    ensures { result ≡ has_flag (pairs_of (list_in pairs.now)) flag.now }
+{
+    has_word(pairs, b"flags", flag)
+}
+
+fn flags_of(pairs: &Pairs) -> Flags
+    ensures { result ≡ flags_of (pairs_of (list_in pairs.now)) }
+{
+    Flags {
+        strict: has_flag(pairs, b"strict source"),
+        handover: has_flag(pairs, b"media handover"),
+        asymmetric: has_flag(pairs, b"asymmetric"),
+    }
+}
+
+/// Whether the addresses signalled are those of `received from`.
+pub(crate) fn signals_source(pairs: &Pairs) -> bool
+    ensures { result ≡ signals_source (pairs_of (list_in pairs.now)) }
+{
+    has_flag(pairs, b"SIP source address") && !has_flag(pairs, b"trust address")
+}
+
+/// The address of `received from`: a list of `IP4` and an IPv4 address.
+pub(crate) fn received_from(pairs: &Pairs) -> Option<Ip>
+    ensures { result ≡ address_of (value_at (pairs_of (list_in pairs.now)) (codes "received from")) }
+{
+    let Some(value) = lookup(pairs, b"received from") else {
+        return None;
+    };
+    match value.as_list() {
+        Some(values) => address_in_list(values),
+        None => None,
+    }
+}
+
+/// The address of a list of two byte strings, `IP4` and an IPv4 address.
+fn address_in_list(values: &Values) -> Option<Ip>
+    ensures { result ≡ address_of (Some (Items (trees_of (list_in values.now)))) }
+{
+    let items = values.as_slice();
+    if items.len() != 2 {
+        return None;
+    }
+    let Some(family) = text_of(&items[0]) else {
+        return None;
+    };
+    let Some(address) = text_of(&items[1]) else {
+        return None;
+    };
+    address_in(family, address)
+}
+
+/// The address of a family and a text.
+fn address_in(family: &[u8], address: &[u8]) -> Option<Ip>
+    ensures { result ≡ address_in family.now address.now }
+{
+    if family != b"IP4".as_slice() {
+        return None;
+    }
+    match read_ipv4(address) {
+        Some(Host::V4(bytes)) => Some(Ip::V4(bytes)),
+        _ => None,
+    }
+}
+
+fn source_of(pairs: &Pairs) -> Option<Ip>
+    ensures { result ≡ source_of (pairs_of (list_in pairs.now)) }
+{
+    if signals_source(pairs) {
+        received_from(pairs)
+    } else {
+        None
+    }
+}
+
+/// The protocol of this name.
+pub(crate) fn protocol_of(name: &[u8]) -> Option<Proto>
+    ensures { result ≡ protocol_of name.now }
+{
+    if name == b"RTP/AVP".as_slice() {
+        Some(Proto::Avp)
+    } else if name == b"RTP/AVPF".as_slice() {
+        Some(Proto::Avpf)
+    } else if name == b"RTP/SAVP".as_slice() {
+        Some(Proto::Savp)
+    } else if name == b"RTP/SAVPF".as_slice() {
+        Some(Proto::Savpf)
+    } else {
+        None
+    }
+}
+
+/// The protocol of this name, where there is a name.
+pub(crate) fn protocol_in(name: Option<&[u8]>) -> Option<Proto>
+    ensures { result ≡ protocol_in (option_copied name.entry) }
+{
+    match name {
+        Some(name) => protocol_of(name),
+        None => None,
+    }
+}
+
+/// Whether the protocol is SRTP keyed by DTLS (RFC 5764 section 8).
+pub(crate) fn is_dtls(name: Option<&[u8]>) -> bool
+    ensures { result ≡ is_dtls (option_copied name.entry) }
+{
+    match name {
+        Some(name) => name.starts_with(b"UDP/TLS/"),
+        None => false,
+    }
+}
+
+/// How an offer or an answer is to be served, with the protocol that it asks for.
+pub(crate) fn options_of(pairs: &Pairs, protocol: Option<&[u8]>) -> Options
+    ensures { result ≡ options_of (pairs_of (list_in pairs.now)) (option_copied protocol.entry) }
+{
+    Options {
+        flags: flags_of(pairs),
+        replace_origin: has_word(pairs, b"replace", b"origin"),
+        replace_session: has_word(pairs, b"replace", b"session connection"),
+        transport: protocol_in(protocol),
+        source: source_of(pairs),
+    }
+}
+
+/// How many calls `list` is to name. `None` where what stands there is no limit.
+pub(crate) fn limit_of(pairs: &Pairs) -> Option<u32>
+    ensures { result ≡ limit_of (value_at (pairs_of (list_in pairs.now)) (codes "limit")) }
+{
+    match lookup(pairs, b"limit") {
+        Some(value) => match value.as_int() {
+            Some(number) => capped(number),
+            None => None,
+        },
+        None => Some(DEFAULT_LIMIT),
+    }
+}
+
+/// A limit of at most 200, where the number is not negative.
+fn capped(number: i64) -> Option<u32>
+    ensures { result ≡ limit_of (Some (Int number)) }
+{
+    if number < 0 {
+        None
+    } else if number > MAX_LIMIT as i64 {
+        Some(MAX_LIMIT)
+    } else {
+        Some(number as u32)
+    }
+}
