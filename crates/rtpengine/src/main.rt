@@ -50,3 +50,6 @@ fn start(rt: &HostRuntime, alloc: Global, words: &Vec<String>) -> Status {
         &mut StdSink::new(rt.stdout()),
     )
 }
+
+#[cfg(test)]
+mod tests;

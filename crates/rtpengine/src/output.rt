@@ -4,7 +4,7 @@ use std::io::Write;
 /// Standard output. It tells nothing.
 #[derive(Drop)]
 pub(crate) struct StdSink<W: Write + Drop> {
-    stream: W,
+    pub(crate) stream: W,
     faults: u64,
 }
 
