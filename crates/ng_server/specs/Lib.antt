@@ -1,0 +1,5 @@
+pub mod Histories
+pub mod Due
+pub mod Turns
+pub mod Servers
+pub mod Answering
