@@ -1,3 +1,4 @@
 pub mod Bodies
+pub mod Firsts
 pub mod Keeping
 pub mod Turning

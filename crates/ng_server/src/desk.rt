@@ -1,4 +1,4 @@
-ghost use Rattle.std.specs.Prelude.{◌≡◌, length};
+ghost use Rattle.std.specs.Prelude.{◌≡◌, IfOk, length};
 
 use relay_outside::OutOfMemory;
 use std::alloc::Global;
@@ -26,8 +26,10 @@ impl Model for Desk {
 }
 
 impl Desk {
-    /// An empty desk.
-    pub fn new(alloc: Global) -> Result<Desk, OutOfMemory> {
+    /// A desk, whose bytes don't matter.
+    pub fn new(alloc: Global) -> Result<Desk, OutOfMemory>
+        ensures { IfOk result (λ desk. length desk ≡ ROOM) }
+    {
         match vec![in alloc; 0; ROOM] {
             Ok(datagram) => Ok(Desk { datagram }),
             Err(_) => Err(OutOfMemory),

@@ -17,5 +17,5 @@ mod server;
 mod tests;
 
 pub use desk::Desk;
-pub use law::a_repeat_changes_nothing;
+pub use law::a_kept_cookie_gives_its_first_reply;
 pub use server::{ControlTurn, Server};

@@ -1,5 +1,5 @@
 use crate::rows::ROWS;
-use crate::{ControlTurn, Desk, Server, a_repeat_changes_nothing};
+use crate::{ControlTurn, Desk, Server, a_kept_cookie_gives_its_first_reply};
 use relay_outside::{Addr, Ip, LinkGift, MemoryLink};
 use std::alloc::Global;
 use std::test::Fail;
@@ -39,7 +39,7 @@ fn is_answered(
 #[test]
 fn each_datagram_gets_its_reply(rt: HostRuntime) -> Result<(), Fail> {
     let alloc = rt.alloc();
-    a_repeat_changes_nothing();
+    a_kept_cookie_gives_its_first_reply();
     let mut server = Server::start(alloc)?;
     let mut desk = Desk::new(alloc)?;
     for (port, now, datagram, want) in ROWS {
