@@ -1,6 +1,6 @@
 mod Loops
 mod Options
-mod Pings
+mod Runs
+mod Single
 mod Steps
-mod Takes
 mod Values

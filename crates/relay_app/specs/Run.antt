@@ -10,14 +10,15 @@ use Rattle.relay_app.specs.declared.status.Status.TheVariants as status
 use Rattle.relay_app.specs.declared.words.Settings.{Settings}
 use Rattle.relay_app.specs.Served.{DidRun, totals}
 
--- Words that are none of `serve` leave the link alone. With words of `serve`, and where its memory is had, the link
--- is bound to its address, and where that succeeds the run is as `DidRun` says
-abbrev pub DidCall : Option Settings → Status → List LinkCall → Type 0
-DidCall None answer calls = calls ≡ []
-DidCall (Some settings) answer calls =
-    ((calls ≡ []) × (answer ≡ status.OutOfMemory))
-    ⊎ ((calls ≡ call.Bind settings.listen false ∷ []) × (answer ≡ status.ControlFault))
-    ⊎ ((more : List LinkCall) × (calls ≡ call.Bind settings.listen true ∷ more) × DidRun answer settings.turns more)
+-- Words that are none of `serve` leave the link and the timer alone. With words of `serve`, and where its memory is had,
+-- the link is bound to its address, and where that succeeds the run is as `DidRun` says. Memory is refused only before any
+-- call of the link
+abbrev pub DidCall : (List ℕ → Type 0) → Option Settings → Status → List LinkCall → Type 0
+DidCall gave None answer calls = gave [] × (calls ≡ [])
+DidCall gave (Some settings) answer calls =
+    (gave [] × (calls ≡ []) × (answer ≡ status.OutOfMemory))
+    ⊎ (gave [] × (calls ≡ call.Bind settings.listen false ∷ []) × (answer ≡ status.ControlFault))
+    ⊎ ((more : List LinkCall) × (calls ≡ call.Bind settings.listen true ∷ more) × DidRun answer settings.turns gave more)
 
 -- whether the run bound its link
 abbrev pub is_bound : List LinkCall → Bool

@@ -1,68 +1,92 @@
 -- What a run of `serve` took and sent, over the calls of its control link after the bind.
-use Rattle.std.specs.Prelude.{◌≡◌, ◌⊎◌, ℕ, ◌<◌, ◌≤◌, Bool, true, false, List, [], ◌∷◌, ◌++◌, length, Option, Some, None, filter_map, count_by, codes, decimal}
-use Rattle.ng_bencode.specs.Tree.{Bytes, Dict, Entries}
-use Rattle.ng_bencode.specs.Spells.{Spells}
-use Rattle.ng_bencode.specs.Lookup.{value_at}
+use Rattle.std.specs.Prelude.{◌≡◌, ◌⊎◌, ℕ, ◌<◌, Bool, true, false, List, [], ◌∷◌, ◌++◌, length, Option, Some, None, filter_map, count_by, codes, decimal}
+use Rattle.std.specs.List.{zip}
 use Rattle.ng_frame.specs.Frame.{frame}
 use Rattle.relay_outside.specs.declared.address.Addr.{Addr}
+use Rattle.relay_outside.specs.declared.link.LinkGiven.{LinkGiven}
 use Rattle.relay_outside.specs.declared.link.LinkGiven.TheVariants as given
 use Rattle.relay_outside.specs.declared.link.LinkCall.{LinkCall}
 use Rattle.relay_outside.specs.declared.link.LinkCall.TheVariants as call
+use Rattle.relay_outside.specs.Told.{Gained}
 use Rattle.relay_outside.specs.Link.{datagrams, sends, sent}
+use Rattle.ng_server.specs.Histories.{ControlEntry}
+use Rattle.ng_server.specs.Due.{IsNext}
+use Rattle.ng_server.specs.Turns.{is_too_long}
 use Rattle.relay_app.specs.declared.status.Status.{Status}
 use Rattle.relay_app.specs.declared.status.Status.TheVariants as status
 
--- the body is a dictionary whose first `command` is the byte string `ping`
-abbrev pub IsPing : List ℕ → Type 0
-IsPing body = (pairs : Entries) × Spells body (Dict pairs) × (value_at pairs (codes "command") ≡ Some (Bytes (codes "ping")))
+-- what a take gave
+abbrev pub gift_of : LinkCall → Option LinkGiven
+gift_of (call.Bind at done) = None
+gift_of (call.Take room gave) = Some gave
+gift_of (call.Send to bytes done) = None
 
--- the reply to a body: `pong` for a ping, and for every other body that the command isn't recognized
-abbrev pub IsReply : List ℕ → List ℕ → Type 0
-IsReply body reply =
-    (IsPing body × (reply ≡ codes "d6:result4:ponge"))
-    ⊎ ((IsPing body → ⊥) × (reply ≡ codes "d12:error-reason20:unrecognized command6:result5:errore"))
+-- what the takes gave, in order
+abbrev pub gifts : List LinkCall → List LinkGiven
+gifts = filter_map gift_of
 
--- a request: the source of a datagram that has a frame, with its cookie and its body
+-- a request: the source of a datagram that has a frame, with its cookie and its body, whether it was too long, and the
+-- moment that the timer gave for its take
 pub record Request : Type 0 where
   pub source : Addr
   pub cookie : List ℕ
   pub body : List ℕ
+  pub too_long : Bool
+  pub handed : ℕ
 
-abbrev pub request_from : Addr → Option (List ℕ × List ℕ) → Option Request
-request_from source None = None
-request_from source (Some parts) = Some (record { source = source; cookie = parts.0; body = parts.1 })
+abbrev pub request_from : Addr → Bool → ℕ → Option (List ℕ × List ℕ) → Option Request
+request_from source too_long moment None = None
+request_from source too_long moment (Some parts) = Some (record { source = source; cookie = parts.0; body = parts.1; too_long = too_long; handed = moment })
 
-abbrev pub request_of : Addr × List ℕ → Option Request
-request_of datagram = request_from datagram.0 (frame datagram.1)
+abbrev pub request_of : LinkGiven → ℕ → Option Request
+request_of (given.Datagram from bytes) moment = request_from from (is_too_long bytes) moment (frame bytes)
+request_of given.Nothing moment = None
+request_of given.End moment = None
+request_of given.Failed moment = None
 
--- the requests among the datagrams that were taken, in order
-abbrev pub requests : List LinkCall → List Request
-requests calls = filter_map request_of (datagrams calls)
+-- the request of a take, by what it gave and its moment
+abbrev pub request_at : LinkGiven × ℕ → Option Request
+request_at taken = request_of taken.0 taken.1
 
--- a send answers a request: to its source, its cookie, a space and the reply to its body
-pub record Answers (request : Request) (send : Addr × List ℕ) : Type 0 where
-  pub reply : List ℕ
-  pub says : IsReply request.body reply
-  pub to : send.0 ≡ request.source
-  pub bytes : send.1 ≡ request.cookie ++ 32 ∷ reply
+-- the requests among the datagrams that were taken, in order; the moments are those of the takes
+abbrev pub requests : List LinkCall → List ℕ → List Request
+requests calls moments = filter_map request_at (zip (gifts calls) moments)
 
--- the sends answer the requests, each one its own, in order
-abbrev pub AnswerAll : List Request → List (Addr × List ℕ) → Type 0
-AnswerAll [] [] = Unit {0}
-AnswerAll [] (send ∷ sends) = ⊥
-AnswerAll (request ∷ requests) [] = ⊥
-AnswerAll (request ∷ requests) (send ∷ sends) = Answers request send × AnswerAll requests sends
+-- the entry of a request that comes after this history: its reply is the one that is due
+pub record IsEntryOf (request : Request) (history : List ControlEntry) (entry : ControlEntry) : Type 0 where
+  pub source_is : entry.source ≡ request.source
+  pub cookie_is : entry.cookie ≡ request.cookie
+  pub body_is : entry.body ≡ request.body
+  pub length_is : entry.too_long ≡ request.too_long
+  pub next : IsNext history request.handed entry
 
--- the sends are, in order, the replies to the requests
-abbrev pub IsServed : List LinkCall → Type 0
-IsServed calls = AnswerAll (requests calls) (sends calls)
+-- the history, latest first, of these requests: one entry for each, in order
+abbrev pub IsHistory : List ControlEntry → List Request → Type 0
+IsHistory [] requests = requests ≡ []
+IsHistory (entry ∷ history) requests =
+    (before : List Request) × (last : Request) × (requests ≡ before ++ last ∷ []) × IsEntryOf last history entry × IsHistory history before
 
--- the same, but that the last request has no reply
-pub record IsServedButLast (calls : List LinkCall) : Type 0 where
-  pub front : List Request
-  pub last : Request
-  pub all : requests calls ≡ front ++ last ∷ []
-  pub served : AnswerAll front (sends calls)
+-- the replies of a history, each with its target, in order
+abbrev pub replies : List ControlEntry → List (Addr × List ℕ)
+replies [] = []
+replies (entry ∷ history) = replies history ++ (entry.source, entry.reply) ∷ []
+
+-- one moment was handed in for each take, the history is that of the requests, and the sends are its replies
+pub record Served (history : List ControlEntry) (moments : List ℕ) (calls : List LinkCall) : Type 0 where
+  pub each_take : length moments ≡ length (gifts calls)
+  pub history_is : IsHistory history (requests calls moments)
+  pub sends_are : sends calls ≡ replies history
+
+-- where a timer tells its moments, these were added
+abbrev pub Gave : Option (List ℕ) → Option (List ℕ) → List ℕ → Type 0
+Gave before after moments = Gained before after (λ more. more ≡ moments)
+
+-- every request was answered as a history demands, by moments that the timer gave
+pub record IsServed (gave : List ℕ → Type 0) (calls : List LinkCall) : Type 0 where
+  pub history : List ControlEntry
+  pub moments : List ℕ
+  pub handed : gave moments
+  pub served : Served history moments calls
 
 -- a take that gave a datagram or nothing
 abbrev pub is_turn : LinkCall → Bool
@@ -105,16 +129,16 @@ pub record Ended (calls : List LinkCall) (end failed : ℕ) : Type 0 where
   pub ends_are : ends calls ≡ end
   pub faults_are : failed_takes calls ≡ failed
 
--- what a run of at most `limit` turns did, by the status at its end
-abbrev pub DidServe : Status → ℕ → List LinkCall → Type 0
-DidServe status.Ok limit calls = IsServed calls × Ended calls 1 0 × (turns calls < limit)
-DidServe status.ControlFault limit calls = IsServed calls × Ended calls 0 1 × (turns calls < limit)
-DidServe status.TurnsSpent limit calls = IsServed calls × Ended calls 0 0 × (turns calls ≡ limit)
-DidServe status.OutOfMemory limit calls = IsServedButLast calls × Ended calls 0 0 × (turns calls ≤ limit)
-DidServe status.PrintFault limit calls = ⊥
-DidServe status.Usage limit calls = ⊥
-DidServe status.ScriptFault limit calls = ⊥
-DidServe status.ScriptRead limit calls = ⊥
+-- what a run of at most `limit` turns did, by the status at its end; memory for a reply is no cause to end
+abbrev pub DidServe : Status → ℕ → (List ℕ → Type 0) → List LinkCall → Type 0
+DidServe status.Ok limit gave calls = IsServed gave calls × Ended calls 1 0 × (turns calls < limit)
+DidServe status.ControlFault limit gave calls = IsServed gave calls × Ended calls 0 1 × (turns calls < limit)
+DidServe status.TurnsSpent limit gave calls = IsServed gave calls × Ended calls 0 0 × (turns calls ≡ limit)
+DidServe status.OutOfMemory limit gave calls = ⊥
+DidServe status.PrintFault limit gave calls = ⊥
+DidServe status.Usage limit gave calls = ⊥
+DidServe status.ScriptFault limit gave calls = ⊥
+DidServe status.ScriptRead limit gave calls = ⊥
 
 -- the line of totals, for these numbers of turns, datagrams and replies
 abbrev pub totals_line : ℕ → ℕ → ℕ → List ℕ
@@ -127,7 +151,7 @@ abbrev pub totals : List LinkCall → List ℕ
 totals calls = totals_line (turns calls) (length (datagrams calls)) (length (sent calls))
 
 -- a run that was bound: the status at its end, unless a fault of the sink took its place
-pub record DidRun (answer : Status) (limit : ℕ) (calls : List LinkCall) : Type 0 where
+pub record DidRun (answer : Status) (limit : ℕ) (gave : List ℕ → Type 0) (calls : List LinkCall) : Type 0 where
   pub ended : Status
-  pub did : DidServe ended limit calls
+  pub did : DidServe ended limit gave calls
   pub told : (answer ≡ ended) ⊎ (answer ≡ status.PrintFault)

@@ -1,42 +1,19 @@
 -- What one control turn, and several in a row, add to what a run took and sent.
-use Rattle.std.specs.Prelude.{◌≡◌, ℕ, ◌+◌, List, [], ◌∷◌, ◌++◌, length, Bool, true, false, Option, None, Some}
-use Rattle.ng_frame.specs.Frame.{frame}
-use Rattle.relay_outside.specs.declared.address.Addr.{Addr}
+use Rattle.std.specs.Prelude.{◌≡◌, ℕ, ◌+◌, List, [], ◌∷◌, length, Option, None, Some}
+use Rattle.relay_outside.specs.Told.{Gained}
+use Rattle.relay_outside.specs.declared.link.LinkGiven.{LinkGiven}
 use Rattle.relay_outside.specs.declared.link.LinkCall.{LinkCall}
-use Rattle.relay_outside.specs.declared.link.LinkCall.TheVariants as call
-use Rattle.relay_outside.specs.Link.{datagrams, sent}
+use Rattle.relay_outside.specs.Link.{datagrams, sends, sent}
+use Rattle.ng_server.specs.Histories.{ControlEntry}
+use Rattle.ng_server.specs.Servers.{StandsFor}
+use Rattle.ng_server.specs.Turns.{with_entry}
+use Rattle.ng_server.specs.declared.server.Server.{Server}
+use Rattle.ng_server.specs.declared.server.ControlTurn.{ControlTurn}
+use Rattle.ng_server.specs.declared.server.ControlTurn.TheVariants as turn
 use Rattle.relay_app.specs.declared.status.Status.{Status}
 use Rattle.relay_app.specs.declared.status.Status.TheVariants as status
-use Rattle.relay_app.specs.declared.control.Turned.{Turned}
-use Rattle.relay_app.specs.declared.control.Turned.TheVariants as turned
 use Rattle.relay_app.specs.declared.totals.Counts.{Counts}
-use Rattle.relay_app.specs.Served.{IsReply, IsServed, IsServedButLast, Ended, DidServe, turns}
-
--- a datagram with a frame got this one send, answered so
-pub record DidSend (from : Addr) (datagram : List ℕ) (done : Bool) (calls : List LinkCall) : Type 0 where
-  pub cookie : List ℕ
-  pub body : List ℕ
-  pub reply : List ℕ
-  pub framed : frame datagram ≡ Some (cookie, body)
-  pub says : IsReply body reply
-  pub calls_are : calls ≡ call.Send from (cookie ++ 32 ∷ reply) done ∷ []
-
--- a datagram with a frame got no send
-pub record SentNothing (datagram : List ℕ) (calls : List LinkCall) : Type 0 where
-  pub cookie : List ℕ
-  pub body : List ℕ
-  pub framed : frame datagram ≡ Some (cookie, body)
-  pub calls_are : calls ≡ []
-
--- the calls for a datagram that was taken
-abbrev pub DidReply : Addr → List ℕ → Turned → List LinkCall → Type 0
-DidReply from datagram turned.Replied calls = DidSend from datagram true calls
-DidReply from datagram turned.ReplyFault calls = DidSend from datagram false calls
-DidReply from datagram turned.Silent calls = (frame datagram ≡ None) × (calls ≡ [])
-DidReply from datagram turned.OutOfMemory calls = SentNothing datagram calls
-DidReply from datagram turned.Nothing calls = ⊥
-DidReply from datagram turned.End calls = ⊥
-DidReply from datagram turned.ReadFault calls = ⊥
+use Rattle.relay_app.specs.Served.{Request, gifts, request_of, IsEntryOf, replies, Served, Gave, Ended, DidServe, turns}
 
 -- the calls have these counts
 pub record Counted (counts : Counts) (calls : List LinkCall) : Type 0 where
@@ -48,59 +25,84 @@ abbrev pub counts_of : ℕ → ℕ → ℕ → Counts
 counts_of turns datagrams replies = record { turns = turns; datagrams = datagrams; replies = replies }
 
 -- what a control turn counts
-abbrev pub turn_counts : Turned → Counts
-turn_counts turned.Replied = counts_of 1 1 1
-turn_counts turned.ReplyFault = counts_of 1 1 0
-turn_counts turned.Silent = counts_of 1 1 0
-turn_counts turned.Nothing = counts_of 1 0 0
-turn_counts turned.End = counts_of 0 0 0
-turn_counts turned.ReadFault = counts_of 0 0 0
-turn_counts turned.OutOfMemory = counts_of 1 1 0
+abbrev pub turn_counts : ControlTurn → Counts
+turn_counts turn.Replied = counts_of 1 1 1
+turn_counts turn.ReplyFault = counts_of 1 1 0
+turn_counts turn.Silent = counts_of 1 1 0
+turn_counts turn.Nothing = counts_of 1 0 0
+turn_counts turn.End = counts_of 0 0 0
+turn_counts turn.ReadFault = counts_of 0 0 0
 
 abbrev pub sum_of : Counts → Counts → Counts
 sum_of a b = counts_of (a.turns + b.turns) (a.datagrams + b.datagrams) (a.replies + b.replies)
 
 -- the status with which a run ends after a control turn, where it does not go on
-abbrev pub status_after : Turned → Option Status
-status_after turned.Replied = None
-status_after turned.ReplyFault = None
-status_after turned.Silent = None
-status_after turned.Nothing = None
-status_after turned.End = Some status.Ok
-status_after turned.ReadFault = Some status.ControlFault
-status_after turned.OutOfMemory = Some status.OutOfMemory
+abbrev pub status_after : ControlTurn → Option Status
+status_after turn.Replied = None
+status_after turn.ReplyFault = None
+status_after turn.Silent = None
+status_after turn.Nothing = None
+status_after turn.End = Some status.Ok
+status_after turn.ReadFault = Some status.ControlFault
 
--- how far the requests are answered after a control turn, and which takes ended the run
-abbrev pub IsTurnServed : Turned → List LinkCall → Type 0
-IsTurnServed turned.Replied calls = IsServed calls × Ended calls 0 0
-IsTurnServed turned.ReplyFault calls = IsServed calls × Ended calls 0 0
-IsTurnServed turned.Silent calls = IsServed calls × Ended calls 0 0
-IsTurnServed turned.Nothing calls = IsServed calls × Ended calls 0 0
-IsTurnServed turned.End calls = IsServed calls × Ended calls 1 0
-IsTurnServed turned.ReadFault calls = IsServed calls × Ended calls 0 1
-IsTurnServed turned.OutOfMemory calls = IsServedButLast calls × Ended calls 0 0
+-- how many takes of a control turn were answered that the link gives no more, and how many failed
+abbrev pub end_count : ControlTurn → ℕ
+end_count turn.Replied = 0
+end_count turn.ReplyFault = 0
+end_count turn.Silent = 0
+end_count turn.Nothing = 0
+end_count turn.End = 1
+end_count turn.ReadFault = 0
 
--- the calls of one control turn
-abbrev pub DidTurn : Turned → List LinkCall → Type 0
-DidTurn turned calls = Counted (turn_counts turned) calls × IsTurnServed turned calls
+abbrev pub fault_count : ControlTurn → ℕ
+fault_count turn.Replied = 0
+fault_count turn.ReplyFault = 0
+fault_count turn.Silent = 0
+fault_count turn.Nothing = 0
+fault_count turn.End = 0
+fault_count turn.ReadFault = 1
+
+-- the entry that a turn made is that of its request, and it made none without one
+abbrev pub IsMade : List ControlEntry → Option Request → Option ControlEntry → Type 0
+IsMade history None None = Unit {0}
+IsMade history None (Some entry) = ⊥
+IsMade history (Some request) None = ⊥
+IsMade history (Some request) (Some entry) = IsEntryOf request history entry
+
+-- the calls of one control turn after this history, with this moment for its take
+pub record OneTurn (history : List ControlEntry) (now : ℕ) (answer : ControlTurn) (made : Option ControlEntry) (calls : List LinkCall) : Type 0 where
+  pub gave : LinkGiven
+  pub gifts_are : gifts calls ≡ gave ∷ []
+  pub made_is : IsMade history (request_of gave now) made
+  pub sends_are : sends calls ≡ replies (with_entry [] made)
+  pub counted : Counted (turn_counts answer) calls
+  pub ended : Ended calls (end_count answer) (fault_count answer)
 
 -- calls after which the run goes on: every request is answered, no take gave the end or failed
-pub record GoesOn (counts : Counts) (calls : List LinkCall) : Type 0 where
-  pub served : IsServed calls
+pub record GoesOn (history : List ControlEntry) (moments : List ℕ) (counts : Counts) (calls : List LinkCall) : Type 0 where
+  pub served : Served history moments calls
   pub ended : Ended calls 0 0
   pub counted : Counted counts calls
 
+-- a server between two control turns of a run: it stands for the history of the run so far
+pub record Running (server : Server) (counts : Counts) (asked_before asked : Option (List ℕ)) (before after : Option (List LinkCall)) : Type 0 where
+  pub history : List ControlEntry
+  pub moments : List ℕ
+  pub stands : StandsFor server history
+  pub gave : Gave asked_before asked moments
+  pub calls : Gained before after (GoesOn history moments counts)
+
 -- the calls of all control turns
-pub record DidLoop (limit : ℕ) (answer : Status) (counts : Counts) (calls : List LinkCall) : Type 0 where
+pub record DidLoop (limit : ℕ) (gave : List ℕ → Type 0) (answer : Status) (counts : Counts) (calls : List LinkCall) : Type 0 where
   pub counted : Counted counts calls
-  pub did : DidServe answer limit calls
+  pub did : DidServe answer limit gave calls
 
 -- the statuses with which the control turns end
 abbrev pub IsLoopEnd : Status → Type 0
 IsLoopEnd status.Ok = Unit {0}
 IsLoopEnd status.ControlFault = Unit {0}
 IsLoopEnd status.TurnsSpent = Unit {0}
-IsLoopEnd status.OutOfMemory = Unit {0}
+IsLoopEnd status.OutOfMemory = ⊥
 IsLoopEnd status.PrintFault = ⊥
 IsLoopEnd status.Usage = ⊥
 IsLoopEnd status.ScriptFault = ⊥

@@ -4,9 +4,7 @@
 #![tactic(auto)]
 
 mod app;
-mod control;
 mod numbers;
-mod reply;
 mod serve;
 mod status;
 mod totals;

@@ -14,11 +14,23 @@ const CALLER: Addr = Addr {
 
 const SERVE: [&str; 2] = ["serve", "--interface=203.0.113.1"];
 
-/// Runs the words over this link and sink, and devices in memory beside them.
+/// Runs the words over this link and sink, and a timer that stands still.
 fn run_over<N: ControlLink, O: LineSink>(
     alloc: Global,
     words: &[&str],
     link: &mut N,
+    sink: &mut O,
+) -> Status {
+    let mut timer = HandTimer::new(alloc, Vec::new(alloc));
+    run_at(alloc, words, link, &mut timer, sink)
+}
+
+/// Runs the words over this link, timer and sink, and devices in memory beside them.
+fn run_at<N: ControlLink, O: LineSink>(
+    alloc: Global,
+    words: &[&str],
+    link: &mut N,
+    timer: &mut HandTimer,
     sink: &mut O,
 ) -> Status {
     run(
@@ -28,7 +40,7 @@ fn run_over<N: ControlLink, O: LineSink>(
         link,
         &mut SteadyMaker::new(alloc, Vec::new(alloc)),
         &mut SteadyKeys::new(alloc),
-        &mut HandTimer::new(alloc, Vec::new(alloc)),
+        timer,
         &HandClock::new(0),
         &OpenGate::new(),
         &mut SteadyLines::new(alloc, Vec::new(alloc)),
@@ -63,14 +75,17 @@ fn each_datagram_gets_its_reply(rt: HostRuntime) -> Result<(), Fail> {
         ),
         (
             b"2 d3:fooe",
-            b"2 d12:error-reason20:unrecognized command6:result5:errore",
+            b"2 d12:error-reason20:malformed dictionary6:result5:errore",
+        ),
+        (b"3 de", b"3 d12:error-reason10:no command6:result5:errore"),
+        (
+            b"4 d7:command5:querye",
+            b"4 d12:error-reason29:missing or wrong key: call-id6:result5:errore",
         ),
         (
-            b"3 ",
-            b"3 d12:error-reason20:unrecognized command6:result5:errore",
+            b"5 d7:command4:liste",
+            b"5 d12:error-reason20:unrecognized command6:result5:errore",
         ),
-        (b"4 d3:foo3:bar7:command4:pinge", b"4 d6:result4:ponge"),
-        (b"5 d7:command4:ping7:command3:fooe", b"5 d6:result4:ponge"),
     ];
     for (datagram, want) in cases {
         let mut link = link_of(alloc, &[datagram])?;
@@ -87,6 +102,32 @@ fn each_datagram_gets_its_reply(rt: HostRuntime) -> Result<(), Fail> {
             sink.calls(),
             b"turns 1 datagrams 1 replies 1 sent 0 refused 0 lost 0\n",
         );
+    }
+    Ok(())
+}
+
+#[test]
+fn the_timer_gives_one_moment_for_each_take(rt: HostRuntime) -> Result<(), Fail> {
+    let alloc = rt.alloc();
+    let kept = b"5 d6:result4:ponge".as_slice();
+    let anew = b"5 d12:error-reason20:unrecognized command6:result5:errore".as_slice();
+    // the moments, and the reply to the third of three datagrams with one cookie
+    let cases: [([u64; 3], &[u8]); 5] = [
+        ([0, 0, 59_999], kept),
+        ([0, 59_999, 60_000], anew),
+        ([7, 60_006, 60_006], kept),
+        ([7, 0, 60_007], anew),
+        ([60_000, 0, 119_999], kept),
+    ];
+    for (moments, want) in cases {
+        let ping = b"5 d7:command4:pinge".as_slice();
+        let other = b"5 d7:command3:fooe".as_slice();
+        let mut link = link_of(alloc, &[ping, other, other])?;
+        let mut timer = HandTimer::new(alloc, moments.to_vec(alloc)?);
+        let mut sink = SteadySink::new(alloc);
+        let status = run_at(alloc, &SERVE, &mut link, &mut timer, &mut sink);
+        assert_eq!(rt; status, Status::Ok);
+        assert!(rt; link.last_sent() == Some((CALLER, want)), "{moments:?}");
     }
     Ok(())
 }

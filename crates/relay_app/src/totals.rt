@@ -2,8 +2,8 @@ ghost use Rattle.std.specs.Prelude.{◌≡◌, ◌+◌, ◌≤◌, ◌<◌, ◌^
 ghost use Rattle.relay_app.specs.Served.{totals_line};
 ghost use Rattle.relay_app.specs.Turned.{sum_of, turn_counts};
 
-use crate::control::Turned;
 use ng_bencode::Text;
+use ng_server::ControlTurn;
 
 /// How many turns a run made, how many datagrams it took and how many replies it sent.
 #[derive(Clone, Copy)]
@@ -18,10 +18,10 @@ pub(crate) struct Counts {
 
 impl Counts {
     /// The counts with one more control turn.
-    pub(crate) fn with(self, turned: Turned) -> Counts
+    pub(crate) fn with(self, turn: ControlTurn) -> Counts
         requires few { self.turns < 2 ^ 63 }
         requires fewer { (self.replies ≤ self.datagrams) × (self.datagrams ≤ self.turns) }
-        ensures sum { result ≡ sum_of self (turn_counts turned) }
+        ensures sum { result ≡ sum_of self (turn_counts turn) }
         ensures order { (result.replies ≤ result.datagrams) × (result.datagrams ≤ result.turns) }
         ensures next { result.turns ≤ self.turns + 1 }
     {
@@ -30,23 +30,23 @@ impl Counts {
             datagrams,
             replies,
         } = self;
-        match turned {
-            Turned::Replied => Counts {
+        match turn {
+            ControlTurn::Replied => Counts {
                 turns: turns + 1,
                 datagrams: datagrams + 1,
                 replies: replies + 1,
             },
-            Turned::ReplyFault | Turned::Silent | Turned::OutOfMemory => Counts {
+            ControlTurn::ReplyFault | ControlTurn::Silent => Counts {
                 turns: turns + 1,
                 datagrams: datagrams + 1,
                 replies,
             },
-            Turned::Nothing => Counts {
+            ControlTurn::Nothing => Counts {
                 turns: turns + 1,
                 datagrams,
                 replies,
             },
-            Turned::End | Turned::ReadFault => self,
+            ControlTurn::End | ControlTurn::ReadFault => self,
         }
     }
 }
