@@ -1,0 +1,5 @@
+pub mod Cells
+pub mod Keyed
+pub mod Learning
+pub mod Deeds
+pub mod Asked
