@@ -1,0 +1,45 @@
+-- What follows the cookie in a reply.
+use Rattle.std.specs.Prelude.{ℕ, ◌∷◌, List, [], Option, Some, None, codes}
+use Rattle.relay_outside.specs.declared.settings.Config.{Config}
+use Rattle.ng_bencode.specs.Tree.{Tree}
+use Rattle.ng_bencode.specs.Spells.{spelling}
+use Rattle.ng_reply.specs.declared.code.ErrorCode.{ErrorCode}
+use Rattle.ng_reply.specs.Replies.{pong_reply, ok_reply, sdp_reply, warning_reply, error_reply}
+use Rattle.port_pool.specs.Reports.{LegReport}
+use Rattle.offer_answer.specs.Rounds.{Round}
+
+-- what is told of a call: the moments of its first and of its last accepted offer or answer, these, and its legs
+pub record Report : Type 0 where
+  pub created : ℕ
+  pub last_signal : ℕ
+  pub rounds : List Round
+  pub legs : List LegReport
+
+pub data Reply : Type 0 where
+  Pong : Reply
+  Done : Reply
+  Warned : ErrorCode → Reply
+  Described : (sdp : List ℕ) → Reply
+  Reported : Report → Reply
+  Listed : (call_ids : List (List ℕ)) → Reply
+  Fault : ErrorCode → Reply
+
+-- PLACEHOLDER until reports are written; nothing may unfold it
+unfoldable pub report_tree : Config → Report → Tree
+report_tree config told = ok_reply
+
+-- PLACEHOLDER until reports are written; nothing may unfold it
+unfoldable pub listing_tree : List (List ℕ) → Tree
+listing_tree call_ids = ok_reply
+
+abbrev pub tree_of_reply : Config → Reply → Tree
+tree_of_reply config Pong = pong_reply
+tree_of_reply config Done = ok_reply
+tree_of_reply config (Warned code) = warning_reply code
+tree_of_reply config (Described sdp) = sdp_reply sdp
+tree_of_reply config (Reported told) = report_tree config told
+tree_of_reply config (Listed call_ids) = listing_tree call_ids
+tree_of_reply config (Fault code) = error_reply code
+
+unfoldable pub reply_text : Config → Reply → List ℕ
+reply_text config reply = spelling (tree_of_reply config reply)
