@@ -63,6 +63,11 @@ round_of number _ = []
 abbrev pub rounds : List BoardEntry → ℕ → List Round
 rounds h number = flat_map (λ e. round_of number (act e)) h
 
+-- the rounds before an offer of that call-id
+abbrev pub rounds_of_call : List BoardEntry → Option Call → List Round
+rounds_of_call h None = []
+rounds_of_call h (Some of) = rounds h of.number
+
 abbrev pub is_round : ℕ → Act → Bool
 is_round number (Offered o) = o.of.number == number
 is_round number (Answered a) = a.of.number == number

@@ -13,7 +13,7 @@ use Rattle.offer_answer.specs.Rounds.{Round, AnswerAsk, Demand, drawn_for}
 use Rattle.offer_answer.specs.Plan as plan
 use Rattle.call_board.specs.Acts as act
 use Rattle.call_board.specs.Acts.{Call, Act, Given, Control, BoardEvent, Turn, Tick, Stop, BoardEntry}
-use Rattle.call_board.specs.Calls.{live, find_call, rounds}
+use Rattle.call_board.specs.Calls.{live, find_call, rounds, rounds_of_call}
 use Rattle.call_board.specs.Kept.{kept}
 use Rattle.call_board.specs.Asked.{Reads, asked}
 use Rattle.call_board.specs.Answers.{offer_ask, answer_ask, answering_unless, Answered}
@@ -43,11 +43,6 @@ pub record DrawsAll (given : Given) (keys : ℕ) : Type 0 where
 pub record DrawFails (given : Given) (keys : ℕ) : Type 0 where
   pub some_are_left : length given.draws < keys
   pub then_fails : given.draw_failed ≡ true
-
--- the rounds before an offer of that call-id
-abbrev pub rounds_of_call : List BoardEntry → Option Call → List Round
-rounds_of_call h None = []
-rounds_of_call h (Some of) = rounds h of.number
 
 -- what the offer of a datagram demands
 abbrev pub demanded_by : List BoardEntry → Control → Result Said ErrorCode → Demand
