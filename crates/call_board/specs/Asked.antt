@@ -1,0 +1,77 @@
+-- What a control datagram asks: its command, or the first error that its bytes alone have.
+use Rattle.std.specs.Prelude.{◌≡◌, ℕ, Bool, true, false, List, [], Option, Some, None, Result, Ok, Err}
+use Rattle.ng_bencode.specs.Tree.{Dict, Entries}
+use Rattle.ng_bencode.specs.Spells.{Spells}
+use Rattle.ng_command.specs.declared.fault.CommandFault.{CommandFault}
+use Rattle.ng_command.specs.declared.fault.CommandFault.TheVariants as fault
+use Rattle.ng_command.specs.declared.fault.KeyName.TheVariants.{Tls}
+use Rattle.ng_command.specs.Said.{Said, Ping, Offer, Answer, Delete, Query, Listing}
+use Rattle.ng_command.specs.Reading.{told}
+use Rattle.ng_reply.specs.declared.code.ErrorCode.{ErrorCode}
+use Rattle.ng_reply.specs.declared.code.ErrorCode.TheVariants.{E1, E2, E3, E4, E5, E6, E7, E17, E18}
+use Rattle.ng_reply.specs.declared.code.SdpPart.TheVariants as part
+use Rattle.sdp_text.specs.Lines.{lines_of}
+use Rattle.sdp_text.specs.Reading.{fault_in}
+use Rattle.sdp_text.specs.declared.fault.SdpFault.{SdpFault}
+use Rattle.sdp_text.specs.declared.fault.SdpFault.TheVariants as sdp
+use Rattle.histories.specs.Words.{or_else}
+
+-- the body spells this dictionary, or it spells none
+abbrev pub Reads : List ℕ → Option Entries → Type 0
+Reads body (Some pairs) = Spells body (Dict pairs)
+Reads body None = (pairs : Entries) → Spells body (Dict pairs) → ⊥
+
+abbrev pub code_of : CommandFault → ErrorCode
+code_of fault.Malformed = E1
+code_of fault.NoCommand = E2
+code_of fault.Unrecognized = E3
+code_of (fault.Key name) = E4 name
+code_of (fault.Unsupported name) = E5 name
+code_of fault.OutOfMemory = E17
+
+abbrev pub or_code : Result Said CommandFault → Result Said ErrorCode
+or_code (Ok says) = Ok says
+or_code (Err cause) = Err (code_of cause)
+
+-- the command of a datagram, or the error of its length, its dictionary or its keys
+abbrev pub command_in : Bool → Option Entries → Result Said ErrorCode
+command_in true pairs = Err E18
+command_in false None = Err E1
+command_in false (Some pairs) = or_code (told pairs)
+
+abbrev pub sdp_code : SdpFault → ErrorCode
+sdp_code (sdp.Line n) = E6 n
+sdp_code (sdp.Address n) = E7 (part.Line n)
+sdp_code (sdp.PortCount n) = E7 (part.Line n)
+sdp_code (sdp.TooManyMedia n) = E7 (part.Media n)
+sdp_code sdp.Dtls = E5 Tls
+sdp_code sdp.OutOfMemory = E17
+
+abbrev pub code_if : Option SdpFault → Option ErrorCode
+code_if None = None
+code_if (Some cause) = Some (sdp_code cause)
+
+-- the error of a description
+unfoldable pub sdp_error : List ℕ → Option ErrorCode
+sdp_error text = code_if (fault_in (lines_of text))
+
+-- the error of a command's description, where it has one
+abbrev pub description_error : Said → Option ErrorCode
+description_error Ping = None
+description_error (Offer call_id from_tag sdp options) = sdp_error sdp
+description_error (Answer call_id from_tag to_tag sdp options) = sdp_error sdp
+description_error (Delete call_id from_tag fatal) = None
+description_error (Query call_id) = None
+description_error (Listing limit) = None
+
+abbrev pub unless : Option ErrorCode → Said → Result Said ErrorCode
+unless None says = Ok says
+unless (Some code) says = Err code
+
+abbrev pub asked_by : Result Said ErrorCode → Result Said ErrorCode
+asked_by (Err code) = Err code
+asked_by (Ok says) = unless (description_error says) says
+
+-- the command of a datagram, or the first error of its bytes
+unfoldable pub asked : Bool → Option Entries → Result Said ErrorCode
+asked too_long pairs = asked_by (command_in too_long pairs)

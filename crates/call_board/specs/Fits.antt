@@ -1,0 +1,121 @@
+-- Which entries a board's history demands: what a datagram says, what the outside gave in its turn, and what it is answered.
+use Rattle.std.specs.Prelude.{◌≡◌, ℕ, ◌*◌, ◌<◌, Bool, true, false, not, List, [], ◌∷◌, ◌++◌, map, length, nat_lt, replicate, Option, Some, None, IsSome, Result, Ok, Err, filter, if◌then◌else◌}
+use Rattle.std.specs.List.{list_any}
+use Rattle.relay_outside.specs.declared.settings.Config.{Config}
+use Rattle.ng_frame.specs.Frame.{frame}
+use Rattle.ng_command.specs.Said.{Said, Ping, Offer, Answer, Delete, Query, Listing}
+use Rattle.ng_reply.specs.declared.code.ErrorCode.{ErrorCode}
+use Rattle.histories.specs.Words.{In, has}
+use Rattle.port_pool.specs.declared.holder.Side.{Side}
+use Rattle.port_pool.specs.declared.signal.LegSignal.{LegSignal}
+use Rattle.port_pool.specs.Signals.{NewKey, signal_at}
+use Rattle.offer_answer.specs.Rounds.{Round, AnswerAsk, Demand, drawn_for}
+use Rattle.offer_answer.specs.Plan as plan
+use Rattle.call_board.specs.Acts as act
+use Rattle.call_board.specs.Acts.{Call, Act, Given, Control, BoardEvent, Turn, Tick, Stop, BoardEntry}
+use Rattle.call_board.specs.Calls.{live, find_call, rounds, rounds_of_call}
+use Rattle.call_board.specs.Kept.{kept}
+use Rattle.call_board.specs.Asked.{Reads, asked}
+use Rattle.call_board.specs.Answers.{offer_ask, answer_ask, answering_unless, Answered}
+
+-- What the outside gave.
+
+-- an offer opens two ports for each pair, in the order of leases, up to the first open that fails
+pub record OpensAll (given : Given) (pairs : ℕ) : Type 0 where
+  pub all_opened : given.opens ≡ replicate (2 * pairs) true
+
+pub record OpenFails (given : Given) (pairs : ℕ) : Type 0 where
+  pub opened : ℕ
+  pub some_are_left : opened < 2 * pairs
+  pub then_fails : given.opens ≡ replicate opened true ++ false ∷ []
+
+-- nothing was opened or drawn
+pub record GivesNothing (given : Given) : Type 0 where
+  pub no_opens : given.opens ≡ []
+  pub no_draws : given.draws ≡ []
+  pub none_failed : given.draw_failed ≡ false
+
+-- it draws a key for each key that it demands, up to the first draw that fails
+pub record DrawsAll (given : Given) (keys : ℕ) : Type 0 where
+  pub all_drawn : length given.draws ≡ keys
+  pub none_failed : given.draw_failed ≡ false
+
+pub record DrawFails (given : Given) (keys : ℕ) : Type 0 where
+  pub some_are_left : length given.draws < keys
+  pub then_fails : given.draw_failed ≡ true
+
+-- what the offer of a datagram demands
+abbrev pub demanded_by : List BoardEntry → Control → Result Said ErrorCode → Demand
+demanded_by h c (Ok (Offer id from_tag sdp options)) =
+    plan.demand (rounds_of_call h (find_call h id)) (offer_ask from_tag sdp options c.chosen)
+demanded_by h c _ = record { pairs = []; keys = []; dropped = [] }
+
+abbrev pub demanded : List BoardEntry → Control → Demand
+demanded h c = demanded_by h c (asked c.too_long c.pairs)
+
+abbrev pub GivesUndone : Demand → Given → Bool → Type 0
+GivesUndone demand given true = OpenFails given (length demand.pairs) × (given.draws ≡ []) × (given.draw_failed ≡ false)
+GivesUndone demand given false = OpensAll given (length demand.pairs) × DrawFails given (length demand.keys)
+
+-- the turn of a datagram that does this opened and drew so
+abbrev pub GivesFor : Demand → Given → Act → Type 0
+GivesFor demand given (act.Offered offer) = OpensAll given (length demand.pairs) × DrawsAll given (length demand.keys) × (given.report ≡ None)
+GivesFor demand given (act.Undone code leases draws) = GivesUndone demand given (list_any not given.opens) × (given.report ≡ None)
+GivesFor demand given (act.Queried of) = GivesNothing given × IsSome given.report
+GivesFor demand given act.Starved = GivesNothing given
+GivesFor demand given act.Repeated = GivesNothing given × (given.report ≡ None)
+GivesFor demand given (act.Failed code) = GivesNothing given × (given.report ≡ None)
+GivesFor demand given (act.Answered answer) = GivesNothing given × (given.report ≡ None)
+GivesFor demand given (act.Deleted of) = GivesNothing given × (given.report ≡ None)
+GivesFor demand given act.Told = GivesNothing given × (given.report ≡ None)
+
+abbrev pub HearsAnswer : List BoardEntry → AnswerAsk → Option Call → Type 0
+HearsAnswer h ask None = ask.chosen ≡ []
+HearsAnswer h ask (Some of) = plan.AnswerHeard (rounds h of.number) ask
+
+-- the chosen keys of a datagram are those of its description
+abbrev pub Hears : List BoardEntry → Control → Result Said ErrorCode → Type 0
+Hears h c (Ok (Offer id from_tag sdp options)) = plan.OfferHeard (offer_ask from_tag sdp options c.chosen)
+Hears h c (Ok (Answer id from_tag to_tag sdp options)) = HearsAnswer h (answer_ask from_tag to_tag sdp options c.chosen) (find_call h id)
+Hears h c (Ok Ping) = c.chosen ≡ []
+Hears h c (Ok (Delete id from_tag fatal)) = c.chosen ≡ []
+Hears h c (Ok (Query id)) = c.chosen ≡ []
+Hears h c (Ok (Listing limit)) = c.chosen ≡ []
+Hears h c (Err code) = c.chosen ≡ []
+
+abbrev pub answer_of : Control → Answered
+answer_of c = record { bytes = c.reply; act = c.act }
+
+-- the turn of a datagram is the one that the board's history demands at that moment
+pub record FitsControl (config : Config) (h : List BoardEntry) (now : ℕ) (c : Control) : Type 0 where
+  pub framed : frame (c.cookie ++ 32 ∷ c.body) ≡ Some (c.cookie, c.body)
+  pub length_is : c.too_long ≡ nat_lt 16384 (length (c.cookie ++ 32 ∷ c.body))
+  pub reads : Reads c.body c.pairs
+  pub hears : Hears h c (asked c.too_long c.pairs)
+  pub gives : GivesFor (demanded h c) c.given c.act
+  pub answers : answer_of c ≡ answering_unless config h c (kept h c.source c.cookie now)
+
+-- of the live calls those that the entry names, in order
+abbrev pub named_live : List BoardEntry → List Call → List Call
+named_live h calls = filter (λ c. has (map (λ d. d.number) calls) c.number) (live h)
+
+abbrev pub FitsAt : Config → List BoardEntry → ℕ → BoardEvent → Type 0
+FitsAt config h now (Turn c) = FitsControl config h now c
+FitsAt config h now (Tick calls) = calls ≡ named_live h calls
+FitsAt config h now (Stop calls) = calls ≡ live h
+
+-- the entry is one that the board's history demands
+abbrev pub FitsBoard : Config → List BoardEntry → BoardEntry → Type 0
+FitsBoard config h e = FitsAt config h e.moment e.event
+
+-- each entry of the history is one that it demands
+abbrev pub IsFitting : Config → List BoardEntry → Type 0
+IsFitting config [] = Unit {0}
+IsFitting config (e ∷ h) = FitsBoard config h e × IsFitting config h
+
+-- after a fitting history, a signal names for a leg no key but one that an offer of the call drew for that leg
+abbrev pub NamesDrawnKeys : Config → Type 0
+NamesDrawnKeys config =
+    (h : List BoardEntry) (call : ℕ) (ask : AnswerAsk) (section : ℕ) (side : Side) (s : LegSignal) (number : ℕ) →
+    IsFitting config h → signal_at (plan.signal (rounds h call) ask) section side ≡ Some s → s.outbound ≡ Some number →
+    (key : NewKey) × In key (drawn_for (rounds h call)) × (key.number ≡ number) × (key.section ≡ section) × (key.side ≡ side)

@@ -1,0 +1,9 @@
+pub mod Acts
+pub mod Calls
+pub mod Pairs
+pub mod Kept
+pub mod Reports
+pub mod Replies
+pub mod Asked
+pub mod Answers
+pub mod Fits

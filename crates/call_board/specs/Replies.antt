@@ -1,0 +1,29 @@
+-- What follows the cookie in a reply.
+use Rattle.std.specs.Prelude.{ℕ, ◌∷◌, List, [], Option, Some, None, codes}
+use Rattle.relay_outside.specs.declared.settings.Config.{Config}
+use Rattle.ng_bencode.specs.Tree.{Tree}
+use Rattle.ng_bencode.specs.Spells.{spelling}
+use Rattle.ng_reply.specs.declared.code.ErrorCode.{ErrorCode}
+use Rattle.ng_reply.specs.Replies.{pong_reply, ok_reply, sdp_reply, warning_reply, error_reply}
+use Rattle.call_board.specs.Reports.{Report, report_tree, listing_tree}
+
+pub data Reply : Type 0 where
+  Pong : Reply
+  Done : Reply
+  Warned : ErrorCode → Reply
+  Described : (sdp : List ℕ) → Reply
+  Reported : Report → Reply
+  Listed : (call_ids : List (List ℕ)) → Reply
+  Fault : ErrorCode → Reply
+
+abbrev pub tree_of_reply : Config → Reply → Tree
+tree_of_reply config Pong = pong_reply
+tree_of_reply config Done = ok_reply
+tree_of_reply config (Warned code) = warning_reply code
+tree_of_reply config (Described sdp) = sdp_reply sdp
+tree_of_reply config (Reported told) = report_tree config told
+tree_of_reply config (Listed call_ids) = listing_tree call_ids
+tree_of_reply config (Fault code) = error_reply code
+
+unfoldable pub reply_text : Config → Reply → List ℕ
+reply_text config reply = spelling (tree_of_reply config reply)

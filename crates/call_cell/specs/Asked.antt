@@ -1,0 +1,91 @@
+-- When a call is due to end, what is told of its legs, and which event a cell's history demands.
+use Rattle.std.specs.Prelude.{◌≡◌, ℕ, ◌+◌, Bool, true, false, ◌&&◌, ◌==◌, nat_le, List, Option, Some, None, is_some, filter, filter_map, count_by, if◌then◌else◌}
+use Rattle.std.specs.List.{list_any}
+use Rattle.relay_outside.specs.declared.settings.Config.{Config}
+use Rattle.rtp_packet.specs.declared.head.Half.{Half}
+use Rattle.rtp_packet.specs.declared.head.Half.TheVariants.{Rtp, Rtcp}
+use Rattle.srtp_sources.specs.Notes.{is_half}
+use Rattle.histories.specs.Words.{first, final}
+use Rattle.port_pool.specs.declared.holder.Holder.{Holder}
+use Rattle.port_pool.specs.declared.signal.LegSignal.{LegSignal}
+use Rattle.port_pool.specs.Reports.{LegReport}
+use Rattle.call_cell.specs.declared.outcome.Outcome.{Outcome}
+use Rattle.call_cell.specs.declared.outcome.Outcome.TheVariants as outcomes
+use Rattle.call_cell.specs.Cells.{CellEvent, CellEntry, Prepare, Commit, Relay, Expire, Read, End, Sending, legs, life, in_force, since_end, is_accepted, relayed, accepted_of, prepared_call}
+use Rattle.call_cell.specs.Learning.{learned, endpoint_by}
+use Rattle.call_cell.specs.Deeds.{deed}
+
+-- Timeouts.
+
+abbrev pub commits : CellEvent → Bool
+commits (Commit signal) = true
+commits _ = false
+
+-- a commit or an accepted packet
+abbrev pub is_activity : CellEvent → Bool
+is_activity (Commit signal) = true
+is_activity (Relay r) = is_accepted r.deed.outcome
+is_activity _ = false
+
+-- the entry is at least so long ago
+abbrev pub is_past : ℕ → ℕ → Option CellEntry → Bool
+is_past now limit None = false
+is_past now limit (Some e) = nat_le (e.moment + limit) now
+
+-- a committed call without a commit or an accepted packet for so long, or one never committed that began so long ago
+unfoldable pub is_due : Config → List CellEntry → ℕ → Bool
+is_due config h now =
+    if list_any (λ e. commits e.event) h then is_past now config.timeout_ms (first (filter (λ e. is_activity e.event) h))
+    else is_past now config.offer_timeout_ms (final (filter (λ e. is_some (prepared_call e)) h))
+
+-- Reports.
+
+abbrev pub is_sent : Outcome → Bool
+is_sent (outcomes.Refused cause) = false
+is_sent (outcomes.Lost cause) = false
+is_sent (outcomes.Sent port to len) = true
+
+abbrev pub leaves_by : Holder → Half → Option Sending → Bool
+leaves_by leg half None = false
+leaves_by leg half (Some sending) = (sending.pair == leg.pair) && is_half sending.half half
+
+-- how many packets of a half were accepted from the leg
+abbrev pub accepted_count : List CellEntry → Holder → Half → ℕ
+accepted_count h leg half = count_by (λ r. is_half r.deed.kind half) (accepted_of (life h leg) leg)
+
+-- how many packets of a half were sent by the leg's ports to its side
+abbrev pub sent_count : List CellEntry → Holder → Half → ℕ
+sent_count h leg half =
+    count_by (λ r. is_sent r.deed.outcome && leaves_by leg half r.deed.sending) (filter_map relayed (life h leg))
+
+abbrev pub report_under : List CellEntry → Holder → Option LegSignal → Option LegReport
+report_under h leg None = None
+report_under h leg (Some s) = Some (record {
+  leg = leg;
+  endpoint = endpoint_by s (learned h leg Rtp) Rtp;
+  rtp_accepted = accepted_count h leg Rtp;
+  rtp_sent = sent_count h leg Rtp;
+  rtcp_accepted = accepted_count h leg Rtcp;
+  rtcp_sent = sent_count h leg Rtcp;
+})
+
+abbrev pub report_of : List CellEntry → Holder → Option LegReport
+report_of h leg = report_under h leg (in_force h leg)
+
+-- the reports of the committed legs
+unfoldable pub reports : List CellEntry → List LegReport
+reports h = filter_map (report_of h) (legs h)
+
+-- What a history demands.
+
+-- the event is the one that the cell's history demands at that moment
+abbrev pub FitsAt : Config → List CellEntry → ℕ → CellEvent → Type 0
+FitsAt config h now (Relay r) = r.deed ≡ deed config (since_end h) r.packet r.sent_ok
+FitsAt config h now (Expire due) = due ≡ is_due config (since_end h) now
+FitsAt config h now (Read told) = told ≡ reports (since_end h)
+FitsAt config h now (Prepare call legs keys dropped) = Unit {0}
+FitsAt config h now (Commit signal) = Unit {0}
+FitsAt config h now End = Unit {0}
+
+abbrev pub FitsCell : Config → List CellEntry → CellEntry → Type 0
+FitsCell config h e = FitsAt config h e.moment e.event

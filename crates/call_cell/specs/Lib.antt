@@ -1,0 +1,6 @@
+pub mod Cells
+pub mod Keyed
+pub mod Learning
+pub mod Deeds
+pub mod Asked
+pub mod Good

@@ -1,0 +1,12 @@
+//! The state of one call's media: which packets are taken, where they go, and under which keys.
+//!
+//! Module `outcome` says what becomes of a packet that a leg received. `specs/Cells.antt` has the history of a cell and its
+//! legs, `specs/Learning.antt` where packets go, `specs/Keyed.antt` what is taken and sent under a key, `specs/Deeds.antt`
+//! what a relay does.
+#![tactic(auto)]
+
+mod law;
+mod outcome;
+
+pub use law::notes_are_new;
+pub use outcome::{Incoming, Lost, Outcome, Refused};

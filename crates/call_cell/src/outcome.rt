@@ -1,0 +1,74 @@
+use port_pool::Holder;
+use relay_outside::Addr;
+use rtp_packet::Half;
+
+/// Why a packet is refused. Nothing but the cell's last moment changes.
+#[derive(Clone, Copy, PartialEq, Eq, Debug)]
+pub enum Refused {
+    /// The leg that the packet was taken for has gone.
+    Stale,
+    /// No answer has committed the leg's section since the leg was added.
+    NotAnswered,
+    /// The packet has no head of RTP or RTCP (RFC 3550).
+    Malformed,
+    /// Another source was learned under `strict source`.
+    WrongSource,
+    /// The packet is too short for its authentication tag.
+    Short,
+    /// The authentication tag is wrong (RFC 3711 section 3.3).
+    NotAuthentic,
+    /// The packet's index is too old, or there is none.
+    TooOld,
+    /// The packet's index was taken before.
+    Replayed,
+    /// The packet is of a 33rd source under its key.
+    TooManySources,
+}
+
+/// Why an accepted packet is not sent.
+#[derive(Clone, Copy, PartialEq, Eq, Debug)]
+pub enum Lost {
+    /// The opposite leg is on hold.
+    Hold,
+    /// The index under which the packet would be sent is too old, or there is none.
+    OutTooOld,
+    /// A packet was sent under this index.
+    IndexUsed,
+    /// The packet is of a 33rd source under the key of the opposite leg.
+    OutSources,
+    /// The key of the opposite leg has no index left.
+    KeySpent,
+    /// The send failed. Its index stays used.
+    SendFault,
+}
+
+/// What becomes of a received packet.
+#[derive(Clone, Copy, PartialEq, Eq, Debug)]
+pub enum Outcome {
+    /// It is not accepted.
+    Refused(Refused),
+    /// It is accepted and not sent.
+    Lost(Lost),
+    /// It is sent.
+    Sent {
+        /// The local port that it leaves by.
+        port: u16,
+        /// Where it goes.
+        to: Addr,
+        /// How many bytes are sent.
+        len: usize,
+    },
+}
+
+/// A packet that a leg received.
+#[derive(Clone, Copy, PartialEq, Eq, Debug)]
+pub struct Incoming {
+    /// The leg that held the port when the packet was taken.
+    pub holder: Holder,
+    /// The half of the pair that it was taken at.
+    pub half: Half,
+    /// Where it came from.
+    pub source: Addr,
+    /// How many bytes it has, at most 2,000.
+    pub len: usize,
+}

@@ -1,0 +1,11 @@
+//! Port pairs: who holds one, what an answer commits for the legs that hold them, and the history of a pair's box.
+//!
+//! Module `holder` names the leg that holds a pair, `signal` what an answer commits for each section. `specs/Boxes.antt`
+//! has the history of a box, `specs/Signals.antt` the questions to a signal, `specs/Reports.antt` what is told of a leg.
+#![tactic(auto)]
+
+mod holder;
+mod signal;
+
+pub use holder::{Holder, Side};
+pub use signal::{LegSignal, SectionSignal};

@@ -1,0 +1,4 @@
+pub mod Entries
+pub mod Scripts
+pub mod Legal
+pub mod Safe

@@ -1,0 +1,161 @@
+-- What a safe list promises.
+use Rattle.std.specs.Prelude.{◌≡◌, ℕ, suc, ◌<◌, ◌≤◌, ◌&&◌, nat_lt, Bool, true, false, List, [], ◌∷◌, length, Option, Some, None, filter, filter_map, Result, Ok, IsTrue}
+use Rattle.std.specs.List.{list_any}
+use Rattle.relay_outside.specs.declared.address.Addr.{Addr}
+use Rattle.relay_outside.specs.declared.settings.Config.{Config}
+use Rattle.relay_outside.specs.declared.address.Family.{Family}
+use Rattle.ng_command.specs.declared.command.Options.{Options}
+use Rattle.ng_command.specs.Said as said
+use Rattle.ng_reply.specs.declared.code.ErrorCode.TheVariants.{E13, E14, E15, E16}
+use Rattle.histories.specs.Words.{In}
+use Rattle.port_pool.specs.declared.holder.Holder.{Holder}
+use Rattle.port_pool.specs.declared.signal.LegSignal.{LegSignal}
+use Rattle.port_pool.specs.Signals.{NewKey}
+use Rattle.port_pool.specs.Boxes.{BoxEvent, Take, Datagram, holder}
+use Rattle.port_pool.specs.Ports.{half_port}
+use Rattle.offer_answer.specs.Plan as plan
+use Rattle.offer_answer.specs.Rounds.{OfferAsk}
+use Rattle.call_cell.specs.declared.outcome.Outcome.{Outcome}
+use Rattle.call_cell.specs.declared.outcome.Outcome.TheVariants.{Sent}
+use Rattle.call_cell.specs.Cells.{CellEvent, CellEntry, Relay, Relayed, Sending, Shield, call, legs, opposite, in_force, keys_of, key_numbered}
+use Rattle.call_cell.specs.Keyed.{shield_of_relay}
+use Rattle.call_cell.specs.Learning.{endpoint}
+use Rattle.call_cell.specs.Deeds.{way, transform}
+use Rattle.call_cell.specs.Cells as cells
+use Rattle.call_board.specs.Acts as act
+use Rattle.call_board.specs.Acts.{Control, Turn, BoardEntry}
+use Rattle.call_board.specs.Calls.{live, rounds, find_call, rounds_of_call}
+use Rattle.call_board.specs.Pairs.{held, free, free_in, is_short, drawn}
+use Rattle.call_board.specs.Kept.{kept}
+use Rattle.call_board.specs.Asked.{asked}
+use Rattle.call_board.specs.Answers.{offering, spelled}
+use Rattle.relay_core.specs.Entries.{Event, Board, Cell, Box, Entry, is_nested, history, front, box_event, board_history, cell_before, box_history, box_of}
+use Rattle.relay_core.specs.Legal.{Legal}
+
+-- Packets that were sent.
+
+-- A packet that left is the transform of one that was taken, to the opposite leg's endpoint, from that leg's port, in the
+-- state of the call that held the receiving port when it was taken; and no other relay is of that take
+pub record IsSentRight (config : Config) (l : List Entry) (e : Entry) (x : Relayed) (w : Sending) : Type 0 where
+  pub taking : Entry
+  pub taken : In taking l
+  pub at_box : taking.place ≡ box_of config x.packet.holder.pair
+  pub with_number : taking.number ≡ x.packet.take
+  pub held_by : holder (box_history l taking.place taking.number) ≡ Some x.packet.holder
+  pub gave : taking.event ≡ Box (Take x.packet.half (Datagram x.packet.holder x.packet.source x.packet.bytes))
+  pub of_call : call (cell_before l e) ≡ Some x.packet.holder.call
+  pub is_leg : In x.packet.holder (legs (cell_before l e))
+  pub other : Holder
+  pub is_opposite : opposite (cell_before l e) x.packet.holder ≡ Some other
+  pub signal : LegSignal
+  pub is_in_force : in_force (cell_before l e) other ≡ Some signal
+  pub sends_bytes : transform (cell_before l e) x.packet x.packet.holder signal ≡ Some w.bytes
+  pub sends_from : (w.pair ≡ other.pair) × (w.half ≡ way (cell_before l e) x.packet)
+  pub sends_to : endpoint (cell_before l e) other w.half ≡ Some w.to
+  pub sent_once : (f : Entry) (y : Relayed) → In f l → f.event ≡ Cell (Relay y) →
+      x.packet.holder.pair ≡ y.packet.holder.pair → x.packet.take ≡ y.packet.take → f ≡ e
+
+-- Keys.
+
+-- under what a relay protected
+abbrev pub shield_by : Event → Option Shield
+shield_by (Cell c) = shield_of_relay (cells.relay_in c)
+shield_by _ = None
+
+abbrev pub shield_at : Entry → Option Shield
+shield_at e = shield_by e.event
+
+-- the cell got the key since its last End, for this leg
+pub record HasKey (h : List CellEntry) (leg : Holder) (number : ℕ) : Type 0 where
+  pub key : NewKey
+  pub is_there : key_numbered h number ≡ Some key
+  pub for_section : key.section ≡ leg.section
+  pub for_side : key.side ≡ leg.side
+
+-- a packet is protected under a key that the cell got for the leg by which the packet leaves
+pub record IsProtectedBy (l : List Entry) (e : Entry) (x : Relayed) (s : Shield) : Type 0 where
+  pub other : Holder
+  pub is_opposite : opposite (cell_before l e) x.packet.holder ≡ Some other
+  pub has_key : HasKey (cell_before l e) other s.key
+
+-- the keys that a Prepare brings
+abbrev pub keys_by : Event → List NewKey
+keys_by (Cell c) = keys_of c
+keys_by _ = []
+
+abbrev pub keys_at : Entry → List NewKey
+keys_at e = keys_by e.event
+
+-- Port pairs.
+
+-- the openings and closings of a box that belong to board entries below n
+abbrev pub box_before : List Entry → ℕ → ℕ → List BoxEvent
+box_before l place n = filter_map box_event (filter (λ e. is_nested e.event && nat_lt e.board n) (history l place (front l place)))
+
+-- Kept replies.
+
+-- a datagram whose reply is kept gets that reply, owes nothing and changes nothing
+pub record IsRepeat (config : Config) (l : List Entry) (e : Entry) (c : Control) (reply : List ℕ) : Type 0 where
+  pub first_reply : c.reply ≡ reply
+  pub owes_nothing : (f : Entry) → In f l → is_nested f.event ≡ true → f.board ≡ e.number → ⊥
+  pub same_live : live (board_history l (suc e.number)) ≡ live (board_history l e.number)
+  pub same_rounds : (n : ℕ) → rounds (board_history l (suc e.number)) n ≡ rounds (board_history l e.number) n
+  pub same_held : held (board_history l (suc e.number)) ≡ held (board_history l e.number)
+  pub same_free : free config (board_history l (suc e.number)) ≡ free config (board_history l e.number)
+  pub same_drawn : drawn (board_history l (suc e.number)) ≡ drawn (board_history l e.number)
+  pub same_kept : (source : Addr) (cookie : List ℕ) (now : ℕ) → kept (board_history l (suc e.number)) source cookie now ≡ kept (board_history l e.number) source cookie now
+
+-- Offers.
+
+-- nothing is kept for the datagram, and it is an offer without a fault
+pub record IsValidOffer (h : List BoardEntry) (c : Control) (now : ℕ) (id : List ℕ) (ask : OfferAsk) : Type 0 where
+  pub nothing_kept : kept h c.source c.cookie now ≡ None
+  pub is_asked : asked c.too_long c.pairs ≡ Ok (said.Offer id ask.from_tag ask.sdp ask.options)
+  pub is_heard : ask.chosen ≡ c.chosen
+  pub no_fault : plan.offer_fault (rounds_of_call h (find_call h id)) ask ≡ None
+
+-- it is answered well, or for want of something
+pub data IsOfferReply (config : Config) (h : List BoardEntry) (c : Control) (id : List ℕ) (ask : OfferAsk) : Type 0 where
+  well : (o : act.Offer) → c.act ≡ act.Offered o → o.ask ≡ ask
+      → c.reply ≡ (spelled config (offering config (rounds_of_call h (find_call h id)) o)).bytes → IsOfferReply config h c id ask
+  no_pair : c.act ≡ act.Failed E13
+      → is_short (free_in config h) (plan.demand (rounds_of_call h (find_call h id)) ask).pairs ≡ true → IsOfferReply config h c id ask
+  session_limit : c.act ≡ act.Failed E14 → find_call h id ≡ None → length (live h) ≡ config.max_sessions → IsOfferReply config h c id ask
+  port_fault : (leases : List act.Lease) → c.act ≡ act.Undone E15 leases [] → In false c.given.opens → IsOfferReply config h c id ask
+  key_fault : (leases : List act.Lease) → c.act ≡ act.Undone E16 leases c.given.draws → c.given.draw_failed ≡ true → IsOfferReply config h c id ask
+  no_memory : c.act ≡ act.Starved → IsOfferReply config h c id ask
+
+-- What an orderly list has, whatever the lanes do
+pub record BoardSafe (config : Config) (l : List Entry) : Type 0 where
+  -- no port has two holders
+  pub pairs_apart : (n : ℕ) (a b : Holder) → In a (held (board_history l n)) → In b (held (board_history l n)) → a.pair ≡ b.pair → a ≡ b
+  pub box_is_held : (n : ℕ) (a : Holder) → In a (held (board_history l n)) → holder (box_before l (box_of config a.pair) n) ≡ Some a
+  pub held_is_box : (n pair : ℕ) (a : Holder) → holder (box_before l (box_of config pair) n) ≡ Some a → (a.pair ≡ pair) × In a (held (board_history l n))
+  -- each key number enters one leg, once
+  pub keys_apart : (e f : Entry) (k j : NewKey) → In e l → In f l → In k (keys_at e) → In j (keys_at f) → k.number ≡ j.number → (e ≡ f) × (k ≡ j)
+  -- a kept cookie gives its first reply and changes nothing
+  pub repeated : (e : Entry) (c : Control) (reply : List ℕ) → In e l → e.event ≡ Board (Turn c)
+      → kept (board_history l e.number) c.source c.cookie e.moment ≡ Some reply → IsRepeat config l e c reply
+  -- a valid offer fails only for a named shortage
+  pub offers_answered : (e : Entry) (c : Control) (id : List ℕ) (ask : OfferAsk) → In e l → e.event ≡ Board (Turn c)
+      → IsValidOffer (board_history l e.number) c e.moment id ask → IsOfferReply config (board_history l e.number) c id ask
+
+pub record Safe (config : Config) (l : List Entry) : Type 0 where
+  pub board : BoardSafe config l
+  -- every packet sent is the transform of one received packet, sent once, to the opposite endpoint, by the leg that held the port
+  pub sent_right : (e : Entry) (x : Relayed) (w : Sending) → In e l → e.event ≡ Cell (Relay x) → x.deed.sending ≡ Some w → IsSentRight config l e x w
+  pub sent_sends : (e : Entry) (x : Relayed) (port : ℕ) (to : Addr) (len : ℕ) → In e l → e.event ≡ Cell (Relay x)
+      → x.deed.outcome ≡ Sent port to len → (w : Sending) × (x.deed.sending ≡ Some w) × (w.to ≡ to) × (length w.bytes ≡ len) × (port ≡ half_port config w.pair w.half)
+  -- no key, source and index protects two packets
+  pub shields_apart : (e f : Entry) (s : Shield) → In e l → In f l → shield_at e ≡ Some s → shield_at f ≡ Some s → e ≡ f
+  pub protected_by : (e : Entry) (x : Relayed) (s : Shield) → In e l → e.event ≡ Cell (Relay x) → x.deed.shield ≡ Some s → IsProtectedBy l e x s
+  -- the key that is in force on a leg is there, so that no packet is lost for want of it
+  pub keys_are_there : (e : Entry) (leg : Holder) (s : LegSignal) (number : ℕ) → In e l → In leg (legs (cell_before l e))
+      → in_force (cell_before l e) leg ≡ Some s → s.outbound ≡ Some number → HasKey (cell_before l e) leg number
+
+-- Two relays of one receipt, with one answer of the send, after one history of their cells since the last End, do the same,
+-- whatever else happens
+abbrev pub IsIsolated : Config → Type 0
+IsIsolated config = (l k : List Entry) (e f : Entry) (x y : Relayed) → Legal config l → Legal config k → In e l → In f k
+    → e.event ≡ Cell (Relay x) → f.event ≡ Cell (Relay y) → x.packet ≡ y.packet → x.sent_ok ≡ y.sent_ok
+    → cell_before l e ≡ cell_before k f → x.deed ≡ y.deed

@@ -1,0 +1,79 @@
+-- The nested entries that an entry of the board owes, in order.
+use Rattle.std.specs.Prelude.{ℕ, ◌==◌, Bool, List, [], ◌∷◌, ◌++◌, map, Option, Some, None, Result, Ok, Err, if◌then◌else◌}
+use Rattle.std.specs.List.{flat_map}
+use Rattle.relay_outside.specs.declared.settings.Config.{Config}
+use Rattle.ng_command.specs.Said.{Said, Ping, Offer, Answer, Delete, Query, Listing}
+use Rattle.ng_reply.specs.declared.code.ErrorCode.{ErrorCode}
+use Rattle.histories.specs.Words.{has}
+use Rattle.port_pool.specs.declared.holder.Holder.{Holder}
+use Rattle.port_pool.specs.Reports.{LegReport}
+use Rattle.port_pool.specs.Boxes.{BoxEvent, Open, Close}
+use Rattle.call_cell.specs.Cells.{CellEvent, Prepare, Commit, Expire, Read, End}
+use Rattle.call_board.specs.Acts as act
+use Rattle.call_board.specs.Acts.{Call, Act, Control, BoardEvent, Turn, Tick, Stop, BoardEntry}
+use Rattle.call_board.specs.Calls.{live, find_call}
+use Rattle.call_board.specs.Pairs.{closed_of}
+use Rattle.call_board.specs.Asked.{asked}
+use Rattle.relay_core.specs.Entries.{Event, Board, Cell, Box, Entry, box_of}
+
+-- an event that is owed at a place
+pub record Owed : Type 0 where
+  pub place : ℕ
+  pub event : Event
+
+abbrev pub owed_by : Entry → Owed
+owed_by e = record { place = e.place; event = e.event }
+
+abbrev pub opening : Config → Holder → Owed
+opening config leg = record { place = box_of config leg.pair; event = Box (Open leg) }
+
+abbrev pub closing : Config → Holder → Owed
+closing config leg = record { place = box_of config leg.pair; event = Box Close }
+
+abbrev pub in_cell : Call → CellEvent → Owed
+in_cell c event = record { place = c.cell; event = Cell event }
+
+-- the closes that the entry owes for one call
+abbrev pub closings : Config → List BoardEntry → BoardEntry → Call → List Owed
+closings config h e c = map (closing config) (closed_of h e c)
+
+-- the end of a call and its closes
+abbrev pub ending : Config → List BoardEntry → BoardEntry → Call → List Owed
+ending config h e c = in_cell c End ∷ closings config h e c
+
+-- a tick asks a call whether it is due, and ends it where it is
+abbrev pub expiring : Config → List BoardEntry → BoardEntry → List Call → Call → List Owed
+expiring config h e calls c =
+    let due = has (map (λ d. d.number) calls) c.number in
+    in_cell c (Expire due) ∷ (if due then ending config h e c else [])
+
+abbrev pub reading : Option Call → Option (List LegReport) → List Owed
+reading None report = []
+reading (Some c) None = []
+reading (Some c) (Some report) = in_cell c (Read report) ∷ []
+
+-- a query that is refused for want of memory may have read its call
+abbrev pub reading_starved : List BoardEntry → Control → Result Said ErrorCode → List Owed
+reading_starved h c (Ok (Query id)) = reading (find_call h id) c.given.report
+reading_starved h c _ = []
+
+abbrev pub script_of_act : Config → List BoardEntry → BoardEntry → Control → Act → List Owed
+script_of_act config h e c act.Repeated = []
+script_of_act config h e c act.Starved = reading_starved h c (asked c.too_long c.pairs)
+script_of_act config h e c (act.Failed code) = []
+script_of_act config h e c (act.Undone code leases draws) = []
+script_of_act config h e c (act.Offered o) =
+    map (opening config) o.legs ++ in_cell o.of (Prepare o.of.number o.legs o.keys o.dropped) ∷ closings config h e o.of
+script_of_act config h e c (act.Answered a) = in_cell a.of (Commit a.signal) ∷ closings config h e a.of
+script_of_act config h e c (act.Deleted of) = ending config h e of
+script_of_act config h e c (act.Queried of) = reading (Some of) c.given.report
+script_of_act config h e c act.Told = []
+
+abbrev pub script_of : Config → List BoardEntry → BoardEntry → BoardEvent → List Owed
+script_of config h e (Turn c) = script_of_act config h e c c.act
+script_of config h e (Tick calls) = flat_map (expiring config h e calls) (live h)
+script_of config h e (Stop calls) = flat_map (ending config h e) calls
+
+-- the nested entries that a board entry owes after that history, in order
+abbrev pub script : Config → List BoardEntry → BoardEntry → List Owed
+script config h e = script_of config h e e.event
