@@ -1,2 +1,4 @@
 pub mod Histories
 pub mod Scripts
+pub mod Turns
+pub mod Gains
