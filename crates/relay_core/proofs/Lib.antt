@@ -1,4 +1,8 @@
 pub mod Histories
 pub mod Scripts
+pub mod Moments
+pub mod Boxes
+pub mod Holders
+pub mod Generations
 pub mod Turns
 pub mod Gains
