@@ -71,7 +71,7 @@ adds_prepares leg (Expire due) i = elim i [ ]
 adds_prepares leg (Read told) i = elim i [ ]
 adds_prepares leg End i = elim i [ ]
 
-cell_is : (moment : ℕ) (v : Event) (c : CellEntry) → cell_at moment v ≡ Some c → v ≡ Cell c.event
+pub cell_is : (moment : ℕ) (v : Event) (c : CellEntry) → cell_at moment v ≡ Some c → v ≡ Cell c.event
 cell_is moment (Cell e) c h =
     let one : (record { moment = moment; event = e }) ≡ c = (let k = h in cc) in ap (λ (x : CellEntry). Cell x.event) one
 cell_is moment (Board b) c h = absurd (let k = h in cc)
@@ -124,14 +124,14 @@ leg_leased config l o place n leg i =
 
 -- The holder at a take.
 
-open_nested : (v : Event) (leg : Holder) → box_in v ≡ Some (Open leg) → is_nested v ≡ true
+pub open_nested : (v : Event) (leg : Holder) → box_in v ≡ Some (Open leg) → is_nested v ≡ true
 open_nested (Box (Open other)) leg h = refl
 open_nested (Box (Take half taken)) leg h = absurd (let k = h in cc)
 open_nested (Box Close) leg h = refl
 open_nested (Board b) leg h = absurd (let k = h in cc)
 open_nested (Cell c) leg h = absurd (let k = h in cc)
 
-filter_all : (es : List Entry) → filter (λ (e : Entry). true) es ≡ es
+pub filter_all : (es : List Entry) → filter (λ (e : Entry). true) es ≡ es
 filter_all [] = refl
 filter_all (e ∷ es) = ap (λ xs. e ∷ xs) (filter_all es)
 

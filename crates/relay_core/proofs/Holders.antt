@@ -26,10 +26,10 @@ pub pairs_apart : (config : Config) (l : List Entry) → Orderly config l → (n
     → In a (held (board_history l n)) → In b (held (board_history l n)) → a.pair ≡ b.pair → a ≡ b
 pairs_apart config l o n a b i j q = held_apart config (board_history l n) a b (good_history config l o n) i j q
 
-less : (a b : ℕ) → nat_lt a b ≡ true → a < b
+pub less : (a b : ℕ) → nat_lt a b ≡ true → a < b
 less a b is = grind (arith, nat_tests)
 
-is_less : (a b : ℕ) → a < b → nat_lt a b ≡ true
+pub is_less : (a b : ℕ) → a < b → nat_lt a b ≡ true
 is_less a b is = grind (arith, nat_tests)
 
 -- the nested entries that belong to board entries below n
@@ -105,7 +105,7 @@ keeps_held config l o n leg s b x i p h k (inr m) =
     let one = same_entry l o.numbered b s.lease.board x s.lease.entry i s.lease.is_in p s.lease.at_board (sym m) h s.lease.is in
     leased s.lease.offer (ap act.act one ∙ s.lease.acts) s.lease.has_leg
 
-not_before : (config : Config) (l : List Entry) → Orderly config l → (f g : Entry) → In f l → In g l → is_nested f.event ≡ true → is_nested g.event ≡ true
+pub not_before : (config : Config) (l : List Entry) → Orderly config l → (f g : Entry) → In f l → In g l → is_nested f.event ≡ true → is_nested g.event ≡ true
     → f.place ≡ g.place → f.number < g.number → (f.board < g.board) ⊎ (f.board ≡ g.board)
 not_before config l o f g i j a b p k = less_or_same (o.ordered f g i j a b p k)
   where
@@ -113,7 +113,7 @@ not_before config l o f g i j a b p k = less_or_same (o.ordered f g i j a b p k)
     less_or_same (inl q) = inl q
     less_or_same (inr q) = inr q.0
 
-moved : (a b c d : ℕ) → a ≡ c → b ≡ d → (a < b) ⊎ (a ≡ b) → (c < d) ⊎ (c ≡ d)
+pub moved : (a b c d : ℕ) → a ≡ c → b ≡ d → (a < b) ⊎ (a ≡ b) → (c < d) ⊎ (c ≡ d)
 moved a b c d p q (inl k) = inl (omega (arith, p, q, k))
 moved a b c d p q (inr k) = inr (sym p ∙ k ∙ q)
 
@@ -183,7 +183,7 @@ opened_lease config l o e leg i nested is =
         )
     leased_by b (closed other j c at v) = absurd (let k = v in cc)
 
-data Order (a b : ℕ) : Type 0 where
+pub data Order (a b : ℕ) : Type 0 where
   lower : a < b → Order a b
   level : a ≡ b → Order a b
   higher : b < a → Order a b
@@ -193,7 +193,7 @@ order_of a b (inl k) = lower k
 order_of a b (inr (inl k)) = level k
 order_of a b (inr (inr k)) = higher k
 
-order : (a b : ℕ) → Order a b
+pub order : (a b : ℕ) → Order a b
 order a b = order_of a b (grind arith)
 
 close_refuted : (config : Config) (l : List Entry) → Orderly config l → (pair n : ℕ) (leg : Holder)

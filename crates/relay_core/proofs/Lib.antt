@@ -6,3 +6,6 @@ pub mod Holders
 pub mod Generations
 pub mod Turns
 pub mod Gains
+pub mod Shut
+pub mod Prepared
+pub mod Plans

@@ -64,7 +64,7 @@ Numbered l = (e : Entry) → In e l → length (filter (is_at e.place e.number) 
 abbrev pub IsAbove : List Entry → ℕ → ℕ → Type 0
 IsAbove l place number = (e : Entry) → In e l → e.place ≡ place → e.number < number
 
-false_if : (t : Bool) → (t ≡ true → ⊥) → t ≡ false
+pub false_if : (t : Bool) → (t ≡ true → ⊥) → t ≡ false
 false_if false fails = refl
 false_if true fails = absurd (fails refl)
 
