@@ -5,6 +5,8 @@
 //! what a relay does.
 #![tactic(auto)]
 
+mod law;
 mod outcome;
 
+pub use law::notes_are_new;
 pub use outcome::{Incoming, Lost, Outcome, Refused};
