@@ -5,4 +5,5 @@ pub mod Committed
 pub mod Keys
 pub mod Sends
 pub mod Noted
+pub mod Next
 pub mod Shields
