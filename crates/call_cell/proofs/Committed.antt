@@ -2,7 +2,7 @@
 use Rattle.std.proofs.Common.{◌≡◌, refl, ap, subst, sym, ◌∙◌, ℕ, List, [], ◌∷◌, ◌++◌, Bool, true, false, cond, Option, Some, None, filter_map}
 use Rattle.std.specs.Prelude.{◌||◌}
 use Rattle.std.specs.List.{list_any, cons_option}
-use Rattle.histories.specs.Words.{In, here, there, first, until}
+use Rattle.histories.specs.Words.{In, here, there, first}
 use Rattle.port_pool.specs.declared.holder.Holder.{Holder}
 use Rattle.port_pool.specs.declared.signal.LegSignal.{LegSignal}
 use Rattle.port_pool.specs.declared.signal.SectionSignal.{SectionSignal}
@@ -60,7 +60,7 @@ commit_here x h leg s q =
       is_commit = c.is_commit;
       says = c.says;
       is_last = none_in (λ (y : CellEntry). committed leg y ≡ None);
-      adds_none = none_in (λ (y : CellEntry). adds leg y ≡ false)
+      adds_none = none_in (λ (y : CellEntry). adds leg y ≡ false);
     }
 
 commit_there : (x : CellEntry) (h : List CellEntry) (leg : Holder) (s : LegSignal) → committed leg x ≡ None → adds leg x ≡ false
@@ -74,7 +74,7 @@ commit_there x h leg s q none c = record {
   is_commit = c.is_commit;
   says = c.says;
   is_last = or_first (λ (y : CellEntry). committed leg y ≡ None) q c.is_last;
-  adds_none = or_first (λ (y : CellEntry). adds leg y ≡ false) none c.adds_none
+  adds_none = or_first (λ (y : CellEntry). adds leg y ≡ false) none c.adds_none;
 }
 
 said_case : (x : CellEntry) (h : List CellEntry) (leg : Holder) (s : LegSignal) → (in_force h leg ≡ Some s → IsCommitted h leg s)

@@ -1,5 +1,5 @@
 -- What a relay does, by cases: it refuses the packet, loses it after it was taken, or makes its one send.
-use Rattle.std.proofs.Common.{◌≡◌, refl, ap, sym, ◌∙◌, ℕ, List, Bool, true, false, cond, Option, Some, None, Result, Ok, Err}
+use Rattle.std.proofs.Common.{◌≡◌, refl, ℕ, List, Bool, true, false, cond, Option, Some, None, Result, Ok, Err}
 use Rattle.relay_outside.specs.declared.settings.Config.{Config}
 use Rattle.rtp_packet.specs.declared.head.Half.{Half}
 use Rattle.rtp_packet.specs.declared.head.Half.TheVariants.{Rtp, Rtcp}

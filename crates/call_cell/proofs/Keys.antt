@@ -1,5 +1,5 @@
 -- The keys that a cell got, by their numbers.
-use Rattle.std.proofs.Common.{◌≡◌, refl, ap, subst, sym, ◌∙◌, ℕ, List, [], ◌∷◌, ◌++◌, Bool, true, false, cond, Option, Some, None, filter, ◌==◌, ◌⊎◌, inl, inr}
+use Rattle.std.proofs.Common.{◌≡◌, refl, ap, subst, ℕ, List, [], ◌∷◌, Some, filter, ◌==◌, ◌⊎◌, inl, inr}
 use Rattle.histories.specs.Words.{In, here, there, first}
 use Rattle.histories.proofs.Lists.{in_left, in_right, in_append, filtered, keeps, first_is_in, equal, equal_if}
 use Rattle.port_pool.specs.Signals.{NewKey}

@@ -1,14 +1,13 @@
 -- The legs of a cell: which entry added one, and that none took it away since.
-use Rattle.std.proofs.Common.{◌≡◌, refl, ap, subst, sym, ◌∙◌, ℕ, List, [], ◌∷◌, ◌++◌, Bool, true, false, cond, Option, Some, None, filter, not, ◌==◌, ◌⊎◌, inl, inr}
+use Rattle.std.proofs.Common.{◌≡◌, refl, ap, subst, sym, ◌∙◌, ℕ, List, [], ◌∷◌, ◌++◌, Bool, true, false, cond, Some, filter, not, ◌==◌, ◌⊎◌, inl, inr}
 use Rattle.std.specs.Prelude.{◌&&◌}
 use Rattle.histories.specs.Words.{In, here, there, first}
 use Rattle.histories.proofs.Lists.{in_left, in_right, in_append, filtered, keeps, first_is_in, equal, equal_if}
 use Rattle.port_pool.specs.declared.holder.Side.{Side}
 use Rattle.port_pool.specs.declared.holder.Side.TheVariants.{A, B}
 use Rattle.port_pool.specs.declared.holder.Holder.{Holder}
-use Rattle.port_pool.specs.declared.signal.SectionSignal.{SectionSignal}
 use Rattle.port_pool.specs.Signals.{NewKey, same_leg, side_eq, other_side}
-use Rattle.call_cell.specs.Cells.{CellEvent, CellEntry, Prepare, Commit, Relay, Expire, Read, End, Receipt, legs_of, keys_of, takes_away, legs, is_opposite, opposite}
+use Rattle.call_cell.specs.Cells.{CellEvent, CellEntry, Prepare, Commit, Relay, Expire, Read, End, Receipt, legs_of, takes_away, legs, is_opposite, opposite}
 use Rattle.call_cell.specs.Deeds.{found}
 
 -- the entry is a Prepare of these
@@ -75,7 +74,7 @@ added_case x h leg rest (inr i) =
       older = a.older;
       splits = ap (λ (k : List CellEntry). x ∷ k) a.splits;
       adds = a.adds;
-      stays = and_here leg x a.newer (not_true (takes_away x.event leg.section) f.1) a.stays
+      stays = and_here leg x a.newer (not_true (takes_away x.event leg.section) f.1) a.stays;
     }
 
 pub leg_added : (h : List CellEntry) (leg : Holder) → In leg (legs h) → IsAdded h leg
@@ -130,10 +129,11 @@ is_same_leg leg =
 
 pub same_leg_is : (a b : Holder) → same_leg a b ≡ true → (a.call ≡ b.call) × (a.pair ≡ b.pair) × (a.generation ≡ b.generation)
 same_leg_is a b q =
-    let front = both_left ((a.call == b.call) && (a.pair == b.pair)) (a.generation == b.generation) q in
-    (equal_if a.call b.call (both_left (a.call == b.call) (a.pair == b.pair) front),
-    equal_if a.pair b.pair (both_right (a.call == b.call) (a.pair == b.pair) front),
-    equal_if a.generation b.generation (both_right ((a.call == b.call) && (a.pair == b.pair)) (a.generation == b.generation) q))
+    let front = both_left ((a.call == b.call) && (a.pair == b.pair)) (a.generation == b.generation) q in (
+      equal_if a.call b.call (both_left (a.call == b.call) (a.pair == b.pair) front),
+      equal_if a.pair b.pair (both_right (a.call == b.call) (a.pair == b.pair) front),
+      equal_if a.generation b.generation (both_right ((a.call == b.call) && (a.pair == b.pair)) (a.generation == b.generation) q),
+    )
 
 other_of : (a b : Side) → not (side_eq a b) ≡ true → a ≡ other_side b
 other_of A A q = absurd (let e = q in cc)
@@ -152,7 +152,7 @@ opposite_is h leg other q =
     record {
       is_leg = f.0;
       section = equal_if other.section leg.section (both_left (other.section == leg.section) (not (side_eq other.side leg.side)) f.1);
-      side = other_of other.side leg.side (both_right (other.section == leg.section) (not (side_eq other.side leg.side)) f.1)
+      side = other_of other.side leg.side (both_right (other.section == leg.section) (not (side_eq other.side leg.side)) f.1);
     }
 
 pub record IsFound (h : List CellEntry) (p : Receipt) (leg : Holder) : Type 0 where

@@ -6,4 +6,5 @@ pub mod Keys
 pub mod Sends
 pub mod Noted
 pub mod Next
+pub mod Protected
 pub mod Shields

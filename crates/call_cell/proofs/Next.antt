@@ -1,8 +1,7 @@
 -- Under which index a packet is protected: an RTP packet under one that no packet of its source had, an RTCP packet under
 -- the count of those.
-use Rattle.std.proofs.Common.{◌≡◌, refl, ap, subst, sym, ◌∙◌, ℕ, ◌<◌, ◌^◌, List, [], ◌∷◌, Bool, true, false, cond, Option, Some, None, Result, Ok, Err, length, ◌==◌, arith}
-use Rattle.std.specs.Prelude.{◌||◌, ◌&&◌, nat_lt}
-use Rattle.std.specs.List.{list_any, filter_map, cons_option}
+use Rattle.std.proofs.Common.{◌≡◌, refl, subst, sym, ℕ, ◌^◌, List, [], ◌∷◌, Bool, true, false, cond, Option, Some, None, Result, Ok, Err, length, ◌==◌}
+use Rattle.std.specs.Prelude.{◌||◌, nat_lt}
 use Rattle.std.specs.Option.{option_map_or}
 use Rattle.rtp_packet.specs.declared.head.Half.{Half}
 use Rattle.rtp_packet.specs.declared.head.Half.TheVariants.{Rtp, Rtcp}
@@ -16,14 +15,14 @@ use Rattle.replay_window.specs.declared.answers.Fresh.TheVariants.{Yes, TooOld, 
 use Rattle.replay_window.specs.Indices.{near, fresh, is_too_old, is_noted}
 use Rattle.srtp_keys.specs.declared.faults.ProtectFault.{ProtectFault}
 use Rattle.srtp_keys.specs.declared.faults.ProtectFault.TheVariants as fault
-use Rattle.srtp_sources.specs.Notes.{Note, indices, index_under, is_half, has_room}
+use Rattle.srtp_sources.specs.Notes.{Note, indices, has_room}
 use Rattle.srtp_context.specs.Wrapping as srtp_out
 use Rattle.srtcp_context.specs.Wrapping as srtcp_out
 use Rattle.histories.specs.Words.{In, here, there}
-use Rattle.histories.proofs.Lists.{equal, picks}
+use Rattle.histories.proofs.Lists.{equal}
 use Rattle.port_pool.specs.Signals.{NewKey}
 use Rattle.call_cell.specs.Cells.{Shield}
-use Rattle.call_cell.specs.Keyed.{Wrapped, Held, Leaves, wrapped_rtp, wrapped_rtcp, wrapped_under}
+use Rattle.call_cell.specs.Keyed.{Leaves, wrapped_rtp, wrapped_rtcp, wrapped_under}
 
 -- the index that the next packet of a source gets
 abbrev pub IsNextIndex : Half → ℕ → List Note → ℕ → Type 0

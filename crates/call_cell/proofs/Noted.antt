@@ -1,5 +1,5 @@
 -- What an accepted relay notes under the leg's inbound key.
-use Rattle.std.proofs.Common.{◌≡◌, refl, ap, subst, sym, ◌∙◌, ℕ, List, [], ◌∷◌, Bool, true, false, cond, Option, Some, None, Result, Ok, Err}
+use Rattle.std.proofs.Common.{◌≡◌, refl, ap, sym, ◌∙◌, ℕ, List, Bool, true, false, cond, Option, Some, None, Result, Ok, Err}
 use Rattle.std.specs.Prelude.{is_some, not}
 use Rattle.relay_outside.specs.declared.address.Addr.{Addr}
 use Rattle.relay_outside.specs.declared.settings.Config.{Config}
@@ -16,15 +16,13 @@ use Rattle.port_pool.specs.declared.signal.LegSignal.{LegSignal}
 use Rattle.port_pool.specs.Signals.{same_leg}
 use Rattle.call_cell.specs.declared.outcome.Refused.{Refused}
 use Rattle.call_cell.specs.declared.outcome.Refused.TheVariants as refused
-use Rattle.call_cell.specs.declared.outcome.Lost.{Lost}
-use Rattle.call_cell.specs.declared.outcome.Outcome.{Outcome}
 use Rattle.call_cell.specs.declared.outcome.Outcome.TheVariants as outcomes
 use Rattle.call_cell.specs.Cells.{CellEntry, Receipt, Sending, Deed, legs, in_force, is_accepted}
 use Rattle.call_cell.specs.Keyed.{accepted, Judged, Stopped, Passed, is_packet, opened_rtp, opened_rtcp, opened_under, opened_by}
 use Rattle.call_cell.specs.Learning.{learned, is_wrong_source}
 use Rattle.call_cell.specs.Deeds.{deed, found, kind, judged, judged_leg, sent_outcome, refused_deed}
 use Rattle.call_cell.proofs.Legs.{found_is}
-use Rattle.call_cell.proofs.Does.{Does, refuses, loses, leaves, Taken, Leaving, sending_of, does}
+use Rattle.call_cell.proofs.Does.{Does, refuses, loses, leaves, Taken, sending_of, does}
 
 sent_is_taken : (config : Config) (w : Sending) (ok : Bool) (cause : Refused) → sent_outcome config w ok ≡ outcomes.Refused cause → ⊥
 sent_is_taken config w true cause q = let f = q in cc
@@ -96,8 +94,8 @@ own_case h leg (Some s) e known notes half source bytes noted plain q = record {
   signal = s;
   is_in_force = e;
   notes =
-    by_notes s.inbound notes half bytes noted plain
-    (packet_case (is_packet half bytes) (is_wrong_source s.flags known source) (opened_by s.inbound notes half bytes) noted plain q)
+      by_notes s.inbound notes half bytes noted plain
+      (packet_case (is_packet half bytes) (is_wrong_source s.flags known source) (opened_by s.inbound notes half bytes) noted plain q);
 }
 
 own : (h : List CellEntry) (p : Receipt) (t : Taken h p) → Own h t.leg t.note
@@ -117,7 +115,7 @@ taken_accepts h p t d q =
       own_in_force = o.is_in_force;
       plain = t.plain;
       is_judged = t.is_judged ∙ ap (λ (n : Option Note). Passed n t.plain) (sym q);
-      notes = ap is_some q ∙ o.notes
+      notes = ap is_some q ∙ o.notes;
     }
 
 accepts_case : (config : Config) (h : List CellEntry) (p : Receipt) (ok : Bool) (d : Deed) → Does config h p ok d

@@ -1,8 +1,7 @@
 -- What a relay that made a send did, and when a relay makes one.
-use Rattle.std.proofs.Common.{◌≡◌, refl, ap, subst, sym, ◌∙◌, ℕ, List, [], ◌∷◌, ◌++◌, Bool, true, false, cond, Option, Some, None, length}
+use Rattle.std.proofs.Common.{◌≡◌, refl, ap, subst, sym, ◌∙◌, ℕ, List, Bool, true, false, Option, Some, None, length}
 use Rattle.relay_outside.specs.declared.address.Addr.{Addr}
 use Rattle.relay_outside.specs.declared.settings.Config.{Config}
-use Rattle.rtp_packet.specs.declared.head.Half.{Half}
 use Rattle.srtp_sources.specs.Notes.{Note}
 use Rattle.histories.specs.Words.{In}
 use Rattle.port_pool.specs.Ports.{half_port}
@@ -10,15 +9,13 @@ use Rattle.port_pool.specs.declared.holder.Holder.{Holder}
 use Rattle.port_pool.specs.declared.signal.LegSignal.{LegSignal}
 use Rattle.port_pool.specs.Signals.{same_leg}
 use Rattle.call_cell.specs.declared.outcome.Refused.{Refused}
-use Rattle.call_cell.specs.declared.outcome.Refused.TheVariants as refused
 use Rattle.call_cell.specs.declared.outcome.Lost.{Lost}
 use Rattle.call_cell.specs.declared.outcome.Lost.TheVariants as lost
-use Rattle.call_cell.specs.declared.outcome.Outcome.{Outcome}
 use Rattle.call_cell.specs.declared.outcome.Outcome.TheVariants as outcomes
-use Rattle.call_cell.specs.Cells.{CellEntry, Receipt, Shield, Sending, Deed, legs, opposite, in_force}
-use Rattle.call_cell.specs.Keyed.{Judged, Stopped, Passed, Wrapped, Held, Leaves}
+use Rattle.call_cell.specs.Cells.{CellEntry, Receipt, Sending, Deed, legs, opposite, in_force}
+use Rattle.call_cell.specs.Keyed.{Judged, Passed, Wrapped}
 use Rattle.call_cell.specs.Learning.{learned, endpoint, endpoint_in}
-use Rattle.call_cell.specs.Deeds.{deed, found, kind, way, judged, judged_leg, bytes_of, transform, transformed, plain_of, wrapped_towards, sent_outcome, sent_deed}
+use Rattle.call_cell.specs.Deeds.{deed, found, kind, way, judged_leg, bytes_of, transform, transformed, plain_of, sent_outcome}
 use Rattle.call_cell.proofs.Legs.{found_is}
 use Rattle.call_cell.proofs.Does.{Does, refuses, loses, leaves, Taken, Leaving, sending_of, does}
 
@@ -82,7 +79,7 @@ sends_case config h p ok w d (leaves t l e) q =
       sends_bytes = transform_is h p t l;
       from_pair = refl;
       by_half = refl;
-      sends_to = ap (λ (s : Option LegSignal). endpoint_in s (learned h l.other (way h p)) (way h p)) l.is_in_force
+      sends_to = ap (λ (s : Option LegSignal). endpoint_in s (learned h l.other (way h p)) (way h p)) l.is_in_force;
     })
 
 pub sends : (config : Config) (h : List CellEntry) (p : Receipt) (ok : Bool) (w : Sending) → (deed config h p ok).sending ≡ Some w → Sends h p w
@@ -117,7 +114,7 @@ sent_by config d w true port to len q e = record {
   is_sending = q;
   to_is = let f = e in cc;
   len_is = let f = e in cc;
-  port_is = let f = e in cc
+  port_is = let f = e in cc;
 }
 sent_by config d w false port to len q e = absurd (let f = e in cc)
 

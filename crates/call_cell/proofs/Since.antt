@@ -2,12 +2,12 @@
 use Rattle.std.proofs.Common.{◌≡◌, refl, ap, subst, sym, ◌∙◌, ℕ, List, [], ◌∷◌, ◌++◌, Bool, true, false, cond, Option, Some, None, filter_map}
 use Rattle.std.specs.List.{cons_option}
 use Rattle.relay_outside.specs.declared.settings.Config.{Config}
-use Rattle.histories.specs.Words.{In, here, there, until, final}
-use Rattle.histories.proofs.Lists.{Made, picks, picked}
-use Rattle.call_cell.specs.Cells.{CellEvent, CellEntry, Prepare, Commit, Relay, Expire, Read, End, Relayed, ends, is_end, since_end, prepared_call, call}
+use Rattle.histories.specs.Words.{In, here, there, final}
+use Rattle.histories.proofs.Lists.{picks, picked}
+use Rattle.call_cell.specs.Cells.{CellEvent, CellEntry, Prepare, Commit, Relay, Expire, Read, End, Relayed, is_end, since_end, prepared_call, call}
 use Rattle.call_cell.specs.Deeds.{deed}
-use Rattle.call_cell.specs.Asked.{FitsAt, FitsCell}
-use Rattle.call_cell.specs.Good.{FittingCell, empty, longer, IsGood, GoodCell, begins, goes_on}
+use Rattle.call_cell.specs.Asked.{FitsAt}
+use Rattle.call_cell.specs.Good.{FittingCell, empty, longer, GoodCell, begins, goes_on}
 
 -- since the last End
 
@@ -45,7 +45,7 @@ split_here x e h q no_end =
       splits = refl;
       splits_since = since_more x h no_end;
       none_ends = none_in (λ (y : CellEntry). is_end y ≡ false);
-      is_not_end = no_end
+      is_not_end = no_end;
     })
 
 split_there : {e : CellEntry} (x : CellEntry) (h : List CellEntry) → is_end x ≡ false → IsSince h e → IsSince (x ∷ h) e
@@ -55,7 +55,7 @@ split_there x h no_end s = record {
   splits = ap (λ (k : List CellEntry). x ∷ k) s.splits;
   splits_since = since_more x h no_end ∙ ap (λ (k : List CellEntry). x ∷ k) s.splits_since;
   none_ends = or_first (λ (y : CellEntry). is_end y ≡ false) no_end s.none_ends;
-  is_not_end = s.is_not_end
+  is_not_end = s.is_not_end;
 }
 
 split_case : {e : CellEntry} (x : CellEntry) (h : List CellEntry) → (In e (since_end h) → IsSince h e) → (b : Bool) → is_end x ≡ b
@@ -124,7 +124,7 @@ begun_later x h b = record {
   older = b.older;
   splits = ap (λ (k : List CellEntry). x ∷ k) b.splits;
   prepares = b.prepares;
-  is_first = b.is_first
+  is_first = b.is_first;
 }
 
 -- no entry of the history is a Prepare
@@ -133,6 +133,7 @@ none_case : (x : CellEntry) (h : List CellEntry) → (filter_map prepared_call h
 none_case x h rest None q r e (here p) = ap prepared_call p ∙ q
 none_case x h rest None q r e (there i) = rest r e i
 none_case x h rest (Some n) q r e i = absurd (let f = r in cc)
+
 none_prepared : (h : List CellEntry) → filter_map prepared_call h ≡ [] → (e : CellEntry) → In e h → prepared_call e ≡ None
 none_prepared [] q e i = elim i [ ]
 none_prepared (x ∷ h) q e i = none_case x h (none_prepared h) (prepared_call x) refl q e i
@@ -145,7 +146,7 @@ begun_list x h c n rest q [] e f = record {
   older = h;
   splits = refl;
   prepares = q ∙ f;
-  is_first = none_prepared h e
+  is_first = none_prepared h e;
 }
 begun_list x h c n rest q (m ∷ ns) e f = begun_later x h (rest (ap final e ∙ f))
 
