@@ -9,6 +9,7 @@ use Rattle.port_pool.specs.declared.signal.SectionSignal.{SectionSignal}
 use Rattle.port_pool.specs.Signals.{same_leg, signal_at}
 use Rattle.call_cell.specs.Cells.{CellEvent, CellEntry, Prepare, Commit, Relay, Expire, Read, End, legs_of, legs, life, committed, commits_for, in_force}
 use Rattle.call_cell.proofs.Legs.{leg_before, is_same_leg}
+use Rattle.call_cell.proofs.Splits.{none_in, or_first, in_middle}
 
 -- the last commit of the leg, with what stands after and before it
 pub record IsCommitted (h : List CellEntry) (leg : Holder) (s : LegSignal) : Type 0 where
@@ -37,13 +38,6 @@ commit_event moment (Relay r) leg s q = absurd (let e = q in cc)
 commit_event moment (Expire due) leg s q = absurd (let e = q in cc)
 commit_event moment (Read told) leg s q = absurd (let e = q in cc)
 commit_event moment End leg s q = absurd (let e = q in cc)
-
-none_in : (P : CellEntry → Type 0) (x : CellEntry) → In x [] → P x
-none_in P x i = elim i [ ]
-
-or_first : (P : CellEntry → Type 0) {e : CellEntry} {es : List CellEntry} → P e → ((x : CellEntry) → In x es → P x) → (x : CellEntry) → In x (e ∷ es) → P x
-or_first P p rest x (here q) = subst P (sym q) p
-or_first P p rest x (there i) = rest x i
 
 abbrev adds : Holder → CellEntry → Bool
 adds leg e = list_any (same_leg leg) (legs_of e.event)
@@ -91,10 +85,6 @@ force_case x h leg s rest false q f = said_case x h leg s rest q (committed leg 
 pub in_force_committed : (h : List CellEntry) (leg : Holder) (s : LegSignal) → in_force h leg ≡ Some s → IsCommitted h leg s
 in_force_committed [] leg s q = absurd (let e = q in cc)
 in_force_committed (x ∷ h) leg s q = force_case x h leg s (in_force_committed h leg s) (adds leg x) refl q
-
-in_middle : (newer older : List CellEntry) (e : CellEntry) → In e (newer ++ e ∷ older)
-in_middle [] older e = here refl
-in_middle (x ∷ newer) older e = there (in_middle newer older e)
 
 -- the commit is an entry of the history
 pub commit_is_in : (h : List CellEntry) (leg : Holder) (s : LegSignal) (c : IsCommitted h leg s) → In c.entry h

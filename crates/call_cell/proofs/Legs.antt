@@ -9,6 +9,7 @@ use Rattle.port_pool.specs.declared.holder.Holder.{Holder}
 use Rattle.port_pool.specs.Signals.{NewKey, same_leg, side_eq, other_side}
 use Rattle.call_cell.specs.Cells.{CellEvent, CellEntry, Prepare, Commit, Relay, Expire, Read, End, Receipt, legs_of, takes_away, legs, is_opposite, opposite}
 use Rattle.call_cell.specs.Deeds.{found}
+use Rattle.call_cell.proofs.Splits.{both_left, both_right, both}
 
 -- the entry is a Prepare of these
 pub record IsPrepare (e : CellEntry) : Type 0 where
@@ -107,18 +108,6 @@ leg_before (x ∷ newer) older leg none i =
     (in_append (legs_of x.event) (filter (keeps_leg x) (legs (newer ++ older))) i))
 
 -- of two tests
-
-both_left : (a b : Bool) → (a && b) ≡ true → a ≡ true
-both_left true b q = refl
-both_left false b q = let e = q in cc
-
-both_right : (a b : Bool) → (a && b) ≡ true → b ≡ true
-both_right true b q = q
-both_right false b q = absurd (let e = q in cc)
-
-both : (a b : Bool) → a ≡ true → b ≡ true → (a && b) ≡ true
-both true b p q = q
-both false b p q = absurd (let e = p in cc)
 
 -- a leg is the same as itself, and what is the same as it is of its call, pair and lease
 pub is_same_leg : (leg : Holder) → same_leg leg leg ≡ true

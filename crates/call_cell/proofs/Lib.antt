@@ -1,3 +1,4 @@
+pub mod Splits
 pub mod Does
 pub mod Since
 pub mod Legs

@@ -9,6 +9,7 @@ use Rattle.histories.specs.Words.{In, here, there}
 use Rattle.histories.proofs.Lists.{picks, maps, keeps, equal, equal_if}
 use Rattle.call_cell.specs.Cells.{CellEntry, Shield}
 use Rattle.call_cell.specs.Keyed.{shield_of, protected}
+use Rattle.call_cell.proofs.Splits.{both, both_left, both_right}
 
 -- what an entry protected is among the notes of its key
 pub in_protected : (h : List CellEntry) (e : CellEntry) (s : Shield) → In e h → shield_of e ≡ Some s → In s.note (protected h s.key)
@@ -44,10 +45,6 @@ pub adds_note : (e : CellEntry) (h : List CellEntry) (key : ℕ) → Adds e h ke
 adds_note e h key = adds_case e h key (shield_of e) refl
 
 -- the index of a note is among those of its half and source
-both : (a b : Bool) → a ≡ true → b ≡ true → (a && b) ≡ true
-both true b p q = q
-both false b p q = absurd (let e = p in cc)
-
 half_is_half : (half : Half) → is_half half half ≡ true
 half_is_half Rtp = refl
 half_is_half Rtcp = refl
@@ -71,14 +68,6 @@ is_half_is Rtp Rtp q = refl
 is_half_is Rtcp Rtcp q = refl
 is_half_is Rtp Rtcp q = absurd (let e = q in cc)
 is_half_is Rtcp Rtp q = absurd (let e = q in cc)
-
-both_left : (a b : Bool) → (a && b) ≡ true → a ≡ true
-both_left true b q = refl
-both_left false b q = let e = q in cc
-
-both_right : (a b : Bool) → (a && b) ≡ true → b ≡ true
-both_right true b q = q
-both_right false b q = absurd (let e = q in cc)
 
 counts_case : (half : Half) (ssrc : ℕ) (note : Note) (notes : List Note) (b : Bool) → (is_half half note.half && (note.ssrc == ssrc)) ≡ b
     → Counts half ssrc note notes

@@ -8,6 +8,7 @@ use Rattle.call_cell.specs.Cells.{CellEvent, CellEntry, Prepare, Commit, Relay, 
 use Rattle.call_cell.specs.Deeds.{deed}
 use Rattle.call_cell.specs.Asked.{FitsAt}
 use Rattle.call_cell.specs.Good.{FittingCell, empty, longer, GoodCell, begins, goes_on}
+use Rattle.call_cell.proofs.Splits.{none_in, or_first, in_middle}
 
 -- since the last End
 
@@ -28,13 +29,6 @@ pub record IsSince (h : List CellEntry) (e : CellEntry) : Type 0 where
   pub splits_since : since_end h ≡ newer ++ e ∷ since_end older
   pub none_ends : (x : CellEntry) → In x newer → is_end x ≡ false
   pub is_not_end : is_end e ≡ false
-
-none_in : (P : CellEntry → Type 0) (x : CellEntry) → In x [] → P x
-none_in P x i = elim i [ ]
-
-or_first : (P : CellEntry → Type 0) {e : CellEntry} {es : List CellEntry} → P e → ((x : CellEntry) → In x es → P x) → (x : CellEntry) → In x (e ∷ es) → P x
-or_first P p rest x (here q) = subst P (sym q) p
-or_first P p rest x (there i) = rest x i
 
 split_here : (x e : CellEntry) (h : List CellEntry) → e ≡ x → is_end x ≡ false → IsSince (x ∷ h) e
 split_here x e h q no_end =
@@ -158,10 +152,6 @@ begun_case x h c rest (Some n) q f = begun_list x h c n rest q (filter_map prepa
 pub call_begun : (h : List CellEntry) (c : ℕ) → call h ≡ Some c → IsBegun h c
 call_begun [] c q = absurd (let e = q in cc)
 call_begun (x ∷ h) c q = begun_case x h c (call_begun h c) (prepared_call x) refl q
-
-in_middle : (newer older : List CellEntry) (e : CellEntry) → In e (newer ++ e ∷ older)
-in_middle [] older e = here refl
-in_middle (x ∷ newer) older e = there (in_middle newer older e)
 
 pub call_is_in : (h : List CellEntry) (c : ℕ) → call h ≡ Some c → (e : CellEntry) × In e h × (prepared_call e ≡ Some c)
 call_is_in h c q =
