@@ -9,3 +9,4 @@ pub mod Noted
 pub mod Next
 pub mod Protected
 pub mod Shields
+mod rows
