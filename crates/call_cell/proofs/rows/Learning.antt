@@ -1,12 +1,10 @@
 -- Worked rows of learning: where packets go, and whose packets are taken.
-use Rattle.std.proofs.Common.{◌≡◌, List, [], ◌∷◌, ◌++◌, false, true, Some, None, refl}
+use Rattle.std.proofs.Common.{◌≡◌, [], ◌∷◌, Some, None, refl}
 use Rattle.rtp_packet.specs.declared.head.Half.TheVariants.{Rtp, Rtcp}
 use Rattle.rtp_packet.specs.Head.{rtp_head, rtcp_ssrc}
 use Rattle.port_pool.specs.Ports.{pair_port}
 use Rattle.call_cell.specs.declared.outcome.Refused.TheVariants as refused
-use Rattle.call_cell.specs.declared.outcome.Lost.TheVariants as lost
 use Rattle.call_cell.specs.declared.outcome.Outcome.TheVariants as outcomes
-use Rattle.call_cell.specs.Cells.{Prepare}
 use Rattle.call_cell.specs.Learning.{learned, endpoint}
 use Rattle.call_cell.specs.Deeds.{deed}
 use Rattle.call_cell.proofs.rows.Calls.{leg_a, leg_b, at_a, at_b, next_port, first_place, second_place, third_place, no_flags, strict, handover, strict_handover, asymmetric, strict_asymmetric, plain, side_a, side_b, held, committed, received, from_a, from_b, control_a, control_b, answered, steps, now, packet, outcomes_of, sent_to_a, sent_to_b}
