@@ -3,7 +3,6 @@ use Rattle.std.proofs.Common.{◌≡◌, ℕ, List, [], ◌∷◌, false, true, 
 use Rattle.relay_outside.specs.declared.address.Addr.{Addr}
 use Rattle.rtp_packet.specs.declared.head.Half.TheVariants.{Rtp}
 use Rattle.rtp_packet.specs.Head.{rtp_head, rtcp_ssrc}
-use Rattle.port_pool.specs.Ports.{pair_port}
 use Rattle.port_pool.specs.declared.holder.Holder.{Holder}
 use Rattle.port_pool.specs.Reports.{LegReport}
 use Rattle.call_cell.specs.Cells.{CellEntry, Prepare, Expire, Read, End, since_end}
@@ -104,7 +103,7 @@ unused_report = refl
 
 -- side A sends two RTP packets, one of which fails, and one RTCP packet; side B one RTP packet and a malformed one
 used_report : reports (steps (answered side_a side_b) (packet (from_a first_place 1) ∷ fails (from_a first_place 2) ∷ packet (control_a second_place) ∷ packet (from_b at_b 1) ∷ packet (received leg_b Rtp at_b []) ∷ [])) ≡ report leg_b at_b 1 1 0 1 ∷ report leg_a first_place 2 1 1 0 ∷ []
-unfolding reports deed rtp_head rtcp_ssrc pair_port
+unfolding reports deed rtp_head rtcp_ssrc
 used_report = refl
 
 -- what is held back is accepted and not sent
@@ -114,7 +113,7 @@ held_report = refl
 
 -- a new answer keeps the counts; a rejected section has no report
 answered_again_report : reports (steps (answered side_a side_b) (packet (from_a at_a 1) ∷ now (committed (plain third_place no_flags) side_b) ∷ [])) ≡ report leg_b at_b 0 1 0 0 ∷ report leg_a third_place 1 0 0 0 ∷ []
-unfolding reports deed rtp_head pair_port
+unfolding reports deed rtp_head
 answered_again_report = refl
 
 rejected_has_none : reports (steps (answered side_a side_b) (packet (from_a at_a 1) ∷ now rejected ∷ [])) ≡ []

@@ -1,0 +1,7 @@
+pub mod Members
+pub mod Lives
+pub mod Drawn
+pub mod Numbers
+pub mod Demanded
+pub mod Standing
+mod rows
