@@ -133,6 +133,15 @@ back_again_forgets : learned (steps (answered side_a side_b) (packet (from_a fir
 unfolding deed rtp_head
 back_again_forgets = refl
 
+-- what counts is the address before, not the first one
+back_to_the_first_forgets : learned (steps (answered side_a side_b) (now (committed (plain third_place no_flags) side_b) ∷ packet (from_a first_place 1) ∷ now (committed side_a side_b) ∷ [])) leg_a Rtp ≡ None
+unfolding deed rtp_head
+back_to_the_first_forgets = refl
+
+changed_once_keeps : learned (steps (answered side_a side_b) (now (committed (plain third_place no_flags) side_b) ∷ packet (from_a first_place 1) ∷ now (committed (plain third_place no_flags) (held side_b)) ∷ [])) leg_a Rtp ≡ Some first_place
+unfolding deed rtp_head
+changed_once_keeps = refl
+
 forgotten_is_learned_anew : outcomes_of (steps (answered (plain at_a strict) side_b) (packet (from_a first_place 1) ∷ now (committed (plain third_place strict) side_b) ∷ packet (from_a second_place 2) ∷ packet (from_a first_place 3) ∷ [])) ≡ outcomes.Refused refused.WrongSource ∷ sent_to_b at_b ∷ sent_to_b at_b ∷ []
 unfolding deed rtp_head
 forgotten_is_learned_anew = refl

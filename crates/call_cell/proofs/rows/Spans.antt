@@ -22,7 +22,7 @@ use Rattle.call_cell.specs.Cells.{CellEvent, CellEntry, Prepare, Relay, Receipt}
 use Rattle.call_cell.specs.Keyed.{accepted, Judged, Stopped, Passed, opened_by, opened_rtp, opened_under}
 use Rattle.call_cell.specs.Learning.{learned}
 use Rattle.call_cell.specs.Deeds.{deed, refused_deed, lost_deed}
-use Rattle.call_cell.proofs.rows.Calls.{config, Step, leg_a, leg_b, at_a, at_b, first_place, second_place, strict, plain, side_a, side_b, held, sends_under, under, committed, rejected, received, from_a, answered, steps, now, note, rtp_of, rtcp_of}
+use Rattle.call_cell.proofs.rows.Calls.{config, Step, prepared, leg_a, leg_b, at_a, at_b, first_place, second_place, strict, plain, side_a, side_b, held, sends_under, under, committed, rejected, received, from_a, answered, steps, now, note, rtp_of, rtcp_of}
 
 -- Spans.
 
@@ -67,6 +67,17 @@ back_again_begins = refl
 
 by_another_begins : accepted (steps secured (took 100 ∷ now (committed (sends_under other_key Tag80 side_a) side_b) ∷ now (committed secure side_b) ∷ [])) leg_a ≡ []
 by_another_begins = refl
+
+-- what counts is what was in force before, not what was in force first
+back_to_the_first_begins : accepted (steps secured (now (committed (sends_under other_key Tag80 side_a) side_b) ∷ took 5 ∷ now (committed secure side_b) ∷ [])) leg_a ≡ []
+back_to_the_first_begins = refl
+
+changed_once_goes_on : accepted (steps secured (now (committed (sends_under other_key Tag80 side_a) side_b) ∷ took 5 ∷ now (committed (sends_under other_key Tag80 side_a) (held side_b)) ∷ [])) leg_a ≡ index 5 ∷ []
+changed_once_goes_on = refl
+
+-- a span begins at the first commit at the latest
+first_commit_begins : accepted (steps [] (now prepared ∷ took 5 ∷ now (committed secure side_b) ∷ took 6 ∷ [])) leg_a ≡ index 6 ∷ []
+first_commit_begins = refl
 
 -- nothing else that changes begins one: address, flags, hold, outbound key, and whatever changes on the other leg
 all_else_goes_on : accepted (steps secured (took 100 ∷ now (committed (sends_under key Tag80 (held (under 3 (plain first_place strict)))) (sends_under other_key Tag32 side_b)) ∷ [])) leg_a ≡ index 100 ∷ []
