@@ -1,3 +1,4 @@
 pub mod Signals
 pub mod Boxes
 pub mod Reports
+pub mod Ports
