@@ -1,5 +1,5 @@
 -- Why an offer or an answer is refused, and which crypto lines are heard in its description.
-use Rattle.std.specs.Prelude.{◌≡◌, ℕ, ◌<◌, List, [], ◌∷◌, length, Bool, false, true, not, ◌&&◌, ◌==◌, nat_lt, Option, Some, None, is_none, if◌then◌else◌}
+use Rattle.std.specs.Prelude.{◌≡◌, ℕ, ◌<◌, List, length, Bool, false, true, not, ◌&&◌, ◌==◌, nat_lt, Option, Some, None, is_none, if◌then◌else◌}
 use Rattle.std.specs.List.{list_any}
 use Rattle.std.specs.Str.{bytes_eq}
 use Rattle.sdes_lines.specs.declared.crypto_line.CryptoLine.{CryptoLine}
@@ -8,7 +8,7 @@ use Rattle.sdp_edit.specs.Choosing.{section_lines, IsFirstOf}
 use Rattle.ng_reply.specs.declared.code.ErrorCode.{ErrorCode}
 use Rattle.ng_reply.specs.declared.code.ErrorCode.TheVariants.{E8, E10, E11, E12}
 use Rattle.offer_answer.specs.Rounds.{Round, OfferAsk, AnswerAsk}
-use Rattle.offer_answer.specs.Sides.{MadeOffer, is_settled, is_some_sides}
+use Rattle.offer_answer.specs.Sides.{MadeOffer, is_begun, is_settled, is_some_sides}
 use Rattle.offer_answer.specs.Sections.{section_count, section_in, all_sections, active_sections, is_active_in, committed_count}
 use Rattle.offer_answer.specs.Profiles.{is_srtp, written}
 use Rattle.offer_answer.specs.Keys.{chosen_in}
@@ -19,11 +19,6 @@ pub record AreFirst (P : ℕ → CryptoLine → Type 0) (sdp : List ℕ) (chosen
   pub first : (section : ℕ) → section < section_count sdp → IsFirstOf (P section) (section_lines section (lines_of sdp)) (chosen_in chosen section)
 
 -- The offer.
-
--- there are rounds, so that the call has sides
-abbrev pub is_begun : List Round → Bool
-is_begun [] = false
-is_begun (round ∷ rounds) = true
 
 -- the from-tag of an offer for a live call is no side's
 abbrev pub is_strangers : List Round → OfferAsk → Bool

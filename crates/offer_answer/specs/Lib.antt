@@ -8,3 +8,4 @@ pub mod Signals
 pub mod Texts
 pub mod Faults
 pub mod Plan
+pub mod Laws

@@ -1,5 +1,5 @@
 -- The sections of descriptions, and their pairs of ports.
-use Rattle.std.specs.Prelude.{ℕ, List, [], ◌∷◌, ◌++◌, length, Bool, false, nat_lt, not, ◌&&◌, ◌==◌, Option, None, if◌then◌else◌, filter, find, slice_get, unwrap_or}
+use Rattle.std.specs.Prelude.{ℕ, List, [], ◌∷◌, ◌++◌, length, Bool, false, not, ◌&&◌, ◌==◌, Option, None, if◌then◌else◌, filter, find, slice_get, unwrap_or}
 use Rattle.std.specs.List.{list_any}
 use Rattle.histories.specs.Words.{numbers}
 use Rattle.sdp_text.specs.Lines.{lines_of}
@@ -11,7 +11,7 @@ use Rattle.port_pool.specs.declared.holder.Side.{Side}
 use Rattle.port_pool.specs.declared.holder.Holder.{Holder}
 use Rattle.port_pool.specs.Signals.{side_eq}
 use Rattle.offer_answer.specs.Rounds.{Round, Offered, Answered}
-use Rattle.offer_answer.specs.Sides.{has_answer, offered_sdp}
+use Rattle.offer_answer.specs.Sides.{is_begun, has_answer, offered_sdp}
 
 -- a call has at most this many sections
 abbrev pub most_sections : ℕ
@@ -65,7 +65,7 @@ life [] section = []
 life (round ∷ rounds) section = if leases round section then round ∷ [] else lives_on round (life rounds section) section
 
 abbrev pub has_pairs : List Round → ℕ → Bool
-has_pairs rounds section = nat_lt 0 (length (life rounds section))
+has_pairs rounds section = is_begun (life rounds section)
 
 -- an answer has committed the section since it got the pairs that it has
 abbrev pub is_committed : List Round → ℕ → Bool

@@ -18,6 +18,11 @@ pub record GivenAnswer : Type 0 where
   pub ask : AnswerAsk
   pub before : List Round
 
+-- there are rounds
+abbrev pub is_begun : List Round → Bool
+is_begun [] = false
+is_begun (round ∷ rounds) = true
+
 abbrev pub last_offer : List Round → Option MadeOffer
 last_offer [] = None
 last_offer (Offered ask legs keys ∷ rounds) = Some (record { ask = ask; keys = keys; before = rounds })

@@ -3,5 +3,9 @@
 //! `specs/Rounds.antt` has the accepted offers and answers of a call, latest first. `specs/Plan.antt` has the plan as functions
 //! of them: faults, demands, signals and texts. It stands over the sides of the call (`Sides`), its sections and their pairs
 //! (`Sections`), the profiles of legs (`Profiles`), their keys and crypto lines (`Keys`), and over `Demands`, `Signals`, `Texts`
-//! and `Faults`.
+//! and `Faults`. `specs/Laws.antt` has what holds of every plan, which `law` proves.
 #![tactic(auto)]
+
+mod law;
+
+pub use law::signals_name_drawn_keys;

@@ -1,0 +1,43 @@
+-- What holds of every plan.
+use Rattle.std.specs.Prelude.{◌≡◌, ℕ, List, [], ◌∷◌, ◌++◌, false, true, Some}
+use Rattle.histories.specs.Words.{In}
+use Rattle.port_pool.specs.declared.holder.Side.{Side}
+use Rattle.port_pool.specs.declared.holder.Holder.{Holder}
+use Rattle.port_pool.specs.declared.signal.LegSignal.{LegSignal}
+use Rattle.port_pool.specs.Signals.{NewKey, signal_at}
+use Rattle.offer_answer.specs.Rounds.{Round, Offered, OfferAsk, AnswerAsk}
+use Rattle.offer_answer.specs.Sections.{leases, has_pairs}
+use Rattle.offer_answer.specs.Plan.{signal}
+
+-- after the earlier rounds, and through all of the later ones, the section kept its pairs
+abbrev pub KeepsPairs : ℕ → List Round → List Round → Type 0
+KeepsPairs section [] earlier = has_pairs earlier section ≡ true
+KeepsPairs section (round ∷ later) earlier =
+    (has_pairs (round ∷ later ++ earlier) section ≡ true) × (leases round section ≡ false) × KeepsPairs section later earlier
+
+-- an offer among the rounds drew the key, and since then no offer dropped the section and no answer rejected it
+pub record IsDrawnInLife (rounds : List Round) (section : ℕ) (key : NewKey) : Type 0 where
+  pub later : List Round
+  pub ask : OfferAsk
+  pub legs : List Holder
+  pub keys : List NewKey
+  pub earlier : List Round
+  pub rounds_are : rounds ≡ later ++ Offered ask legs keys ∷ earlier
+  pub drawn : In key keys
+  pub kept : KeepsPairs section later (Offered ask legs keys ∷ earlier)
+
+-- the key that a signal names for a leg: drawn for this leg in its life, and of the suite under which its side sends
+pub record IsKeyOf (rounds : List Round) (section : ℕ) (side : Side) (s : LegSignal) (number : ℕ) : Type 0 where
+  pub key : NewKey
+  pub number_is : key.number ≡ number
+  pub for_section : key.section ≡ section
+  pub for_side : key.side ≡ side
+  pub is_drawn : IsDrawnInLife rounds section key
+  pub inbound : List ℕ
+  pub suite_is : s.inbound ≡ Some (inbound, key.suite)
+
+-- a signal names for a leg no key but one that was drawn for that leg in its life
+abbrev pub NamesDrawnKeys : Type 0
+NamesDrawnKeys =
+    (rounds : List Round) (ask : AnswerAsk) (section : ℕ) (side : Side) (s : LegSignal) (number : ℕ) →
+    signal_at (signal rounds ask) section side ≡ Some s → s.outbound ≡ Some number → IsKeyOf rounds section side s number
