@@ -1,3 +1,4 @@
 pub mod Members
 pub mod Lives
 pub mod Drawn
+mod rows

@@ -1,0 +1,4 @@
+mod Calls
+mod Plain
+mod Secure
+mod Texts
