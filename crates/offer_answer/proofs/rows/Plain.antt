@@ -135,6 +135,11 @@ side_b_stays : tag (Answered (answer_by a d (bob_with audio) plain none1) ∷ fo
 unfolding tag forked_further forked
 side_b_stays = refl
 
+-- an offer in place of one that nobody answered leaves it open who answers
+first_answer_to_a_repeated_offer : answer_fault (Offered audio_offer [] [] ∷ offered_once) audio_answer ≡ None
+unfolding answer_fault
+first_answer_to_a_repeated_offer = refl
+
 -- The other side offers.
 
 bobs_offer : OfferAsk
@@ -163,6 +168,11 @@ bob_does_not_answer_himself = refl
 answer_to_bob_commits : signal bob_offered (answer_by b a (alice_with audio) plain none1) ≡ Commit (plain_leg alice_ip 6000) (plain_leg bob_ip 6000) ∷ []
 unfolding signal bob_offered bobs_offer
 answer_to_bob_commits = refl
+
+-- the answer to it leaves the sides as they are
+sides_stay : tag (Answered (answer_by b a (alice_with audio) plain none1) ∷ bob_offered) B ≡ Some b
+unfolding tag bob_offered bobs_offer
+sides_stay = refl
 
 -- a new section of side B's offer: side A's leg is the one that the reply names
 bob_adds_a_section : demand answered_once (offer_by b (bob_with (audio ++ video)) plain none2) ≡ record { pairs = new_leg 1 A ∷ new_leg 1 B ∷ []; keys = []; dropped = [] }
@@ -233,6 +243,14 @@ still_in_force = refl
 section_of_the_answer_alone : signal paused (answer_by a b (bob_with (audio ++ video)) plain none2) ≡ Commit (plain_leg alice_ip 6000) (plain_leg bob_ip 6000) ∷ Reject ∷ []
 unfolding signal paused answered_two offered_two
 section_of_the_answer_alone = refl
+
+-- its pairs go then
+unused : List Round
+unused = Answered (answer_by a b (bob_with (audio ++ video)) plain none2) ∷ paused
+
+unused_gets_new_pairs : demand unused (offer_by a (alice_with (audio ++ video)) plain none2) ≡ record { pairs = new_two 1; keys = []; dropped = [] }
+unfolding demand unused paused answered_two offered_two
+unused_gets_new_pairs = refl
 
 -- port 0 in an answer rejects the section; its pairs go, a later answer to the same offer doesn't bring it back, and the next offer gets new ones
 port_zero_rejects : signal offered_once (answer_by a b (bob_with no_audio) plain none1) ≡ Reject ∷ []
