@@ -3,4 +3,5 @@ pub mod Lives
 pub mod Drawn
 pub mod Numbers
 pub mod Demanded
+pub mod Standing
 mod rows

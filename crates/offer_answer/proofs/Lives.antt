@@ -9,18 +9,18 @@ use Rattle.offer_answer.specs.Laws.{IsDrawnInLife}
 use Rattle.offer_answer.proofs.Members.{in-append, in-right, in-left}
 
 -- a life goes on by one round
-data LifeOf (round : Round) (rounds : List Round) (section : ℕ) : Type 0 where
+pub data LifeOf (round : Round) (rounds : List Round) (section : ℕ) : Type 0 where
   begins : leases round section ≡ true → life (round ∷ rounds) section ≡ round ∷ [] → LifeOf round rounds section
-  goes_on : leases round section ≡ false → life (round ∷ rounds) section ≡ round ∷ life rounds section → LifeOf round rounds section
+  goes_on : leases round section ≡ false → has_pairs rounds section ≡ true → life (round ∷ rounds) section ≡ round ∷ life rounds section → LifeOf round rounds section
   is_over : life (round ∷ rounds) section ≡ [] → LifeOf round rounds section
 
-life-step : (round : Round) (rounds : List Round) (section : ℕ) → LifeOf round rounds section
+pub life-step : (round : Round) (rounds : List Round) (section : ℕ) → LifeOf round rounds section
 life-step round rounds section = go (leases round section) (life rounds section) refl refl
   where
     on : (former : Round) (before : List Round) (b : Bool) → leases round section ≡ false → life rounds section ≡ former ∷ before →
         takes_away round (former ∷ before) section ≡ b → LifeOf round rounds section
     on former before true l e t = is_over (rw (l, e, t) refl)
-    on former before false l e t = goes_on l (rw (l, e, t) refl)
+    on former before false l e t = goes_on l (rw e refl) (rw (l, e, t) refl)
 
     go : (b : Bool) (before : List Round) → leases round section ≡ b → life rounds section ≡ before → LifeOf round rounds section
     go true before l e = begins l (rw l refl)
@@ -51,7 +51,7 @@ drawn-step : (round : Round) (rounds : List Round) (section : ℕ) (key : NewKey
     (In key (drawn_for (life rounds section)) → IsDrawnInLife rounds section key) →
     In key (drawn_for (life (round ∷ rounds) section)) → IsDrawnInLife (round ∷ rounds) section key
 drawn-step (Answered ask) rounds section key (begins l e) more i = cc
-drawn-step (Answered ask) rounds section key (goes_on l e) more i =
+drawn-step (Answered ask) rounds section key (goes_on l had e) more i =
     by_earlier (Answered ask) rounds section key (more (subst (λ rs. In key (drawn_for rs)) e i)) l (rw e refl)
 drawn-step (Answered ask) rounds section key (is_over e) more i = elim (subst (λ rs. In key (drawn_for rs)) e i) [ ]
 drawn-step (Offered ask legs keys) rounds section key (begins l e) more i =
@@ -59,7 +59,7 @@ drawn-step (Offered ask legs keys) rounds section key (begins l e) more i =
       | inl j ↦ by_last ask legs keys rounds section key j (rw e refl)
       | inr j ↦ elim j [ ]
     ]
-drawn-step (Offered ask legs keys) rounds section key (goes_on l e) more i =
+drawn-step (Offered ask legs keys) rounds section key (goes_on l had e) more i =
     elim (in-append keys (drawn_for (life rounds section)) (subst (λ rs. In key (drawn_for rs)) e i)) [
       | inl j ↦ by_last ask legs keys rounds section key j (rw e refl)
       | inr j ↦ by_earlier (Offered ask legs keys) rounds section key (more j) l (rw e refl)

@@ -1,13 +1,13 @@
 -- What holds of every plan.
-use Rattle.std.specs.Prelude.{◌≡◌, ℕ, List, [], ◌∷◌, ◌++◌, false, true, Some}
-use Rattle.histories.specs.Words.{In}
+use Rattle.std.specs.Prelude.{◌≡◌, ℕ, ◌<◌, List, [], ◌∷◌, ◌++◌, length, false, true, not, ◌&&◌, Some}
+use Rattle.histories.specs.Words.{In, has}
 use Rattle.port_pool.specs.declared.holder.Side.{Side}
 use Rattle.port_pool.specs.declared.holder.Holder.{Holder}
 use Rattle.port_pool.specs.declared.signal.LegSignal.{LegSignal}
-use Rattle.port_pool.specs.Signals.{NewKey, signal_at}
-use Rattle.offer_answer.specs.Rounds.{Round, Offered, OfferAsk, AnswerAsk}
-use Rattle.offer_answer.specs.Sections.{leases, has_pairs}
-use Rattle.offer_answer.specs.Plan.{signal}
+use Rattle.port_pool.specs.Signals.{NewKey, signal_at, is_rejected}
+use Rattle.offer_answer.specs.Rounds.{Round, Offered, Answered, OfferAsk, AnswerAsk}
+use Rattle.offer_answer.specs.Sections.{most_sections, leases, has_pairs}
+use Rattle.offer_answer.specs.Plan.{signal, demand}
 
 -- after the earlier rounds, and through all of the later ones, the section kept its pairs
 abbrev pub KeepsPairs : ℕ → List Round → List Round → Type 0
@@ -41,3 +41,16 @@ abbrev pub NamesDrawnKeys : Type 0
 NamesDrawnKeys =
     (rounds : List Round) (ask : AnswerAsk) (section : ℕ) (side : Side) (s : LegSignal) (number : ℕ) →
     signal_at (signal rounds ask) section side ≡ Some s → s.outbound ≡ Some number → IsKeyOf rounds section side s number
+
+-- A signal rejects exactly the sections that have no pairs after the answer.
+abbrev pub RejectsWhatGoes : Type 0
+RejectsWhatGoes =
+    (rounds : List Round) (ask : AnswerAsk) (section : ℕ) → section < length (signal rounds ask) →
+    is_rejected (signal rounds ask) section ≡ not (has_pairs (Answered ask ∷ rounds) section)
+
+-- An offer drops exactly the sections that had pairs before it and have none after it.
+abbrev pub DropsWhatGoes : Type 0
+DropsWhatGoes =
+    (rounds : List Round) (ask : OfferAsk) (legs : List Holder) (keys : List NewKey) (section : ℕ) → section < most_sections →
+    leases (Offered ask legs keys) section ≡ false →
+    has (demand rounds ask).dropped section ≡ (has_pairs rounds section && not (has_pairs (Offered ask legs keys ∷ rounds) section))

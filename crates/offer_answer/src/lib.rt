@@ -8,4 +8,4 @@
 
 mod law;
 
-pub use law::signals_name_drawn_keys;
+pub use law::{offers_drop_what_goes, signals_name_drawn_keys, signals_reject_what_goes};

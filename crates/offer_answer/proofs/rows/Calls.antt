@@ -64,6 +64,9 @@ bob_with media = codes "v=0\r\nc=IN IP4 198.51.100.20\r\n" ++ media
 abbrev pub audio : List ℕ
 audio = codes "m=audio 6000 RTP/AVP 0\r\n"
 
+abbrev pub feedback_audio : List ℕ
+feedback_audio = codes "m=audio 6000 RTP/AVPF 0\r\n"
+
 abbrev pub secure_audio : List ℕ
 secure_audio = codes "m=audio 6000 RTP/SAVP 0\r\n"
 

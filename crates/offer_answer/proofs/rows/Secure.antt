@@ -11,7 +11,7 @@ use Rattle.port_pool.specs.Signals.{NewKey}
 use Rattle.offer_answer.specs.Rounds.{Round, Offered, Answered, OfferAsk, AnswerAsk}
 use Rattle.offer_answer.specs.Keys.{last_lines}
 use Rattle.offer_answer.specs.Plan.{offer_fault, demand, answer_fault, signal, protocol}
-use Rattle.offer_answer.proofs.rows.Calls.{plain, towards, alice_ip, bob_ip, alice_with, bob_with, audio, secure_audio, no_audio, video, line80, line32, two_legs, key, place, nothing, new_two, offer_by, answer_by, a, b, d, none1, none2, audio_offer, audio_answer, plain_leg}
+use Rattle.offer_answer.proofs.rows.Calls.{plain, towards, alice_ip, bob_ip, alice_with, bob_with, audio, feedback_audio, secure_audio, no_audio, video, line80, line32, two_legs, key, place, nothing, new_two, offer_by, answer_by, a, b, d, none1, none2, audio_offer, audio_answer, plain_leg}
 
 -- a committed leg with SRTP: the line that its side chose, and the number of the key that it is sent to under
 abbrev secure_leg : LegSignal → CryptoLine → ℕ → LegSignal
@@ -140,6 +140,19 @@ bobs_line_decides : signal (Offered (offer_by b (bob_with secure_audio) plain (S
 unfolding signal
 bobs_line_decides = refl
 
+-- A crypto line in a section that isn't offered with SRTP means nothing.
+
+abbrev stray_line : OfferAsk
+stray_line = offer_by a (alice_with audio) plain (Some line80 ∷ [])
+
+stray_line_draws_nothing : demand [] stray_line ≡ record { pairs = new_two 0; keys = []; dropped = [] }
+unfolding demand
+stray_line_draws_nothing = refl
+
+stray_line_is_not_committed : signal (Offered stray_line (two_legs 0 0) [] ∷ []) audio_answer ≡ Commit (plain_leg alice_ip 6000) (plain_leg bob_ip 6000) ∷ []
+unfolding signal
+stray_line_is_not_committed = refl
+
 -- SAVP towards AVP: one key, for the offerer's chosen line.
 
 abbrev unsecuring : OfferAsk
@@ -157,6 +170,15 @@ no_usable_second_line = refl
 plain_sections_need_no_line : offer_fault [] (offer_by a (alice_with (secure_audio ++ video)) plain (Some line80 ∷ None ∷ [])) ≡ None
 unfolding offer_fault
 plain_sections_need_no_line = refl
+
+-- early feedback alone is no SRTP
+feedback_needs_no_line : offer_fault [] (offer_by a (alice_with feedback_audio) plain none1) ≡ None
+unfolding offer_fault
+feedback_needs_no_line = refl
+
+feedback_draws_nothing : demand [] (offer_by a (alice_with audio) (towards Avpf) none1) ≡ record { pairs = new_two 0; keys = []; dropped = [] }
+unfolding demand
+feedback_draws_nothing = refl
 
 one_key_is_drawn : demand [] unsecuring ≡ record { pairs = new_two 0; keys = place 0 A Tag32 ∷ []; dropped = [] }
 unfolding demand
