@@ -36,7 +36,7 @@ active_sections-rise sdp = filter-ordered (λ i j. i < j) (is_active_in sdp) (al
 abbrev pub AreLegsApart : NewLeg → NewLeg → Type 0
 AreLegsApart l m = l.section ≡ m.section → l.side ≡ m.side → ⊥
 
-in-legs_for : (rounds : List Round) (ask : OfferAsk) (section : ℕ) (l : NewLeg) → In l (legs_for rounds ask section) → l.section ≡ section
+pub in-legs_for : (rounds : List Round) (ask : OfferAsk) (section : ℕ) (l : NewLeg) → In l (legs_for rounds ask section) → l.section ≡ section
 in-legs_for rounds ask section l (here e) = ap (λ (m : NewLeg). m.section) e
 in-legs_for rounds ask section l (there (here e)) = ap (λ (m : NewLeg). m.section) e
 in-legs_for rounds ask section l (there (there i)) = elim i [ ]

@@ -4,4 +4,7 @@ pub mod Drawn
 pub mod Numbers
 pub mod Demanded
 pub mod Standing
+pub mod Keyed
+pub mod Secured
+pub mod Committing
 mod rows

@@ -117,6 +117,10 @@ asked_comes_first : protocol (Answered audio_answer ∷ Offered (offer_by a (ali
 unfolding protocol
 asked_comes_first = refl
 
+-- towards plain RTP no line is written, though a key is in force
+plain_has_no_line : last_lines (Offered (offer_by a (alice_with audio) (towards Avp) none1) [] [] ∷ taken) 0 ≡ None ∷ None ∷ []
+plain_has_no_line = refl
+
 -- The other side offers.
 
 abbrev bobs_offer : OfferAsk
@@ -251,6 +255,10 @@ unsecured_taken = Answered audio_answer ∷ unsecured
 
 one_line_to_a : last_lines (Offered (offer_by b (bob_with audio) plain none1) [] [] ∷ unsecured_taken) 0 ≡ carrying 1 (key 0 0 A Tag32) ∷ None ∷ []
 one_line_to_a = refl
+
+key_in_force_draws_no_other : demand unsecured_taken (offer_by b (bob_with audio) plain none1) ≡ nothing
+unfolding demand
+key_in_force_draws_no_other = refl
 
 -- with a key for one suite and none in force, the other one alone is drawn, and both are offered
 abbrev offered_to_a : List Round
