@@ -7,4 +7,5 @@ pub mod Standing
 pub mod Keyed
 pub mod Secured
 pub mod Committing
+pub mod Legs
 mod rows

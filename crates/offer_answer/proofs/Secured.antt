@@ -14,7 +14,7 @@ use Rattle.port_pool.specs.declared.holder.Side.{Side}
 use Rattle.port_pool.specs.declared.holder.Side.TheVariants.{A, B}
 use Rattle.port_pool.specs.declared.holder.Holder.{Holder}
 use Rattle.port_pool.specs.Signals.{NewKey, side_eq, suite_eq, other_side}
-use Rattle.offer_answer.specs.Rounds.{Round, Offered, OfferAsk, KeyPlace, drawn_for}
+use Rattle.offer_answer.specs.Rounds.{Round, Offered, OfferAsk, NewLeg, KeyPlace, drawn_for}
 use Rattle.offer_answer.specs.Sides.{offerer}
 use Rattle.offer_answer.specs.Sections.{no_section, committed_count, sections_of, section_count, section_in, all_sections, active_sections, is_active, is_active_in, leases, life, has_pairs}
 use Rattle.offer_answer.specs.Profiles.{is_srtp, written}
@@ -61,7 +61,7 @@ none-passes {X} test (y ∷ ys) x e i = go (test y) refl e i (none-passes test y
     go false t f (here same) more = ap test same ∙ t
     go false t f (there j) more = more f j
 
-some-passes : {X : Type 0} (test : X → Bool) (xs : List X) → list_any test xs ≡ true → (x : X) × In x xs × (test x ≡ true)
+pub some-passes : {X : Type 0} (test : X → Bool) (xs : List X) → list_any test xs ≡ true → (x : X) × In x xs × (test x ≡ true)
 some-passes test [] e = cc
 some-passes {X} test (y ∷ ys) e = go (test y) refl e (some-passes test ys)
   where
@@ -69,12 +69,12 @@ some-passes {X} test (y ∷ ys) e = go (test y) refl e (some-passes test ys)
     go true t f more = (y, here refl, t)
     go false t f more = let m = more f in (m.0, there m.1, m.2)
 
-in-mapped : {X Y : Type 0} (f : X → Y) (xs : List X) (x : X) → In x xs → In (f x) (map f xs)
+pub in-mapped : {X Y : Type 0} (f : X → Y) (xs : List X) (x : X) → In x xs → In (f x) (map f xs)
 in-mapped f [] x i = elim i [ ]
 in-mapped f (y ∷ ys) x (here e) = here (ap f e)
 in-mapped f (y ∷ ys) x (there i) = there (in-mapped f ys x i)
 
-in-flat : {X Y : Type 0} (f : X → List Y) (xs : List X) (x : X) (y : Y) → In x xs → In y (f x) → In y (flat_map f xs)
+pub in-flat : {X Y : Type 0} (f : X → List Y) (xs : List X) (x : X) (y : Y) → In x xs → In y (f x) → In y (flat_map f xs)
 in-flat f [] x y i j = elim i [ ]
 in-flat f (z ∷ zs) x y (here e) j = in-left (flat_map f zs) (subst (λ w. In y (f w)) e j)
 in-flat f (z ∷ zs) x y (there i) j = in-right (f z) (in-flat f zs x y i j)
@@ -103,6 +103,13 @@ has-line rounds ask section e active secure =
     let lacks = none-passes (lacks_line ask) (active_sections ask.sdp) section (no_line-lacks rounds ask e) (in-active ask.sdp section active) in
     is_there (chosen_in ask.chosen section) (sym (ap (λ b. b && is_none (chosen_in ask.chosen section)) secure) ∙ lacks)
 
+-- the section of a leg that was leased for a new leg
+pub section-of : (leg : Holder) (new : NewLeg) (source section : ℕ) → new.section ≡ source → leg_place leg ≡ new_leg_place new →
+    (leg.section == section) ≡ true → source ≡ section
+section-of leg new source section e f g =
+    let equal : leg.section ≡ section = grind (arith, g) in
+    sym e ∙ sym (ap (λ (p : ℕ × Side). p.0) f) ∙ equal
+
 -- it leases no pair for a section that has its pairs
 not-leased : (rounds : List Round) (ask : OfferAsk) (legs : List Holder) (keys : List NewKey) (section : ℕ) → IsOfferRound rounds ask legs keys →
     has_pairs rounds section ≡ true → leases (Offered ask legs keys) section ≡ false
@@ -113,12 +120,9 @@ not-leased rounds ask legs keys section r has = go (leases (Offered ask legs key
     leased leg i e =
         let new = in-map new_leg_place (new_legs rounds ask) (leg_place leg) (subst (λ places. In (leg_place leg) places) r.leased (in-mapped leg_place legs leg i)) in
         let from = in-flat_map (legs_for rounds ask) (new_active_sections rounds ask) new.0 new.1 in
-        let same : from.source ≡ section = sym (in-legs_for rounds ask from.source new.0 from.gives) ∙ sym (ap (λ (p : ℕ × Side). p.0) new.2) ∙ equal leg.section section e in
+        let same : from.source ≡ section = section-of leg new.0 from.source section (in-legs_for rounds ask from.source new.0 from.gives) new.2 e in
         let without = kept (λ n. not (has_pairs rounds n)) (active_sections ask.sdp) from.source from.is_in in
         true≢false (sym without.passes ∙ ap (λ n. not (has_pairs rounds n)) same ∙ ap not has)
-      where
-        equal : (m n : ℕ) → (m == n) ≡ true → m ≡ n
-        equal m n e = grind (arith, e)
 
     go : (b : Bool) → leases (Offered ask legs keys) section ≡ b → b ≡ false
     go false e = refl

@@ -6,7 +6,7 @@ use Rattle.port_pool.specs.declared.holder.Holder.{Holder}
 use Rattle.port_pool.specs.declared.signal.LegSignal.{LegSignal}
 use Rattle.port_pool.specs.Signals.{NewKey, signal_at, is_rejected}
 use Rattle.offer_answer.specs.Rounds.{Round, Offered, Answered, OfferAsk, AnswerAsk, NewLeg, KeyPlace}
-use Rattle.offer_answer.specs.Sections.{most_sections, leases, has_pairs}
+use Rattle.offer_answer.specs.Sections.{most_sections, leases, has_pairs, leg_of}
 use Rattle.offer_answer.specs.Profiles.{is_srtp_leg, profile_offered}
 use Rattle.offer_answer.specs.Keys.{place_of}
 use Rattle.offer_answer.specs.Plan.{AnswerHeard, offer_fault, answer_fault, signal, demand}
@@ -95,3 +95,7 @@ SecuresLegs =
     (rounds : List Round) (ask : AnswerAsk) (section : ℕ) (side : Side) (s : LegSignal) →
     AreRounds rounds → IsAnswerRound rounds ask → signal_at (signal rounds ask) section side ≡ Some s →
     IsSecured (is_srtp_leg (profile_offered rounds section side)) s
+
+-- A section that has pairs has one for each of its legs.
+abbrev pub HaveLegs : Type 0
+HaveLegs = (rounds : List Round) (section : ℕ) (side : Side) → AreRounds rounds → has_pairs rounds section ≡ true → IsSome (leg_of rounds section side)

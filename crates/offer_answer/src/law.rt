@@ -1,4 +1,4 @@
-ghost use Rattle.offer_answer.specs.Laws.{NamesDrawnKeys, RejectsWhatGoes, DropsWhatGoes, SecuresLegs};
+ghost use Rattle.offer_answer.specs.Laws.{NamesDrawnKeys, RejectsWhatGoes, DropsWhatGoes, SecuresLegs, HaveLegs};
 
 /// What a signal says of keys: the number that it names for a leg is that of a key which an offer of the call drew for that leg,
 /// in the suite under which the leg's side sends; and since that offer no offer dropped the section and no answer rejected it.
@@ -22,4 +22,9 @@ pub fn offers_drop_what_goes()
 /// keys drawn that the offers demanded.
 pub fn signals_secure_legs()
     ensures { SecuresLegs }
+{}
+
+/// A section that has pairs has one for each of its two legs.
+pub fn sections_have_both_legs()
+    ensures { HaveLegs }
 {}
