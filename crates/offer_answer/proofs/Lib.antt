@@ -8,4 +8,5 @@ pub mod Keyed
 pub mod Secured
 pub mod Committing
 pub mod Legs
+pub mod Edits
 mod rows
