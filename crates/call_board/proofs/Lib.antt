@@ -11,3 +11,4 @@ pub mod Free
 pub mod Leases
 pub mod Repeats
 pub mod Offers
+mod rows
