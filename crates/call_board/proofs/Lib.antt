@@ -11,4 +11,8 @@ pub mod Free
 pub mod Leases
 pub mod Repeats
 pub mod Offers
+pub mod Unheld
+pub mod Idle
+pub mod Keeps
+pub mod Draws
 mod rows
