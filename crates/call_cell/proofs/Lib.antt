@@ -9,4 +9,5 @@ pub mod Noted
 pub mod Next
 pub mod Protected
 pub mod Shields
+pub mod Steps
 mod rows

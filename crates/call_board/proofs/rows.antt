@@ -1,0 +1,6 @@
+mod Histories
+mod Calls
+mod Pairs
+mod Keys
+mod Kept
+mod Answers
