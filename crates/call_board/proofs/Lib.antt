@@ -11,6 +11,7 @@ pub mod Free
 pub mod Leases
 pub mod Repeats
 pub mod Offers
+pub mod Reporting
 pub mod Unheld
 pub mod Idle
 pub mod Keeps

@@ -1,6 +1,6 @@
 -- What is taken and what is sent under the keys of a leg: SRTP (RFC 3711 section 3.3) and SRTCP (section 3.4). Which
 -- packets were taken or protected before is a plain list of notes, latest first.
-use Rattle.std.specs.Prelude.{ℕ, Bool, true, false, not, ◌==◌, List, [], ◌∷◌, map, Option, Some, None, Result, Ok, Err, filter, filter_map, is_some, if◌then◌else◌}
+use Rattle.std.specs.Prelude.{ℕ, Bool, ◌==◌, List, map, Option, Some, None, Result, Ok, Err, filter, filter_map, is_some}
 use Rattle.sdes_lines.specs.declared.crypto_line.Suite.{Suite}
 use Rattle.rtp_packet.specs.declared.head.Half.{Half}
 use Rattle.rtp_packet.specs.declared.head.Half.TheVariants.{Rtp, Rtcp}
@@ -21,7 +21,7 @@ use Rattle.call_cell.specs.declared.outcome.Refused.{Refused}
 use Rattle.call_cell.specs.declared.outcome.Refused.TheVariants as refused
 use Rattle.call_cell.specs.declared.outcome.Lost.{Lost}
 use Rattle.call_cell.specs.declared.outcome.Lost.TheVariants as lost
-use Rattle.call_cell.specs.Cells.{CellEvent, CellEntry, Relay, Relayed, Shield, life, since_change, accepted_of, relayed}
+use Rattle.call_cell.specs.Cells.{CellEntry, Relayed, Shield, life, since_change, accepted_of, relayed}
 
 -- The notes.
 

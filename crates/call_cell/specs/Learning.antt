@@ -1,5 +1,5 @@
 -- Where packets go: the signalled address of a leg, or the source that was learned from the packets that it sent.
-use Rattle.std.specs.Prelude.{ℕ, Bool, true, false, not, ◌&&◌, List, [], ◌∷◌, ◌++◌, Option, Some, None, filter, filter_map, if◌then◌else◌}
+use Rattle.std.specs.Prelude.{Bool, false, not, ◌&&◌, List, [], ◌∷◌, ◌++◌, Option, Some, None, filter, filter_map, if◌then◌else◌}
 use Rattle.relay_outside.specs.declared.address.Addr.{Addr}
 use Rattle.relay_outside.specs.declared.settings.Flags.{Flags}
 use Rattle.relay_outside.specs.Ports.{same_addr}

@@ -3,3 +3,4 @@ pub mod Keyed
 pub mod Learning
 pub mod Deeds
 pub mod Asked
+pub mod Good

@@ -1,2 +1,11 @@
 pub mod Rounds
+pub mod Sides
+pub mod Sections
+pub mod Profiles
+pub mod Keys
+pub mod Demands
+pub mod Signals
+pub mod Texts
+pub mod Faults
 pub mod Plan
+pub mod Laws

@@ -1,4 +1,13 @@
 //! Offer and answer (RFC 3264): what an offer or an answer of a call demands, and what it makes of the descriptions.
 //!
-//! `specs/Rounds.antt` has the accepted offers and answers of a call, `specs/Plan.antt` the plan as functions of them.
+//! `specs/Rounds.antt` has the accepted offers and answers of a call, latest first. `specs/Plan.antt` has the plan as functions
+//! of them: faults, demands, signals and texts. It stands over the sides of the call (`Sides`), its sections and their pairs
+//! (`Sections`), the profiles of legs (`Profiles`), their keys and crypto lines (`Keys`), and over `Demands`, `Signals`, `Texts`
+//! and `Faults`. `specs/Laws.antt` has what holds of every plan, which `law` proves.
 #![tactic(auto)]
+
+mod law;
+
+pub use law::{
+    offers_drop_what_goes, signals_name_drawn_keys, signals_reject_what_goes, signals_secure_legs,
+};

@@ -12,6 +12,7 @@ use Rattle.port_pool.specs.declared.holder.Holder.{Holder}
 use Rattle.port_pool.specs.declared.signal.LegSignal.{LegSignal}
 use Rattle.port_pool.specs.Signals.{NewKey}
 use Rattle.port_pool.specs.Boxes.{BoxEvent, Take, Datagram, holder}
+use Rattle.port_pool.specs.Ports.{half_port}
 use Rattle.offer_answer.specs.Plan as plan
 use Rattle.offer_answer.specs.Rounds.{OfferAsk}
 use Rattle.call_cell.specs.declared.outcome.Outcome.{Outcome}
@@ -144,7 +145,7 @@ pub record Safe (config : Config) (l : List Entry) : Type 0 where
   -- every packet sent is the transform of one received packet, sent once, to the opposite endpoint, by the leg that held the port
   pub sent_right : (e : Entry) (x : Relayed) (w : Sending) → In e l → e.event ≡ Cell (Relay x) → x.deed.sending ≡ Some w → IsSentRight config l e x w
   pub sent_sends : (e : Entry) (x : Relayed) (port : ℕ) (to : Addr) (len : ℕ) → In e l → e.event ≡ Cell (Relay x)
-      → x.deed.outcome ≡ Sent port to len → (w : Sending) × (x.deed.sending ≡ Some w) × (w.to ≡ to) × (length w.bytes ≡ len)
+      → x.deed.outcome ≡ Sent port to len → (w : Sending) × (x.deed.sending ≡ Some w) × (w.to ≡ to) × (length w.bytes ≡ len) × (port ≡ half_port config w.pair w.half)
   -- no key, source and index protects two packets
   pub shields_apart : (e f : Entry) (s : Shield) → In e l → In f l → shield_at e ≡ Some s → shield_at f ≡ Some s → e ≡ f
   pub protected_by : (e : Entry) (x : Relayed) (s : Shield) → In e l → e.event ≡ Cell (Relay x) → x.deed.shield ≡ Some s → IsProtectedBy l e x s

@@ -1,6 +1,10 @@
 //! The whole relay as one list of entries: each is one step of one place, which is the board, a call's cell or the box of a
 //! port pair. A list is legal where each entry is the one that the history of its place demands; a legal list is safe.
 //!
-//! `specs/Entries.antt` has the entries and the histories of places, `specs/Scripts.antt` what an entry of the board owes,
+//! Module `laws` states that. `specs/Entries.antt` has the entries and the histories of places, `specs/Scripts.antt` what an entry of the board owes,
 //! `specs/Legal.antt` when a list is legal, `specs/Safe.antt` what is then promised.
 #![tactic(auto)]
+
+mod laws;
+
+pub use laws::{cells_are_apart, legal_is_safe, orderly_is_safe};

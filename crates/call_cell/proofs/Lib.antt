@@ -1,0 +1,13 @@
+pub mod Splits
+pub mod Does
+pub mod Since
+pub mod Legs
+pub mod Committed
+pub mod Keys
+pub mod Sends
+pub mod Noted
+pub mod Next
+pub mod Protected
+pub mod Shields
+pub mod Steps
+mod rows

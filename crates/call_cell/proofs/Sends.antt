@@ -1,0 +1,171 @@
+-- What a relay that made a send did, and when a relay makes one.
+use Rattle.std.proofs.Common.{◌≡◌, refl, ap, subst, sym, ◌∙◌, ℕ, List, Bool, true, false, Option, Some, None, length}
+use Rattle.relay_outside.specs.declared.address.Addr.{Addr}
+use Rattle.relay_outside.specs.declared.settings.Config.{Config}
+use Rattle.srtp_sources.specs.Notes.{Note}
+use Rattle.histories.specs.Words.{In}
+use Rattle.port_pool.specs.Ports.{half_port}
+use Rattle.port_pool.specs.declared.holder.Holder.{Holder}
+use Rattle.port_pool.specs.declared.signal.LegSignal.{LegSignal}
+use Rattle.port_pool.specs.Signals.{same_leg}
+use Rattle.call_cell.specs.declared.outcome.Refused.{Refused}
+use Rattle.call_cell.specs.declared.outcome.Lost.{Lost}
+use Rattle.call_cell.specs.declared.outcome.Lost.TheVariants as lost
+use Rattle.call_cell.specs.declared.outcome.Outcome.TheVariants as outcomes
+use Rattle.call_cell.specs.Cells.{CellEntry, Receipt, Sending, Deed, legs, opposite, in_force}
+use Rattle.call_cell.specs.Keyed.{Judged, Passed, Wrapped}
+use Rattle.call_cell.specs.Learning.{learned, endpoint, endpoint_in}
+use Rattle.call_cell.specs.Deeds.{deed, found, kind, way, judged_leg, bytes_of, transform, transformed, plain_of, sent_outcome}
+use Rattle.call_cell.proofs.Legs.{found_is}
+use Rattle.call_cell.proofs.Does.{Does, refuses, loses, leaves, Taken, Leaving, sending_of, does}
+
+-- a send of a relay: by the leg opposite to the one that is found, to its endpoint, what the packet is turned into
+pub record Sends (h : List CellEntry) (p : Receipt) (w : Sending) : Type 0 where
+  pub leg : Holder
+  pub is_found : found h p ≡ Some leg
+  pub is_leg : In leg (legs h)
+  pub is_same : same_leg p.holder leg ≡ true
+  -- what is in force on the leg that is found
+  pub own : LegSignal
+  pub own_in_force : in_force h leg ≡ Some own
+  pub other : Holder
+  pub is_opposite : opposite h leg ≡ Some other
+  pub signal : LegSignal
+  pub is_in_force : in_force h other ≡ Some signal
+  pub sends_bytes : transform h p leg signal ≡ Some w.bytes
+  pub from_pair : w.pair ≡ other.pair
+  pub by_half : w.half ≡ way h p
+  pub sends_to : endpoint h other w.half ≡ Some w.to
+
+-- a leg whose packet was taken was answered
+pub record Own (h : List CellEntry) (leg : Holder) : Type 0 where
+  pub signal : LegSignal
+  pub is_in_force : in_force h leg ≡ Some signal
+
+own_case : (h : List CellEntry) (p : Receipt) (leg : Holder) (s : Option LegSignal) → in_force h leg ≡ s → (note : Option Note) (plain : List ℕ)
+    → (known : Option Addr) (notes : List Note) → judged_leg s known notes (kind h p) p.source p.bytes ≡ Passed note plain → Own h leg
+own_case h p leg None e note plain known notes q = absurd (let f = q in cc)
+own_case h p leg (Some s) e note plain known notes q = record { signal = s; is_in_force = e }
+
+pub own : (h : List CellEntry) (p : Receipt) (t : Taken h p) → Own h t.leg
+own h p t = own_case h p t.leg (in_force h t.leg) refl t.note t.plain _ _ t.is_judged
+
+transform_is : (h : List CellEntry) (p : Receipt) (t : Taken h p) (l : Leaving h p t) → transform h p t.leg l.signal ≡ Some l.bytes
+unfolding transform
+transform_is h p t l =
+    ap (λ (j : Judged). transformed h p l.signal (plain_of j)) t.is_judged ∙ ap (λ (w : Wrapped). bytes_of w) l.is_wrapped
+
+sends_case : (config : Config) (h : List CellEntry) (p : Receipt) (ok : Bool) (w : Sending) (d : Deed) → Does config h p ok d
+    → d.sending ≡ Some w → Sends h p w
+sends_case config h p ok w d (refuses cause e) q = absurd (let f = ap (λ (x : Deed). x.sending) e in cc)
+sends_case config h p ok w d (loses t cause n e) q = absurd (let f = ap (λ (x : Deed). x.sending) e in cc)
+sends_case config h p ok w d (leaves t l e) q =
+    let f = ap (λ (x : Deed). x.sending) e in
+    let is_it : sending_of h p l.other l.signal l.bytes ≡ w = cc in
+    let found_leg = found_is h p t.leg t.is_found in
+    let o = own h p t in
+    subst (λ (x : Sending). Sends h p x) is_it
+    (record {
+      leg = t.leg;
+      is_found = t.is_found;
+      is_leg = found_leg.is_leg;
+      is_same = found_leg.is_same;
+      own = o.signal;
+      own_in_force = o.is_in_force;
+      other = l.other;
+      is_opposite = l.is_opposite;
+      signal = l.signal;
+      is_in_force = l.is_in_force;
+      sends_bytes = transform_is h p t l;
+      from_pair = refl;
+      by_half = refl;
+      sends_to = ap (λ (s : Option LegSignal). endpoint_in s (learned h l.other (way h p)) (way h p)) l.is_in_force;
+    })
+
+pub sends : (config : Config) (h : List CellEntry) (p : Receipt) (ok : Bool) (w : Sending) → (deed config h p ok).sending ≡ Some w → Sends h p w
+sends config h p ok w q = sends_case config h p ok w (deed config h p ok) (does config h p ok) q
+
+outcome_case : (config : Config) (h : List CellEntry) (p : Receipt) (ok : Bool) (w : Sending) (d : Deed) → Does config h p ok d
+    → d.sending ≡ Some w → d.outcome ≡ sent_outcome config w ok
+outcome_case config h p ok w d (refuses cause e) q = absurd (let f = ap (λ (x : Deed). x.sending) e in cc)
+outcome_case config h p ok w d (loses t cause n e) q = absurd (let f = ap (λ (x : Deed). x.sending) e in cc)
+outcome_case config h p ok w d (leaves t l e) q =
+    let f = ap (λ (x : Deed). x.sending) e in
+    let is_it : sending_of h p l.other l.signal l.bytes ≡ w = cc in
+    ap (λ (x : Deed). x.outcome) e ∙ ap (λ (x : Sending). sent_outcome config x ok) is_it
+
+-- the outcome of a relay that made a send
+pub outcome_of_send : (config : Config) (h : List CellEntry) (p : Receipt) (ok : Bool) (w : Sending) → (deed config h p ok).sending ≡ Some w
+    → (deed config h p ok).outcome ≡ sent_outcome config w ok
+outcome_of_send config h p ok w q = outcome_case config h p ok w (deed config h p ok) (does config h p ok) q
+
+-- a packet that was sent
+pub record IsSent (config : Config) (d : Deed) (port : ℕ) (to : Addr) (len : ℕ) : Type 0 where
+  pub sending : Sending
+  pub is_sending : d.sending ≡ Some sending
+  pub to_is : sending.to ≡ to
+  pub len_is : length sending.bytes ≡ len
+  pub port_is : port ≡ half_port config sending.pair sending.half
+
+sent_by : (config : Config) (d : Deed) (w : Sending) (ok : Bool) (port : ℕ) (to : Addr) (len : ℕ) → d.sending ≡ Some w
+    → sent_outcome config w ok ≡ outcomes.Sent port to len → IsSent config d port to len
+sent_by config d w true port to len q e = record {
+  sending = w;
+  is_sending = q;
+  to_is = let f = e in cc;
+  len_is = let f = e in cc;
+  port_is = let f = e in cc;
+}
+sent_by config d w false port to len q e = absurd (let f = e in cc)
+
+sent_case : (config : Config) (h : List CellEntry) (p : Receipt) (ok : Bool) (port : ℕ) (to : Addr) (len : ℕ) (d : Deed) → Does config h p ok d
+    → d.outcome ≡ outcomes.Sent port to len → IsSent config d port to len
+sent_case config h p ok port to len d (refuses cause e) q = absurd (let f = ap (λ (x : Deed). x.outcome) e in cc)
+sent_case config h p ok port to len d (loses t cause n e) q = absurd (let f = ap (λ (x : Deed). x.outcome) e in cc)
+sent_case config h p ok port to len d (leaves t l e) q =
+    sent_by config d (sending_of h p l.other l.signal l.bytes) ok port to len (ap (λ (x : Deed). x.sending) e)
+    (sym (ap (λ (x : Deed). x.outcome) e) ∙ q)
+
+pub sent : (config : Config) (h : List CellEntry) (p : Receipt) (ok : Bool) (port : ℕ) (to : Addr) (len : ℕ)
+    → (deed config h p ok).outcome ≡ outcomes.Sent port to len → IsSent config (deed config h p ok) port to len
+sent config h p ok port to len q = sent_case config h p ok port to len (deed config h p ok) (does config h p ok) q
+
+failed_case : (config : Config) (h : List CellEntry) (p : Receipt) (ok : Bool) (d : Deed) → Does config h p ok d
+    → d.outcome ≡ outcomes.Lost lost.SendFault → (w : Sending) × (d.sending ≡ Some w)
+failed_case config h p ok d (refuses cause e) q = absurd (let f = ap (λ (x : Deed). x.outcome) e in cc)
+failed_case config h p ok d (loses t cause n e) q = absurd (n (let f = ap (λ (x : Deed). x.outcome) e in cc))
+failed_case config h p ok d (leaves t l e) q = (sending_of h p l.other l.signal l.bytes, ap (λ (x : Deed). x.sending) e)
+
+pub send_failed : (config : Config) (h : List CellEntry) (p : Receipt) (ok : Bool) → (deed config h p ok).outcome ≡ outcomes.Lost lost.SendFault
+    → (w : Sending) × ((deed config h p ok).sending ≡ Some w)
+send_failed config h p ok q = failed_case config h p ok (deed config h p ok) (does config h p ok) q
+
+sent_is_none : (config : Config) (w : Sending) (ok : Bool) (cause : Refused) → sent_outcome config w ok ≡ outcomes.Refused cause → ⊥
+sent_is_none config w true cause q = let f = q in cc
+sent_is_none config w false cause q = let f = q in cc
+
+refused_case : (config : Config) (h : List CellEntry) (p : Receipt) (ok : Bool) (cause : Refused) (d : Deed) → Does config h p ok d
+    → d.outcome ≡ outcomes.Refused cause → d.sending ≡ None
+refused_case config h p ok cause d (refuses c e) q = ap (λ (x : Deed). x.sending) e
+refused_case config h p ok cause d (loses t c n e) q = ap (λ (x : Deed). x.sending) e
+refused_case config h p ok cause d (leaves t l e) q =
+    absurd (sent_is_none config (sending_of h p l.other l.signal l.bytes) ok cause (sym (ap (λ (x : Deed). x.outcome) e) ∙ q))
+
+pub refused_sends_none : (config : Config) (h : List CellEntry) (p : Receipt) (ok : Bool) (cause : Refused)
+    → (deed config h p ok).outcome ≡ outcomes.Refused cause → (deed config h p ok).sending ≡ None
+refused_sends_none config h p ok cause q = refused_case config h p ok cause (deed config h p ok) (does config h p ok) q
+
+sent_is_fault : (config : Config) (w : Sending) (ok : Bool) (cause : Lost) → sent_outcome config w ok ≡ outcomes.Lost cause → cause ≡ lost.SendFault
+sent_is_fault config w true cause q = absurd (let f = q in cc)
+sent_is_fault config w false cause q = let f = q in cc
+
+lost_case : (config : Config) (h : List CellEntry) (p : Receipt) (ok : Bool) (cause : Lost) → (cause ≡ lost.SendFault → ⊥) → (d : Deed)
+    → Does config h p ok d → d.outcome ≡ outcomes.Lost cause → d.sending ≡ None
+lost_case config h p ok cause other d (refuses c e) q = ap (λ (x : Deed). x.sending) e
+lost_case config h p ok cause other d (loses t c n e) q = ap (λ (x : Deed). x.sending) e
+lost_case config h p ok cause other d (leaves t l e) q =
+    absurd (other (sent_is_fault config (sending_of h p l.other l.signal l.bytes) ok cause (sym (ap (λ (x : Deed). x.outcome) e) ∙ q)))
+
+pub lost_sends_none : (config : Config) (h : List CellEntry) (p : Receipt) (ok : Bool) (cause : Lost) → (cause ≡ lost.SendFault → ⊥)
+    → (deed config h p ok).outcome ≡ outcomes.Lost cause → (deed config h p ok).sending ≡ None
+lost_sends_none config h p ok cause other q = lost_case config h p ok cause other (deed config h p ok) (does config h p ok) q

@@ -1,0 +1,6 @@
+mod Calls
+mod Learning
+mod Refusing
+mod Keys
+mod Spans
+mod Asked

@@ -1,0 +1,12 @@
+pub mod Members
+pub mod Lives
+pub mod Drawn
+pub mod Numbers
+pub mod Demanded
+pub mod Standing
+pub mod Keyed
+pub mod Secured
+pub mod Committing
+pub mod Legs
+pub mod Edits
+mod rows

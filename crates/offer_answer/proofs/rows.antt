@@ -1,0 +1,5 @@
+mod Calls
+mod Plain
+mod Secure
+mod Texts
+mod Heard

@@ -1,0 +1,38 @@
+-- A legal list is safe.
+use Rattle.std.proofs.Common.{◌≡◌, ◌∙◌, sym, ap, List}
+use Rattle.relay_outside.specs.declared.settings.Config.{Config}
+use Rattle.histories.specs.Words.{In}
+use Rattle.call_cell.proofs.Since.{same_deed}
+use Rattle.relay_core.specs.Entries.{Entry, cell_before}
+use Rattle.relay_core.specs.Legal.{Orderly, Legal}
+use Rattle.relay_core.specs.Safe.{BoardSafe, Safe, IsIsolated}
+use Rattle.relay_core.proofs.Holders.{pairs_apart, box_is_held, held_is_box}
+use Rattle.relay_core.proofs.Keys.{keys_apart}
+use Rattle.relay_core.proofs.Keyed.{has_key}
+use Rattle.relay_core.proofs.Shields.{deed_is, shields_apart}
+use Rattle.relay_core.proofs.Sends.{sent_right, sent_sends, protected_by}
+use Rattle.relay_core.proofs.Replies.{repeated, offers_answered}
+
+pub board_is_safe : (config : Config) (l : List Entry) → Orderly config l → BoardSafe config l
+board_is_safe config l o = record {
+  pairs_apart = pairs_apart config l o;
+  box_is_held = box_is_held config l o;
+  held_is_box = held_is_box config l o;
+  keys_apart = keys_apart config l o;
+  repeated = repeated config l o;
+  offers_answered = offers_answered config l o;
+}
+
+pub legal_safe : (config : Config) (l : List Entry) → Legal config l → Safe config l
+legal_safe config l g = record {
+  board = board_is_safe config l g.orderly;
+  sent_right = sent_right config l g;
+  sent_sends = sent_sends config l g;
+  shields_apart = shields_apart config l g;
+  protected_by = protected_by config l g;
+  keys_are_there = λ e leg s number i j q out. has_key config l g.orderly e.place e.number leg s number q out;
+}
+
+pub isolated : (config : Config) → IsIsolated config
+isolated config l k e f x y g j i m q r packets answers before =
+    same_deed config (deed_is config l g e x i q) (deed_is config k j f y m r) before packets answers

@@ -1,0 +1,24 @@
+ghost use Rattle.std.specs.Prelude.{List};
+ghost use Rattle.relay_outside.specs.declared.settings.Config.{Config};
+ghost use Rattle.relay_core.specs.Entries.{Entry};
+ghost use Rattle.relay_core.specs.Legal.{Orderly, Legal};
+ghost use Rattle.relay_core.specs.Safe.{BoardSafe, Safe, IsIsolated};
+
+/// A legal list is safe, for every configuration and every list: every packet sent is the transform of one received packet,
+/// sent once, to the opposite side's endpoint in that moment's state of the call that held the receiving port at receipt; no
+/// port has two holders; no key, source and index protects two packets; a kept cookie gives its first reply and changes
+/// nothing; a valid offer fails only for a named shortage.
+pub fn legal_is_safe()
+    ensures { (config : Config) (l : List Entry) → Legal config l → Safe config l }
+{}
+
+/// What a relay does depends on its receipt, the answer of its send and the entries of its own cell since the last end of a
+/// call there, and on nothing else that happens.
+pub fn cells_are_apart()
+    ensures { (config : Config) → IsIsolated config }
+{}
+
+/// What the list of the hand of the control loop tells by itself between its turns, whatever the lanes do.
+pub fn orderly_is_safe()
+    ensures { (config : Config) (l : List Entry) → Orderly config l → BoardSafe config l }
+{}
