@@ -9,4 +9,6 @@ pub mod Noted
 pub mod Next
 pub mod Protected
 pub mod Shields
+pub mod Steps
+pub mod Plain
 mod rows
