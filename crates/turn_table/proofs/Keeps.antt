@@ -10,14 +10,14 @@ use native.Mathlib.Decide.{ℕ_discrete}
 use lib.ListN.{get_elem?}
 use prog.Atomic.{either}
 use Rattle.atomic_table.specs.Table.{State, step, Act, keeps, takes, gives, stepped, carried_after, Valid, Allows}
-use Rattle.atomic_table.proofs.Lists.{set_here, set_else, set_again}
+use Rattle.atomic_table.proofs.Lists.{set_here, set_else}
 use Rattle.turn_table.specs.declared.machine.Entry.{Entry}
 use Rattle.turn_table.specs.declared.view.View.{View}
 use Rattle.turn_table.specs.declared.view.Phase.{Phase}
 use Rattle.turn_table.specs.declared.view.Phase.TheVariants.{Nothing, Marked, Out, Held, Counted}
 use Rattle.turn_table.specs.Histories.{In, one_if, seen_at, phase_at, times, Leaves}
 use Rattle.turn_table.specs.Kept.{Matches, Stands, PlaceOk, Kept}
-use Rattle.turn_table.specs.Steps.{Sat, noted, phased, with_count, emptied_phase, reached_phase, number_of, WasTaken, Given, marked, looked, counted, returned, emptied, reached, freed}
+use Rattle.turn_table.specs.Steps.{Sat, noted, tried, phased, with_count, emptied_phase, reached_phase, number_of, WasTaken, Given, marked, looked, counted, returned, emptied, reached, freed}
 use Rattle.turn_table.proofs.Lists.{total_two, total_some, get_there, seen_here, seen_else, phase_here, phase_else, times_in, below_in}
 use Rattle.turn_table.proofs.Moved.{Homes, rephased, reviewed}
 
@@ -67,7 +67,7 @@ module _ {S E O : Type 0} (relates : S → E → O → S → Type 0) (reserved :
       (s : St) (r : Rule s) (deep : length s.homes ≡ slots) (at : get_elem? s.views id ≡ some v) (a : S) (start : slice_get starts k ≡ Some a) where
     abbrev Found : Bool → Type 0
     Found b = (w : View S E O) × (act : Act (Option S)) × Valid s.homes [] act × Rule (stepped s (2 * k) (either b 1 (get_or s.words (2 * k) 0)) id [] w act)
-        × ((j : ℕ) → 2 * k ≡ 2 * j → MatchBool b ((x : S) × Path (Sat S E O) (w, carried_after [] act) (phased j (Marked x) v, (j, Some x) ∷ [])) (Path (Sat S E O) (w, carried_after [] act) (v, []) × WasTaken relates reserved j v))
+        × ((j : ℕ) → 2 * k ≡ 2 * j → MatchBool b ((x : S) × Path (Sat S E O) (w, carried_after [] act) (phased j (Marked x) (tried j 0 v), (j, Some x) ∷ [])) ((get_or s.words (2 * k) 0 ≡ 1) × Path (Sat S E O) (w, carried_after [] act) (tried j 1 v, []) × WasTaken relates reserved j v))
 
     abbrev ok : PlaceOk relates s.words s.homes (r.log k) (r.cells k) k a
     ok = r.place k a start
@@ -78,10 +78,10 @@ module _ {S E O : Type 0} (relates : S → E → O → S → Type 0) (reserved :
         let h = subst (Stands relates s.homes k (r.log k) a) (ok.free empty) ok.stands in
         let x : S = h.0 in
         let wide = r.wide in let long : k < length s.homes = omega arith in (
-          phased k (Marked x) v,
+          phased k (Marked x) (tried k 0 v),
           takes k (Some x),
           h.1,
-          rephased relates reserved starts s r k a start id v at live v.seen ((k, Marked x) ∷ v.turns) (suc id, Marked x) (set s.words (2 * k) 1) (set s.homes k none) (length-set s.words (2 * k) 1) (length-set s.homes k none)
+          rephased relates reserved starts s r k a start id v at live v.seen ((k, 0) ∷ v.tries) ((k, Marked x) ∷ v.turns) (suc id, Marked x) (set s.words (2 * k) 1) (set s.homes k none) (length-set s.words (2 * k) 1) (length-set s.homes k none)
               (λ j ne. let f = far_mark s.words k 1 j ne in (f.0, f.1, set_else s.homes k j none ne))
               record {
                 mark = get_or-set_same s.words (2 * k) 1 0 (omega arith) ∙ (omega arith);
@@ -93,26 +93,28 @@ module _ {S E O : Type 0} (relates : S → E → O → S → Type 0) (reserved :
                 stands = (set_here s.homes k none long, h.2);
               }
               (inl empty) (inr refl) (r.seat id v at).seen (inl (refl, sym (phase_here v.turns k (Marked x)))) (λ j ne. phase_else v.turns k (Marked x) j ne),
-          λ j e. (x, ap (λ i. (phased i (Marked x) v, (i, Some x) ∷ [])) (double k j e)),
+          λ j e. (x, ap (λ i. (phased i (Marked x) (tried i 0 v), (i, Some x) ∷ [])) (double k j e)),
         )
 
     lost : get_or s.words (2 * k) 0 ≢ 0 → Found false
     lost there =
         let m = ok.mark in let some_one : 0 < (r.cells k).0 = omega arith in
         let o = r.owned k some_one in
-        let same : (stepped s (2 * k) (get_or s.words (2 * k) 0) id [] v keeps) ≡ s = λ i. record { words = set-get_or s.words (2 * k) 0 i; homes = s.homes; views = set_again s.views id v at i } in
         let theirs = r.seat o.0 o.1 o.3 in
-        let their_phase : (r.cells k).1 ≡ phase_at o.1.turns k = ⊎_elim (λ t. t.1) (λ t. absurd (t.0 o.2)) (theirs.turns k) in (
-          v,
+        let their_phase : (r.cells k).1 ≡ phase_at o.1.turns k = ⊎_elim (λ t. t.1) (λ t. absurd (t.0 o.2)) (theirs.turns k) in
+        let one : get_or s.words (2 * k) 0 ≡ 1 = omega arith in (
+          tried k 1 v,
           keeps,
           tt,
-          subst Rule (sym same) r,
+          subst (λ ws. Rule record { words = ws; homes = s.homes; views = set s.views id (tried k 1 v) }) (sym (set-get_or s.words (2 * k) 0))
+              (reviewed relates reserved starts s r id v at live v.seen ((k, 1) ∷ v.tries) (r.seat id v at).seen),
           λ j e. (
-            refl,
+            one,
+            ap (λ i. (tried i 1 v, [])) (double k j e),
             subst (λ i. WasTaken relates reserved i v) (double k j e) record {
               state = s;
               kept = subst (λ z. Kept relates reserved z s) (sym ((r.seat id v at).same live)) r;
-              mark = omega arith;
+              mark = one;
               seat = id;
               mine = at;
               other = o.0;
@@ -147,7 +149,7 @@ module _ {S E O : Type 0} (relates : S → E → O → S → Type 0) (reserved :
         keeps,
         tt,
         subst (λ ws. Rule record { words = ws; homes = s.homes; views = set s.views id (noted k n v) }) (sym (set-get_or s.words (2 * k + 1) 0))
-            (reviewed relates reserved starts s r id v at live ((k, n) ∷ v.seen) (noted_low s r id v at k n count)),
+            (reviewed relates reserved starts s r id v at live ((k, n) ∷ v.seen) v.tries (noted_low s r id v at k n count)),
         λ j e. subst (λ i. Path (Sat S E O) (noted k n v, []) (noted i n v, []) × (seen_at v.seen i ≤ n) × (n ≤ 2 ^ 56)) (double_more k j e) (refl, omega arith, omega arith),
       )
 
@@ -213,7 +215,7 @@ module _ {S E O : Type 0} (relates : S → E → O → S → Type 0) (reserved :
         keeps,
         tt,
         subst (λ ws. Rule record { words = ws; homes = s.homes; views = set s.views id w }) (sym (set-get_or s.words (2 * k + 1) 0))
-            (rephased relates reserved starts s r k b.0 b.1 id v at live ((k, n) ∷ v.seen) ((k, Out n x) ∷ v.turns) (suc id, Out n x) s.words s.homes refl refl (λ j ne. (refl, refl, refl))
+            (rephased relates reserved starts s r k b.0 b.1 id v at live ((k, n) ∷ v.seen) v.tries ((k, Out n x) ∷ v.turns) (suc id, Out n x) s.words s.homes refl refl (λ j ne. (refl, refl, refl))
             record {
               mark = let q = ok.mark in let z = m.0 in omega arith;
               count = count;
@@ -242,7 +244,7 @@ module _ {S E O : Type 0} (relates : S → E → O → S → Type 0) (reserved :
       let b = begun s r k slots deep inside in
       let ok = r.place k b.0 b.1 in
       let m = mine_is (r.cells k) id (phase_at v.turns k) p ((r.seat id v at).turns k) phase some_p in
-      rephased relates reserved starts s r k b.0 b.1 id v at live v.seen ((k, q) ∷ v.turns) (suc id, q) s.words homes' refl as_deep (λ j ne. (refl, refl, same j ne))
+      rephased relates reserved starts s r k b.0 b.1 id v at live v.seen v.tries ((k, q) ∷ v.turns) (suc id, q) s.words homes' refl as_deep (λ j ne. (refl, refl, same j ne))
       record {
         mark = let e = ok.mark in let z = m.0 in omega arith;
         count = ok.count;
@@ -298,7 +300,7 @@ module _ {S E O : Type 0} (relates : S → E → O → S → Type 0) (reserved :
       let ok = r.place k b.0 b.1 in
       let wide = r.wide in
       let m = mine_is (r.cells k) id (phase_at v.turns k) p ((r.seat id v at).turns k) phase some_p in
-      rephased relates reserved starts s r k b.0 b.1 id v at live v.seen ((k, Nothing) ∷ v.turns) (0, Nothing) (set s.words (2 * k) 0) homes' (length-set s.words (2 * k) 0) as_deep
+      rephased relates reserved starts s r k b.0 b.1 id v at live v.seen v.tries ((k, Nothing) ∷ v.turns) (0, Nothing) (set s.words (2 * k) 0) homes' (length-set s.words (2 * k) 0) as_deep
       (λ j ne. let f = far_mark s.words k 0 j ne in (f.0, f.1, same j ne))
       record {
         mark = get_or-set_same s.words (2 * k) 0 0 (omega arith) ∙ (omega arith);

@@ -126,18 +126,18 @@ module _ {S E O : Type 0} (relates : S → E → O → S → Type 0) (reserved :
   put_same : {A : Type 0} (f : ℕ → A) (k j : ℕ) → put f k (f k) j ≡ f j
   put_same f k j = put_all (λ j a. a ≡ f j) f k (f k) j refl (λ _. refl)
 
-  -- a step of the place that adds no entry: the seat notes what it saw, and the phase
+  -- a step of the place that adds no entry: the seat notes what it saw and tried, and the phase
   pub rephased : (s : St) (r : Kept relates reserved starts s) (k : ℕ) (a : S) → slice_get starts k ≡ Some a → (id : ℕ) (v : View S E O) → get_elem? s.views id ≡ some v → 0 < v.parts
-      → (ns : List (ℕ × ℕ)) (ts : List (ℕ × Phase S)) (cell' : ℕ × Phase S) (words' : List ℕ) (homes' : Homes S)
+      → (ns rs : List (ℕ × ℕ)) (ts : List (ℕ × Phase S)) (cell' : ℕ × Phase S) (words' : List ℕ) (homes' : Homes S)
       → length words' ≡ length s.words → length homes' ≡ length s.homes
       → ((j : ℕ) → j ≢ k → (get_or words' (2 * j) 0 ≡ get_or s.words (2 * j) 0) × (get_or words' (2 * j + 1) 0 ≡ get_or s.words (2 * j + 1) 0) × (get_elem? homes' j ≡ get_elem? s.homes j))
       → PlaceOk relates words' homes' (r.log k) cell' k a
       → ((r.cells k).0 ≡ 0) ⊎ ((r.cells k).0 ≡ suc id) → (cell'.0 ≡ 0) ⊎ (cell'.0 ≡ suc id)
       → ((j : ℕ) → seen_at ns j ≤ length (r.log j)) → Matches cell' id (phase_at ts k) → ((j : ℕ) → j ≢ k → phase_at ts j ≡ phase_at v.turns j)
-      → Kept relates reserved starts (record { words = words'; homes = homes'; views = set s.views id (record v { seen = ns; turns = ts }) })
-  rephased s r k a start id v at live ns ts cell' words' homes' as_wide as_deep same ok was is seen now else =
+      → Kept relates reserved starts (record { words = words'; homes = homes'; views = set s.views id (record v { seen = ns; tries = rs; turns = ts }) })
+  rephased s r k a start id v at live ns rs ts cell' words' homes' as_wide as_deep same ok was is seen now else =
       let mine = r.seat id v at in
-      moved s r k a start id v (record v { seen = ns; turns = ts }) at (r.log k) cell' words' homes' as_wide as_deep same ok record {
+      moved s r k a start id v (record v { seen = ns; tries = rs; turns = ts }) at (r.log k) cell' words' homes' as_wide as_deep same ok record {
         was = was;
         is = is;
         grows = (le_refl _, λ i x e. e);
@@ -154,13 +154,13 @@ module _ {S E O : Type 0} (relates : S → E → O → S → Type 0) (reserved :
         once = λ j i. ap (λ l. times j i v.entries + below i (length l)) (sym (put_same r.log k j));
       }
 
-  -- a seat notes what it saw, and nothing else changes
+  -- a seat notes what it saw and tried, and nothing else changes
   pub reviewed : (s : St) (r : Kept relates reserved starts s) (id : ℕ) (v : View S E O) → get_elem? s.views id ≡ some v → 0 < v.parts
-      → (ns : List (ℕ × ℕ)) → ((j : ℕ) → seen_at ns j ≤ length (r.log j))
-      → Kept relates reserved starts (record { words = s.words; homes = s.homes; views = set s.views id (record v { seen = ns }) })
-  reviewed s r id v at live ns seen =
+      → (ns rs : List (ℕ × ℕ)) → ((j : ℕ) → seen_at ns j ≤ length (r.log j))
+      → Kept relates reserved starts (record { words = s.words; homes = s.homes; views = set s.views id (record v { seen = ns; tries = rs }) })
+  reviewed s r id v at live ns rs seen =
       let mine = r.seat id v at in
-      let w : View S E O = record v { seen = ns } in record {
+      let w : View S E O = record v { seen = ns; tries = rs } in record {
         log = r.log;
         cells = r.cells;
         wide = r.wide;

@@ -16,11 +16,11 @@ use Rattle.turn_table.specs.Histories.{In, total, one_if, below, seen_at, phase_
 module _ {S E O : Type 0} where
   -- what the first hand knows: it is the main one, and has all parts
   abbrev pub first_view : List S → View S E O
-  first_view starts = record { starts = starts; entries = []; seen = []; parts = 1024; main = true; turns = [] }
+  first_view starts = record { starts = starts; entries = []; seen = []; tries = []; parts = 1024; main = true; turns = [] }
 
   -- what is left of a hand that was joined into another
   abbrev pub spent_view : View S E O
-  spent_view = record { starts = []; entries = []; seen = []; parts = 0; main = false; turns = [] }
+  spent_view = record { starts = []; entries = []; seen = []; tries = []; parts = 0; main = false; turns = [] }
 
 -- the cell is this seat's, in the phase that the seat knows, or it is not this seat's, and the seat knows that
 abbrev pub Matches : {S : Type 0} → ℕ × Phase S → ℕ → Phase S → Type 0

@@ -50,6 +50,10 @@ module _ {S E O : Type 0} where
   abbrev pub noted : ℕ → ℕ → View S E O → View S E O
   noted k n v = record v { seen = (k, n) ∷ v.seen }
 
+  -- the mark of the place k was tried, and n was found there
+  abbrev pub tried : ℕ → ℕ → View S E O → View S E O
+  tried k n v = record v { tries = (k, n) ∷ v.tries }
+
   abbrev pub phased : ℕ → Phase S → View S E O → View S E O
   phased k p v = record v { turns = (k, p) ∷ v.turns }
 
@@ -61,10 +65,10 @@ module _ {S E O : Type 0} where
   cut_left v = record v { parts = v.parts - 1 }
 
   abbrev pub cut_right : View S E O → View S E O
-  cut_right v = record { starts = v.starts; entries = []; seen = v.seen; parts = 1; main = false; turns = [] }
+  cut_right v = record { starts = v.starts; entries = []; seen = v.seen; tries = []; parts = 1; main = false; turns = [] }
 
   abbrev pub glued : View S E O → View S E O → View S E O
-  glued v w = record v { entries = v.entries ++ w.entries; seen = v.seen ++ w.seen; parts = v.parts + w.parts }
+  glued v w = record v { entries = v.entries ++ w.entries; seen = v.seen ++ w.seen; tries = v.tries ++ w.tries; parts = v.parts + w.parts }
 
 -- At one moment, in which the rule held and this hand knew what it knows, the place's mark was set, and another hand had the place's turn
 pub record WasTaken {S E O : Type 0} (relates : S → E → O → S → Type 0) (reserved : E → Type 0) (k : ℕ) (v : View S E O) : Type 0 where
@@ -92,10 +96,10 @@ pub record Given {S E O : Type 0} (relates : S → E → O → S → Type 0) (re
   pub main : v.main ≡ true → (i : ℕ) (e : Entry E O) → slice_get history i ≡ Some e → reserved e.event → In e v.entries
 
 module _ {S E O : Type 0} where
-  -- the mark was 0 and is set, and the state is out with this seat; or another hand had the turn
+  -- The one step that tries a mark, and it notes what it found there: 0, and the mark is set, and the state is out with this seat; or 1, and another hand had the turn
   abbrev pub marked : (S → E → O → S → Type 0) → (E → Type 0) → At S → Sat S E O → ℕ → Sat S E O → Type 0
   marked relates reserved st m e m' = (k : ℕ) → st.word ≡ 2 * k →
-      MatchBool (eqb e 0) ((x : S) × (m' ≡ (phased k (Marked x) m.0, (k, Some x) ∷ m.1))) ((m' ≡ m) × WasTaken relates reserved k m.0)
+      MatchBool (eqb e 0) ((x : S) × (m' ≡ (phased k (Marked x) (tried k 0 m.0), (k, Some x) ∷ m.1))) ((e ≡ 1) × (m' ≡ (tried k 1 m.0, m.1)) × WasTaken relates reserved k m.0)
 
   abbrev pub looked : At S → Sat S E O → ℕ → Sat S E O → Type 0
   looked st m e m' = (k : ℕ) → st.word ≡ 2 * k + 1 → (m' ≡ (noted k e m.0, m.1)) × (seen_at m.0.seen k ≤ e) × (e ≤ 2 ^ 56)

@@ -10,16 +10,18 @@ use std::snapshot::Snapshot;
 const LAST: u64 = 1 << 56;
 
 impl<M: Machine> Turns<M> {
-    ghost use Rattle.turn_table.specs.Hands.{IsHandOf, MayTurn, IsSameHand, entries, parts, GainsTurn, IsGiven, IsBusy, HasTurn, EndsTurn, IsMain, place_of, front_of, state_of, taken_of};
+    ghost use Rattle.turn_table.specs.Hands.{IsHandOf, MayTurn, IsSameHand, entries, parts, tries, TriedOnce, FoundFree, FoundBusy, GainsTurn, IsGiven, IsBusy, HasTurn, EndsTurn, IsMain, place_of, front_of, state_of, taken_of};
 
-    /// Takes the turn of a place, by one compare-exchange. It never waits.
+    /// Takes the turn of a place, by one compare-exchange of its mark. It never waits.
     ///
-    /// `Busy` comes where another hand had the turn then, or the place has made 2^56 events.
+    /// `Busy` comes exactly where the mark was found taken, or the place has made 2^56 events.
     pub fn try_turn(&self, hand: &mut Hand<M>, place: usize) -> Result<Turn<M>, Busy>
         requires table { IsHandOf self.now hand.old }
         requires place { MayTurn hand.old place }
         ensures same { IsSameHand hand.old hand.new × (entries hand.new ≡ entries hand.old) }
+        ensures tried { MatchResult result (λ t. FoundFree place (front_of t) hand.old hand.new) (λ b. FoundBusy place b.front hand.old hand.new) }
         ensures alone { parts hand.old ≡ 1024 → IfErr result (λ b. b.front ≡ 2 ^ 56) }
+        ensures free { parts hand.old ≡ 1024 → TriedOnce place 0 hand.old hand.new }
         ensures turn { MatchResult result (λ t. GainsTurn place t hand.old hand.new × IsGiven M.relates M.reserved hand.old place (front_of t) (state_of t)) (λ b. IsBusy M.relates M.reserved place b.front hand.old hand.new) }
     {
         let table = &self.table.shared;
@@ -53,6 +55,7 @@ impl<M: Machine> Turns<M> {
         requires step { M.relates (taken_of turn) X.event X.outcome (state_of turn) }
         requires right { M.reserved X.event → IsMain hand.old }
         ensures same { IsSameHand hand.old hand.new }
+        ensures tried { tries hand.new ≡ tries hand.old }
         ensures number { result ≡ front_of turn }
         ensures entry { EndsTurn (place_of turn) (front_of turn) X.event X.outcome hand.old hand.new }
     {

@@ -28,6 +28,8 @@ pub struct View<S, E, O> {
     pub entries: LinkedList<Entry<E, O>>,
     /// Places with fronts that the hand has seen, the newest first.
     pub seen: LinkedList<(usize, u64)>,
+    /// Places whose marks the hand has tried, each with the number found there, the newest first.
+    pub tries: LinkedList<(usize, u64)>,
     /// How many of the 1,024 parts of the table it has.
     pub parts: u64,
     /// Whether it may make reserved events.

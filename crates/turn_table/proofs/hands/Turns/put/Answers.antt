@@ -80,6 +80,22 @@ returns-clause-same g c =
     let e₄ = after_free k v₃ _ c.store-2.new.seat.me e₃ c.store-2.ensures.2 in
     ((c.store-2.ensures.0 ∙ (c.store.ensures.0 ∙ (c.exchange-nothing.ensures.0 ∙ c.load.ensures.0))), ap (λ m. m.0.starts) e₄, ap (λ m. m.0.parts) e₄, ap (λ m. m.0.main) e₄)
 
+pub returns-clause-tried : goal.returns-clause-tried
+returns-clause-tried g c =
+    let k = c.args.turn.place in let v = c.args.hand.now.seat.me.0 in let live = c.args.hand.now.live in let long = c.args.hand.now.long in let rel = g.M.Machine.relates in let res = g.M.Machine.reserved in
+    let starts = c.args.self.now.table.shared.key.value.items in let slots = c.args.self.now.table.shared.table_id.slots in
+    let n = c.args.turn.front in let x = c.args.turn.taken.value in let y = c.args.turn.state in let event = g.X.Said.event in let outcome = g.X.Said.outcome in
+    let same : c.args.hand.now.seat.table_id.slots ≡ slots = ap (λ (z : TableId). z.slots) c.requires.table in
+    let inside : k < slots = let p = c.requires.turn.0 in omega arith in
+    let phase = c.requires.turn.1 in
+    let e₀ : c.args.hand.now.seat.me ≡ (v, []) = λ i. (v, c.args.hand.now.empty i) in
+    let h₁ = after_reach k n x v c.load.result _ c.load.new.seat.me e₀ phase c.load.ensures.2 in let e₁ = h₁.0 in let v₁ = phased k (Out n x) v in
+    let e₂ = c.exchange-nothing.ensures.3 ∙ ap (λ m. (m.0, (k, Some y) ∷ rest m.1)) e₁ in
+    let h₃ = after_finish k n (n + 1) x y event outcome v _ c.store.new.seat.me e₂ c.store.ensures.2 in let e₃ = h₃.0 in
+    let v₃ = phased k (Counted y) (noted k (n + 1) (gained (entry k n event outcome) v₁)) in
+    let e₄ = after_free k v₃ _ c.store-2.new.seat.me e₃ c.store-2.ensures.2 in
+    ap (λ m. m.0.tries) e₄
+
 pub returns-clause-entry : goal.returns-clause-entry
 returns-clause-entry g c =
     let k = c.args.turn.place in let v = c.args.hand.now.seat.me.0 in let live = c.args.hand.now.live in let long = c.args.hand.now.long in let rel = g.M.Machine.relates in let res = g.M.Machine.reserved in
