@@ -1,4 +1,7 @@
 //! A turn is taken and put back, each in a few atomic steps.
+//!
+//! A place's mark is the word `16 * place`, and its count the next one. The 14 words up to the next place's are spare, so
+//! that at any address no two places' words share a cache line of 64 bytes.
 ghost use Rattle.std.specs.Prelude.{◌≡◌, ℕ, ◌+◌, ◌^◌, IfErr, MatchResult};
 
 use crate::hands::{Busy, Hand, Turn, Turns};
@@ -26,19 +29,19 @@ impl<M: Machine> Turns<M> {
     {
         let table = &self.table.shared;
         let seat = &mut hand.seat;
-        if table.compare_exchange::<Mark<M>>(seat, 2 * place, 0, 1) != 0 {
-            let front = table.load::<Look>(seat, 2 * place + 1);
+        if table.compare_exchange::<Mark<M>>(seat, 16 * place, 0, 1) != 0 {
+            let front = table.load::<Look>(seat, 16 * place + 1);
             return Err(Busy { front });
         }
-        let front = table.load::<Count<M>>(seat, 2 * place + 1);
+        let front = table.load::<Count<M>>(seat, 16 * place + 1);
         if front == LAST {
-            table.store::<Return>(seat, 2 * place, 0);
+            table.store::<Return>(seat, 16 * place, 0);
             return Err(Busy { front });
         }
-        let Some(state) = table.exchange(seat, place, None) else {
+        let Some(state) = seat.slot_mut(table, place).swap(None) else {
             unreachable!()
         };
-        table.load::<Empty>(seat, 2 * place);
+        table.load::<Empty>(seat, 16 * place);
         let taken = Snapshot::of(state.get());
         Ok(Turn {
             state,
@@ -67,11 +70,11 @@ impl<M: Machine> Turns<M> {
         } = turn;
         let table = &self.table.shared;
         let seat = &mut hand.seat;
-        table.load::<Reach>(seat, 2 * place);
-        let nothing = table.exchange(seat, place, Some(state));
+        table.load::<Reach>(seat, 16 * place);
+        let nothing = seat.slot_mut(table, place).swap(Some(state));
         let None = nothing else { unreachable!() };
-        table.store::<Finish<M, X>>(seat, 2 * place + 1, front + 1);
-        table.store::<Free>(seat, 2 * place, 0);
+        table.store::<Finish<M, X>>(seat, 16 * place + 1, front + 1);
+        table.store::<Free>(seat, 16 * place, 0);
         front
     }
 }

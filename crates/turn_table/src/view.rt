@@ -1,5 +1,5 @@
 //! What the proofs know of a hand between two atomic steps. No value of these types is made.
-use crate::cased::Cased;
+use crate::cased::Slot;
 use crate::machine::{Entry, Machine};
 use atomic_table::TableRule;
 use std::collections::LinkedList;
@@ -44,7 +44,7 @@ pub struct Rule<M> {
 }
 
 impl<M: Machine> TableRule<
-    Option<Cased<M::State>>,
+    Slot<M::State>,
     View<M::State, M::Event, M::Outcome>,
     Snapshot<Vec<M::State>>,
 > for Rule<M> {

@@ -5,7 +5,7 @@ use Rattle.turn_table.specs.declared.view.Phase.TheVariants.{Marked, Out, Held}
 use Rattle.turn_table.specs.Histories.{seen_at, phase_at}
 use Rattle.turn_table.specs.Steps.{noted, tried, phased, Given}
 use Rattle.turn_table.proofs.Lists.{phase_here}
-use Rattle.turn_table.proofs.Calls.{no_turn, got_is, held_out, sees, after_mark, after_look, after_count, after_return, after_empty, taken_view, returned_view, taken_turns, returned_turns}
+use Rattle.turn_table.proofs.Calls.{no_turn, got_is, held_out, sees, after_mark, after_look, after_count, after_return, after_empty, swapped, taken_view, returned_view, taken_turns, returned_turns}
 use Rattle.turn_table.proofs.Asks.{marks_at, looks_at, counts_at, returns_at, empties_at, hand_again}
 use Rattle.turn_table.proofs.Spans.{alone}
 use Rattle.turn_table.proofs.hands.Turns.try_turn.Goals as goal
@@ -156,8 +156,8 @@ returns-then-front-eq-LAST-clause-turn g c =
     let s = sees v.seen k n h₂.1 in
     (inr c.if-front-eq-LAST.true, h₂.2, h₂.1, λ j. ap (λ m. phase_at m.0.turns j) e₃ ∙ returned_turns k n x v none_yet j, (ap (λ m. seen_at m.0.seen k) e₃ ∙ s.0, λ j ne. ap (λ m. seen_at m.0.seen j) e₃ ∙ s.1 j ne))
 
-pub exchange-requires : goal.exchange-requires
-exchange-requires g c =
+pub slot_mut-requires : goal.slot_mut-requires
+slot_mut-requires g c =
     let k = c.args.place in let v = c.args.hand.now.seat.me.0 in let live = c.args.hand.now.live in let long = c.args.hand.now.long in let rel = g.M.Machine.relates in let res = g.M.Machine.reserved in
     let starts = c.args.self.now.table.shared.key.value.items in let slots = c.args.self.now.table.shared.table_id.slots in
     let same : c.args.hand.now.seat.table_id.slots ≡ slots = ap (λ (z : TableId). z.slots) c.requires.table in
@@ -182,7 +182,7 @@ unreachable-requires g c =
     let won = h₁.0 c.if-compare_exchange-ne0.false in let x = won.0 in let v₁ = phased k (Marked x) (tried k 0 v) in
     let n = c.load-front-2.result in let h₂ = after_count rel res k n x v _ c.load-front-2.new.seat.me won.1 c.load-front-2.ensures.2 in let e₂ = h₂.0 in
     let w₂ = phased k (Out n x) (noted k n v₁) in
-    let got = got_is k (Some x) c.exchange.result (rest c.load-front-2.new.seat.me.1) (sym (ap (λ m. m.1) e₂) ∙ c.exchange.ensures.2) in
+    let got = got_is k (Some x) c.slot_mut.result.now (rest c.load-front-2.new.seat.me.1) (sym (ap (λ m. m.1) e₂) ∙ c.slot_mut.ensures.value) ∙ sym c.swap.ensures.0 in
     c.in_default.not-Some x (sym got)
 
 pub load-requires : goal.load-requires
@@ -197,9 +197,9 @@ load-requires g c =
     let won = h₁.0 c.if-compare_exchange-ne0.false in let x = won.0 in let v₁ = phased k (Marked x) (tried k 0 v) in
     let n = c.load-front-2.result in let h₂ = after_count rel res k n x v _ c.load-front-2.new.seat.me won.1 c.load-front-2.ensures.2 in let e₂ = h₂.0 in
     let w₂ = phased k (Out n x) (noted k n v₁) in
-    let e₃ = c.exchange.ensures.3 ∙ ap (λ m. (m.0, (k, None) ∷ rest m.1)) e₂ in
+    let e₃ = swapped k (Some x) None c.swap.new.self w₂ c.load-front-2.new.seat.me e₂ c.swap.ensures.1 in
     let low : n < 2 ^ 56 = let l = h₂.2 in let ne = c.if-front-eq-LAST.false in omega arith in
-    let wide = c.args.self.now.wide in ((c.exchange.ensures.0 ∙ (c.load-front-2.ensures.0 ∙ c.compare_exchange.ensures.0)) ∙ c.requires.table, omega arith, empties_at rel res starts slots _ k _ w₂ n x e₃ inside live (phase_here v₁.turns k (Out n x)) low)
+    let wide = c.args.self.now.wide in ((c.load-front-2.ensures.0 ∙ c.compare_exchange.ensures.0) ∙ c.requires.table, omega arith, empties_at rel res starts slots _ k _ w₂ n x e₃ inside live (phase_here v₁.turns k (Out n x)) low)
 
 pub invariant_of-hand-2 : goal.invariant_of-hand-2
 invariant_of-hand-2 g c =
@@ -213,10 +213,10 @@ invariant_of-hand-2 g c =
     let won = h₁.0 c.if-compare_exchange-ne0.false in let x = won.0 in let v₁ = phased k (Marked x) (tried k 0 v) in
     let n = c.load-front-2.result in let h₂ = after_count rel res k n x v _ c.load-front-2.new.seat.me won.1 c.load-front-2.ensures.2 in let e₂ = h₂.0 in
     let w₂ = phased k (Out n x) (noted k n v₁) in
-    let e₃ = c.exchange.ensures.3 ∙ ap (λ m. (m.0, (k, None) ∷ rest m.1)) e₂ in
+    let e₃ = swapped k (Some x) None c.swap.new.self w₂ c.load-front-2.new.seat.me e₂ c.swap.ensures.1 in
     let low : n < 2 ^ 56 = let l = h₂.2 in let ne = c.if-front-eq-LAST.false in omega arith in
     let e₄ = after_empty k n x (noted k n v₁) ((k, None) ∷ []) c.load.result _ c.load.new.seat.me e₃ c.load.ensures.2 in
-    let h = hand_again _ v (taken_view k n x v) c.args.hand.now.seat.table_id _ e₄ (c.load.ensures.0 ∙ (c.exchange.ensures.0 ∙ (c.load-front-2.ensures.0 ∙ c.compare_exchange.ensures.0))) refl refl live long in record { empty = h.0; live = h.1; long = h.2 }
+    let h = hand_again _ v (taken_view k n x v) c.args.hand.now.seat.table_id _ e₄ (c.load.ensures.0 ∙ (c.load-front-2.ensures.0 ∙ c.compare_exchange.ensures.0)) refl refl live long in record { empty = h.0; live = h.1; long = h.2 }
 
 pub returns-clause-same : goal.returns-clause-same
 returns-clause-same g c =
@@ -230,10 +230,10 @@ returns-clause-same g c =
     let won = h₁.0 c.if-compare_exchange-ne0.false in let x = won.0 in let v₁ = phased k (Marked x) (tried k 0 v) in
     let n = c.load-front-2.result in let h₂ = after_count rel res k n x v _ c.load-front-2.new.seat.me won.1 c.load-front-2.ensures.2 in let e₂ = h₂.0 in
     let w₂ = phased k (Out n x) (noted k n v₁) in
-    let e₃ = c.exchange.ensures.3 ∙ ap (λ m. (m.0, (k, None) ∷ rest m.1)) e₂ in
+    let e₃ = swapped k (Some x) None c.swap.new.self w₂ c.load-front-2.new.seat.me e₂ c.swap.ensures.1 in
     let low : n < 2 ^ 56 = let l = h₂.2 in let ne = c.if-front-eq-LAST.false in omega arith in
     let e₄ = after_empty k n x (noted k n v₁) ((k, None) ∷ []) c.load.result _ c.load.new.seat.me e₃ c.load.ensures.2 in
-    (((c.load.ensures.0 ∙ (c.exchange.ensures.0 ∙ (c.load-front-2.ensures.0 ∙ c.compare_exchange.ensures.0))), ap (λ m. m.0.starts) e₄, ap (λ m. m.0.parts) e₄, ap (λ m. m.0.main) e₄), ap (λ m. m.0.entries) e₄)
+    (((c.load.ensures.0 ∙ (c.load-front-2.ensures.0 ∙ c.compare_exchange.ensures.0)), ap (λ m. m.0.starts) e₄, ap (λ m. m.0.parts) e₄, ap (λ m. m.0.main) e₄), ap (λ m. m.0.entries) e₄)
 
 pub returns-clause-turn : goal.returns-clause-turn
 returns-clause-turn g c =
@@ -247,10 +247,10 @@ returns-clause-turn g c =
     let won = h₁.0 c.if-compare_exchange-ne0.false in let x = won.0 in let v₁ = phased k (Marked x) (tried k 0 v) in
     let n = c.load-front-2.result in let h₂ = after_count rel res k n x v _ c.load-front-2.new.seat.me won.1 c.load-front-2.ensures.2 in let e₂ = h₂.0 in
     let w₂ = phased k (Out n x) (noted k n v₁) in
-    let e₃ = c.exchange.ensures.3 ∙ ap (λ m. (m.0, (k, None) ∷ rest m.1)) e₂ in
+    let e₃ = swapped k (Some x) None c.swap.new.self w₂ c.load-front-2.new.seat.me e₂ c.swap.ensures.1 in
     let low : n < 2 ^ 56 = let l = h₂.2 in let ne = c.if-front-eq-LAST.false in omega arith in
     let e₄ = after_empty k n x (noted k n v₁) ((k, None) ∷ []) c.load.result _ c.load.new.seat.me e₃ c.load.ensures.2 in
-    let got = got_is k (Some x) c.exchange.result (rest c.load-front-2.new.seat.me.1) (sym (ap (λ m. m.1) e₂) ∙ c.exchange.ensures.2) in
+    let got = got_is k (Some x) c.slot_mut.result.now (rest c.load-front-2.new.seat.me.1) (sym (ap (λ m. m.1) e₂) ∙ c.slot_mut.ensures.value) ∙ sym c.swap.ensures.0 in
     let full : Some x ≡ Some c.in-Some.state = got ∙ c.in-Some.is in
     let is : x ≡ c.in-Some.state = cc in
     let kept = c.of-taken.ensures ∙ c.get.ensures in
@@ -337,7 +337,7 @@ returns-clause-tried g c =
     let won = h₁.0 c.if-compare_exchange-ne0.false in let x = won.0 in let v₁ = phased k (Marked x) (tried k 0 v) in
     let n = c.load-front-2.result in let h₂ = after_count rel res k n x v _ c.load-front-2.new.seat.me won.1 c.load-front-2.ensures.2 in let e₂ = h₂.0 in
     let w₂ = phased k (Out n x) (noted k n v₁) in
-    let e₃ = c.exchange.ensures.3 ∙ ap (λ m. (m.0, (k, None) ∷ rest m.1)) e₂ in
+    let e₃ = swapped k (Some x) None c.swap.new.self w₂ c.load-front-2.new.seat.me e₂ c.swap.ensures.1 in
     let low : n < 2 ^ 56 = let l = h₂.2 in let ne = c.if-front-eq-LAST.false in omega arith in
     let e₄ = after_empty k n x (noted k n v₁) ((k, None) ∷ []) c.load.result _ c.load.new.seat.me e₃ c.load.ensures.2 in
     (ap (λ m. m.0.tries) e₄, low)
@@ -354,7 +354,7 @@ returns-clause-free g c =
     let won = h₁.0 c.if-compare_exchange-ne0.false in let x = won.0 in let v₁ = phased k (Marked x) (tried k 0 v) in
     let n = c.load-front-2.result in let h₂ = after_count rel res k n x v _ c.load-front-2.new.seat.me won.1 c.load-front-2.ensures.2 in let e₂ = h₂.0 in
     let w₂ = phased k (Out n x) (noted k n v₁) in
-    let e₃ = c.exchange.ensures.3 ∙ ap (λ m. (m.0, (k, None) ∷ rest m.1)) e₂ in
+    let e₃ = swapped k (Some x) None c.swap.new.self w₂ c.load-front-2.new.seat.me e₂ c.swap.ensures.1 in
     let low : n < 2 ^ 56 = let l = h₂.2 in let ne = c.if-front-eq-LAST.false in omega arith in
     let e₄ = after_empty k n x (noted k n v₁) ((k, None) ∷ []) c.load.result _ c.load.new.seat.me e₃ c.load.ensures.2 in
     λ _. ap (λ m. m.0.tries) e₄
