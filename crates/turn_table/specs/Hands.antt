@@ -83,9 +83,9 @@ module _ {M S E O : Type 0} {g : _} where
   abbrev pub FoundFree : ℕ → ℕ → Hand M S E O g → Hand M S E O g → Type 0
   FoundFree k n h h' = TriedOnce k 0 h h' × (n < 2 ^ 56)
 
-  -- the place's mark, tried once, was taken, or it was free and the front n is the last
-  abbrev pub FoundBusy : ℕ → ℕ → Hand M S E O g → Hand M S E O g → Type 0
-  FoundBusy k n h h' = TriedOnce k 1 h h' ⊎ (TriedOnce k 0 h h' × (n ≡ 2 ^ 56))
+  -- the place's mark, tried once, was taken, and another hand had the place's turn then; or it was free and the front n is the last
+  abbrev pub FoundBusy : (S → E → O → S → Type 0) → (E → Type 0) → ℕ → ℕ → Hand M S E O g → Hand M S E O g → Type 0
+  FoundBusy relates reserved k n h h' = (TriedOnce k 1 h h' × WasTaken relates reserved k (view h)) ⊎ (TriedOnce k 0 h h' × (n ≡ 2 ^ 56))
 
 module _ {M S E O : Type 0} where
   abbrev pub place_of : Turn M S E O → ℕ

@@ -22,7 +22,7 @@ impl<M: Machine> Turns<M> {
         requires table { IsHandOf self.now hand.old }
         requires place { MayTurn hand.old place }
         ensures same { IsSameHand hand.old hand.new × (entries hand.new ≡ entries hand.old) }
-        ensures tried { MatchResult result (λ t. FoundFree place (front_of t) hand.old hand.new) (λ b. FoundBusy place b.front hand.old hand.new) }
+        ensures tried { MatchResult result (λ t. FoundFree place (front_of t) hand.old hand.new) (λ b. FoundBusy M.relates M.reserved place b.front hand.old hand.new) }
         ensures alone { parts hand.old ≡ 1024 → IfErr result (λ b. b.front ≡ 2 ^ 56) }
         ensures free { parts hand.old ≡ 1024 → TriedOnce place 0 hand.old hand.new }
         ensures turn { MatchResult result (λ t. GainsTurn place t hand.old hand.new × IsGiven M.relates M.reserved hand.old place (front_of t) (state_of t)) (λ b. IsBusy M.relates M.reserved place b.front hand.old hand.new) }

@@ -280,7 +280,7 @@ returns-then-compare_exchange-ne0-clause-tried g c =
     let h₁ = after_mark rel res k c.compare_exchange.result v _ c.compare_exchange.new.seat.me e₀ c.compare_exchange.ensures.2 in
     let lost = h₁.1 c.if-compare_exchange-ne0.true in
     let n = c.load-front.result in let h₂ = after_look k n (tried k 1 v) _ c.load-front.new.seat.me lost.1 c.load-front.ensures.2 in let e₂ = h₂.0 in
-    inl (ap (λ m. m.0.tries) e₂)
+    inl (ap (λ m. m.0.tries) e₂, lost.2)
 
 pub returns-then-compare_exchange-ne0-clause-free : goal.returns-then-compare_exchange-ne0-clause-free
 returns-then-compare_exchange-ne0-clause-free g c =

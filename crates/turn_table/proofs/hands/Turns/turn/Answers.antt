@@ -11,7 +11,7 @@ loop-preserved g c =
     let inv = c.loop.invariant in let k = c.args.place in record {
       same = search rules;
       entries = search rules;
-      tried = ⊎_elim (λ e. tried_again k _ before after inv.tried 1 e) (λ e. tried_again k _ before after inv.tried 0 e.0) c.in_default.ensures.tried;
+      tried = ⊎_elim (λ e. tried_again k _ before after inv.tried 1 e.0) (λ e. tried_again k _ before after inv.tried 0 e.0) c.in_default.ensures.tried;
       turns = search rules;
       more = search rules;
       others = search rules;
