@@ -67,7 +67,7 @@ module _ {M S E O : Type 0} {g : _} where
   abbrev pub Sees : ℕ → ℕ → Hand M S E O g → Hand M S E O g → Type 0
   Sees k n h h' = (seen h' k ≡ n) × ((j : ℕ) → j ≢ k → seen h' j ≡ seen h j)
 
-  -- one mark was tried, by one compare-exchange, that of the place k, and n was found there: 0 where it was free, and 1 where it was taken
+  -- one compare-exchange of a mark was made, that of the place k, and it found n there: 0 where the mark was free, and 1 where it was taken
   abbrev pub TriedOnce : ℕ → ℕ → Hand M S E O g → Hand M S E O g → Type 0
   TriedOnce k n h h' = tries h' ≡ (k, n) ∷ tries h
 
@@ -75,7 +75,7 @@ module _ {M S E O : Type 0} {g : _} where
   abbrev pub TriedOnly : ℕ → Hand M S E O g → Hand M S E O g → Type 0
   TriedOnly k h h' = (ts : List (ℕ × ℕ)) × (tries h' ≡ ts ++ tries h) × ((t : ℕ × ℕ) → In t ts → t.0 ≡ k)
 
-  -- and at the last it was free
+  -- the mark of the place k alone was tried, and at the last it was free
   abbrev pub TriedUntilFree : ℕ → Hand M S E O g → Hand M S E O g → Type 0
   TriedUntilFree k h h' = (ts : List (ℕ × ℕ)) × (tries h' ≡ (k, 0) ∷ ts ++ tries h) × ((t : ℕ × ℕ) → In t ts → t.0 ≡ k)
 

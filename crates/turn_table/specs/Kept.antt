@@ -63,7 +63,7 @@ pub record SeatOk {S E O : Type 0} (reserved : E → Type 0) (starts : List S) (
 pub record Kept {S E O : Type 0} (relates : S → E → O → S → Type 0) (reserved : E → Type 0) (starts : List S) (s : State (Option S) (View S E O)) : Type 0 where
   pub log : ℕ → List (Entry E O)
   pub cells : ℕ → ℕ × Phase S
-  -- two words and a slot for each start state
+  -- 16 words and a slot for each start state
   pub wide : length s.words ≡ 16 * length s.homes
   pub long : length starts ≡ length s.homes
   pub place : (k : ℕ) (a : S) → slice_get starts k ≡ Some a → PlaceOk relates s.words s.homes (log k) (cells k) k a

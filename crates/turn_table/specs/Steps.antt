@@ -96,7 +96,7 @@ pub record Given {S E O : Type 0} (relates : S → E → O → S → Type 0) (re
   pub main : v.main ≡ true → (i : ℕ) (e : Entry E O) → slice_get history i ≡ Some e → reserved e.event → In e v.entries
 
 module _ {S E O : Type 0} where
-  -- The one step that tries a mark, and it notes what it found there: 0, and the mark is set, and the state is out with this seat; or 1, and another hand had the turn
+  -- The compare-exchange of a mark, the one step that adds to the tries. It notes what it found there: 0, and the mark is set, and the state is out with this seat; or 1, and another hand had the turn
   abbrev pub marked : (S → E → O → S → Type 0) → (E → Type 0) → At S → Sat S E O → ℕ → Sat S E O → Type 0
   marked relates reserved st m e m' = (k : ℕ) → st.word ≡ 16 * k →
       MatchBool (eqb e 0) ((x : S) × (m' ≡ (phased k (Marked x) (tried k 0 m.0), (k, Some x) ∷ m.1))) ((e ≡ 1) × (m' ≡ (tried k 1 m.0, m.1)) × WasTaken relates reserved k m.0)
