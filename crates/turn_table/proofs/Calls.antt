@@ -1,5 +1,5 @@
 -- What a hand knows after each step of a call, and after the whole call.
-use Rattle.std.proofs.Common.{◌≡◌, ◌≢◌, ◌⊎◌, ℕ, ◌+◌, ◌*◌, ◌^◌, ◌<◌, ◌≤◌, Bool, true, false, eqb, List, [], ◌∷◌, Option, Some, None, sym, refl, ap, ◌∙◌, subst, inl, inr, ⊎_elim, arith, eq-eqb, ne_eqb}
+use Rattle.std.proofs.Common.{◌≡◌, ◌≢◌, ◌⊎◌, ℕ, ◌+◌, ◌*◌, ◌^◌, ◌<◌, ◌≤◌, Bool, true, false, eqb, List, [], ◌∷◌, ◌++◌, Option, Some, None, sym, refl, ap, ◌∙◌, subst, inl, inr, ⊎_elim, arith, eq-eqb, ne_eqb}
 use Rattle.std.specs.Bool.{MatchBool}
 use mathlib.Core.Option.{none}
 use mathlib.Core.Path.{Path}
@@ -9,8 +9,8 @@ use Rattle.atomic_table.specs.Table.{step, rest}
 use Rattle.turn_table.specs.declared.view.View.{View}
 use Rattle.turn_table.specs.declared.view.Phase.{Phase}
 use Rattle.turn_table.specs.declared.view.Phase.TheVariants.{Nothing, Marked, Out, Held, Counted}
-use Rattle.turn_table.specs.Histories.{seen_at, phase_at}
-use Rattle.turn_table.specs.Steps.{Sat, noted, phased, gained, entry, with_count, emptied_phase, reached_phase, number_of, WasTaken, Given, marked, looked, counted, returned, emptied, reached, finished, freed}
+use Rattle.turn_table.specs.Histories.{In, here, there, seen_at, phase_at}
+use Rattle.turn_table.specs.Steps.{Sat, noted, tried, phased, gained, entry, with_count, emptied_phase, reached_phase, number_of, WasTaken, Given, marked, looked, counted, returned, emptied, reached, finished, freed}
 use Rattle.turn_table.proofs.Lists.{seen_here, seen_else, phase_here, phase_else, nothing_or}
 
 same_or : (j k : ℕ) → (j ≡ k) ⊎ (j ≢ k)
@@ -35,54 +35,58 @@ either_way true h = ((λ _. h), λ e. absurd cc)
 either_way false h = ((λ e. absurd cc), λ _. h)
 
 module _ {S E O : Type 0} (relates : S → E → O → S → Type 0) (reserved : E → Type 0) where
-  pub after_mark : (k r : ℕ) (v : View S E O) (m m' : Sat S E O) → Path (Sat S E O) m (v, []) → marked relates reserved (step 0 (2 * k) 0 1 none) m r m'
-      → (r ≡ 0 → (x : S) × Path (Sat S E O) m' (phased k (Marked x) v, (k, Some x) ∷ [])) × (r ≢ 0 → Path (Sat S E O) m' (v, []) × WasTaken relates reserved k v)
-  after_mark k r v m m' e t = let h = either_way (eqb r 0) (subst (λ z. marked relates reserved (step 0 (2 * k) 0 1 none) z r m') e t k refl) in
+  pub after_mark : (k r : ℕ) (v : View S E O) (m m' : Sat S E O) → Path (Sat S E O) m (v, []) → marked relates reserved (step 0 (16 * k) 0 1 none) m r m'
+      → (r ≡ 0 → (x : S) × Path (Sat S E O) m' (phased k (Marked x) (tried k 0 v), (k, Some x) ∷ [])) × (r ≢ 0 → (r ≡ 1) × Path (Sat S E O) m' (tried k 1 v, []) × WasTaken relates reserved k v)
+  after_mark k r v m m' e t = let h = either_way (eqb r 0) (subst (λ z. marked relates reserved (step 0 (16 * k) 0 1 none) z r m') e t k refl) in
       ((λ q. h.0 (eq-eqb r 0 q)), λ q. h.1 (ne_eqb r 0 q))
 
-  given_before : (k : ℕ) (p : Phase S) (v : View S E O) (n : ℕ) (x : S) → Given relates reserved k (phased k p v) n x → Given relates reserved k v n x
-  given_before k p v n x g = record { history = g.history; long = g.long; start = g.start; starts = g.starts; leaves = g.leaves; named = g.named; own = g.own; above = g.above; main = g.main }
+  given_before : (k n : ℕ) (x : S) (v : View S E O) → Given relates reserved k (phased k (Marked x) (tried k 0 v)) n x → Given relates reserved k v n x
+  given_before k n x v g = record { history = g.history; long = g.long; start = g.start; starts = g.starts; leaves = g.leaves; named = g.named; own = g.own; above = g.above; main = g.main }
 
   -- the seat has the mark, and has read the count
-  pub after_count : (k n : ℕ) (x : S) (v : View S E O) (m m' : Sat S E O) → Path (Sat S E O) m (phased k (Marked x) v, (k, Some x) ∷ []) → counted relates reserved (step 0 (2 * k + 1) 0 0 none) m n m'
-      → Path (Sat S E O) m' (phased k (Out n x) (noted k n (phased k (Marked x) v)), (k, Some x) ∷ []) × (seen_at v.seen k ≤ n) × (n ≤ 2 ^ 56) × Given relates reserved k v n x
+  pub after_count : (k n : ℕ) (x : S) (v : View S E O) (m m' : Sat S E O) → Path (Sat S E O) m (phased k (Marked x) (tried k 0 v), (k, Some x) ∷ []) → counted relates reserved (step 0 (16 * k + 1) 0 0 none) m n m'
+      → Path (Sat S E O) m' (phased k (Out n x) (noted k n (phased k (Marked x) (tried k 0 v))), (k, Some x) ∷ []) × (seen_at v.seen k ≤ n) × (n ≤ 2 ^ 56) × Given relates reserved k v n x
   after_count k n x v m m' e t =
-      let h = subst (λ z. counted relates reserved (step 0 (2 * k + 1) 0 0 none) z n m') e t k refl in
+      let h = subst (λ z. counted relates reserved (step 0 (16 * k + 1) 0 0 none) z n m') e t k refl in
       let p = phase_here v.turns k (Marked x) in
-      (h.0 ∙ ap (λ q. (phased k (with_count n q) (noted k n (phased k (Marked x) v)), (k, Some x) ∷ [])) p, h.1, h.2, given_before k (Marked x) v n x (h.3 x p))
+      (h.0 ∙ ap (λ q. (phased k (with_count n q) (noted k n (phased k (Marked x) (tried k 0 v))), (k, Some x) ∷ [])) p, h.1, h.2, given_before k n x v (h.3 x p))
 
 module _ {S E O : Type 0} where
-  pub after_look : (k n : ℕ) (v : View S E O) (m m' : Sat S E O) → Path (Sat S E O) m (v, []) → looked (step 0 (2 * k + 1) 0 0 none) m n m' → Path (Sat S E O) m' (noted k n v, []) × (seen_at v.seen k ≤ n) × (n ≤ 2 ^ 56)
-  after_look k n v m m' e t = subst (λ z. looked (step 0 (2 * k + 1) 0 0 none) z n m') e t k refl
+  pub after_look : (k n : ℕ) (v : View S E O) (m m' : Sat S E O) → Path (Sat S E O) m (v, []) → looked (step 0 (16 * k + 1) 0 0 none) m n m' → Path (Sat S E O) m' (noted k n v, []) × (seen_at v.seen k ≤ n) × (n ≤ 2 ^ 56)
+  after_look k n v m m' e t = subst (λ z. looked (step 0 (16 * k + 1) 0 0 none) z n m') e t k refl
 
-  pub after_return : (k : ℕ) (v : View S E O) (c : List (ℕ × Option S)) (m m' : Sat S E O) → Path (Sat S E O) m (v, c) → returned (step 0 (2 * k) 0 0 none) m 0 m' → Path (Sat S E O) m' (phased k Nothing v, rest c)
-  after_return k v c m m' e t = subst (λ z. returned (step 0 (2 * k) 0 0 none) z 0 m') e t k refl
+  pub after_return : (k : ℕ) (v : View S E O) (c : List (ℕ × Option S)) (m m' : Sat S E O) → Path (Sat S E O) m (v, c) → returned (step 0 (16 * k) 0 0 none) m 0 m' → Path (Sat S E O) m' (phased k Nothing v, rest c)
+  after_return k v c m m' e t = subst (λ z. returned (step 0 (16 * k) 0 0 none) z 0 m') e t k refl
 
-  pub after_empty : (k n : ℕ) (x : S) (v : View S E O) (c : List (ℕ × Option S)) (r : ℕ) (m m' : Sat S E O) → Path (Sat S E O) m (phased k (Out n x) v, c) → emptied (step 0 (2 * k) 0 0 none) m r m' → Path (Sat S E O) m' (phased k (Held n x) (phased k (Out n x) v), rest c)
-  after_empty k n x v c r m m' e t = subst (λ z. emptied (step 0 (2 * k) 0 0 none) z r m') e t k refl ∙ ap (λ q. (phased k (emptied_phase q) (phased k (Out n x) v), rest c)) (phase_here v.turns k (Out n x))
+  pub after_empty : (k n : ℕ) (x : S) (v : View S E O) (c : List (ℕ × Option S)) (r : ℕ) (m m' : Sat S E O) → Path (Sat S E O) m (phased k (Out n x) v, c) → emptied (step 0 (16 * k) 0 0 none) m r m' → Path (Sat S E O) m' (phased k (Held n x) (phased k (Out n x) v), rest c)
+  after_empty k n x v c r m m' e t = subst (λ z. emptied (step 0 (16 * k) 0 0 none) z r m') e t k refl ∙ ap (λ q. (phased k (emptied_phase q) (phased k (Out n x) v), rest c)) (phase_here v.turns k (Out n x))
 
-  pub after_reach : (k n : ℕ) (x : S) (v : View S E O) (r : ℕ) (m m' : Sat S E O) → Path (Sat S E O) m (v, []) → phase_at v.turns k ≡ Held n x → reached (step 0 (2 * k) 0 0 none) m r m'
+  pub after_reach : (k n : ℕ) (x : S) (v : View S E O) (r : ℕ) (m m' : Sat S E O) → Path (Sat S E O) m (v, []) → phase_at v.turns k ≡ Held n x → reached (step 0 (16 * k) 0 0 none) m r m'
       → Path (Sat S E O) m' (phased k (Out n x) v, (k, None) ∷ []) × (n < 2 ^ 56)
-  after_reach k n x v r m m' e p t = let h = subst (λ z. reached (step 0 (2 * k) 0 0 none) z r m') e t k refl in
+  after_reach k n x v r m m' e p t = let h = subst (λ z. reached (step 0 (16 * k) 0 0 none) z r m') e t k refl in
       (h.0 ∙ ap (λ q. (phased k (reached_phase q) v, (k, None) ∷ [])) p, h.1 n x p)
 
-  pub after_finish : (k n l : ℕ) (x y : S) (event : E) (outcome : O) (v : View S E O) (m m' : Sat S E O) → Path (Sat S E O) m (phased k (Out n x) v, (k, Some y) ∷ []) → finished event outcome (step 0 (2 * k + 1) l 0 none) m l m'
+  -- the slot that is out with the seat has z in it
+  pub swapped : (k : ℕ) (x y z : Option S) (v : View S E O) (m : Sat S E O) → Path (Sat S E O) m (v, (k, x) ∷ []) → z ≡ y → Path (Sat S E O) (m.0, (k, z) ∷ rest m.1) (v, (k, y) ∷ [])
+  swapped k x y z v m e is = ap (λ u. (m.0, (k, u) ∷ rest m.1)) is ∙ ap (λ n. (n.0, (k, y) ∷ rest n.1)) e
+
+  pub after_finish : (k n l : ℕ) (x y : S) (event : E) (outcome : O) (v : View S E O) (m m' : Sat S E O) → Path (Sat S E O) m (phased k (Out n x) v, (k, Some y) ∷ []) → finished event outcome (step 0 (16 * k + 1) l 0 none) m l m'
       → Path (Sat S E O) m' (phased k (Counted y) (noted k l (gained (entry k n event outcome) (phased k (Out n x) v))), []) × (seen_at v.seen k ≤ n)
   after_finish k n l x y event outcome v m m' e t =
-      let h = subst (λ z. finished event outcome (step 0 (2 * k + 1) l 0 none) z l m') e t k refl in
+      let h = subst (λ z. finished event outcome (step 0 (16 * k + 1) l 0 none) z l m') e t k refl in
       let p : number_of (phase_at ((k, Out n x) ∷ v.turns) k) ≡ n = ap number_of (phase_here v.turns k (Out n x)) in
       (h.0 ∙ ap (λ q. (phased k (Counted y) (noted k l (gained (entry k q event outcome) (phased k (Out n x) v))), [])) p, let s = h.1 in omega arith)
 
-  pub after_free : (k : ℕ) (v : View S E O) (m m' : Sat S E O) → Path (Sat S E O) m (v, []) → freed (step 0 (2 * k) 0 0 none) m 0 m' → Path (Sat S E O) m' (phased k Nothing v, [])
-  after_free k v m m' e t = subst (λ z. freed (step 0 (2 * k) 0 0 none) z 0 m') e t k refl
+  pub after_free : (k : ℕ) (v : View S E O) (m m' : Sat S E O) → Path (Sat S E O) m (v, []) → freed (step 0 (16 * k) 0 0 none) m 0 m' → Path (Sat S E O) m' (phased k Nothing v, [])
+  after_free k v m m' e t = subst (λ z. freed (step 0 (16 * k) 0 0 none) z 0 m') e t k refl
 
 -- the two turns and what was seen, after the whole of a call
 module _ {S E O : Type 0} where
   abbrev pub taken_view : ℕ → ℕ → S → View S E O → View S E O
-  taken_view k n x v = phased k (Held n x) (phased k (Out n x) (noted k n (phased k (Marked x) v)))
+  taken_view k n x v = phased k (Held n x) (phased k (Out n x) (noted k n (phased k (Marked x) (tried k 0 v))))
 
   abbrev pub returned_view : ℕ → ℕ → S → View S E O → View S E O
-  returned_view k n x v = phased k Nothing (phased k (Out n x) (noted k n (phased k (Marked x) v)))
+  returned_view k n x v = phased k Nothing (phased k (Out n x) (noted k n (phased k (Marked x) (tried k 0 v))))
 
   abbrev pub put_view : ℕ → ℕ → S → S → E → O → View S E O → View S E O
   put_view k n x y event outcome v = phased k Nothing (phased k (Counted y) (noted k (n + 1) (gained (entry k n event outcome) (phased k (Out n x) v))))
@@ -108,3 +112,14 @@ module _ {S E O : Type 0} where
   pub put_turns : (k n : ℕ) (x y : S) (event : E) (outcome : O) (v : View S E O) → (phase_at (put_view k n x y event outcome v).turns k ≡ Nothing) × OtherTurns k v (put_view k n x y event outcome v)
   put_turns k n x y event outcome v = let a = (k, Out n x) ∷ v.turns in let b = (k, Counted y) ∷ a in
       (phase_here b k Nothing, λ j ne. phase_else b k Nothing j ne ∙ (phase_else a k (Counted y) j ne ∙ phase_else v.turns k (Out n x) j ne))
+
+abbrev pub Trials : ℕ → List (ℕ × ℕ) → List (ℕ × ℕ) → Type 0
+Trials k rs rs' = (ts : List (ℕ × ℕ)) × (rs' ≡ ts ++ rs) × ((t : ℕ × ℕ) → In t ts → t.0 ≡ k)
+
+-- a hand that tried the mark of the place k alone tries it once more
+pub tried_again : (k : ℕ) (rs rs' rs'' : List (ℕ × ℕ)) → Trials k rs rs' → (n : ℕ) → rs'' ≡ (k, n) ∷ rs' → Trials k rs rs''
+tried_again k rs rs' rs'' t n e = ((k, n) ∷ t.0, e ∙ ap (λ l. (k, n) ∷ l) t.1, λ u h. by t.2 u h)
+  where
+    by : ((u : ℕ × ℕ) → In u t.0 → u.0 ≡ k) → (u : ℕ × ℕ) → In u ((k, n) ∷ t.0) → u.0 ≡ k
+    by old u (here p) = ap (λ (z : ℕ × ℕ). z.0) p
+    by old u (there h) = old u h

@@ -10,14 +10,14 @@ use native.Mathlib.Decide.{ℕ_discrete}
 use lib.ListN.{get_elem?}
 use prog.Atomic.{either}
 use Rattle.atomic_table.specs.Table.{State, step, Act, keeps, takes, gives, stepped, carried_after, Valid, Allows}
-use Rattle.atomic_table.proofs.Lists.{set_here, set_else, set_again}
+use Rattle.atomic_table.proofs.Lists.{set_here, set_else}
 use Rattle.turn_table.specs.declared.machine.Entry.{Entry}
 use Rattle.turn_table.specs.declared.view.View.{View}
 use Rattle.turn_table.specs.declared.view.Phase.{Phase}
 use Rattle.turn_table.specs.declared.view.Phase.TheVariants.{Nothing, Marked, Out, Held, Counted}
 use Rattle.turn_table.specs.Histories.{In, one_if, seen_at, phase_at, times, Leaves}
 use Rattle.turn_table.specs.Kept.{Matches, Stands, PlaceOk, Kept}
-use Rattle.turn_table.specs.Steps.{Sat, noted, phased, with_count, emptied_phase, reached_phase, number_of, WasTaken, Given, marked, looked, counted, returned, emptied, reached, freed}
+use Rattle.turn_table.specs.Steps.{Sat, noted, tried, phased, with_count, emptied_phase, reached_phase, number_of, WasTaken, Given, marked, looked, counted, returned, emptied, reached, freed}
 use Rattle.turn_table.proofs.Lists.{total_two, total_some, get_there, seen_here, seen_else, phase_here, phase_else, times_in, below_in}
 use Rattle.turn_table.proofs.Moved.{Homes, rephased, reviewed}
 
@@ -31,18 +31,18 @@ pub not_held : {S : Type 0} (cell : ℕ × Phase S) (id : ℕ) (p : Phase S) →
 not_held cell id p (inl m) e held is = held (omega arith) (m.1 ∙ e)
 not_held cell id p (inr m) e held is = m.0 is
 
-double : (k j : ℕ) → 2 * k ≡ 2 * j → k ≡ j
+double : (k j : ℕ) → 16 * k ≡ 16 * j → k ≡ j
 double k j e = omega arith
 
-pub double_more : (k j : ℕ) → 2 * k + 1 ≡ 2 * j + 1 → k ≡ j
+pub double_more : (k j : ℕ) → 16 * k + 1 ≡ 16 * j + 1 → k ≡ j
 double_more k j e = omega arith
 
 -- the other places' words after a write of one of this place's
-far_mark : (ws : List ℕ) (k n : ℕ) → (j : ℕ) → j ≢ k → (get_or (set ws (2 * k) n) (2 * j) 0 ≡ get_or ws (2 * j) 0) × (get_or (set ws (2 * k) n) (2 * j + 1) 0 ≡ get_or ws (2 * j + 1) 0)
-far_mark ws k n j ne = (get_or-set_other ws (2 * k) (2 * j) n 0 (λ e. ne (omega arith)), get_or-set_other ws (2 * k) (2 * j + 1) n 0 (λ e. omega arith))
+far_mark : (ws : List ℕ) (k n : ℕ) → (j : ℕ) → j ≢ k → (get_or (set ws (16 * k) n) (16 * j) 0 ≡ get_or ws (16 * j) 0) × (get_or (set ws (16 * k) n) (16 * j + 1) 0 ≡ get_or ws (16 * j + 1) 0)
+far_mark ws k n j ne = (get_or-set_other ws (16 * k) (16 * j) n 0 (λ e. ne (omega arith)), get_or-set_other ws (16 * k) (16 * j + 1) n 0 (λ e. omega arith))
 
-pub far_count : (ws : List ℕ) (k n : ℕ) → (j : ℕ) → j ≢ k → (get_or (set ws (2 * k + 1) n) (2 * j) 0 ≡ get_or ws (2 * j) 0) × (get_or (set ws (2 * k + 1) n) (2 * j + 1) 0 ≡ get_or ws (2 * j + 1) 0)
-far_count ws k n j ne = (get_or-set_other ws (2 * k + 1) (2 * j) n 0 (λ e. omega arith), get_or-set_other ws (2 * k + 1) (2 * j + 1) n 0 (λ e. ne (omega arith)))
+pub far_count : (ws : List ℕ) (k n : ℕ) → (j : ℕ) → j ≢ k → (get_or (set ws (16 * k + 1) n) (16 * j) 0 ≡ get_or ws (16 * j) 0) × (get_or (set ws (16 * k + 1) n) (16 * j + 1) 0 ≡ get_or ws (16 * j + 1) 0)
+far_count ws k n j ne = (get_or-set_other ws (16 * k + 1) (16 * j) n 0 (λ e. omega arith), get_or-set_other ws (16 * k + 1) (16 * j + 1) n 0 (λ e. ne (omega arith)))
 
 module _ {S E O : Type 0} (relates : S → E → O → S → Type 0) (reserved : E → Type 0) (starts : List S) where
   abbrev St : Type 0
@@ -66,26 +66,26 @@ module _ {S E O : Type 0} (relates : S → E → O → S → Type 0) (reserved :
   module _ (slots id k : ℕ) (v : View S E O) (inside : k < slots) (live : 0 < v.parts) (none_yet : phase_at v.turns k ≡ Nothing)
       (s : St) (r : Rule s) (deep : length s.homes ≡ slots) (at : get_elem? s.views id ≡ some v) (a : S) (start : slice_get starts k ≡ Some a) where
     abbrev Found : Bool → Type 0
-    Found b = (w : View S E O) × (act : Act (Option S)) × Valid s.homes [] act × Rule (stepped s (2 * k) (either b 1 (get_or s.words (2 * k) 0)) id [] w act)
-        × ((j : ℕ) → 2 * k ≡ 2 * j → MatchBool b ((x : S) × Path (Sat S E O) (w, carried_after [] act) (phased j (Marked x) v, (j, Some x) ∷ [])) (Path (Sat S E O) (w, carried_after [] act) (v, []) × WasTaken relates reserved j v))
+    Found b = (w : View S E O) × (act : Act (Option S)) × Valid s.homes [] act × Rule (stepped s (16 * k) (either b 1 (get_or s.words (16 * k) 0)) id [] w act)
+        × ((j : ℕ) → 16 * k ≡ 16 * j → MatchBool b ((x : S) × Path (Sat S E O) (w, carried_after [] act) (phased j (Marked x) (tried j 0 v), (j, Some x) ∷ [])) ((get_or s.words (16 * k) 0 ≡ 1) × Path (Sat S E O) (w, carried_after [] act) (tried j 1 v, []) × WasTaken relates reserved j v))
 
     abbrev ok : PlaceOk relates s.words s.homes (r.log k) (r.cells k) k a
     ok = r.place k a start
 
-    won : get_or s.words (2 * k) 0 ≡ 0 → Found true
+    won : get_or s.words (16 * k) 0 ≡ 0 → Found true
     won zero_there =
         let empty : (r.cells k).0 ≡ 0 = let m = ok.mark in omega arith in
         let h = subst (Stands relates s.homes k (r.log k) a) (ok.free empty) ok.stands in
         let x : S = h.0 in
         let wide = r.wide in let long : k < length s.homes = omega arith in (
-          phased k (Marked x) v,
+          phased k (Marked x) (tried k 0 v),
           takes k (Some x),
           h.1,
-          rephased relates reserved starts s r k a start id v at live v.seen ((k, Marked x) ∷ v.turns) (suc id, Marked x) (set s.words (2 * k) 1) (set s.homes k none) (length-set s.words (2 * k) 1) (length-set s.homes k none)
+          rephased relates reserved starts s r k a start id v at live v.seen ((k, 0) ∷ v.tries) ((k, Marked x) ∷ v.turns) (suc id, Marked x) (set s.words (16 * k) 1) (set s.homes k none) (length-set s.words (16 * k) 1) (length-set s.homes k none)
               (λ j ne. let f = far_mark s.words k 1 j ne in (f.0, f.1, set_else s.homes k j none ne))
               record {
-                mark = get_or-set_same s.words (2 * k) 1 0 (omega arith) ∙ (omega arith);
-                count = get_or-set_other s.words (2 * k) (2 * k + 1) 1 0 (λ e. omega arith) ∙ ok.count;
+                mark = get_or-set_same s.words (16 * k) 1 0 (omega arith) ∙ (omega arith);
+                count = get_or-set_other s.words (16 * k) (16 * k + 1) 1 0 (λ e. omega arith) ∙ ok.count;
                 low = ok.low;
                 named = ok.named;
                 free = λ e. absurd (omega arith);
@@ -93,26 +93,28 @@ module _ {S E O : Type 0} (relates : S → E → O → S → Type 0) (reserved :
                 stands = (set_here s.homes k none long, h.2);
               }
               (inl empty) (inr refl) (r.seat id v at).seen (inl (refl, sym (phase_here v.turns k (Marked x)))) (λ j ne. phase_else v.turns k (Marked x) j ne),
-          λ j e. (x, ap (λ i. (phased i (Marked x) v, (i, Some x) ∷ [])) (double k j e)),
+          λ j e. (x, ap (λ i. (phased i (Marked x) (tried i 0 v), (i, Some x) ∷ [])) (double k j e)),
         )
 
-    lost : get_or s.words (2 * k) 0 ≢ 0 → Found false
+    lost : get_or s.words (16 * k) 0 ≢ 0 → Found false
     lost there =
         let m = ok.mark in let some_one : 0 < (r.cells k).0 = omega arith in
         let o = r.owned k some_one in
-        let same : (stepped s (2 * k) (get_or s.words (2 * k) 0) id [] v keeps) ≡ s = λ i. record { words = set-get_or s.words (2 * k) 0 i; homes = s.homes; views = set_again s.views id v at i } in
         let theirs = r.seat o.0 o.1 o.3 in
-        let their_phase : (r.cells k).1 ≡ phase_at o.1.turns k = ⊎_elim (λ t. t.1) (λ t. absurd (t.0 o.2)) (theirs.turns k) in (
-          v,
+        let their_phase : (r.cells k).1 ≡ phase_at o.1.turns k = ⊎_elim (λ t. t.1) (λ t. absurd (t.0 o.2)) (theirs.turns k) in
+        let one : get_or s.words (16 * k) 0 ≡ 1 = omega arith in (
+          tried k 1 v,
           keeps,
           tt,
-          subst Rule (sym same) r,
+          subst (λ ws. Rule record { words = ws; homes = s.homes; views = set s.views id (tried k 1 v) }) (sym (set-get_or s.words (16 * k) 0))
+              (reviewed relates reserved starts s r id v at live v.seen ((k, 1) ∷ v.tries) (r.seat id v at).seen),
           λ j e. (
-            refl,
+            one,
+            ap (λ i. (tried i 1 v, [])) (double k j e),
             subst (λ i. WasTaken relates reserved i v) (double k j e) record {
               state = s;
               kept = subst (λ z. Kept relates reserved z s) (sym ((r.seat id v at).same live)) r;
-              mark = omega arith;
+              mark = one;
               seat = id;
               mine = at;
               other = o.0;
@@ -124,30 +126,30 @@ module _ {S E O : Type 0} (relates : S → E → O → S → Type 0) (reserved :
           ),
         )
 
-    found : Found (eqb (get_or s.words (2 * k) 0) 0)
-    found = dite (ℕ_discrete (get_or s.words (2 * k) 0) 0)
-        (λ e. subst Found (sym (eq-eqb (get_or s.words (2 * k) 0) 0 e)) (won e))
-        (λ ne. subst Found (sym (ne_eqb (get_or s.words (2 * k) 0) 0 ne)) (lost ne))
+    found : Found (eqb (get_or s.words (16 * k) 0) 0)
+    found = dite (ℕ_discrete (get_or s.words (16 * k) 0) 0)
+        (λ e. subst Found (sym (eq-eqb (get_or s.words (16 * k) 0) 0 e)) (won e))
+        (λ ne. subst Found (sym (ne_eqb (get_or s.words (16 * k) 0) 0 ne)) (lost ne))
 
   pub marks : (slots id k : ℕ) (v : View S E O) → k < slots → 0 < v.parts → phase_at v.turns k ≡ Nothing
-      → Allows Rule slots id (v, []) (2 * k) (λ n. either (eqb n 0) 1 n) (marked relates reserved (step slots (2 * k) 0 1 none) (v, []))
+      → Allows Rule slots id (v, []) (16 * k) (λ n. either (eqb n 0) 1 n) (marked relates reserved (step slots (16 * k) 0 1 none) (v, []))
   marks slots id k v inside live none_yet s r deep at small = let b = begun s r k slots deep inside in found slots id k v inside live none_yet s r deep at b.0 b.1
 
   -- kind 4, by a hand that lost
   pub looks : (slots id k : ℕ) (v : View S E O) → k < slots → 0 < v.parts
-      → Allows Rule slots id (v, []) (2 * k + 1) (λ n. n) (looked (step slots (2 * k + 1) 0 0 none) (v, []))
+      → Allows Rule slots id (v, []) (16 * k + 1) (λ n. n) (looked (step slots (16 * k + 1) 0 0 none) (v, []))
   looks slots id k v inside live s r deep at small =
       let b = begun s r k slots deep inside in
       let ok = r.place k b.0 b.1 in
-      let n : ℕ = get_or s.words (2 * k + 1) 0 in
+      let n : ℕ = get_or s.words (16 * k + 1) 0 in
       let count : n ≡ length (r.log k) = ok.count in
       let low = ok.low in
       let seen = (r.seat id v at).seen k in (
         noted k n v,
         keeps,
         tt,
-        subst (λ ws. Rule record { words = ws; homes = s.homes; views = set s.views id (noted k n v) }) (sym (set-get_or s.words (2 * k + 1) 0))
-            (reviewed relates reserved starts s r id v at live ((k, n) ∷ v.seen) (noted_low s r id v at k n count)),
+        subst (λ ws. Rule record { words = ws; homes = s.homes; views = set s.views id (noted k n v) }) (sym (set-get_or s.words (16 * k + 1) 0))
+            (reviewed relates reserved starts s r id v at live ((k, n) ∷ v.seen) v.tries (noted_low s r id v at k n count)),
         λ j e. subst (λ i. Path (Sat S E O) (noted k n v, []) (noted i n v, []) × (seen_at v.seen i ≤ n) × (n ≤ 2 ^ 56)) (double_more k j e) (refl, omega arith, omega arith),
       )
 
@@ -197,11 +199,11 @@ module _ {S E O : Type 0} (relates : S → E → O → S → Type 0) (reserved :
 
   -- kind 4, by the hand that has the mark
   pub counts : (slots id k : ℕ) (v : View S E O) (c : List (ℕ × Option S)) → k < slots → 0 < v.parts → (x : S) → phase_at v.turns k ≡ Marked x
-      → Allows Rule slots id (v, c) (2 * k + 1) (λ n. n) (counted relates reserved (step slots (2 * k + 1) 0 0 none) (v, c))
+      → Allows Rule slots id (v, c) (16 * k + 1) (λ n. n) (counted relates reserved (step slots (16 * k + 1) 0 0 none) (v, c))
   counts slots id k v c inside live x phase s r deep at small =
       let b = begun s r k slots deep inside in
       let ok = r.place k b.0 b.1 in
-      let n : ℕ = get_or s.words (2 * k + 1) 0 in
+      let n : ℕ = get_or s.words (16 * k + 1) 0 in
       let count : n ≡ length (r.log k) = ok.count in
       let low = ok.low in
       let seen = (r.seat id v at).seen k in
@@ -212,8 +214,8 @@ module _ {S E O : Type 0} (relates : S → E → O → S → Type 0) (reserved :
         w,
         keeps,
         tt,
-        subst (λ ws. Rule record { words = ws; homes = s.homes; views = set s.views id w }) (sym (set-get_or s.words (2 * k + 1) 0))
-            (rephased relates reserved starts s r k b.0 b.1 id v at live ((k, n) ∷ v.seen) ((k, Out n x) ∷ v.turns) (suc id, Out n x) s.words s.homes refl refl (λ j ne. (refl, refl, refl))
+        subst (λ ws. Rule record { words = ws; homes = s.homes; views = set s.views id w }) (sym (set-get_or s.words (16 * k + 1) 0))
+            (rephased relates reserved starts s r k b.0 b.1 id v at live ((k, n) ∷ v.seen) v.tries ((k, Out n x) ∷ v.turns) (suc id, Out n x) s.words s.homes refl refl (λ j ne. (refl, refl, refl))
             record {
               mark = let q = ok.mark in let z = m.0 in omega arith;
               count = count;
@@ -242,7 +244,7 @@ module _ {S E O : Type 0} (relates : S → E → O → S → Type 0) (reserved :
       let b = begun s r k slots deep inside in
       let ok = r.place k b.0 b.1 in
       let m = mine_is (r.cells k) id (phase_at v.turns k) p ((r.seat id v at).turns k) phase some_p in
-      rephased relates reserved starts s r k b.0 b.1 id v at live v.seen ((k, q) ∷ v.turns) (suc id, q) s.words homes' refl as_deep (λ j ne. (refl, refl, same j ne))
+      rephased relates reserved starts s r k b.0 b.1 id v at live v.seen v.tries ((k, q) ∷ v.turns) (suc id, q) s.words homes' refl as_deep (λ j ne. (refl, refl, same j ne))
       record {
         mark = let e = ok.mark in let z = m.0 in omega arith;
         count = ok.count;
@@ -256,13 +258,13 @@ module _ {S E O : Type 0} (relates : S → E → O → S → Type 0) (reserved :
 
   -- kind 6, after which the slot is home and empty
   pub empties : (slots id k : ℕ) (v : View S E O) → k < slots → 0 < v.parts → (n : ℕ) (x : S) → phase_at v.turns k ≡ Out n x → n < 2 ^ 56
-      → Allows Rule slots id (v, (k, None) ∷ []) (2 * k) (λ n. n) (emptied (step slots (2 * k) 0 0 none) (v, (k, None) ∷ []))
+      → Allows Rule slots id (v, (k, None) ∷ []) (16 * k) (λ n. n) (emptied (step slots (16 * k) 0 0 none) (v, (k, None) ∷ []))
   empties slots id k v inside live n x phase low s r deep at small =
       let w : View S E O = phased k (Held n x) v in (
         w,
         gives,
         tt,
-        subst (λ ws. Rule record { words = ws; homes = set s.homes k (some None); views = set s.views id w }) (sym (set-get_or s.words (2 * k) 0))
+        subst (λ ws. Rule record { words = ws; homes = set s.homes k (some None); views = set s.views id w }) (sym (set-get_or s.words (16 * k) 0))
             (turned_to slots id k v inside live (Out n x) (Held n x) (λ e. absurd cc) (λ e. absurd cc) phase s r deep at (set s.homes k (some None)) (length-set s.homes k (some None))
             (λ j ne. set_else s.homes k j (some None) ne) (λ a h. (set_here s.homes k (some None) (omega arith), h.1, low, h.2))),
         λ j e. subst (λ i. Path (Sat S E O) (w, []) (phased i (emptied_phase (phase_at v.turns i)) v, [])) (double k j e) (ap (λ p. (phased k (emptied_phase p) v, [])) (sym phase)),
@@ -270,7 +272,7 @@ module _ {S E O : Type 0} (relates : S → E → O → S → Type 0) (reserved :
 
   -- the empty slot is fetched
   pub reaches : (slots id k : ℕ) (v : View S E O) → k < slots → 0 < v.parts → (n : ℕ) (x : S) → phase_at v.turns k ≡ Held n x
-      → Allows Rule slots id (v, []) (2 * k) (λ n. n) (reached (step slots (2 * k) 0 0 none) (v, []))
+      → Allows Rule slots id (v, []) (16 * k) (λ n. n) (reached (step slots (16 * k) 0 0 none) (v, []))
   reaches slots id k v inside live n x phase s r deep at small =
       let w : View S E O = phased k (Out n x) v in
       let b = begun s r k slots deep inside in
@@ -280,7 +282,7 @@ module _ {S E O : Type 0} (relates : S → E → O → S → Type 0) (reserved :
         w,
         takes k None,
         h.0,
-        subst (λ ws. Rule record { words = ws; homes = set s.homes k none; views = set s.views id w }) (sym (set-get_or s.words (2 * k) 0))
+        subst (λ ws. Rule record { words = ws; homes = set s.homes k none; views = set s.views id w }) (sym (set-get_or s.words (16 * k) 0))
             (turned_to slots id k v inside live (Held n x) (Out n x) (λ e. absurd cc) (λ e. absurd cc) phase s r deep at (set s.homes k none) (length-set s.homes k none)
             (λ j ne. set_else s.homes k j none ne) (λ a h'. (set_here s.homes k none (omega arith), h'.1, h'.3))),
         λ j e. subst (λ i. Path (Sat S E O) (w, (k, None) ∷ []) (phased i (reached_phase (phase_at v.turns i)) v, (i, None) ∷ []) × ((n' : ℕ) (y : S) → phase_at v.turns i ≡ Held n' y → n' < 2 ^ 56)) (double k j e)
@@ -292,17 +294,17 @@ module _ {S E O : Type 0} (relates : S → E → O → S → Type 0) (reserved :
       → (s : St) (r : Rule s) → length s.homes ≡ slots → get_elem? s.views id ≡ some v → (homes' : Homes S) → length homes' ≡ length s.homes
       → ((j : ℕ) → j ≢ k → get_elem? homes' j ≡ get_elem? s.homes j)
       → ((a : S) → Stands relates s.homes k (r.log k) a p → Stands relates homes' k (r.log k) a Nothing)
-      → Rule record { words = set s.words (2 * k) 0; homes = homes'; views = set s.views id (phased k Nothing v) }
+      → Rule record { words = set s.words (16 * k) 0; homes = homes'; views = set s.views id (phased k Nothing v) }
   released slots id k v inside live p some_p phase s r deep at homes' as_deep same stands =
       let b = begun s r k slots deep inside in
       let ok = r.place k b.0 b.1 in
       let wide = r.wide in
       let m = mine_is (r.cells k) id (phase_at v.turns k) p ((r.seat id v at).turns k) phase some_p in
-      rephased relates reserved starts s r k b.0 b.1 id v at live v.seen ((k, Nothing) ∷ v.turns) (0, Nothing) (set s.words (2 * k) 0) homes' (length-set s.words (2 * k) 0) as_deep
+      rephased relates reserved starts s r k b.0 b.1 id v at live v.seen v.tries ((k, Nothing) ∷ v.turns) (0, Nothing) (set s.words (16 * k) 0) homes' (length-set s.words (16 * k) 0) as_deep
       (λ j ne. let f = far_mark s.words k 0 j ne in (f.0, f.1, same j ne))
       record {
-        mark = get_or-set_same s.words (2 * k) 0 0 (omega arith) ∙ (omega arith);
-        count = get_or-set_other s.words (2 * k) (2 * k + 1) 0 0 (λ e. omega arith) ∙ ok.count;
+        mark = get_or-set_same s.words (16 * k) 0 0 (omega arith) ∙ (omega arith);
+        count = get_or-set_other s.words (16 * k) (16 * k + 1) 0 0 (λ e. omega arith) ∙ ok.count;
         low = ok.low;
         named = ok.named;
         free = λ _. refl;
@@ -312,7 +314,7 @@ module _ {S E O : Type 0} (relates : S → E → O → S → Type 0) (reserved :
       (inr m.0) (inl refl) (r.seat id v at).seen (inr ((λ e. omega arith), phase_here v.turns k Nothing)) (λ j ne. phase_else v.turns k Nothing j ne)
 
   pub frees : (slots id k : ℕ) (v : View S E O) → k < slots → 0 < v.parts → (y : S) → phase_at v.turns k ≡ Counted y
-      → Allows Rule slots id (v, []) (2 * k) (λ _. 0) (λ _. freed (step slots (2 * k) 0 0 none) (v, []) 0)
+      → Allows Rule slots id (v, []) (16 * k) (λ _. 0) (λ _. freed (step slots (16 * k) 0 0 none) (v, []) 0)
   frees slots id k v inside live y phase s r deep at small = (
     phased k Nothing v,
     keeps,
@@ -322,7 +324,7 @@ module _ {S E O : Type 0} (relates : S → E → O → S → Type 0) (reserved :
   )
 
   pub returns : (slots id k : ℕ) (v : View S E O) → k < slots → 0 < v.parts → (n : ℕ) (x : S) → phase_at v.turns k ≡ Out n x
-      → Allows Rule slots id (v, (k, Some x) ∷ []) (2 * k) (λ _. 0) (λ _. returned (step slots (2 * k) 0 0 none) (v, (k, Some x) ∷ []) 0)
+      → Allows Rule slots id (v, (k, Some x) ∷ []) (16 * k) (λ _. 0) (λ _. returned (step slots (16 * k) 0 0 none) (v, (k, Some x) ∷ []) 0)
   returns slots id k v inside live n x phase s r deep at small = (
     phased k Nothing v,
     gives,

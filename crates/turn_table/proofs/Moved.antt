@@ -37,7 +37,7 @@ module _ {S E O : Type 0} (relates : S → E → O → S → Type 0) where
 
   -- a place that the step does not touch
   pub stays : (words words' : List ℕ) (homes homes' : Homes S) (log : List (Entry E O)) (cell : ℕ × Phase S) (k : ℕ) (a : S)
-      → (get_or words' (2 * k) 0 ≡ get_or words (2 * k) 0) × (get_or words' (2 * k + 1) 0 ≡ get_or words (2 * k + 1) 0) × (get_elem? homes' k ≡ get_elem? homes k)
+      → (get_or words' (16 * k) 0 ≡ get_or words (16 * k) 0) × (get_or words' (16 * k + 1) 0 ≡ get_or words (16 * k + 1) 0) × (get_elem? homes' k ≡ get_elem? homes k)
       → PlaceOk relates words homes log cell k a → PlaceOk relates words' homes' log cell k a
   stays words words' homes homes' log cell k a same ok = record {
     mark = same.0 ∙ ok.mark;
@@ -81,7 +81,7 @@ module _ {S E O : Type 0} (relates : S → E → O → S → Type 0) (reserved :
     }
 
     there : (words' : List ℕ) (homes' : Homes S) (a : S) → slice_get starts k ≡ Some a
-        → ((j : ℕ) → j ≢ k → (get_or words' (2 * j) 0 ≡ get_or s.words (2 * j) 0) × (get_or words' (2 * j + 1) 0 ≡ get_or s.words (2 * j + 1) 0) × (get_elem? homes' j ≡ get_elem? s.homes j))
+        → ((j : ℕ) → j ≢ k → (get_or words' (16 * j) 0 ≡ get_or s.words (16 * j) 0) × (get_or words' (16 * j + 1) 0 ≡ get_or s.words (16 * j + 1) 0) × (get_elem? homes' j ≡ get_elem? s.homes j))
         → PlaceOk relates words' homes' log' cell' k a → (j : ℕ) (b : S) → slice_get starts j ≡ Some b → PlaceOk relates words' homes' (put r.log k log' j) (put r.cells k cell' j) j b
     there words' homes' a start same ok j b start' = dite (ℕ_discrete j k)
         (λ e. let p : Some a ≡ Some b = sym start ∙ (ap (slice_get starts) (sym e) ∙ start') in let q : a ≡ b = cc in
@@ -102,13 +102,13 @@ module _ {S E O : Type 0} (relates : S → E → O → S → Type 0) (reserved :
   pub moved : (s : St) (r : Kept relates reserved starts s) (k : ℕ) (a : S) → slice_get starts k ≡ Some a → (id : ℕ) (v w : View S E O) → get_elem? s.views id ≡ some v
       → (log' : List (Entry E O)) (cell' : ℕ × Phase S) (words' : List ℕ) (homes' : Homes S)
       → length words' ≡ length s.words → length homes' ≡ length s.homes
-      → ((j : ℕ) → j ≢ k → (get_or words' (2 * j) 0 ≡ get_or s.words (2 * j) 0) × (get_or words' (2 * j + 1) 0 ≡ get_or s.words (2 * j + 1) 0) × (get_elem? homes' j ≡ get_elem? s.homes j))
+      → ((j : ℕ) → j ≢ k → (get_or words' (16 * j) 0 ≡ get_or s.words (16 * j) 0) × (get_or words' (16 * j + 1) 0 ≡ get_or s.words (16 * j + 1) 0) × (get_elem? homes' j ≡ get_elem? s.homes j))
       → PlaceOk relates words' homes' log' cell' k a → Moves s r k id v w log' cell'
       → Kept relates reserved starts (record { words = words'; homes = homes'; views = set s.views id w })
   moved s r k a start id v w at log' cell' words' homes' as_wide as_deep same ok m = record {
     log = put r.log k log';
     cells = put r.cells k cell';
-    wide = as_wide ∙ (r.wide ∙ ap (λ n. 2 * n) (sym as_deep));
+    wide = as_wide ∙ (r.wide ∙ ap (λ n. 16 * n) (sym as_deep));
     long = r.long ∙ sym as_deep;
     place = there s r k log' cell' words' homes' a start same ok;
     seat = λ j u at'. ⊎_elim
@@ -126,18 +126,18 @@ module _ {S E O : Type 0} (relates : S → E → O → S → Type 0) (reserved :
   put_same : {A : Type 0} (f : ℕ → A) (k j : ℕ) → put f k (f k) j ≡ f j
   put_same f k j = put_all (λ j a. a ≡ f j) f k (f k) j refl (λ _. refl)
 
-  -- a step of the place that adds no entry: the seat notes what it saw, and the phase
+  -- a step of the place that adds no entry: the seat notes what it saw and tried, and the phase
   pub rephased : (s : St) (r : Kept relates reserved starts s) (k : ℕ) (a : S) → slice_get starts k ≡ Some a → (id : ℕ) (v : View S E O) → get_elem? s.views id ≡ some v → 0 < v.parts
-      → (ns : List (ℕ × ℕ)) (ts : List (ℕ × Phase S)) (cell' : ℕ × Phase S) (words' : List ℕ) (homes' : Homes S)
+      → (ns rs : List (ℕ × ℕ)) (ts : List (ℕ × Phase S)) (cell' : ℕ × Phase S) (words' : List ℕ) (homes' : Homes S)
       → length words' ≡ length s.words → length homes' ≡ length s.homes
-      → ((j : ℕ) → j ≢ k → (get_or words' (2 * j) 0 ≡ get_or s.words (2 * j) 0) × (get_or words' (2 * j + 1) 0 ≡ get_or s.words (2 * j + 1) 0) × (get_elem? homes' j ≡ get_elem? s.homes j))
+      → ((j : ℕ) → j ≢ k → (get_or words' (16 * j) 0 ≡ get_or s.words (16 * j) 0) × (get_or words' (16 * j + 1) 0 ≡ get_or s.words (16 * j + 1) 0) × (get_elem? homes' j ≡ get_elem? s.homes j))
       → PlaceOk relates words' homes' (r.log k) cell' k a
       → ((r.cells k).0 ≡ 0) ⊎ ((r.cells k).0 ≡ suc id) → (cell'.0 ≡ 0) ⊎ (cell'.0 ≡ suc id)
       → ((j : ℕ) → seen_at ns j ≤ length (r.log j)) → Matches cell' id (phase_at ts k) → ((j : ℕ) → j ≢ k → phase_at ts j ≡ phase_at v.turns j)
-      → Kept relates reserved starts (record { words = words'; homes = homes'; views = set s.views id (record v { seen = ns; turns = ts }) })
-  rephased s r k a start id v at live ns ts cell' words' homes' as_wide as_deep same ok was is seen now else =
+      → Kept relates reserved starts (record { words = words'; homes = homes'; views = set s.views id (record v { seen = ns; tries = rs; turns = ts }) })
+  rephased s r k a start id v at live ns rs ts cell' words' homes' as_wide as_deep same ok was is seen now else =
       let mine = r.seat id v at in
-      moved s r k a start id v (record v { seen = ns; turns = ts }) at (r.log k) cell' words' homes' as_wide as_deep same ok record {
+      moved s r k a start id v (record v { seen = ns; tries = rs; turns = ts }) at (r.log k) cell' words' homes' as_wide as_deep same ok record {
         was = was;
         is = is;
         grows = (le_refl _, λ i x e. e);
@@ -154,13 +154,13 @@ module _ {S E O : Type 0} (relates : S → E → O → S → Type 0) (reserved :
         once = λ j i. ap (λ l. times j i v.entries + below i (length l)) (sym (put_same r.log k j));
       }
 
-  -- a seat notes what it saw, and nothing else changes
+  -- a seat notes what it saw and tried, and nothing else changes
   pub reviewed : (s : St) (r : Kept relates reserved starts s) (id : ℕ) (v : View S E O) → get_elem? s.views id ≡ some v → 0 < v.parts
-      → (ns : List (ℕ × ℕ)) → ((j : ℕ) → seen_at ns j ≤ length (r.log j))
-      → Kept relates reserved starts (record { words = s.words; homes = s.homes; views = set s.views id (record v { seen = ns }) })
-  reviewed s r id v at live ns seen =
+      → (ns rs : List (ℕ × ℕ)) → ((j : ℕ) → seen_at ns j ≤ length (r.log j))
+      → Kept relates reserved starts (record { words = s.words; homes = s.homes; views = set s.views id (record v { seen = ns; tries = rs }) })
+  reviewed s r id v at live ns rs seen =
       let mine = r.seat id v at in
-      let w : View S E O = record v { seen = ns } in record {
+      let w : View S E O = record v { seen = ns; tries = rs } in record {
         log = r.log;
         cells = r.cells;
         wide = r.wide;

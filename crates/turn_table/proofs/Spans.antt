@@ -21,16 +21,16 @@ home_there (x ∷ xs) zero a e = ap some (ap some e)
 home_there (x ∷ xs) (suc k) a e = home_there xs k a e
 
 module _ {S E O : Type 0} (relates : S → E → O → S → Type 0) (reserved : E → Type 0) where
-  pub opens : (starts : List S) (ws : List ℕ) (xs : List (Option S)) → length ws ≡ 2 * length starts → ((i : ℕ) → get_or ws i 0 ≡ 0) → xs ≡ map (λ (x : S). Some x) starts
+  pub opens : (starts : List S) (ws : List ℕ) (xs : List (Option S)) → length ws ≡ 16 * length starts → ((i : ℕ) → get_or ws i 0 ≡ 0) → xs ≡ map (λ (x : S). Some x) starts
       → Kept relates reserved starts (opening ws xs (first_view {E = E} {O = O} starts))
   opens starts ws xs wide clear is = record {
     log = λ k. [];
     cells = λ k. (0, Nothing);
-    wide = wide ∙ ap (λ n. 2 * n) (sym long ∙ refl);
+    wide = wide ∙ ap (λ n. 16 * n) (sym long ∙ refl);
     long = sym long;
     place = λ k a start. record {
-      mark = clear (2 * k);
-      count = clear (2 * k + 1);
+      mark = clear (16 * k);
+      count = clear (16 * k + 1);
       low = omega arith;
       named = λ i e there. absurd (let n : None ≡ Some e = there in cc);
       free = λ _. refl;

@@ -26,6 +26,10 @@ module _ {M S E O : Type 0} {g : _} where
   abbrev pub seen : Hand M S E O g → ℕ → ℕ
   seen h k = seen_at (view h).seen k
 
+  -- the marks that the hand tried, each with its place and the number found there, the newest first
+  abbrev pub tries : Hand M S E O g → List (ℕ × ℕ)
+  tries h = (view h).tries
+
   abbrev pub parts : Hand M S E O g → ℕ
   parts h = (view h).parts
 
@@ -62,6 +66,26 @@ module _ {M S E O : Type 0} {g : _} where
   -- of the place k it has now seen n, and of the others what it had seen
   abbrev pub Sees : ℕ → ℕ → Hand M S E O g → Hand M S E O g → Type 0
   Sees k n h h' = (seen h' k ≡ n) × ((j : ℕ) → j ≢ k → seen h' j ≡ seen h j)
+
+  -- one compare-exchange of a mark was made, that of the place k, and it found n there: 0 where the mark was free, and 1 where it was taken
+  abbrev pub TriedOnce : ℕ → ℕ → Hand M S E O g → Hand M S E O g → Type 0
+  TriedOnce k n h h' = tries h' ≡ (k, n) ∷ tries h
+
+  -- no mark but that of the place k was tried, however often
+  abbrev pub TriedOnly : ℕ → Hand M S E O g → Hand M S E O g → Type 0
+  TriedOnly k h h' = (ts : List (ℕ × ℕ)) × (tries h' ≡ ts ++ tries h) × ((t : ℕ × ℕ) → In t ts → t.0 ≡ k)
+
+  -- the mark of the place k alone was tried, and at the last it was free
+  abbrev pub TriedUntilFree : ℕ → Hand M S E O g → Hand M S E O g → Type 0
+  TriedUntilFree k h h' = (ts : List (ℕ × ℕ)) × (tries h' ≡ (k, 0) ∷ ts ++ tries h) × ((t : ℕ × ℕ) → In t ts → t.0 ≡ k)
+
+  -- the place's mark, tried once, was free, and its front n isn't the last
+  abbrev pub FoundFree : ℕ → ℕ → Hand M S E O g → Hand M S E O g → Type 0
+  FoundFree k n h h' = TriedOnce k 0 h h' × (n < 2 ^ 56)
+
+  -- the place's mark, tried once, was taken, and another hand had the place's turn then; or it was free and the front n is the last
+  abbrev pub FoundBusy : (S → E → O → S → Type 0) → (E → Type 0) → ℕ → ℕ → Hand M S E O g → Hand M S E O g → Type 0
+  FoundBusy relates reserved k n h h' = (TriedOnce k 1 h h' × WasTaken relates reserved k (view h)) ⊎ (TriedOnce k 0 h h' × (n ≡ 2 ^ 56))
 
 module _ {M S E O : Type 0} where
   abbrev pub place_of : Turn M S E O → ℕ
@@ -101,19 +125,19 @@ module _ {M S E O : Type 0} {g : _} where
 module _ {M S E O : Type 0} {g : _} where
   -- the hand of a table that began with these states: the main one, with all parts, and no entry or turn
   abbrev pub IsFirstHand : List S → Hand M S E O g → Type 0
-  IsFirstHand states h = (starts h ≡ states) × (entries h ≡ []) × (parts h ≡ 1024) × IsMain h × HasNoTurn h × ((k : ℕ) → seen h k ≡ 0)
+  IsFirstHand states h = (starts h ≡ states) × (entries h ≡ []) × (parts h ≡ 1024) × IsMain h × HasNoTurn h × ((k : ℕ) → seen h k ≡ 0) × (tries h ≡ [])
 
   -- the hand from which one part was split
   abbrev pub IsLeft : Hand M S E O g → Hand M S E O g → Type 0
-  IsLeft h h' = (h'.seat.table_id ≡ h.seat.table_id) × (starts h' ≡ starts h) × (entries h' ≡ entries h) × (parts h' + 1 ≡ parts h) × ((view h').main ≡ (view h).main) × HasNoTurn h' × ((k : ℕ) → seen h' k ≡ seen h k)
+  IsLeft h h' = (h'.seat.table_id ≡ h.seat.table_id) × (starts h' ≡ starts h) × (entries h' ≡ entries h) × (parts h' + 1 ≡ parts h) × ((view h').main ≡ (view h).main) × HasNoTurn h' × ((k : ℕ) → seen h' k ≡ seen h k) × (tries h' ≡ tries h)
 
   -- the hand that was split from h
   abbrev pub IsCut : Hand M S E O g → Hand M S E O g → Type 0
-  IsCut h new = (new.seat.table_id ≡ h.seat.table_id) × (starts new ≡ starts h) × (entries new ≡ []) × (parts new ≡ 1) × ((view new).main ≡ false) × HasNoTurn new × ((k : ℕ) → seen new k ≡ seen h k)
+  IsCut h new = (new.seat.table_id ≡ h.seat.table_id) × (starts new ≡ starts h) × (entries new ≡ []) × (parts new ≡ 1) × ((view new).main ≡ false) × HasNoTurn new × ((k : ℕ) → seen new k ≡ seen h k) × (tries new ≡ [])
 
   -- the hand h, after it took in the other
   abbrev pub IsJoined : Hand M S E O g → Hand M S E O g → Hand M S E O g → Type 0
-  IsJoined h other h' = (h'.seat.table_id ≡ h.seat.table_id) × (starts h' ≡ starts h) × (entries h' ≡ entries h ++ entries other) × (parts h' ≡ parts h + parts other) × ((view h').main ≡ (view h).main) × HasNoTurn h' × ((k : ℕ) → seen h' k ≡ max (seen h k) (seen other k))
+  IsJoined h other h' = (h'.seat.table_id ≡ h.seat.table_id) × (starts h' ≡ starts h) × (entries h' ≡ entries h ++ entries other) × (parts h' ≡ parts h + parts other) × ((view h').main ≡ (view h).main) × HasNoTurn h' × ((k : ℕ) → seen h' k ≡ max (seen h k) (seen other k)) × (tries h' ≡ tries h ++ tries other)
 
   -- each entry stands at a place of the table
   abbrev pub AreInRange : Hand M S E O g → Type 0

@@ -1,5 +1,5 @@
 -- The rule that holds between any two atomic steps.
--- A place k has two words and a slot. Word 2 * k is its mark, 0 or 1. Word 2 * k + 1 is its count, the front.
+-- A place k has two words and a slot. Word 16 * k is its mark, 0 or 1. Word 16 * k + 1 is its count, the front. The words up to 16 * (k + 1) are spare.
 -- Of each place there is a history, and a cell: 0 where the place is free, or 1 more than the number of the seat that has its turn, beside the phase of that turn.
 -- A seat is a hand as the base crate sees it: its number never changes, and its view, what the hand knows, changes in the hand's own steps alone.
 use Rattle.std.specs.Prelude.{◌≡◌, ◌≢◌, ◌⊎◌, ℕ, suc, ◌+◌, ◌*◌, ◌^◌, ◌<◌, ◌≤◌, min, true, false, List, [], length, slice_index, slice_get, Option, Some, None}
@@ -16,11 +16,11 @@ use Rattle.turn_table.specs.Histories.{In, total, one_if, below, seen_at, phase_
 module _ {S E O : Type 0} where
   -- what the first hand knows: it is the main one, and has all parts
   abbrev pub first_view : List S → View S E O
-  first_view starts = record { starts = starts; entries = []; seen = []; parts = 1024; main = true; turns = [] }
+  first_view starts = record { starts = starts; entries = []; seen = []; tries = []; parts = 1024; main = true; turns = [] }
 
   -- what is left of a hand that was joined into another
   abbrev pub spent_view : View S E O
-  spent_view = record { starts = []; entries = []; seen = []; parts = 0; main = false; turns = [] }
+  spent_view = record { starts = []; entries = []; seen = []; tries = []; parts = 0; main = false; turns = [] }
 
 -- the cell is this seat's, in the phase that the seat knows, or it is not this seat's, and the seat knows that
 abbrev pub Matches : {S : Type 0} → ℕ × Phase S → ℕ → Phase S → Type 0
@@ -38,8 +38,8 @@ module _ {S E O : Type 0} (relates : S → E → O → S → Type 0) where
 -- a place, with its history and its cell
 pub record PlaceOk {S E O : Type 0} (relates : S → E → O → S → Type 0) (words : List ℕ) (homes : List (maybe.Option (Option S))) (log : List (Entry E O)) (cell : ℕ × Phase S) (k : ℕ) (a : S) : Type 0 where
   -- the mark is 1 exactly where a seat has the place's turn, and the count is the length of the history
-  pub mark : slice_index words (2 * k) ≡ min cell.0 1
-  pub count : slice_index words (2 * k + 1) ≡ length log
+  pub mark : slice_index words (16 * k) ≡ min cell.0 1
+  pub count : slice_index words (16 * k + 1) ≡ length log
   pub low : length log ≤ 2 ^ 56
   pub named : Named k log
   -- no event is under way at a free place, and one is at a place that a seat has
@@ -63,8 +63,8 @@ pub record SeatOk {S E O : Type 0} (reserved : E → Type 0) (starts : List S) (
 pub record Kept {S E O : Type 0} (relates : S → E → O → S → Type 0) (reserved : E → Type 0) (starts : List S) (s : State (Option S) (View S E O)) : Type 0 where
   pub log : ℕ → List (Entry E O)
   pub cells : ℕ → ℕ × Phase S
-  -- two words and a slot for each start state
-  pub wide : length s.words ≡ 2 * length s.homes
+  -- 16 words and a slot for each start state
+  pub wide : length s.words ≡ 16 * length s.homes
   pub long : length starts ≡ length s.homes
   pub place : (k : ℕ) (a : S) → slice_get starts k ≡ Some a → PlaceOk relates s.words s.homes (log k) (cells k) k a
   pub seat : (id : ℕ) (v : View S E O) → get_elem? s.views id ≡ some v → SeatOk reserved starts log cells id v

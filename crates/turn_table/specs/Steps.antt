@@ -50,6 +50,10 @@ module _ {S E O : Type 0} where
   abbrev pub noted : ℕ → ℕ → View S E O → View S E O
   noted k n v = record v { seen = (k, n) ∷ v.seen }
 
+  -- the mark of the place k was tried, and n was found there
+  abbrev pub tried : ℕ → ℕ → View S E O → View S E O
+  tried k n v = record v { tries = (k, n) ∷ v.tries }
+
   abbrev pub phased : ℕ → Phase S → View S E O → View S E O
   phased k p v = record v { turns = (k, p) ∷ v.turns }
 
@@ -61,16 +65,16 @@ module _ {S E O : Type 0} where
   cut_left v = record v { parts = v.parts - 1 }
 
   abbrev pub cut_right : View S E O → View S E O
-  cut_right v = record { starts = v.starts; entries = []; seen = v.seen; parts = 1; main = false; turns = [] }
+  cut_right v = record { starts = v.starts; entries = []; seen = v.seen; tries = []; parts = 1; main = false; turns = [] }
 
   abbrev pub glued : View S E O → View S E O → View S E O
-  glued v w = record v { entries = v.entries ++ w.entries; seen = v.seen ++ w.seen; parts = v.parts + w.parts }
+  glued v w = record v { entries = v.entries ++ w.entries; seen = v.seen ++ w.seen; tries = v.tries ++ w.tries; parts = v.parts + w.parts }
 
 -- At one moment, in which the rule held and this hand knew what it knows, the place's mark was set, and another hand had the place's turn
 pub record WasTaken {S E O : Type 0} (relates : S → E → O → S → Type 0) (reserved : E → Type 0) (k : ℕ) (v : View S E O) : Type 0 where
   pub state : State (Option S) (View S E O)
   pub kept : Kept relates reserved v.starts state
-  pub mark : slice_index state.words (2 * k) ≡ 1
+  pub mark : slice_index state.words (16 * k) ≡ 1
   pub seat : ℕ
   pub mine : get_elem? state.views seat ≡ some v
   pub other : ℕ
@@ -92,35 +96,35 @@ pub record Given {S E O : Type 0} (relates : S → E → O → S → Type 0) (re
   pub main : v.main ≡ true → (i : ℕ) (e : Entry E O) → slice_get history i ≡ Some e → reserved e.event → In e v.entries
 
 module _ {S E O : Type 0} where
-  -- the mark was 0 and is set, and the state is out with this seat; or another hand had the turn
+  -- The compare-exchange of a mark, the one step that adds to the tries. It notes what it found there: 0, and the mark is set, and the state is out with this seat; or 1, and another hand had the turn
   abbrev pub marked : (S → E → O → S → Type 0) → (E → Type 0) → At S → Sat S E O → ℕ → Sat S E O → Type 0
-  marked relates reserved st m e m' = (k : ℕ) → st.word ≡ 2 * k →
-      MatchBool (eqb e 0) ((x : S) × (m' ≡ (phased k (Marked x) m.0, (k, Some x) ∷ m.1))) ((m' ≡ m) × WasTaken relates reserved k m.0)
+  marked relates reserved st m e m' = (k : ℕ) → st.word ≡ 16 * k →
+      MatchBool (eqb e 0) ((x : S) × (m' ≡ (phased k (Marked x) (tried k 0 m.0), (k, Some x) ∷ m.1))) ((e ≡ 1) × (m' ≡ (tried k 1 m.0, m.1)) × WasTaken relates reserved k m.0)
 
   abbrev pub looked : At S → Sat S E O → ℕ → Sat S E O → Type 0
-  looked st m e m' = (k : ℕ) → st.word ≡ 2 * k + 1 → (m' ≡ (noted k e m.0, m.1)) × (seen_at m.0.seen k ≤ e) × (e ≤ 2 ^ 56)
+  looked st m e m' = (k : ℕ) → st.word ≡ 16 * k + 1 → (m' ≡ (noted k e m.0, m.1)) × (seen_at m.0.seen k ≤ e) × (e ≤ 2 ^ 56)
 
   abbrev pub counted : (S → E → O → S → Type 0) → (E → Type 0) → At S → Sat S E O → ℕ → Sat S E O → Type 0
-  counted relates reserved st m e m' = (k : ℕ) → st.word ≡ 2 * k + 1 →
+  counted relates reserved st m e m' = (k : ℕ) → st.word ≡ 16 * k + 1 →
       (m' ≡ (phased k (with_count e (phase_at m.0.turns k)) (noted k e m.0), m.1)) × (seen_at m.0.seen k ≤ e) × (e ≤ 2 ^ 56)
       × ((x : S) → phase_at m.0.turns k ≡ Marked x → Given relates reserved k m.0 e x)
 
   -- the state goes home unchanged, and the mark is free
   abbrev pub returned : At S → Sat S E O → ℕ → Sat S E O → Type 0
-  returned st m e m' = (k : ℕ) → st.word ≡ 2 * k → m' ≡ (phased k Nothing m.0, rest m.1)
+  returned st m e m' = (k : ℕ) → st.word ≡ 16 * k → m' ≡ (phased k Nothing m.0, rest m.1)
 
   abbrev pub emptied : At S → Sat S E O → ℕ → Sat S E O → Type 0
-  emptied st m e m' = (k : ℕ) → st.word ≡ 2 * k → m' ≡ (phased k (emptied_phase (phase_at m.0.turns k)) m.0, rest m.1)
+  emptied st m e m' = (k : ℕ) → st.word ≡ 16 * k → m' ≡ (phased k (emptied_phase (phase_at m.0.turns k)) m.0, rest m.1)
 
   abbrev pub reached : At S → Sat S E O → ℕ → Sat S E O → Type 0
-  reached st m e m' = (k : ℕ) → st.word ≡ 2 * k →
+  reached st m e m' = (k : ℕ) → st.word ≡ 16 * k →
       (m' ≡ (phased k (reached_phase (phase_at m.0.turns k)) m.0, (k, None) ∷ m.1)) × ((n : ℕ) (x : S) → phase_at m.0.turns k ≡ Held n x → n < 2 ^ 56)
 
   -- the new state goes home, the count is raised, and the entry is this hand's
   abbrev pub finished : E → O → At S → Sat S E O → ℕ → Sat S E O → Type 0
-  finished event outcome st m e m' = (k : ℕ) → st.word ≡ 2 * k + 1 →
+  finished event outcome st m e m' = (k : ℕ) → st.word ≡ 16 * k + 1 →
       (m' ≡ (phased k (counted_phase m.1) (noted k e (gained (entry k (number_of (phase_at m.0.turns k)) event outcome) m.0)), rest m.1))
       × (seen_at m.0.seen k ≤ number_of (phase_at m.0.turns k))
 
   abbrev pub freed : At S → Sat S E O → ℕ → Sat S E O → Type 0
-  freed st m e m' = (k : ℕ) → st.word ≡ 2 * k → m' ≡ (phased k Nothing m.0, m.1)
+  freed st m e m' = (k : ℕ) → st.word ≡ 16 * k → m' ≡ (phased k Nothing m.0, m.1)

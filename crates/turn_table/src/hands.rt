@@ -1,7 +1,7 @@
 //! The table, the hands that step on it, and a turn.
 ghost use Rattle.std.specs.Prelude.{◌≡◌, ◌*◌, ◌^◌, ◌<◌, ◌≤◌, [], length};
 
-use crate::cased::Cased;
+use crate::cased::{Cased, Slot};
 use crate::machine::Machine;
 use crate::room::Room;
 use crate::view::{Rule, View};
@@ -14,14 +14,14 @@ use std::snapshot::Snapshot;
 /// Threads share it by reference. It has to be closed, by the hand that has all parts.
 pub struct Turns<M: Machine> {
     pub(crate) table: Table<
-        Option<Cased<M::State>>,
+        Slot<M::State>,
         View<M::State, M::Event, M::Outcome>,
         Snapshot<Vec<M::State>>,
         Rule<M>,
         Global,
     >,
     pub(crate) room: Room<M::State>,
-    ghost wide: { table.shared.table_id.words ≡ 2 * table.shared.table_id.slots },
+    ghost wide: { table.shared.table_id.words ≡ 16 * table.shared.table_id.slots },
     ghost few: { (0 < table.shared.table_id.slots) × (table.shared.table_id.slots < 2 ^ 59) },
     ghost roomy: { table.shared.table_id.slots ≤ room.table.shared.key },
 }
@@ -29,10 +29,11 @@ pub struct Turns<M: Machine> {
 /// What a thread makes its turns with. It is moved, never copied.
 ///
 /// Contracts see in it the table's start states, the list of the entries that it made, what it has seen of each
-/// front, its number of the table's 1,024 parts, and whether it is the main hand.
+/// front, which places' marks it tried and what it found there, its number of the table's 1,024 parts, and whether it is
+/// the main hand.
 /// A hand that is let go keeps its parts, so that its table can't be closed any more.
 pub struct Hand<M: Machine> {
-    pub(crate) seat: Seat<Option<Cased<M::State>>, View<M::State, M::Event, M::Outcome>>,
+    pub(crate) seat: Seat<Slot<M::State>, View<M::State, M::Event, M::Outcome>>,
     ghost empty: { seat.me.1 ≡ [] },
     ghost live: { 0 < seat.me.0.parts },
     ghost long: { length seat.me.0.starts ≡ seat.table_id.slots },
@@ -58,9 +59,7 @@ pub struct Busy {
 pub struct OutOfMemory;
 
 impl<M: Machine> Hand<M> {
-    pub(crate) fn into_seat(
-        self,
-    ) -> Seat<Option<Cased<M::State>>, View<M::State, M::Event, M::Outcome>>
+    pub(crate) fn into_seat(self) -> Seat<Slot<M::State>, View<M::State, M::Event, M::Outcome>>
         ensures { result ≡ self.seat }
     {
         let Hand { seat } = self;

@@ -39,7 +39,7 @@ impl<M: Machine> Turns<M> {
             return Err(OutOfMemory);
         }
         let key = Snapshot::of(&states);
-        let Ok(words) = clear_words(alloc, 2 * places) else {
+        let Ok(words) = clear_words(alloc, 16 * places) else {
             return Err(OutOfMemory);
         };
         let Ok(slots) = case_all(alloc, &mut states) else {

@@ -2,7 +2,7 @@
 ghost use Rattle.turn_table.specs.Kept.{spent_view};
 ghost use Rattle.turn_table.specs.Steps.{marked, looked, counted, returned, emptied, reached, finished, freed, cut_left, cut_right, glued};
 
-use crate::cased::Cased;
+use crate::cased::Slot;
 use crate::machine::{Machine, Said};
 use crate::view::View;
 use atomic_table::{Join, Play, Split};
@@ -13,14 +13,14 @@ pub(crate) struct Mark<M> {
     of: PhantomData<M>,
 }
 
-impl<M: Machine> Play<Option<Cased<M::State>>, View<M::State, M::Event, M::Outcome>> for Mark<M> {
+impl<M: Machine> Play<Slot<M::State>, View<M::State, M::Event, M::Outcome>> for Mark<M> {
     ghost then = { marked M.relates M.reserved };
 }
 
 /// The load of a place's count by a hand that lost.
 pub(crate) struct Look;
 
-impl<S, E, O> Play<Option<Cased<S>>, View<S, E, O>> for Look {
+impl<S, E, O> Play<Slot<S>, View<S, E, O>> for Look {
     ghost then = { looked };
 }
 
@@ -29,28 +29,28 @@ pub(crate) struct Count<M> {
     of: PhantomData<M>,
 }
 
-impl<M: Machine> Play<Option<Cased<M::State>>, View<M::State, M::Event, M::Outcome>> for Count<M> {
+impl<M: Machine> Play<Slot<M::State>, View<M::State, M::Event, M::Outcome>> for Count<M> {
     ghost then = { counted M.relates M.reserved };
 }
 
 /// The store of 0 into the mark of a place whose numbers are spent.
 pub(crate) struct Return;
 
-impl<S, E, O> Play<Option<Cased<S>>, View<S, E, O>> for Return {
+impl<S, E, O> Play<Slot<S>, View<S, E, O>> for Return {
     ghost then = { returned };
 }
 
 /// The load at which the slot goes home, emptied.
 pub(crate) struct Empty;
 
-impl<S, E, O> Play<Option<Cased<S>>, View<S, E, O>> for Empty {
+impl<S, E, O> Play<Slot<S>, View<S, E, O>> for Empty {
     ghost then = { emptied };
 }
 
 /// The load at which the empty slot is fetched.
 pub(crate) struct Reach;
 
-impl<S, E, O> Play<Option<Cased<S>>, View<S, E, O>> for Reach {
+impl<S, E, O> Play<Slot<S>, View<S, E, O>> for Reach {
     ghost then = { reached };
 }
 
@@ -59,7 +59,7 @@ pub(crate) struct Finish<M, X> {
     of: PhantomData<(M, X)>,
 }
 
-impl<M: Machine, X: Said<M>> Play<Option<Cased<M::State>>, View<M::State, M::Event, M::Outcome>>
+impl<M: Machine, X: Said<M>> Play<Slot<M::State>, View<M::State, M::Event, M::Outcome>>
     for Finish<M, X> {
     ghost then = { finished X.event X.outcome };
 }
@@ -67,7 +67,7 @@ impl<M: Machine, X: Said<M>> Play<Option<Cased<M::State>>, View<M::State, M::Eve
 /// The store of 0 into the mark after an event.
 pub(crate) struct Free;
 
-impl<S, E, O> Play<Option<Cased<S>>, View<S, E, O>> for Free {
+impl<S, E, O> Play<Slot<S>, View<S, E, O>> for Free {
     ghost then = { freed };
 }
 

@@ -1,4 +1,7 @@
 //! A turn is taken and put back, each in a few atomic steps.
+//!
+//! A place's mark is the word `16 * place`, and its count the next one. The 14 words up to the next place's are spare, so
+//! that at any address no two places' words share a cache line of 64 bytes.
 ghost use Rattle.std.specs.Prelude.{◌≡◌, ℕ, ◌+◌, ◌^◌, IfErr, MatchResult};
 
 use crate::hands::{Busy, Hand, Turn, Turns};
@@ -10,33 +13,35 @@ use std::snapshot::Snapshot;
 const LAST: u64 = 1 << 56;
 
 impl<M: Machine> Turns<M> {
-    ghost use Rattle.turn_table.specs.Hands.{IsHandOf, MayTurn, IsSameHand, entries, parts, GainsTurn, IsGiven, IsBusy, HasTurn, EndsTurn, IsMain, place_of, front_of, state_of, taken_of};
+    ghost use Rattle.turn_table.specs.Hands.{IsHandOf, MayTurn, IsSameHand, entries, parts, tries, TriedOnce, FoundFree, FoundBusy, GainsTurn, IsGiven, IsBusy, HasTurn, EndsTurn, IsMain, place_of, front_of, state_of, taken_of};
 
-    /// Takes the turn of a place, by one compare-exchange. It never waits.
+    /// Takes the turn of a place, by one compare-exchange of its mark. It never waits.
     ///
-    /// `Busy` comes where another hand had the turn then, or the place has made 2^56 events.
+    /// `Busy` comes exactly where the mark was found taken, or the place has made 2^56 events.
     pub fn try_turn(&self, hand: &mut Hand<M>, place: usize) -> Result<Turn<M>, Busy>
         requires table { IsHandOf self.now hand.old }
         requires place { MayTurn hand.old place }
         ensures same { IsSameHand hand.old hand.new × (entries hand.new ≡ entries hand.old) }
+        ensures tried { MatchResult result (λ t. FoundFree place (front_of t) hand.old hand.new) (λ b. FoundBusy M.relates M.reserved place b.front hand.old hand.new) }
         ensures alone { parts hand.old ≡ 1024 → IfErr result (λ b. b.front ≡ 2 ^ 56) }
+        ensures free { parts hand.old ≡ 1024 → TriedOnce place 0 hand.old hand.new }
         ensures turn { MatchResult result (λ t. GainsTurn place t hand.old hand.new × IsGiven M.relates M.reserved hand.old place (front_of t) (state_of t)) (λ b. IsBusy M.relates M.reserved place b.front hand.old hand.new) }
     {
         let table = &self.table.shared;
         let seat = &mut hand.seat;
-        if table.compare_exchange::<Mark<M>>(seat, 2 * place, 0, 1) != 0 {
-            let front = table.load::<Look>(seat, 2 * place + 1);
+        if table.compare_exchange::<Mark<M>>(seat, 16 * place, 0, 1) != 0 {
+            let front = table.load::<Look>(seat, 16 * place + 1);
             return Err(Busy { front });
         }
-        let front = table.load::<Count<M>>(seat, 2 * place + 1);
+        let front = table.load::<Count<M>>(seat, 16 * place + 1);
         if front == LAST {
-            table.store::<Return>(seat, 2 * place, 0);
+            table.store::<Return>(seat, 16 * place, 0);
             return Err(Busy { front });
         }
-        let Some(state) = table.exchange(seat, place, None) else {
+        let Some(state) = seat.slot_mut(table, place).swap(None) else {
             unreachable!()
         };
-        table.load::<Empty>(seat, 2 * place);
+        table.load::<Empty>(seat, 16 * place);
         let taken = Snapshot::of(state.get());
         Ok(Turn {
             state,
@@ -53,6 +58,7 @@ impl<M: Machine> Turns<M> {
         requires step { M.relates (taken_of turn) X.event X.outcome (state_of turn) }
         requires right { M.reserved X.event → IsMain hand.old }
         ensures same { IsSameHand hand.old hand.new }
+        ensures tried { tries hand.new ≡ tries hand.old }
         ensures number { result ≡ front_of turn }
         ensures entry { EndsTurn (place_of turn) (front_of turn) X.event X.outcome hand.old hand.new }
     {
@@ -64,11 +70,11 @@ impl<M: Machine> Turns<M> {
         } = turn;
         let table = &self.table.shared;
         let seat = &mut hand.seat;
-        table.load::<Reach>(seat, 2 * place);
-        let nothing = table.exchange(seat, place, Some(state));
+        table.load::<Reach>(seat, 16 * place);
+        let nothing = seat.slot_mut(table, place).swap(Some(state));
         let None = nothing else { unreachable!() };
-        table.store::<Finish<M, X>>(seat, 2 * place + 1, front + 1);
-        table.store::<Free>(seat, 2 * place, 0);
+        table.store::<Finish<M, X>>(seat, 16 * place + 1, front + 1);
+        table.store::<Free>(seat, 16 * place, 0);
         front
     }
 }

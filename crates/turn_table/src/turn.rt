@@ -14,7 +14,7 @@ impl<M: Machine> Turn<M> {
         ensures* writes_back { sem 𝓛 (LendsState M.row M.State.row M.Event.row M.Outcome.row self.entry result) }
         ensures value { result.now ≡ state_of self.old }
     {
-        &mut self.state.inner
+        &mut self.state.inner.value
     }
 
     /// The place whose turn it is.

@@ -1,5 +1,5 @@
 //! What the proofs know of a hand between two atomic steps. No value of these types is made.
-use crate::cased::Cased;
+use crate::cased::Slot;
 use crate::machine::{Entry, Machine};
 use atomic_table::TableRule;
 use std::collections::LinkedList;
@@ -28,6 +28,8 @@ pub struct View<S, E, O> {
     pub entries: LinkedList<Entry<E, O>>,
     /// Places with fronts that the hand has seen, the newest first.
     pub seen: LinkedList<(usize, u64)>,
+    /// Places whose marks the hand has tried, each with the number found there, the newest first.
+    pub tries: LinkedList<(usize, u64)>,
     /// How many of the 1,024 parts of the table it has.
     pub parts: u64,
     /// Whether it may make reserved events.
@@ -42,7 +44,7 @@ pub struct Rule<M> {
 }
 
 impl<M: Machine> TableRule<
-    Option<Cased<M::State>>,
+    Slot<M::State>,
     View<M::State, M::Event, M::Outcome>,
     Snapshot<Vec<M::State>>,
 > for Rule<M> {

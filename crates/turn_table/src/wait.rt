@@ -7,7 +7,7 @@ use crossbeam_utils::Backoff;
 use std::sync::Wait;
 
 impl<M: Machine> Turns<M> {
-    ghost use Rattle.turn_table.specs.Hands.{IsHandOf, MayTurn, IsSameHand, entries, GainsTurn, IsGiven, front_of, state_of};
+    ghost use Rattle.turn_table.specs.Hands.{IsHandOf, MayTurn, IsSameHand, entries, TriedUntilFree, GainsTurn, IsGiven, front_of, state_of};
 
     /// Takes the turn of a place, and tries again until it has it.
     ///
@@ -16,6 +16,7 @@ impl<M: Machine> Turns<M> {
         requires table { IsHandOf self.now hand.old }
         requires place { MayTurn hand.old place }
         ensures same { IsSameHand hand.old hand.new × (entries hand.new ≡ entries hand.old) }
+        ensures tried { TriedUntilFree place hand.old hand.new }
         ensures turn { GainsTurn place result hand.old hand.new × IsGiven M.relates M.reserved hand.old place (front_of result) (state_of result) }
     {
         let backoff = Backoff::new();

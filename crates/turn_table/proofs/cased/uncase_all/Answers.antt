@@ -18,7 +18,7 @@ pub unreachable-requires : goal.unreachable-requires
 unreachable-requires g c =
     let inv = c.loop-i.invariant in let low = c.loop-i-test.true in let end = inv.end in
     let h = c.requires.home c.loop-i.i (omega arith) in
-    c.in_default.not-Some h.0 (some-injective _ _ (sym c.take-slot.ensures.value ∙ (ap (λ xs. get_elem? xs c.loop-i.i) inv.same ∙ h.1)))
+    c.in_default.not-Some h.0 (c.into_inner.ensures ∙ some-injective _ _ (sym c.take-slot.ensures.value ∙ (ap (λ xs. get_elem? xs c.loop-i.i) inv.same ∙ h.1)))
 
 pub loop-i-preserved : goal.loop-i-preserved
 loop-i-preserved g c =
@@ -37,9 +37,9 @@ loop-i-preserved g c =
           (λ e. ap (λ (z : ℕ). get_or (set filled c.loop-i.i false) z false) e ∙ get_or-set_same filled c.loop-i.i false false (omega arith))
           (λ ne. get_or-set_other filled c.loop-i.i j false false ne ∙ inv.taken j (omega arith));
       moved = λ k x a at. ap (λ xs. slice_get xs k) c.push_reserved.ensures.items ∙
-          moved_more (λ k x. get_elem? (slots_items c.args.closed.slots) k ≡ some (Some x)) c.loop-i.states.items c.into_inner.result c.loop-i.i (sym c.loop-i.states.ok.0 ∙ inv.count) inv.moved
-          (λ x at. let found : Some x ≡ Some c.in-Some.cased = some-injective _ _ (sym at ∙ (sym (ap (λ xs. get_elem? xs c.loop-i.i) inv.same) ∙ c.take-slot.ensures.value)) ∙ c.in-Some.is in
-          let p : x ≡ c.in-Some.cased = cc in p ∙ sym c.into_inner.ensures) k x a at;
+          moved_more (λ k x. get_elem? (slots_items c.args.closed.slots) k ≡ some (Some x)) c.loop-i.states.items c.into_inner-in-loop-i.result c.loop-i.i (sym c.loop-i.states.ok.0 ∙ inv.count) inv.moved
+          (λ x at. let found : Some x ≡ Some c.in-Some.cased = some-injective _ _ (sym at ∙ (sym (ap (λ xs. get_elem? xs c.loop-i.i) inv.same) ∙ c.take-slot.ensures.value)) ∙ (sym c.into_inner.ensures ∙ c.in-Some.is) in
+          let p : x ≡ c.in-Some.cased = cc in p ∙ sym c.into_inner-in-loop-i.ensures) k x a at;
     }
 
 pub returns-clause-states : goal.returns-clause-states

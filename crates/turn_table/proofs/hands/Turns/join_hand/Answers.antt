@@ -35,4 +35,5 @@ returns g c =
       ap (λ m. m.0.main) e,
       λ k. ap (λ m. phase_at m.0.turns k) e ∙ c.requires.idle.0 k,
       λ k. ap (λ m. seen_at m.0.seen k) e ∙ seen_append v.seen w.seen k,
+      ap (λ m. m.0.tries) e,
     )
