@@ -18,3 +18,4 @@ pub mod Turns
 pub mod Gains
 pub mod Shut
 pub mod Plans
+pub mod Counts
