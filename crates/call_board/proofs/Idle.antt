@@ -1,5 +1,5 @@
 -- What failed, asked or was repeated leaves the calls, the pairs and the keys as they were.
-use Rattle.std.proofs.Common.{◌≡◌, ◌∙◌, sym, ap, subst, ℕ, List, [], ◌∷◌, ◌++◌, Bool, true, false, cond, Option, Some, None, refl}
+use Rattle.std.proofs.Common.{◌≡◌, ◌∙◌, sym, ap, subst, ℕ, List, ◌∷◌, ◌++◌, Bool, true, false, refl}
 use Rattle.relay_outside.specs.declared.settings.Config.{Config}
 use Rattle.ng_reply.specs.declared.code.ErrorCode.{ErrorCode}
 use Rattle.histories.specs.Words.{In}
@@ -7,7 +7,7 @@ use Rattle.call_board.specs.Acts as act
 use Rattle.call_board.specs.Acts.{Act, Lease, Control, Turn, BoardEvent, BoardEntry, act}
 use Rattle.call_board.specs.Calls.{live, rounds}
 use Rattle.call_board.specs.Pairs.{held, free, drawn}
-use Rattle.call_board.specs.Fits.{FitsBoard, IsFitting}
+use Rattle.call_board.specs.Fits.{IsFitting}
 use Rattle.call_board.proofs.Told.{IsTurn}
 use Rattle.call_board.proofs.Repeats.{repeat_alike}
 use Rattle.call_board.proofs.Unheld.{same_held_free}

@@ -1,10 +1,8 @@
 -- The reply of a turn is kept for the next minute.
-use Rattle.std.proofs.Common.{◌≡◌, ◌∙◌, sym, ap, subst, ℕ, ◌+◌, ◌<◌, List, [], ◌∷◌, ◌++◌, take, Bool, true, false, cond, Option, Some, None, refl, arith}
+use Rattle.std.proofs.Common.{◌≡◌, ◌∙◌, ap, ℕ, ◌+◌, ◌<◌, List, [], ◌∷◌, take, true, cond, Some, None, refl, arith}
 use Rattle.std.specs.List.{cons_option}
 use Rattle.cookie_cache.specs.Keepings.{Keeping, recent}
-use Rattle.cookie_cache.specs.Latest.{IsLatest}
 use Rattle.cookie_cache.proofs.Latest.{kept_as_latest}
-use Rattle.call_board.specs.Acts as act
 use Rattle.call_board.specs.Acts.{Control, Turn, BoardEntry}
 use Rattle.call_board.specs.Kept.{is_kept, keeping_at, keeping_of, keepings, kept}
 

@@ -16,4 +16,5 @@ pub mod Unheld
 pub mod Idle
 pub mod Keeps
 pub mod Draws
+pub mod Demands
 mod rows

@@ -1,14 +1,14 @@
 -- A pair of the range that is not held is free.
-use Rattle.std.proofs.Common.{◌≡◌, ◌∙◌, sym, ap, subst, ℕ, ◌+◌, ◌≤◌, ◌<◌, ◌⊎◌, inl, inr, List, [], ◌∷◌, ◌++◌, map, filter, Bool, true, false, cond, not, refl, arith}
+use Rattle.std.proofs.Common.{◌≡◌, sym, ap, subst, ℕ, ◌<◌, ◌⊎◌, inl, inr, List, [], ◌∷◌, ◌++◌, map, filter, Bool, true, false, cond, not, refl, arith}
 use Rattle.relay_outside.specs.declared.settings.Config.{Config}
 use Rattle.histories.specs.Words.{In, here, there, has, last_once, numbers}
-use Rattle.histories.proofs.Lists.{in_left, in_right, in_append, keeps, maps, mapped, spreads, has_it, it_has}
+use Rattle.histories.proofs.Lists.{in_left, in_right, in_append, keeps, maps, mapped, spreads, has_it}
 use Rattle.port_pool.specs.Ports.{pair_count}
 use Rattle.port_pool.specs.declared.holder.Holder.{Holder}
 use Rattle.call_board.specs.Acts as act
 use Rattle.call_board.specs.Acts.{Offer, Act, BoardEntry, act}
 use Rattle.call_board.specs.Pairs.{held, legs_of_act, closes_leg, closed_of, closed, calls_in, leased, leased_by_act, returned, undone_pairs, free}
-use Rattle.call_board.specs.Fits.{FitsBoard, IsFitting}
+use Rattle.call_board.specs.Fits.{IsFitting}
 use Rattle.call_board.proofs.Once.{numbers_in}
 use Rattle.call_board.proofs.Held.{held_stays, closes_held}
 use Rattle.call_board.proofs.Free.{free_below, free_not_held}

@@ -4,3 +4,4 @@ mod Pairs
 mod Keys
 mod Kept
 mod Answers
+mod Given

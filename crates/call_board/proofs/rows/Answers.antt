@@ -1,5 +1,5 @@
 -- Worked rows of answers: which reply comes first, and what is done with it.
-use Rattle.std.proofs.Common.{◌≡◌, ℕ, ap, List, [], ◌∷◌, Bool, true, false, cond, Option, Some, None, Err, refl}
+use Rattle.std.proofs.Common.{◌≡◌, ap, List, [], ◌∷◌, true, false, cond, Some, None, Err, refl}
 use Rattle.std.specs.Prelude.{codes}
 use Rattle.ng_command.specs.Said as said
 use Rattle.ng_reply.specs.declared.code.ErrorCode.TheVariants.{E3, E9, E10, E13, E14, E15, E16, E17}
@@ -8,12 +8,12 @@ use Rattle.offer_answer.specs.Rounds.{Round}
 use Rattle.offer_answer.specs.Plan as plan
 use Rattle.call_board.specs.Acts as act
 use Rattle.call_board.specs.Acts.{Call, Given, Control, BoardEntry}
-use Rattle.call_board.specs.Calls.{find_call, rounds}
+use Rattle.call_board.specs.Calls.{rounds}
 use Rattle.call_board.specs.Pairs.{free_in, is_short}
 use Rattle.call_board.specs.Replies.{Pong, Done, Warned, Reported, Listed, Fault, reply_text}
-use Rattle.call_board.specs.Answers.{Answered, Answering, failing, telling, answering_command, answering_asked, answering_unless, answer_to, delete_of, query_of, offer_planned, offer_leased, leased_pairs, undoing}
+use Rattle.call_board.specs.Answers.{failing, telling, answering_command, answering_asked, answering_unless, delete_of, offer_planned, offer_leased, leased_pairs}
 use Rattle.call_board.specs.Fits.{named_live}
-use Rattle.call_board.proofs.rows.Histories.{config, asked, answered, options, from_port, given, at, history_of, c1, c2, c3, leg, lease, begins, offer, deletes, stop}
+use Rattle.call_board.proofs.rows.Histories.{config, asked, options, from_port, given, at, history_of, c1, c2, c3, leg, lease, begins, offer, deletes}
 
 abbrev datagram : Given → Control
 datagram gave = record { source = from_port 2223; cookie = codes "7_o"; body = []; too_long = false; pairs = None; chosen = []; given = gave; reply = []; act = act.Told }

@@ -1,14 +1,14 @@
 -- Worked rows of calls: which are live, their numbers, their cells and their rounds.
-use Rattle.std.proofs.Common.{◌≡◌, ℕ, List, [], ◌∷◌, Bool, false, true, Option, Some, None, refl}
+use Rattle.std.proofs.Common.{◌≡◌, List, [], ◌∷◌, false, true, Some, None, refl}
 use Rattle.std.specs.Prelude.{codes}
 use Rattle.ng_reply.specs.declared.code.ErrorCode.TheVariants.{E9, E15}
-use Rattle.port_pool.specs.declared.holder.Side.TheVariants.{A, B}
+use Rattle.port_pool.specs.declared.holder.Side.TheVariants.{B}
 use Rattle.port_pool.specs.declared.signal.SectionSignal.TheVariants.{Reject}
 use Rattle.offer_answer.specs.Rounds as round
 use Rattle.call_board.specs.Acts as act
 use Rattle.call_board.specs.Acts.{Call, BoardEntry}
 use Rattle.call_board.specs.Calls.{live, find_call, new_call, lowest_but, rounds, rounds_of_call, first_moment, latest_moment}
-use Rattle.call_board.proofs.rows.Histories.{asked, answered, at, did, tick, stop, history_of, call_of, c1, c2, c3, leg, offer, begins, offers, answers, deletes, lease}
+use Rattle.call_board.proofs.rows.Histories.{asked, answered, at, did, tick, stop, history_of, call_of, c1, c2, c3, leg, offer, begins, offers, answers, deletes}
 
 -- Live calls.
 

@@ -1,16 +1,12 @@
 -- The calls, legs and histories of the worked rows.
-use Rattle.std.proofs.Common.{ℕ, List, [], ◌∷◌, ◌++◌, Bool, false, true, Option, Some, None}
+use Rattle.std.proofs.Common.{ℕ, List, [], ◌∷◌, ◌++◌, Bool, false, true, None}
 use Rattle.std.specs.Prelude.{codes}
 use Rattle.relay_outside.specs.declared.settings.Config.{Config}
-use Rattle.relay_outside.specs.declared.settings.Flags.{Flags}
-use Rattle.relay_outside.specs.declared.address.Ip.{Ip}
 use Rattle.relay_outside.specs.declared.address.Ip.TheVariants as ips
 use Rattle.relay_outside.specs.declared.address.Addr.{Addr}
 use Rattle.ng_command.specs.declared.command.Options.{Options}
-use Rattle.ng_reply.specs.declared.code.ErrorCode.{ErrorCode}
 use Rattle.sdes_lines.specs.declared.crypto_line.Suite.TheVariants.{Tag80}
 use Rattle.port_pool.specs.declared.holder.Side.{Side}
-use Rattle.port_pool.specs.declared.holder.Side.TheVariants.{A, B}
 use Rattle.port_pool.specs.declared.holder.Holder.{Holder}
 use Rattle.port_pool.specs.declared.signal.SectionSignal.{SectionSignal}
 use Rattle.port_pool.specs.Signals.{NewKey}

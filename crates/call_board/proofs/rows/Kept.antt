@@ -1,5 +1,5 @@
 -- Worked rows of kept replies: the latest of the last 4,096 for this source and cookie, for less than 60,000 milliseconds.
-use Rattle.std.proofs.Common.{◌≡◌, ◌∙◌, ℕ, ◌+◌, List, [], ◌∷◌, ◌++◌, Some, None, true, false, refl}
+use Rattle.std.proofs.Common.{◌≡◌, ℕ, List, [], ◌∷◌, ◌++◌, Some, None, true, refl}
 use Rattle.std.specs.Prelude.{codes, replicate}
 use Rattle.relay_outside.specs.declared.address.Ip.TheVariants as ips
 use Rattle.relay_outside.specs.declared.address.Addr.{Addr}

@@ -1,9 +1,8 @@
 -- Worked rows of drawn keys: a key's number is its place among all keys that were drawn.
-use Rattle.std.proofs.Common.{◌≡◌, ℕ, List, [], ◌∷◌, true, false, length, refl}
+use Rattle.std.proofs.Common.{◌≡◌, ℕ, List, [], ◌∷◌, true, length, refl}
 use Rattle.ng_reply.specs.declared.code.ErrorCode.TheVariants.{E15, E16}
-use Rattle.sdes_lines.specs.declared.crypto_line.Suite.TheVariants.{Tag80, Tag32}
-use Rattle.port_pool.specs.declared.holder.Side.TheVariants.{A, B}
-use Rattle.port_pool.specs.Signals.{NewKey}
+use Rattle.sdes_lines.specs.declared.crypto_line.Suite.TheVariants.{Tag80}
+use Rattle.port_pool.specs.declared.holder.Side.TheVariants.{B}
 use Rattle.offer_answer.specs.Rounds.{KeyPlace, drawn_for}
 use Rattle.call_board.specs.Acts as act
 use Rattle.call_board.specs.Acts.{BoardEntry}

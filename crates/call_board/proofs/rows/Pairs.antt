@@ -1,5 +1,5 @@
 -- Worked rows of pairs: who holds which, in which order they are leased, and the generations of their leases.
-use Rattle.std.proofs.Common.{◌≡◌, ℕ, List, [], ◌∷◌, Bool, false, true, map, refl}
+use Rattle.std.proofs.Common.{◌≡◌, ℕ, List, [], ◌∷◌, false, true, map, refl}
 use Rattle.relay_outside.specs.declared.address.Family.{Family}
 use Rattle.relay_outside.specs.declared.address.Family.TheVariants.{V4, V6}
 use Rattle.ng_reply.specs.declared.code.ErrorCode.TheVariants.{E15, E16}
