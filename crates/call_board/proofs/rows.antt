@@ -5,3 +5,4 @@ mod Keys
 mod Kept
 mod Answers
 mod Given
+mod Turns
