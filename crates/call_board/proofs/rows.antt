@@ -6,3 +6,4 @@ mod Kept
 mod Answers
 mod Given
 mod Turns
+mod Replies

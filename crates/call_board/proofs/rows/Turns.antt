@@ -28,16 +28,16 @@ use Rattle.call_board.specs.Fits.{FitsControl, IsFitting}
 use Rattle.call_board.proofs.rows.Histories.{config, from_port, given, options, call_of, c1, leg}
 
 -- what is opened so that a turn computes
-turns : Unit {0}
+unfoldable pub turns : Unit {0}
 unfolding asked sdp_error reply_text pair_count cache.kept OfferHeard offer_fault demand offer_text is_side digits is_removed is_feedback image_of place_of with_end connection_text media_text origin_text edited_from edited_line image_text added_connection added_keys key_lines
 turns = tt
 
-abbrev at : ℕ → Control → BoardEntry
+abbrev pub at : ℕ → Control → BoardEntry
 at moment c = record { moment = moment; event = Turn c }
 
 -- A ping.
 
-abbrev ping : Control
+abbrev pub ping : Control
 ping = record {
   source = from_port 2223;
   cookie = codes "5323_1";
@@ -50,7 +50,7 @@ ping = record {
   act = act.Told;
 }
 
-ping_fits : FitsControl config [] 0 ping
+pub ping_fits : FitsControl config [] 0 ping
 unfolding turns
 ping_fits = record {
   framed = refl;
@@ -63,7 +63,7 @@ ping_fits = record {
 
 -- An offer, which begins a call.
 
-abbrev alice : List ℕ
+abbrev pub alice : List ℕ
 alice = codes "v=0\r\no=alice 1 1 IN IP4 192.0.2.10\r\ns=-\r\nc=IN IP4 192.0.2.10\r\nt=0 0\r\nm=audio 6000 RTP/AVP 0 8\r\na=rtpmap:0 PCMU/8000\r\na=sendrecv\r\n"
 
 abbrev alice_replaced : List ℕ
@@ -82,7 +82,7 @@ replacing = record options { replace_origin = true; replace_session = true }
 abbrev ask : OfferAsk
 ask = offer_ask (codes "a") alice replacing (None ∷ [])
 
-abbrev offered : Control
+abbrev pub offered : Control
 offered = record {
   source = from_port 2223;
   cookie = codes "7_o";
@@ -110,7 +110,7 @@ alice_heard : (section : ℕ) → section < 1 → IsFirstOf IsAny (section_lines
 alice_heard zero below = no_key
 alice_heard (suc section) below = absurd (not-suc-le-zero (le_of_suc-le-suc below))
 
-offered_fits : FitsControl config (at 0 ping ∷ []) 1 offered
+pub offered_fits : FitsControl config (at 0 ping ∷ []) 1 offered
 unfolding turns
 offered_fits = record {
   framed = refl;
@@ -130,7 +130,7 @@ again = record offered {
   act = act.Offered (record { of = c1; begins = false; ask = ask; legs = []; keys = []; dropped = [] });
 }
 
-abbrev before_again : List BoardEntry
+abbrev pub before_again : List BoardEntry
 before_again = at 1 offered ∷ at 0 ping ∷ []
 
 again_fits : FitsControl config before_again 2 again
