@@ -10,4 +10,5 @@ pub mod Next
 pub mod Protected
 pub mod Shields
 pub mod Steps
+pub mod Plain
 mod rows

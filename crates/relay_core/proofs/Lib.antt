@@ -7,7 +7,7 @@ pub mod Lives
 pub mod Keyed
 pub mod Shields
 pub mod Relays
-pub mod Moments
+pub mod Leases
 pub mod Boxes
 pub mod Holders
 pub mod Generations
@@ -17,5 +17,4 @@ pub mod Safety
 pub mod Turns
 pub mod Gains
 pub mod Shut
-pub mod Prepared
 pub mod Plans

@@ -1,29 +1,91 @@
--- The cells of the board's next entry: an offer's holds no call or the offer's, and a live call's holds that call.
+-- What a turn of the board finds at the cells: a cell that holds a call holds a live one, and a live call's cell holds that call.
 use Rattle.std.proofs.Common.{◌≡◌, ◌∙◌, sym, ap, subst, refl, ℕ, zero, suc, ◌<◌, ◌⊎◌, inl, inr, List, [], ◌∷◌, Bool, true, false, cond, Option, Some, None, map, length, arith}
 use Rattle.std.specs.List.{filter_map}
 use Rattle.relay_outside.specs.declared.settings.Config.{Config}
 use Rattle.histories.specs.Words.{In, here, there, final, has}
-use Rattle.histories.proofs.Lists.{picks}
-use Rattle.call_cell.specs.Cells.{CellEvent, CellEntry, Prepare, Commit, Relay, Expire, Read, End, prepared_call, call, since_end, is_end}
-use Rattle.call_cell.specs.Cells.{ends as ends_event}
+use Rattle.histories.proofs.Lists.{picked, picks, final_is_in}
+use Rattle.call_cell.specs.Cells.{CellEntry, Prepare, End, prepared_call, call, since_end, is_end}
 use Rattle.call_board.specs.Acts as act
 use Rattle.call_board.specs.Acts.{Call, BoardEntry}
 use Rattle.call_board.specs.Calls.{live, begun, begun_by_act, ended_by}
 use Rattle.call_board.specs.Fits.{FitsBoard, IsFitting}
 use Rattle.call_board.proofs.Told.{IsOffer, IsCallOf, begins, goes_on}
-use Rattle.call_board.proofs.Tells.{ended_live, offer_told}
-use Rattle.call_board.proofs.Calls.{begun_below, live_begun, live_before, stays_live, ended_by_turn, offered_live, ended_never}
+use Rattle.call_board.proofs.Tells.{offer_told}
+use Rattle.call_board.proofs.Calls.{begun_below, live_begun, live_before, stays_live, ended_by_turn, offered_live}
 use Rattle.call_board.proofs.Cells.{live_cells}
-use Rattle.relay_core.specs.Entries.{Cell, Entry, is_nested, board_entry, cell_at, cell_entry, board_history, cell_history}
-use Rattle.relay_core.specs.Scripts.{Owed, owed_by, in_cell}
+use Rattle.relay_core.specs.Entries.{Cell, Entry, is_nested, board_entry, cell_at, board_history, cell_history}
+use Rattle.relay_core.specs.Scripts.{Owed, in_cell}
 use Rattle.relay_core.specs.Legal.{Orderly}
-use Rattle.relay_core.proofs.Histories.{good_history, More, same, added, more, Since, entry_since}
-use Rattle.relay_core.proofs.Scripts.{IsOwed, opens, prepares, commits, closes, ends, expires, reads, owed, has_prepare, nested_in, IsMade, is_made}
-use Rattle.relay_core.proofs.Moments.{same_entry, later_at}
-use Rattle.relay_core.proofs.Holders.{not_before, moved}
-use Rattle.relay_core.proofs.Generations.{cell_is}
+use Rattle.relay_core.proofs.Histories.{same_at, good_history, More, same, added, more, Since, entry_since}
+use Rattle.relay_core.proofs.Scripts.{IsMade, is_made, has_prepare}
+use Rattle.relay_core.proofs.Boards.{lt_or_eq, moment, less_or}
+use Rattle.relay_core.proofs.Commits.{end_of, end_event, entry_of}
+use Rattle.relay_core.proofs.Lives.{not_after, no_end_in, no_end_of}
+use Rattle.relay_core.proofs.Relays.{IsEnded, ended_between, end_owed, IsPrepared, prepared}
 use Rattle.relay_core.proofs.Turns.{IsAbove, false_if}
-use Rattle.relay_core.proofs.Prepared.{IsEnded, live_or_ended, offer_live, IsLiveAt, called_live}
+
+-- A cell that holds a call. In what follows n is the number of the board's next entry, k that of the cell's.
+
+-- a live call, in the cell of that place
+pub record IsLiveAt (h : List BoardEntry) (place number : ℕ) : Type 0 where
+  pub of : Call
+  pub is_live : In of (live h)
+  pub number_is : of.number ≡ number
+  pub cell_is : of.cell ≡ place
+
+-- the call of an offer is live after it
+pub offer_live : (config : Config) (l : List Entry) → Orderly config l → (b : Entry) (x : BoardEntry) (p : act.Offer) → In b l → board_entry b ≡ Some x
+    → act.act x ≡ act.Offered p → In p.of (live (board_history l (suc b.number)))
+offer_live config l o b x p i h q =
+    subst (λ t. In p.of (live t)) (sym (moment config l o b x i h))
+    (offered_live config (board_history l b.number) x p (good_history config l o b.number) (o.board_fits b x i h).1 q)
+
+-- an End that belongs to a later entry of the board than the Prepare would stand after it
+end_refuted : (config : Config) (l : List Entry) → Orderly config l → (place k : ℕ) → IsAbove l place k → (c : CellEntry) (number : ℕ)
+    → (p : IsPrepared config l place k c number) → (g : Entry) → In g l → is_nested g.event ≡ true → g.place ≡ place → g.event ≡ Cell End
+    → p.of.nested.board.number < g.board
+    → (p.since.entry.number < g.number) ⊎ ((p.since.entry.number ≡ g.number) ⊎ (g.number < p.since.entry.number)) → ⊥
+end_refuted config l o place k above c number p g i nested at event later (inl q) =
+    let alive = p.since.none_later g (record { moment = g.moment; event = End }) i at q (above g i at) (entry_of g.moment g.event End event) in cc
+end_refuted config l o place k above c number p g i nested at event later (inr (inl q)) =
+    let one = same_at l o.numbered p.since.entry g p.since.is_in i (p.since.at ∙ sym at) q in
+    let clash : Cell (Prepare number p.legs p.keys p.dropped) ≡ Cell End = sym p.event ∙ ap (λ (z : Entry). z.event) one ∙ event in cc
+end_refuted config l o place k above c number p g i nested at event later (inr (inr q)) =
+    let h = not_after config l o g p.since.entry i p.since.is_in nested (ap is_nested p.event) (at ∙ sym p.since.at) q in
+    let b : p.of.nested.board.number ≡ p.since.entry.board = p.of.nested.number_is in
+    omega (arith, h, b, later)
+
+still_live : (config : Config) (l : List Entry) → Orderly config l → (n place k : ℕ) → IsAbove l place k → (c : CellEntry) (number : ℕ)
+    → (p : IsPrepared config l place k c number)
+    → In p.of.offer.of (live (board_history l n)) ⊎ IsEnded config l (suc p.of.nested.board.number) n p.of.offer.of
+    → IsLiveAt (board_history l n) place number
+still_live config l o n place k above c number p (inl i) =
+    record { of = p.of.offer.of; is_live = i; number_is = sym p.of.call_is; cell_is = sym p.of.place_is ∙ p.since.at }
+still_live config l o n place k above c number p (inr e) =
+    let g = end_owed config l o (suc p.of.nested.board.number) n p.of.offer.of e in
+    absurd (end_refuted config l o place k above c number p g.entry g.is_in g.nested
+    (ap (λ (w : Owed). w.place) g.is ∙ sym p.of.place_is ∙ p.since.at) (ap (λ (w : Owed). w.event) g.is)
+    (let q : g.entry.board ≡ e.board.number = g.board_is in let j = e.from in omega (arith, q, j))
+    (less_or p.since.entry.number g.entry.number))
+
+-- the call of a Prepare with no End after it in its cell is live
+pub prepared_live : (config : Config) (l : List Entry) → Orderly config l → (n place k : ℕ) → IsAbove l 0 n → IsAbove l place k
+    → (c : CellEntry) (number : ℕ) → In c (since_end (cell_history l place k)) → prepared_call c ≡ Some number
+    → IsLiveAt (board_history l n) place number
+prepared_live config l o n place k above_board above c number i h =
+    let p = prepared config l o place k c number i h in
+    let b = p.of.nested in
+    let before : b.board.number < n = above_board b.board b.is_in b.at_board in
+    still_live config l o n place k above c number p
+    (ended_between config l o (suc b.board.number) n p.of.offer.of (omega (arith, before))
+    (offer_live config l o b.board b.entry p.of.offer b.is_in b.is p.of.acts))
+
+-- so the call that a cell holds is live
+pub called_live : (config : Config) (l : List Entry) → Orderly config l → (n place k : ℕ) → IsAbove l 0 n → IsAbove l place k
+    → (number : ℕ) → call (since_end (cell_history l place k)) ≡ Some number → IsLiveAt (board_history l n) place number
+called_live config l o n place k above_board above number h =
+    let m = picked prepared_call (since_end (cell_history l place k)) (final_is_in (filter_map prepared_call (since_end (cell_history l place k))) h) in
+    prepared_live config l o n place k above_board above m.from number m.is_in m.makes
 
 -- The cell of an offer that comes next.
 
@@ -73,7 +135,6 @@ new_cell_empty config l o n k x p above_board fits q t above =
 pub record Beginning (l : List Entry) (n : ℕ) (of : Call) : Type 0 where
   pub board : Entry
   pub is_in : In board l
-  pub at_board : board.place ≡ 0
   pub below : board.number < n
   pub entry : BoardEntry
   pub is : board_entry board ≡ Some entry
@@ -101,7 +162,6 @@ beginning_more : (l : List Entry) (n : ℕ) (of : Call) → Beginning l n of →
 beginning_more l n of b = record {
   board = b.board;
   is_in = b.is_in;
-  at_board = b.at_board;
   below = let q = b.below in omega (arith, q);
   entry = b.entry;
   is = b.is;
@@ -122,7 +182,6 @@ beginning_case l n of rest (added b x j p m h q) i = begun_at (live_before (boar
         record {
           board = b;
           is_in = j;
-          at_board = p;
           below = let w = m in omega (arith, w);
           entry = x;
           is = h;
@@ -134,63 +193,6 @@ beginning_case l n of rest (added b x j p m h q) i = begun_at (live_before (boar
 pub live_begun_by : (config : Config) (l : List Entry) → Orderly config l → (n : ℕ) (of : Call) → In of (live (board_history l n)) → Beginning l n of
 live_begun_by config l o zero of i = elim i [ ]
 live_begun_by config l o (suc n) of i = beginning_case l n of (live_begun_by config l o n of) (more board_entry l o.numbered 0 n) i
-
--- an End of the call's cell
-
-ends_is : (v : CellEvent) → ends_event v ≡ true → v ≡ End
-ends_is End h = refl
-ends_is (Prepare call legs keys dropped) h = absurd (let k = h in cc)
-ends_is (Commit signal) h = absurd (let k = h in cc)
-ends_is (Relay r) h = absurd (let k = h in cc)
-ends_is (Expire due) h = absurd (let k = h in cc)
-ends_is (Read told) h = absurd (let k = h in cc)
-
--- the call that an End ends
-ending_of : (h : List BoardEntry) (e : BoardEntry) (config : Config) (w : Owed) → w.event ≡ Cell End → IsOwed config h e w
-    → (c : Call) × In c (ended_by e) × (w.place ≡ c.cell)
-ending_of h e config w is (ends c i p) = (c, i, ap (λ (u : Owed). u.place) p)
-ending_of h e config w is (opens p x t i q) = absurd (let k = ap (λ (u : Owed). u.event) q in let z = is in cc)
-ending_of h e config w is (prepares p t q) = absurd (let k = ap (λ (u : Owed). u.event) q in let z = is in cc)
-ending_of h e config w is (commits p t q) = absurd (let k = ap (λ (u : Owed). u.event) q in let z = is in cc)
-ending_of h e config w is (closes p x t i q) = absurd (let k = ap (λ (u : Owed). u.event) q in let z = is in cc)
-ending_of h e config w is (expires p due t q) = absurd (let k = ap (λ (u : Owed). u.event) q in let z = is in cc)
-ending_of h e config w is (reads p told q) = absurd (let k = ap (λ (u : Owed). u.event) q in let z = is in cc)
-
--- a call that was ended is not live
-ended_not_live : (config : Config) (l : List Entry) → Orderly config l → (n : ℕ) (of : Call) → In of (live (board_history l n))
-    → (b : Entry) (x : BoardEntry) → In b l → b.place ≡ 0 → board_entry b ≡ Some x → b.number < n → In of (ended_by x) → ⊥
-ended_not_live config l o n of alive b x i p h k j =
-    ended_never (board_history l b.number) (board_history l n) x of of (later_at l o.numbered n b x i p h k) j alive refl
-
--- of a call that is live, the cell has no End that belongs to a later entry of the board than its beginning
-no_end_later : (config : Config) (l : List Entry) → Orderly config l → (n : ℕ) (of : Call) → In of (live (board_history l n)) → (b : Beginning l n of)
-    → (d : Entry) (y : BoardEntry) (c : Call) → In d l → d.place ≡ 0 → board_entry d ≡ Some y → d.number < n → In c (ended_by y) → c.cell ≡ of.cell
-    → b.board.number < d.number
-    → In of (live (board_history l d.number)) ⊎ IsEnded l (suc b.board.number) d.number of → ⊥
-no_end_later config l o n of alive b d y c i p h k j cell later (inl was) =
-    let fits : FitsBoard config (board_history l d.number) y = (o.board_fits d y i h).1 in
-    let one = live_cells config (board_history l d.number) c of (good_history config l o d.number)
-    (ended_live config (board_history l d.number) y c fits j) was cell in
-    ended_not_live config l o n of alive d y i p h k (subst (λ x. In x (ended_by y)) one j)
-no_end_later config l o n of alive b d y c i p h k j cell later (inr e) =
-    ended_not_live config l o n of alive e.board e.entry e.is_in e.at_board e.is (let q = e.below in omega (arith, q, k)) e.ends_it
-
--- nor one that belongs to the entry that began it
-no_end_by : (config : Config) (l : List Entry) → Orderly config l → (n : ℕ) (of : Call) → In of (live (board_history l n)) → (b : Beginning l n of)
-    → (d : Entry) (y : BoardEntry) (c : Call) → In d l → d.place ≡ 0 → board_entry d ≡ Some y → d.number < n → In c (ended_by y) → c.cell ≡ of.cell
-    → (b.board.number < d.number) ⊎ (b.board.number ≡ d.number) → ⊥
-no_end_by config l o n of alive b d y c i p h k j cell (inl later) =
-    no_end_later config l o n of alive b d y c i p h k j cell later
-    (live_or_ended config l o (suc b.board.number) d.number of (omega (arith, later))
-    (subst (λ x. In x (live (board_history l (suc b.board.number)))) b.of_is
-    (offer_live config l o b.board b.entry b.offer b.is_in b.at_board b.is b.acts)))
-no_end_by config l o n of alive b d y c i p h k j cell (inr m) =
-    let one = same_entry l o.numbered b.board d b.entry y b.is_in i b.at_board p m b.is h in
-    let fits : FitsBoard config (board_history l b.board.number) b.entry = (o.board_fits b.board b.entry b.is_in b.is).1 in
-    let told = offer_told config (board_history l b.board.number) b.entry b.offer fits b.acts in
-    let none : ended_by b.entry ≡ [] = ended_by_turn b.entry (act.Offered b.offer) told.turn in
-    let nothing = subst (λ (cs : List Call). In c cs) none (subst (λ (x : BoardEntry). In c (ended_by x)) (sym one) j) in
-    elim nothing [ ]
 
 -- the Prepare of the offer that began a live call stands since the last End of its cell
 begun_since : (config : Config) (l : List Entry) → Orderly config l → (n k : ℕ) (of : Call) → IsAbove l 0 n → IsAbove l of.cell k
@@ -204,23 +206,30 @@ begun_since config l o n k of above_board above alive b m = record {
   below = above m.entry m.is_in at;
   is = ap (cell_at m.entry.moment) (ap (λ (u : Owed). u.event) m.is);
   no_end = refl;
-  none_later = λ g d i p later before h. false_if (is_end d) (λ t. end_refused g d i p later h (ends_is d.event t));
+  none_later = λ g d i p later before h. false_if (is_end d) (λ t. end_refused g i p later (end_event g d h t));
 }
   where
     at : m.entry.place ≡ of.cell
     at = ap (λ (u : Owed). u.place) m.is ∙ ap (λ (c : Call). c.cell) b.of_is
 
-    end_refused : (g : Entry) (d : CellEntry) → In g l → g.place ≡ of.cell → m.entry.number < g.number → cell_entry g ≡ Some d → d.event ≡ End → ⊥
-    end_refused g d i p later h is_end =
-        let is : g.event ≡ Cell End = cell_is g.moment g.event d h ∙ ap Cell is_end in
-        let nested : is_nested g.event ≡ true = subst (λ x. is_nested x ≡ true) (sym is) refl in
-        let y = nested_in config l o g i nested in
-        let c = ending_of (board_history l y.board.number) y.entry config (owed_by g) is
-        (owed config (board_history l y.board.number) y.entry (owed_by g) y.fits y.is_owed) in
-        no_end_by config l o n of alive b y.board y.entry c.0 y.is_in y.at_board y.is (above_board y.board y.is_in y.at_board) c.1
-        (sym c.2 ∙ p)
-        (moved m.entry.board g.board b.board.number y.board.number m.board_is (sym y.number_is)
-        (not_before config l o m.entry g m.is_in i m.nested nested (at ∙ sym p) later))
+    begun_then : In of (begun (board_history l (suc b.board.number)))
+    begun_then = subst (λ c. In c (begun (board_history l (suc b.board.number)))) b.of_is
+        (live_begun (board_history l (suc b.board.number)) b.offer.of (offer_live config l o b.board b.entry b.offer b.is_in b.is b.acts))
+
+    by_order : (g : Entry) → In g l → g.place ≡ of.cell → g.event ≡ Cell End → (b.board.number < g.board) ⊎ (b.board.number ≡ g.board) → ⊥
+    by_order g i p event (inl later) =
+        let e = (end_of config l o g i event).nested in
+        let low : e.board.number < n = above_board e.board e.is_in e.at_board in
+        let q = e.number_is in
+        no_end_in config l o (suc b.board.number) n of g i event p begun_then alive (omega (arith, later)) (omega (arith, low, q))
+    by_order g i p event (inr q) =
+        no_end_of config l o b.board b.entry (act.Offered b.offer) b.is_in b.is b.acts refl (λ t. let z = t in cc) g i event (sym q)
+
+    end_refused : (g : Entry) → In g l → g.place ≡ of.cell → m.entry.number < g.number → g.event ≡ Cell End → ⊥
+    end_refused g i p later event =
+        let h = not_after config l o m.entry g m.is_in i m.nested (ap is_nested event) (at ∙ sym p) later in
+        let q : m.entry.board ≡ b.board.number = m.board_is in
+        by_order g i p event (lt_or_eq b.board.number g.board (omega (arith, h, q)))
 
 final_some : {A : Type 0} {x : A} (xs : List A) → In x xs → (y : A) × (final xs ≡ Some y)
 final_some [] i = elim i [ ]

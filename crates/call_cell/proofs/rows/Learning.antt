@@ -1,11 +1,14 @@
 -- Worked rows of learning: where packets go, and whose packets are taken.
-use Rattle.std.proofs.Common.{◌≡◌, [], ◌∷◌, Some, None, refl}
+use Rattle.std.proofs.Common.{◌≡◌, true, [], ◌∷◌, Some, None, refl}
+use Rattle.relay_outside.specs.declared.address.Addr.{Addr}
 use Rattle.rtp_packet.specs.declared.head.Half.TheVariants.{Rtp, Rtcp}
 use Rattle.rtp_packet.specs.Head.{rtp_head, rtcp_ssrc}
 use Rattle.call_cell.specs.declared.outcome.Refused.TheVariants as refused
+use Rattle.call_cell.specs.declared.outcome.Lost.TheVariants as lost
 use Rattle.call_cell.specs.declared.outcome.Outcome.TheVariants as outcomes
+use Rattle.call_cell.specs.Cells.{CellEvent, Relay}
 use Rattle.call_cell.specs.Learning.{learned, endpoint}
-use Rattle.call_cell.specs.Deeds.{deed}
+use Rattle.call_cell.specs.Deeds.{deed, lost_deed}
 use Rattle.call_cell.proofs.rows.Calls.{leg_a, leg_b, at_a, at_b, next_port, first_place, second_place, third_place, no_flags, strict, handover, strict_handover, asymmetric, strict_asymmetric, plain, side_a, side_b, held, committed, received, from_a, from_b, control_a, control_b, answered, steps, now, packet, outcomes_of, sent_to_a, sent_to_b}
 
 -- Before any packet, packets go to the signalled addresses.
@@ -69,6 +72,13 @@ handover_moves_back = refl
 strict_handover_refuses : outcomes_of (steps (answered (plain at_a strict_handover) side_b) (packet (from_a first_place 1) ∷ packet (from_a second_place 2) ∷ packet (from_b at_b 1) ∷ [])) ≡ sent_to_a first_place ∷ outcomes.Refused refused.WrongSource ∷ sent_to_b at_b ∷ []
 unfolding deed rtp_head
 strict_handover_refuses = refl
+
+-- even if a packet of another source were accepted under it
+abbrev heard_from : Addr → CellEvent
+heard_from source = Relay (record { packet = from_a source 1; sent_ok = true; deed = lost_deed Rtp None lost.Hold })
+
+strict_handover_stays : learned (steps (answered (plain at_a strict_handover) side_b) (now (heard_from first_place) ∷ now (heard_from second_place) ∷ [])) leg_a Rtp ≡ Some first_place
+strict_handover_stays = refl
 
 -- what counts is the flag with which the packet was taken
 handover_then_none : learned (steps (answered side_a side_b) (packet (from_a first_place 1) ∷ now (committed (plain at_a handover) side_b) ∷ packet (from_a second_place 2) ∷ now (committed side_a side_b) ∷ packet (from_a third_place 3) ∷ [])) leg_a Rtp ≡ Some second_place

@@ -131,6 +131,15 @@ asked_comes_first = refl
 plain_has_no_line : last_lines (Offered (offer_by a (alice_with audio) (towards Avp) none1) [] [] ∷ taken) 0 ≡ None ∷ None ∷ []
 plain_has_no_line = refl
 
+-- a section that isn't active has no line either
+unused_has_no_line : last_lines (Offered (offer_by a (alice_with no_audio) plain none1) [] [] ∷ taken) 0 ≡ None ∷ None ∷ []
+unused_has_no_line = refl
+
+-- an offer that nobody answered changes neither the profile nor the key in force
+replaced_offer_changes_nothing : last_lines (Offered audio_offer [] [] ∷ Offered (offer_by a (alice_with audio) (towards Avp) none1) [] [] ∷ taken) 0
+    ≡ carrying 1 (key 0 0 B Tag80) ∷ None ∷ []
+replaced_offer_changes_nothing = refl
+
 -- The other side offers.
 
 abbrev bobs_offer : OfferAsk
