@@ -11,3 +11,10 @@ pub mod Free
 pub mod Leases
 pub mod Repeats
 pub mod Offers
+pub mod Reporting
+pub mod Unheld
+pub mod Idle
+pub mod Keeps
+pub mod Draws
+pub mod Demands
+mod rows

@@ -7,10 +7,14 @@ pub mod Lives
 pub mod Keyed
 pub mod Shields
 pub mod Relays
-pub mod Moments
+pub mod Leases
 pub mod Boxes
 pub mod Holders
 pub mod Generations
 pub mod Sends
 pub mod Replies
 pub mod Safety
+pub mod Turns
+pub mod Gains
+pub mod Shut
+pub mod Plans

@@ -1,0 +1,7 @@
+mod Histories
+mod Calls
+mod Pairs
+mod Keys
+mod Kept
+mod Answers
+mod Given
