@@ -14,3 +14,4 @@ pub mod Generations
 pub mod Sends
 pub mod Replies
 pub mod Safety
+mod Example

@@ -1,0 +1,6 @@
+pub mod Datagrams
+pub mod Board
+pub mod Cell
+pub mod Members
+pub mod Entries
+pub mod Legal
