@@ -13,7 +13,7 @@ use Rattle.relay_core.specs.Legal.{is_handed_own, is_handed_boards, last_moment,
 use Rattle.relay_core.proofs.Example.Datagrams.{leg_a, leg_b, legs, keys, signal}
 use Rattle.relay_core.proofs.Example.Board.{offer_turn, answer_turn, delete_turn}
 use Rattle.relay_core.proofs.Example.Cell.{receipt, relayed}
-use Rattle.relay_core.proofs.Example.Members.{of_each, of_all}
+use Rattle.relay_core.proofs.Example.Members.{of_all}
 
 -- an entry of the board, of the call's cell, of the box of side B's pair and of that of side A's pair
 abbrev pub on_board : (number moment : ℕ) → Event → Entry
@@ -69,9 +69,13 @@ entries = opened_b ∷ opened_a ∷ prepared ∷ offered ∷ committed ∷ answe
 
 -- Numbers.
 
+abbrev is_numbered : Entry → Bool
+is_numbered e = length (filter (is_at e.place e.number) entries) == 1
+
 pub numbered : (e : Entry) → In e entries → length (filter (is_at e.place e.number) entries) ≡ 1
-numbered = of_each (λ (e : Entry). length (filter (is_at e.place e.number) entries) ≡ 1) entries
-    (refl, (refl, (refl, (refl, (refl, (refl, (refl, (refl, (refl, (refl, (refl, (refl, tt))))))))))))
+numbered e i =
+    let test = of_all is_numbered entries refl e i in
+    grind (arith, nat_tests)
 
 abbrev is_counted : Entry → Bool
 is_counted e = nat_lt e.number (count_by (λ f. f.place == e.place) entries)

@@ -1,5 +1,5 @@
 -- The worked call is legal.
-use Rattle.std.proofs.Common.{◌≡◌, ◌∙◌, sym, ap, subst, refl, inl, true, Option, Some, None, map, filter}
+use Rattle.std.proofs.Common.{◌≡◌, ◌∙◌, sym, ap, subst, refl, inl, ℕ, true, Option, Some, None, map, filter}
 use Rattle.rtp_packet.specs.declared.head.Half.TheVariants.{Rtp}
 use Rattle.port_pool.specs.declared.holder.Holder.{Holder}
 use Rattle.port_pool.specs.Boxes.{Close}
@@ -14,72 +14,36 @@ use Rattle.relay_core.specs.Legal.{Fits, IsReceived, Orderly, Legal}
 use Rattle.relay_core.proofs.Example.Datagrams.{config, leg_b, legs, key_80}
 use Rattle.relay_core.proofs.Example.Board.{accepted_offer, accepted_answer, offer_turn, answer_turn, delete_turn, offer_fits, answer_fits, delete_fits}
 use Rattle.relay_core.proofs.Example.Cell.{receipt, relayed, sending, packet_is_short, relay_fits}
-use Rattle.relay_core.proofs.Example.Members.{Each, of_each, of_none, of_some, of_false}
+use Rattle.relay_core.proofs.Example.Members.{Each, none_left, ◌&◌, of_each, of_none, of_some, of_false}
 use Rattle.relay_core.proofs.Example.Entries.{entries, offered, answered, deleted, taken, sent, ended, closed_b, closed_a, numbered, counted, in_order, timed}
 
 -- The board.
 
-board_fits : (b : Entry) (e : BoardEntry) → In b entries → board_entry b ≡ Some e → (b.place ≡ 0) × FitsBoard config (board_history entries b.number) e
-board_fits b e i q =
-    of_each (λ (b : Entry). (e : BoardEntry) → board_entry b ≡ Some e → (b.place ≡ 0) × FitsBoard config (board_history entries b.number) e) entries (
-      of_none _,
-      (
-        of_none _,
-        (
-          of_none _,
-          (
-            of_some _ (refl, offer_fits),
-            (
-              of_none _,
-              (
-                of_some _ (refl, answer_fits),
-                (
-                  of_none _,
-                  (
-                    of_none _,
-                    (of_none _, (of_none _, (of_none _, (of_some _ (refl, delete_fits), tt)))),
-                  ),
-                ),
-              ),
-            ),
-          ),
-        ),
-      ),
-    ) b i e q
+-- where the entry is one of the board, it is the one that the board's history demands
+abbrev FitsOnBoard : Entry → Type 0
+FitsOnBoard b = (e : BoardEntry) → board_entry b ≡ Some e → (b.place ≡ 0) × FitsBoard config (board_history entries b.number) e
 
--- the entry of the board with this number has its script
+board_fits : (b : Entry) → In b entries → FitsOnBoard b
+board_fits = of_each FitsOnBoard entries
+    (of_none _ & of_none _ & of_none _ & of_some _ (refl, offer_fits)
+    & of_none _ & of_some _ (refl, answer_fits)
+    & of_none _ & of_none _
+    & of_none _ & of_none _ & of_none _ & of_some _ (refl, delete_fits) & none_left)
+
+-- and its nested entries are its script
 abbrev HasScript : Entry → Type 0
 HasScript b = (e : BoardEntry) → board_entry b ≡ Some e → map owed_by (filter (belongs_to b.number) entries) ≡ script config (board_history entries b.number) e
 
 scripted : (b : Entry) → In b entries → HasScript b
-scripted = of_each HasScript entries (
-  of_none _,
-  (
-    of_none _,
-    (
-      of_none _,
-      (
-        of_some _ refl,
-        (
-          of_none _,
-          (
-            of_some _ refl,
-            (
-              of_none _,
-              (
-                of_none _,
-                (of_none _, (of_none _, (of_none _, (of_some _ refl, tt)))),
-              ),
-            ),
-          ),
-        ),
-      ),
-    ),
-  ),
-)
+scripted = of_each HasScript entries
+    (of_none _ & of_none _ & of_none _ & of_some _ refl
+    & of_none _ & of_some _ refl
+    & of_none _ & of_none _
+    & of_none _ & of_none _ & of_none _ & of_some _ refl & none_left)
 
-abbrev IsOfBoard : Entry → Type 0
-IsOfBoard e = (b : Entry) × In b entries × (b.place ≡ 0) × (b.number ≡ e.board) × ((x : BoardEntry) × (board_entry b ≡ Some x))
+-- the entry is nested in one of the board
+abbrev IsNestedIn : ℕ → Type 0
+IsNestedIn number = (b : Entry) × In b entries × (b.place ≡ 0) × (b.number ≡ number) × ((x : BoardEntry) × (board_entry b ≡ Some x))
 
 in_offered : In offered entries
 in_offered = there (there (there (here refl)))
@@ -90,37 +54,26 @@ in_answered = there (there (there (there (there (here refl)))))
 in_deleted : In deleted entries
 in_deleted = there (there (there (there (there (there (there (there (there (there (there (here refl)))))))))))
 
-nested : (e : Entry) → In e entries → is_nested e.event ≡ true → IsOfBoard e
-nested = of_each (λ (e : Entry). is_nested e.event ≡ true → IsOfBoard e) entries (
-  λ h. (offered, in_offered, refl, refl, (_, refl)),
-  (
-    λ h. (offered, in_offered, refl, refl, (_, refl)),
-    (
-      λ h. (offered, in_offered, refl, refl, (_, refl)),
-      (
-        of_false,
-        (
-          λ h. (answered, in_answered, refl, refl, (_, refl)),
-          (
-            of_false,
-            (
-              of_false,
-              (
-                of_false,
-                (λ h. (deleted, in_deleted, refl, refl, (_, refl)), (λ h. (deleted, in_deleted, refl, refl, (_, refl)), (λ h. (deleted, in_deleted, refl, refl, (_, refl)), (of_false, tt)))),
-              ),
-            ),
-          ),
-        ),
-      ),
-    ),
-  ),
-)
+of_offer : true ≡ true → IsNestedIn 0
+of_offer h = (offered, in_offered, refl, refl, (_, refl))
+
+of_answer : true ≡ true → IsNestedIn 1
+of_answer h = (answered, in_answered, refl, refl, (_, refl))
+
+of_delete : true ≡ true → IsNestedIn 2
+of_delete h = (deleted, in_deleted, refl, refl, (_, refl))
+
+nested : (e : Entry) → In e entries → is_nested e.event ≡ true → IsNestedIn e.board
+nested = of_each (λ (e : Entry). is_nested e.event ≡ true → IsNestedIn e.board) entries
+    (of_offer & of_offer & of_offer & of_false
+    & of_answer & of_false
+    & of_false & of_false
+    & of_delete & of_delete & of_delete & of_false & none_left)
 
 orderly : Orderly config entries
 orderly = record {
   numbered = numbered;
-  board_fits = board_fits;
+  board_fits = λ b e i q. board_fits b i e q;
   scripted = λ b e i p q. scripted b i e q;
   nested = nested;
   ordered = λ e f i j ne nf p n. inl (in_order e f i j ne nf p n);
@@ -130,7 +83,10 @@ orderly = record {
 
 fits : (e : Entry) → In e entries → Fits config entries e
 fits = of_each (Fits config entries) entries
-    (tt, (tt, (tt, ((refl, offer_fits), (tt, ((refl, answer_fits), ((refl, packet_is_short), (relay_fits, (tt, (tt, (tt, ((refl, delete_fits), tt))))))))))))
+    (tt & tt & tt & (refl, offer_fits)
+    & tt & (refl, answer_fits)
+    & (refl, packet_is_short) & relay_fits
+    & tt & tt & tt & (refl, delete_fits) & none_left)
 
 -- The relay.
 
@@ -142,31 +98,11 @@ abbrev IsSent : Entry → Relayed → Type 0
 IsSent e x = (e ≡ sent) × (x ≡ relayed)
 
 only_relay : (e : Entry) → In e entries → (x : Relayed) → relay_by e.event ≡ Some x → IsSent e x
-only_relay = of_each (λ (e : Entry). (x : Relayed) → relay_by e.event ≡ Some x → IsSent e x) entries (
-  of_none _,
-  (
-    of_none _,
-    (
-      of_none _,
-      (
-        of_none _,
-        (
-          of_none _,
-          (
-            of_none _,
-            (
-              of_none _,
-              (
-                of_some _ (refl, refl),
-                (of_none _, (of_none _, (of_none _, (of_none _, tt)))),
-              ),
-            ),
-          ),
-        ),
-      ),
-    ),
-  ),
-)
+only_relay = of_each (λ (e : Entry). (x : Relayed) → relay_by e.event ≡ Some x → IsSent e x) entries
+    (of_none _ & of_none _ & of_none _ & of_none _
+    & of_none _ & of_none _
+    & of_none _ & of_some _ (refl, refl)
+    & of_none _ & of_none _ & of_none _ & of_none _ & none_left)
 
 is_sent : (e : Entry) (x : Relayed) → In e entries → e.event ≡ Cell (Relay x) → IsSent e x
 is_sent e x i q = only_relay e i x (ap relay_by q)
@@ -215,7 +151,7 @@ in_sent : In sent entries
 in_sent = there (there (there (there (there (there (there (here refl)))))))
 
 boxes_close : Each (λ (leg : Holder). Occurs entries (box_of config leg.pair) (Box Close)) legs
-boxes_close = ((closed_b, in_closed_b, refl, refl), ((closed_a, in_closed_a, refl, refl), tt))
+boxes_close = (closed_b, in_closed_b, refl, refl) & (closed_a, in_closed_a, refl, refl) & none_left
 
 pub carries : CarriesCall config entries
 carries = record {

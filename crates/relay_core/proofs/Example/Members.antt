@@ -4,14 +4,16 @@ use Rattle.std.specs.Prelude.{◌&&◌}
 use Rattle.std.specs.List.{list_all}
 use Rattle.histories.specs.Words.{In, here, there}
 
-abbrev pub Each : {A : Type 0} → (A → Type 0) → List A → Type 0
-Each P [] = Unit {0}
-Each P (x ∷ xs) = P x × Each P xs
+infixr 4 ◌&◌
+-- each element has the property, the first one first
+pub data Each {A : Type 0} (P : A → Type 0) : List A → Type 0 where
+  none_left : Each P []
+  ◌&◌ : {x : A} {xs : List A} → P x → Each P xs → Each P (x ∷ xs)
 
 pub of_each : {A : Type 0} (P : A → Type 0) (xs : List A) → Each P xs → (x : A) → In x xs → P x
 of_each P [] all x i = elim i [ ]
-of_each P (y ∷ ys) all x (here q) = subst P (sym q) all.0
-of_each P (y ∷ ys) all x (there i) = of_each P ys all.1 x i
+of_each P (y ∷ ys) (p & all) x (here q) = subst P (sym q) p
+of_each P (y ∷ ys) (p & all) x (there i) = of_each P ys all x i
 
 -- both tests pass
 pub first_passes : (a b : Bool) → a && b ≡ true → a ≡ true
