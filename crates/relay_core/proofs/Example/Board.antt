@@ -7,7 +7,7 @@ use Rattle.cookie_cache.specs.Keepings as cache
 use Rattle.port_pool.specs.Ports.{pair_count}
 use Rattle.offer_answer.specs.Plan as plan
 use Rattle.call_board.specs.Acts as act
-use Rattle.call_board.specs.Acts.{Call, Given, Control, Turn, BoardEntry}
+use Rattle.call_board.specs.Acts.{Call, Given, Control, Turn, Tick, BoardEntry}
 use Rattle.call_board.specs.Kept.{kept}
 use Rattle.call_board.specs.Replies.{Done, Described, reply_text}
 use Rattle.call_board.specs.Answers.{answering_unless}
@@ -59,6 +59,30 @@ offer_fits = record {
   answers = offer_is_answered;
 }
 
+-- The same datagram again, a tenth of a second later, has the same reply and does nothing.
+
+abbrev pub repeat_turn : Control
+repeat_turn = record offer_turn { given = nothing_given; act = act.Repeated }
+
+abbrev pub after_offer : List BoardEntry
+after_offer = record { moment = 1000; event = Turn offer_turn } ∷ []
+
+repeat_is_answered : answer_of repeat_turn ≡ answering_unless config after_offer repeat_turn (kept after_offer controller (codes "1") 1100)
+unfolding cache.kept
+repeat_is_answered = refl
+
+pub repeat_fits : FitsControl config after_offer 1100 repeat_turn
+repeat_fits = record {
+  framed = offer_is_framed;
+  reads = offer_is_read;
+  hears = rw offer_is_asked offer_is_heard;
+  gives = (record { no_opens = refl; no_draws = refl; none_failed = refl }, refl);
+  answers = repeat_is_answered;
+}
+
+abbrev pub after_repeat : List BoardEntry
+after_repeat = record { moment = 1100; event = Turn repeat_turn } ∷ after_offer
+
 -- The answer.
 
 abbrev pub accepted_answer : act.Answer
@@ -77,10 +101,7 @@ answer_turn = record {
   act = act.Answered accepted_answer;
 }
 
-abbrev pub after_offer : List BoardEntry
-after_offer = record { moment = 1000; event = Turn offer_turn } ∷ []
-
-answer_is_answered : answer_of answer_turn ≡ answering_unless config after_offer answer_turn (kept after_offer controller (codes "2") 2000)
+answer_is_answered : answer_of answer_turn ≡ answering_unless config after_repeat answer_turn (kept after_repeat controller (codes "2") 2000)
 unfolding cache.kept
 answer_is_answered = rw (answer_is_asked, answer_is_faultless, answer_commits) refl
 
@@ -88,7 +109,7 @@ answer_is_framed : frame (codes "2" ++ 32 ∷ answer_body) ≡ Some (codes "2", 
 unfolding answer_body
 answer_is_framed = refl
 
-pub answer_fits : FitsControl config after_offer 2000 answer_turn
+pub answer_fits : FitsControl config after_repeat 2000 answer_turn
 answer_fits = record {
   framed = answer_is_framed;
   reads = answer_is_read;
@@ -113,9 +134,13 @@ delete_turn = record {
 }
 
 abbrev pub after_answer : List BoardEntry
-after_answer = record { moment = 2000; event = Turn answer_turn } ∷ after_offer
+after_answer = record { moment = 2000; event = Turn answer_turn } ∷ after_repeat
 
-delete_is_answered : answer_of delete_turn ≡ answering_unless config after_answer delete_turn (kept after_answer controller (codes "3") 5000)
+-- a tick finds no call due
+abbrev pub after_tick : List BoardEntry
+after_tick = record { moment = 3000; event = Tick [] } ∷ after_answer
+
+delete_is_answered : answer_of delete_turn ≡ answering_unless config after_tick delete_turn (kept after_tick controller (codes "3") 5000)
 unfolding cache.kept
 delete_is_answered = rw delete_is_asked refl
 
@@ -123,7 +148,7 @@ delete_is_framed : frame (codes "3" ++ 32 ∷ delete_body) ≡ Some (codes "3", 
 unfolding delete_body
 delete_is_framed = refl
 
-pub delete_fits : FitsControl config after_answer 5000 delete_turn
+pub delete_fits : FitsControl config after_tick 5000 delete_turn
 delete_fits = record {
   framed = delete_is_framed;
   reads = delete_is_read;

@@ -6,13 +6,13 @@ use Rattle.std.proofs.lemmas.Bool.Decides.{nat_tests}
 use Rattle.rtp_packet.specs.declared.head.Half.TheVariants.{Rtp}
 use Rattle.histories.specs.Words.{In}
 use Rattle.port_pool.specs.Boxes.{Open, Take, Close, Datagram}
-use Rattle.call_cell.specs.Cells.{Prepare, Commit, Relay, End}
-use Rattle.call_board.specs.Acts.{Turn}
+use Rattle.call_cell.specs.Cells.{Prepare, Commit, Relay, Expire, End}
+use Rattle.call_board.specs.Acts.{Turn, Tick}
 use Rattle.relay_core.specs.Entries.{Event, Board, Cell, Box, Entry, is_nested, is_at}
 use Rattle.relay_core.specs.Legal.{is_handed_own, is_handed_boards, last_moment, IsTimed}
 use Rattle.relay_core.proofs.Example.Datagrams.{leg_a, leg_b, legs, keys, signal}
-use Rattle.relay_core.proofs.Example.Board.{offer_turn, answer_turn, delete_turn}
-use Rattle.relay_core.proofs.Example.Cell.{receipt, relayed}
+use Rattle.relay_core.proofs.Example.Board.{offer_turn, repeat_turn, answer_turn, delete_turn}
+use Rattle.relay_core.proofs.Example.Cell.{receipt, relayed, receipt_back, relayed_back}
 use Rattle.relay_core.proofs.Example.Members.{of_all}
 
 -- an entry of the board, of the call's cell, of the box of side B's pair and of that of side A's pair
@@ -25,8 +25,9 @@ in_cell number moment board event = record { place = 1; number = number; moment 
 abbrev pub in_box : (pair number board : ℕ) → Event → Entry
 in_box pair number board event = record { place = 2 + pair; number = number; moment = 0; board = board; event = event }
 
--- The offer's turn opens two boxes and prepares the cell; the answer's commits; side A's box takes a packet, which the cell
--- relays; the delete's turn ends the call and closes the boxes.
+-- The offer's turn opens two boxes and prepares the cell. Its datagram comes again. The answer's turn commits. Side A's box
+-- takes a packet, which the cell relays, and then side B's box takes one. A tick asks the cell whether it is due, and the
+-- delete's turn ends the call and closes the boxes.
 
 abbrev pub opened_b : Entry
 opened_b = in_box 0 0 0 (Box (Open leg_b))
@@ -40,11 +41,14 @@ prepared = in_cell 0 1000 0 (Cell (Prepare 0 legs keys []))
 abbrev pub offered : Entry
 offered = on_board 0 1000 (Board (Turn offer_turn))
 
+abbrev pub repeated : Entry
+repeated = on_board 1 1100 (Board (Turn repeat_turn))
+
 abbrev pub committed : Entry
-committed = in_cell 1 2000 1 (Cell (Commit signal))
+committed = in_cell 1 2000 2 (Cell (Commit signal))
 
 abbrev pub answered : Entry
-answered = on_board 1 2000 (Board (Turn answer_turn))
+answered = on_board 2 2000 (Board (Turn answer_turn))
 
 abbrev pub taken : Entry
 taken = in_box 1 1 0 (Box (Take Rtp (Datagram leg_a receipt.source receipt.bytes)))
@@ -52,20 +56,34 @@ taken = in_box 1 1 0 (Box (Take Rtp (Datagram leg_a receipt.source receipt.bytes
 abbrev pub sent : Entry
 sent = in_cell 2 2020 0 (Cell (Relay relayed))
 
+abbrev pub taken_back : Entry
+taken_back = in_box 0 1 0 (Box (Take Rtp (Datagram leg_b receipt_back.source receipt_back.bytes)))
+
+abbrev pub sent_back : Entry
+sent_back = in_cell 3 2040 0 (Cell (Relay relayed_back))
+
+abbrev pub asked : Entry
+asked = in_cell 4 3000 3 (Cell (Expire false))
+
+abbrev pub ticked : Entry
+ticked = on_board 3 3000 (Board (Tick []))
+
 abbrev pub ended : Entry
-ended = in_cell 3 2020 2 (Cell End)
+ended = in_cell 5 3000 4 (Cell End)
 
 abbrev pub closed_b : Entry
-closed_b = in_box 0 1 2 (Box Close)
+closed_b = in_box 0 2 4 (Box Close)
 
 abbrev pub closed_a : Entry
-closed_a = in_box 1 2 2 (Box Close)
+closed_a = in_box 1 2 4 (Box Close)
 
 abbrev pub deleted : Entry
-deleted = on_board 2 5000 (Board (Turn delete_turn))
+deleted = on_board 4 5000 (Board (Turn delete_turn))
 
 abbrev pub entries : List Entry
-entries = opened_b ∷ opened_a ∷ prepared ∷ offered ∷ committed ∷ answered ∷ taken ∷ sent ∷ ended ∷ closed_b ∷ closed_a ∷ deleted ∷ []
+entries =
+    opened_b ∷ opened_a ∷ prepared ∷ offered ∷ repeated ∷ committed ∷ answered ∷ taken ∷ sent ∷ taken_back ∷ sent_back
+    ∷ asked ∷ ticked ∷ ended ∷ closed_b ∷ closed_a ∷ deleted ∷ []
 
 -- Numbers.
 

@@ -1,6 +1,6 @@
 -- What holds of each element of a list that is written out.
-use Rattle.std.proofs.Common.{◌≡◌, ◌∙◌, sym, ap, subst, refl, List, [], ◌∷◌, Bool, true, false, Some, None}
-use Rattle.std.specs.Prelude.{◌&&◌}
+use Rattle.std.proofs.Common.{◌≡◌, ◌∙◌, sym, ap, subst, refl, ℕ, zero, suc, List, [], ◌∷◌, Bool, true, false, Some, None}
+use Rattle.std.specs.Prelude.{◌&&◌, slice_get}
 use Rattle.std.specs.List.{list_all}
 use Rattle.histories.specs.Words.{In, here, there}
 
@@ -14,6 +14,12 @@ pub of_each : {A : Type 0} (P : A → Type 0) (xs : List A) → Each P xs → (x
 of_each P [] all x i = elim i [ ]
 of_each P (y ∷ ys) (p & all) x (here q) = subst P (sym q) p
 of_each P (y ∷ ys) (p & all) x (there i) = of_each P ys all x i
+
+-- the element at a place, from 0
+pub at_place : {A : Type 0} (xs : List A) (n : ℕ) {x : A} → slice_get xs n ≡ Some x → In x xs
+at_place [] n q = absurd cc
+at_place (y ∷ ys) zero {x = x} q = let e : x ≡ y = cc in here e
+at_place (y ∷ ys) (suc n) q = there (at_place ys n q)
 
 -- both tests pass
 pub first_passes : (a b : Bool) → a && b ≡ true → a ≡ true
