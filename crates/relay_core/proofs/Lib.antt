@@ -21,3 +21,4 @@ pub mod Shut
 pub mod Plans
 pub mod Counts
 pub mod Laid
+mod Example
