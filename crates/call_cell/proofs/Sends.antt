@@ -44,8 +44,8 @@ pub record Own (h : List CellEntry) (leg : Holder) : Type 0 where
 
 own_case : (h : List CellEntry) (p : Receipt) (leg : Holder) (s : Option LegSignal) → in_force h leg ≡ s → (note : Option Note) (plain : List ℕ)
     → (known : Option Addr) (notes : List Note) → judged_leg s known notes (kind h p) p.source p.bytes ≡ Passed note plain → Own h leg
-own_case h p leg None e note plain known notes q = absurd (let f = q in cc)
-own_case h p leg (Some s) e note plain known notes q = record { signal = s; is_in_force = e }
+own_case h p leg None e found_note plain known notes q = absurd (let f = q in cc)
+own_case h p leg (Some s) e found_note plain known notes q = record { signal = s; is_in_force = e }
 
 pub own : (h : List CellEntry) (p : Receipt) (t : Taken h p) → Own h t.leg
 own h p t = own_case h p t.leg (in_force h t.leg) refl t.note t.plain _ _ t.is_judged
