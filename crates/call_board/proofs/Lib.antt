@@ -5,6 +5,7 @@ pub mod Tells
 pub mod Calls
 pub mod Lowest
 pub mod Cells
+pub mod Ids
 pub mod Keys
 pub mod Held
 pub mod Free

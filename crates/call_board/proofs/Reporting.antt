@@ -1,5 +1,5 @@
 -- Worked reports, as equations that compute.
-use Rattle.std.proofs.Common.{◌≡◌, ℕ, List, [], ◌∷◌, ◌++◌, false, true, Some, None, codes, refl}
+use Rattle.std.proofs.Common.{◌≡◌, ℕ, List, [], ◌∷◌, false, None, codes, refl}
 use Rattle.std.specs.Fmt.{digits}
 use Rattle.relay_outside.specs.declared.address.Ip.TheVariants as ips
 use Rattle.relay_outside.specs.declared.settings.Config.{Config}
@@ -11,7 +11,7 @@ use Rattle.port_pool.specs.declared.holder.Holder.{Holder}
 use Rattle.port_pool.specs.Reports.{LegReport}
 use Rattle.offer_answer.specs.Rounds.{Round, Offered, Answered}
 use Rattle.offer_answer.specs.Plan.{tag, protocol}
-use Rattle.call_board.specs.Reports.{Report, report_tree, listing_tree}
+use Rattle.call_board.specs.Reports.{report_tree, listing_tree}
 
 abbrev config : Config
 config = record {

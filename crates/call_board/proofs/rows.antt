@@ -5,3 +5,5 @@ mod Keys
 mod Kept
 mod Answers
 mod Given
+mod Turns
+mod Replies

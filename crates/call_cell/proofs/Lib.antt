@@ -3,6 +3,7 @@ pub mod Does
 pub mod Since
 pub mod Legs
 pub mod Committed
+pub mod Opposite
 pub mod Keys
 pub mod Sends
 pub mod Noted

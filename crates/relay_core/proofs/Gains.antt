@@ -1,11 +1,11 @@
 -- The nested entries that a list gains in a turn of the board, one after the other.
-use Rattle.std.proofs.Common.{◌≡◌, ◌∙◌, sym, ap, subst, refl, ℕ, ◌<◌, ◌⊎◌, inl, inr, List, [], ◌∷◌, ◌++◌, true, Some, map, append_assoc, arith}
+use Rattle.std.proofs.Common.{◌≡◌, ◌∙◌, sym, ap, subst, refl, ℕ, ◌<◌, ◌⊎◌, inl, inr, List, [], ◌∷◌, ◌++◌, Some, map, append_assoc, arith}
 use Rattle.relay_outside.specs.declared.settings.Config.{Config}
 use Rattle.histories.specs.Words.{In, here, there, Before, begins, goes_on}
 use Rattle.histories.proofs.Lists.{in_append, in_left, in_right}
 use Rattle.call_board.specs.Acts.{BoardEntry}
 use Rattle.call_board.specs.Fits.{FitsBoard}
-use Rattle.relay_core.specs.Entries.{Entry, is_nested, board_entry, board_history}
+use Rattle.relay_core.specs.Entries.{Entry, board_entry, board_history}
 use Rattle.relay_core.specs.Scripts.{Owed, owed_by, script}
 use Rattle.relay_core.specs.Legal.{Orderly}
 use Rattle.relay_core.proofs.Turns.{Numbered, IsAbove, IsTurn, with_turn, numbered_append, numbered_single, turn_keeps}
@@ -64,34 +64,28 @@ rising_append l (g ∷ ns) ms r s =
 -- The list gains these entries, which meet these events in order and belong to the board's entry of that number
 pub record Gained (l : List Entry) (number : ℕ) (events : List Owed) (ns : List Entry) : Type 0 where
   pub owes : map owed_by ns ≡ events
-  pub nested : (e : Entry) → In e ns → is_nested e.event ≡ true
   pub of_board : (e : Entry) → In e ns → e.board ≡ number
-  pub elsewhere : (e : Entry) → In e ns → e.place ≡ 0 → ⊥
   pub rising : Rising l ns
 
 pub gained_nothing : (l : List Entry) (number : ℕ) → Gained l number [] []
 gained_nothing l number = record {
   owes = refl;
-  nested = λ e i. elim i [ ];
   of_board = λ e i. elim i [ ];
-  elsewhere = λ e i. elim i [ ];
   rising = tt;
 }
 
 -- one entry
-pub gained_one : (l : List Entry) (number : ℕ) (e : Entry) → is_nested e.event ≡ true → e.board ≡ number → (e.place ≡ 0 → ⊥)
+pub gained_one : (l : List Entry) (number : ℕ) (e : Entry) → e.board ≡ number
     → IsAbove l e.place e.number → Gained l number (owed_by e ∷ []) (e ∷ [])
-gained_one l number e nested of_board elsewhere above = record {
+gained_one l number e of_board above = record {
   owes = refl;
-  nested = λ f i. only (λ x. is_nested x.event ≡ true) nested f i;
-  of_board = λ f i. only (λ x. x.board ≡ number) of_board f i;
-  elsewhere = λ f i. only (λ x. x.place ≡ 0 → ⊥) elsewhere f i;
+  of_board = λ f i. only f i;
   rising = (above, tt);
 }
   where
-    only : (P : Entry → Type 0) → P e → (f : Entry) → In f (e ∷ []) → P f
-    only P h f (here q) = subst P (sym q) h
-    only P h f (there i) = elim i [ ]
+    only : (f : Entry) → In f (e ∷ []) → f.board ≡ number
+    only f (here q) = ap (λ (x : Entry). x.board) q ∙ of_board
+    only f (there i) = elim i [ ]
 
 map_append : {A B : Type 0} (f : A → B) (xs ys : List A) → map f (xs ++ ys) ≡ map f xs ++ map f ys
 map_append f [] ys = refl
@@ -102,15 +96,13 @@ pub gained_more : (l : List Entry) (number : ℕ) (events others : List Owed) (n
     → Gained l number events ns → Gained (l ++ ns) number others ms → Gained l number (events ++ others) (ns ++ ms)
 gained_more l number events others ns ms a b = record {
   owes = map_append owed_by ns ms ∙ ap (λ xs. xs ++ map owed_by ms) a.owes ∙ ap (λ xs. events ++ xs) b.owes;
-  nested = λ e i. either (λ x. is_nested x.event ≡ true) a.nested b.nested e (in_append ns ms i);
-  of_board = λ e i. either (λ x. x.board ≡ number) a.of_board b.of_board e (in_append ns ms i);
-  elsewhere = λ e i. either (λ x. x.place ≡ 0 → ⊥) a.elsewhere b.elsewhere e (in_append ns ms i);
+  of_board = λ e i. either e (in_append ns ms i);
   rising = rising_append l ns ms a.rising b.rising;
 }
   where
-    either : (P : Entry → Type 0) → ((e : Entry) → In e ns → P e) → ((e : Entry) → In e ms → P e) → (e : Entry) → In e ns ⊎ In e ms → P e
-    either P f g e (inl i) = f e i
-    either P f g e (inr i) = g e i
+    either : (e : Entry) → In e ns ⊎ In e ms → e.board ≡ number
+    either e (inl i) = a.of_board e i
+    either e (inr i) = b.of_board e i
 
 -- a list that gains a script makes the turn of its board entry
 pub turn_made : (config : Config) (l ns : List Entry) (b : Entry) (x : BoardEntry) → board_entry b ≡ Some x → b.place ≡ 0 → IsAbove l 0 b.number
@@ -123,9 +115,7 @@ turn_made config l ns b x is at_board at_front fits g = record {
   at_front = at_front;
   fits = fits;
   owes = g.owes;
-  nested = g.nested;
   of_board = g.of_board;
-  elsewhere = g.elsewhere;
   above = rising_above l ns g.rising;
   once = rising_once l ns g.rising;
   in_order = rising_order l ns g.rising;

@@ -14,7 +14,11 @@ pub mod Generations
 pub mod Sends
 pub mod Replies
 pub mod Safety
+pub mod Elsewhere
 pub mod Turns
 pub mod Gains
 pub mod Shut
 pub mod Plans
+pub mod Counts
+pub mod Laid
+mod Example

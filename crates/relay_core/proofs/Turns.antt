@@ -3,7 +3,7 @@ use Rattle.std.proofs.Common.{◌≡◌, ◌∙◌, sym, ap, subst, refl, ℕ, z
 use Rattle.std.specs.List.{filter_map, cons_option}
 use Rattle.relay_outside.specs.declared.settings.Config.{Config}
 use Rattle.histories.specs.Words.{In, here, there, Before, begins, goes_on}
-use Rattle.histories.proofs.Lists.{in_append, in_left, in_right, filtered, equal, equal_if}
+use Rattle.histories.proofs.Lists.{maps, in_append, in_left, in_right, filtered, equal, equal_if}
 use Rattle.port_pool.specs.Boxes.{Open, Take, Close}
 use Rattle.call_cell.specs.Cells.{Prepare, Commit, Relay, Expire, Read, End}
 use Rattle.call_board.specs.Acts.{BoardEntry}
@@ -11,7 +11,8 @@ use Rattle.call_board.specs.Fits.{FitsBoard}
 use Rattle.relay_core.specs.Entries.{Event, Board, Cell, Box, Entry, is_nested, is_at, belongs_to, history, board_at, board_entry, board_history}
 use Rattle.relay_core.specs.Scripts.{owed_by, script}
 use Rattle.relay_core.specs.Legal.{Orderly}
-use Rattle.relay_core.proofs.Histories.{both, and_true, at_place, is_there}
+use Rattle.relay_core.proofs.Elsewhere.{IsElsewhere, owed_elsewhere}
+use Rattle.relay_core.proofs.Histories.{good_history, both, and_true, at_place, is_there}
 
 -- Lists.
 
@@ -173,24 +174,29 @@ pub record IsTurn (config : Config) (l ns : List Entry) (b : Entry) : Type 0 whe
   pub fits : FitsBoard config (board_history l b.number) entry
   -- the nested entries are its script, in order
   pub owes : map owed_by ns ≡ script config (board_history l b.number) entry
-  pub nested : (e : Entry) → In e ns → is_nested e.event ≡ true
   pub of_board : (e : Entry) → In e ns → e.board ≡ b.number
-  pub elsewhere : (e : Entry) → In e ns → e.place ≡ 0 → ⊥
   -- each is above all that its place has
   pub above : (e : Entry) → In e ns → IsAbove l e.place e.number
   pub once : Numbered ns
   pub in_order : (e f : Entry) → In e ns → In f ns → e.place ≡ f.place → e.number < f.number → Before e f ns
 
+-- so they are nested, and none is at the board's place
+pub turn_elsewhere : (config : Config) (l ns : List Entry) (b : Entry) → Orderly config l → IsTurn config l ns b → (e : Entry) → In e ns
+    → IsElsewhere (owed_by e)
+turn_elsewhere config l ns b o t e i =
+    owed_elsewhere config (board_history l b.number) t.entry (owed_by e) (good_history config l o b.number) t.fits
+    (subst (λ ws. In (owed_by e) ws) t.owes (maps owed_by ns i))
+
 -- the longer list
 abbrev pub with_turn : List Entry → List Entry → Entry → List Entry
 with_turn l ns b = (l ++ ns) ++ b ∷ []
 
-data Part (l ns : List Entry) (b e : Entry) : Type 0 where
+pub data Part (l ns : List Entry) (b e : Entry) : Type 0 where
   old : In e l → Part l ns b e
   new : In e ns → Part l ns b e
   last : e ≡ b → Part l ns b e
 
-part_of : (l ns : List Entry) (b e : Entry) → In e (with_turn l ns b) → Part l ns b e
+pub part_of : (l ns : List Entry) (b e : Entry) → In e (with_turn l ns b) → Part l ns b e
 part_of l ns b e i = outer (in_append (l ++ ns) (b ∷ []) i)
   where
     inner : In e l ⊎ In e ns → Part l ns b e
@@ -209,17 +215,17 @@ turn_numbered config l ns b o t =
     above_case : (e f : Entry) → e ≡ b → f.place ≡ e.place → In f l ⊎ In f ns → f.number < e.number
     above_case e f q p (inl i) =
         subst (λ (x : Entry). f.number < x.number) (sym q) (t.at_front f i (p ∙ ap (λ (x : Entry). x.place) q ∙ t.at_board))
-    above_case e f q p (inr i) = absurd (t.elsewhere f i (p ∙ ap (λ (x : Entry). x.place) q ∙ t.at_board))
+    above_case e f q p (inr i) = absurd ((turn_elsewhere config l ns b o t f i).1 (p ∙ ap (λ (x : Entry). x.place) q ∙ t.at_board))
 
     last_above : (e : Entry) → In e (b ∷ []) → IsAbove (l ++ ns) e.place e.number
     last_above e (here q) f i p = above_case e f q p (in_append l ns i)
     last_above e (there j) f i p = elim j [ ]
 
 -- up to the turn the board's history is as before
-turn_history : (config : Config) (l ns : List Entry) (b : Entry) → IsTurn config l ns b → (n : ℕ) → n ≤ b.number
+pub turn_history : (config : Config) (l ns : List Entry) (b : Entry) → Orderly config l → IsTurn config l ns b → (n : ℕ) → n ≤ b.number
     → board_history (with_turn l ns b) n ≡ board_history l n
-turn_history config l ns b t n k =
-    same_board (l ++ ns) (b ∷ []) n last_later ∙ same_board l ns n (λ e i p m. nested_no_board e.moment e.event (t.nested e i))
+turn_history config l ns b o t n k =
+    same_board (l ++ ns) (b ∷ []) n last_later ∙ same_board l ns n (λ e i p m. nested_no_board e.moment e.event (turn_elsewhere config l ns b o t e i).0)
   where
     last_later : (e : Entry) → In e (b ∷ []) → e.place ≡ 0 → e.number < n → board_entry e ≡ None
     last_later e (here q) p m = absurd (let x = ap (λ (y : Entry). y.number) q in omega (arith, x, m, k))
@@ -229,15 +235,15 @@ turn_fits : (config : Config) (l ns : List Entry) (b : Entry) → Orderly config
     → board_entry f ≡ Some x → Part l ns b f → (f.place ≡ 0) × FitsBoard config (board_history (with_turn l ns b) f.number) x
 turn_fits config l ns b o t f x h (old i) =
     let fits = o.board_fits f x i h in
-    (fits.0, subst (λ s. FitsBoard config s x) (sym (turn_history config l ns b t f.number (let k : f.number < b.number = t.at_front f i fits.0 in omega (arith, k)))) fits.1)
-turn_fits config l ns b o t f x h (new i) = absurd (let k = nested_no_board f.moment f.event (t.nested f i) in let z = h in cc)
+    (fits.0, subst (λ s. FitsBoard config s x) (sym (turn_history config l ns b o t f.number (let k : f.number < b.number = t.at_front f i fits.0 in omega (arith, k)))) fits.1)
+turn_fits config l ns b o t f x h (new i) = absurd (let k = nested_no_board f.moment f.event (turn_elsewhere config l ns b o t f i).0 in let z = h in cc)
 turn_fits config l ns b o t f x h (last q) =
     let is : Some x ≡ Some t.entry = sym h ∙ ap board_entry q ∙ t.is in
     let one : x ≡ t.entry = cc in (
       ap (λ (y : Entry). y.place) q ∙ t.at_board,
       subst (λ (y : Entry). FitsBoard config (board_history (with_turn l ns b) y.number) x) (sym q)
           (subst (λ y. FitsBoard config (board_history (with_turn l ns b) b.number) y) (sym one)
-          (subst (λ s. FitsBoard config s t.entry) (sym (turn_history config l ns b t b.number (omega arith))) t.fits)),
+          (subst (λ s. FitsBoard config s t.entry) (sym (turn_history config l ns b o t b.number (omega arith))) t.fits)),
     )
 
 not_of : (n : ℕ) (e : Entry) → (is_nested e.event ≡ true → e.board ≡ n → ⊥) → belongs_to n e ≡ false
@@ -275,19 +281,19 @@ turn_scripted config l ns b o t f x p h (old i) =
     ap (map owed_by)
     (turn_nested config l ns b t f.number ∙ ap (λ xs. filter (belongs_to f.number) l ++ xs) none ∙ nothing_more (filter (belongs_to f.number) l))
     ∙ o.scripted f x i p h
-    ∙ ap (λ s. script config s x) (sym (turn_history config l ns b t f.number (omega (arith, k))))
-turn_scripted config l ns b o t f x p h (new i) = absurd (let k = nested_no_board f.moment f.event (t.nested f i) in let z = h in cc)
+    ∙ ap (λ s. script config s x) (sym (turn_history config l ns b o t f.number (omega (arith, k))))
+turn_scripted config l ns b o t f x p h (new i) = absurd (let k = nested_no_board f.moment f.event (turn_elsewhere config l ns b o t f i).0 in let z = h in cc)
 turn_scripted config l ns b o t f x p h (last q) =
     let is : Some x ≡ Some t.entry = sym h ∙ ap board_entry q ∙ t.is in
     let one : x ≡ t.entry = cc in
     let none : filter (belongs_to b.number) l ≡ [] = filter_none (belongs_to b.number) l
     (λ e i. not_of b.number e (λ nested of_b. let k = board_below config l ns b o t e i nested in omega (arith, k, of_b))) in
     let every : filter (belongs_to b.number) ns ≡ ns = filter_every (belongs_to b.number) ns
-    (λ e i. and_true (is_nested e.event) (e.board == b.number) (t.nested e i) (equal e.board b.number (t.of_board e i))) in
+    (λ e i. and_true (is_nested e.event) (e.board == b.number) (turn_elsewhere config l ns b o t e i).0 (equal e.board b.number (t.of_board e i))) in
     let of_b : map owed_by (filter (belongs_to b.number) (with_turn l ns b)) ≡ script config (board_history (with_turn l ns b) b.number) t.entry =
     ap (map owed_by) (turn_nested config l ns b t b.number ∙ ap (λ xs. xs ++ filter (belongs_to b.number) ns) none ∙ every)
     ∙ t.owes
-    ∙ ap (λ s. script config s t.entry) (sym (turn_history config l ns b t b.number (omega arith))) in
+    ∙ ap (λ s. script config s t.entry) (sym (turn_history config l ns b o t b.number (omega arith))) in
     subst (λ (y : Entry). map owed_by (filter (belongs_to y.number) (with_turn l ns b)) ≡ script config (board_history (with_turn l ns b) y.number) x) (sym q)
     (subst (λ y. map owed_by (filter (belongs_to b.number) (with_turn l ns b)) ≡ script config (board_history (with_turn l ns b) b.number) y) (sym one) of_b)
 

@@ -2,3 +2,4 @@ pub mod Entries
 pub mod Scripts
 pub mod Legal
 pub mod Safe
+pub mod Carried

@@ -2,6 +2,7 @@ ghost use Rattle.std.specs.Prelude.{List};
 ghost use Rattle.relay_outside.specs.declared.settings.Config.{Config};
 ghost use Rattle.relay_core.specs.Entries.{Entry};
 ghost use Rattle.relay_core.specs.Legal.{Orderly, Legal};
+ghost use Rattle.relay_core.specs.Carried.{CarriesCall};
 ghost use Rattle.relay_core.specs.Safe.{BoardSafe, Safe, IsIsolated};
 
 /// A legal list is safe, for every configuration and every list: every packet sent is the transform of one received packet,
@@ -21,4 +22,10 @@ pub fn cells_are_apart()
 /// What the list of the hand of the control loop tells by itself between its turns, whatever the lanes do.
 pub fn orderly_is_safe()
     ensures { (config : Config) (l : List Entry) → Orderly config l → BoardSafe config l }
+{}
+
+/// There are legal lists that do something, so that what is said of every legal list is said of something: one that carries a
+/// call from its offer to its end, with a packet that is taken as plain RTP and sent as SRTP under a key that the offer drew.
+pub fn a_legal_list_exists()
+    ensures { (config : Config) × (l : List Entry) × Legal config l × CarriesCall config l }
 {}

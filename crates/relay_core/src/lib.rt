@@ -2,9 +2,10 @@
 //! port pair. A list is legal where each entry is the one that the history of its place demands; a legal list is safe.
 //!
 //! Module `laws` states that. `specs/Entries.antt` has the entries and the histories of places, `specs/Scripts.antt` what an entry of the board owes,
-//! `specs/Legal.antt` when a list is legal, `specs/Safe.antt` what is then promised.
+//! `specs/Legal.antt` when a list is legal, `specs/Safe.antt` what is then promised, `specs/Carried.antt` what the list has that
+//! shows that legal lists exist.
 #![tactic(auto)]
 
 mod laws;
 
-pub use laws::{cells_are_apart, legal_is_safe, orderly_is_safe};
+pub use laws::{a_legal_list_exists, cells_are_apart, legal_is_safe, orderly_is_safe};

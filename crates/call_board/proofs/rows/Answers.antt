@@ -1,19 +1,21 @@
 -- Worked rows of answers: which reply comes first, and what is done with it.
 use Rattle.std.proofs.Common.{◌≡◌, ap, List, [], ◌∷◌, true, false, cond, Some, None, Err, refl}
 use Rattle.std.specs.Prelude.{codes}
+use Rattle.relay_outside.specs.declared.address.Family.TheVariants.{V6}
+use Rattle.port_pool.specs.Ports.{pair_count}
 use Rattle.ng_command.specs.Said as said
 use Rattle.ng_reply.specs.declared.code.ErrorCode.TheVariants.{E3, E9, E10, E13, E14, E15, E16, E17}
 use Rattle.port_pool.specs.declared.holder.Side.TheVariants.{B}
 use Rattle.offer_answer.specs.Rounds.{Round}
 use Rattle.offer_answer.specs.Plan as plan
 use Rattle.call_board.specs.Acts as act
-use Rattle.call_board.specs.Acts.{Call, Given, Control, BoardEntry}
+use Rattle.call_board.specs.Acts.{Call, Given, Control, Tick, Stop, BoardEntry}
 use Rattle.call_board.specs.Calls.{rounds}
-use Rattle.call_board.specs.Pairs.{free_in, is_short}
+use Rattle.call_board.specs.Pairs.{free_in, is_short, new_keys}
 use Rattle.call_board.specs.Replies.{Pong, Done, Warned, Reported, Listed, Fault, reply_text}
-use Rattle.call_board.specs.Answers.{failing, telling, answering_command, answering_asked, answering_unless, delete_of, offer_planned, offer_leased, leased_pairs}
-use Rattle.call_board.specs.Fits.{named_live}
-use Rattle.call_board.proofs.rows.Histories.{config, asked, options, from_port, given, at, history_of, c1, c2, c3, leg, lease, begins, offer, deletes}
+use Rattle.call_board.specs.Answers.{failing, telling, answering_command, answering_asked, answering_unless, delete_of, offer_planned, offer_leased, leased_pairs, offering}
+use Rattle.call_board.specs.Fits.{FitsAt, named_live}
+use Rattle.call_board.proofs.rows.Histories.{config, asked, options, from_port, given, at, history_of, c1, c2, c3, leg, lease, begins, offer, deletes, key}
 
 abbrev datagram : Given → Control
 datagram gave = record { source = from_port 2223; cookie = codes "7_o"; body = []; too_long = false; pairs = None; chosen = []; given = gave; reply = []; act = act.Told }
@@ -23,6 +25,9 @@ starved = record given { starved = true }
 
 abbrev two : List BoardEntry
 two = history_of (begins c1 [] ∷ begins c2 [] ∷ [])
+
+abbrev begins_with_keys : BoardEntry
+begins_with_keys = at 0 (offer c1 true [] (key 0 0 B (1 ∷ []) ∷ key 1 0 B (2 ∷ []) ∷ []) [])
 
 abbrev full : List BoardEntry
 full = history_of (begins c1 [] ∷ begins c2 [] ∷ begins c3 [] ∷ [])
@@ -113,6 +118,17 @@ key_fault : (before : List Round)
     ≡ record { reply = Fault E16; act = act.Undone E16 (lease 0 1 ∷ []) ((7 ∷ []) ∷ []) }
 key_fault before = refl
 
+-- the keys of an offer are numbered from the count of those drawn before
+numbered_on : (before : List Round)
+    → offer_leased config (begins_with_keys ∷ []) (record given { draws = (3 ∷ []) ∷ [] }) asked c2 true before []
+    ≡ offering config before (record { of = c2; begins = true; ask = asked; legs = []; keys = new_keys 2 ((3 ∷ []) ∷ []) (plan.demand before asked).keys; dropped = (plan.demand before asked).dropped })
+numbered_on before = refl
+
+-- a leg gets a pair of its own family alone
+other_family : leased_pairs config [] (record { pairs = record { section = 0; side = B; family = V6 } ∷ []; keys = []; dropped = [] }) ≡ []
+unfolding pair_count
+other_family = refl
+
 -- Ticks name live calls, in the order of their beginning.
 
 named_in_order : named_live full (c3 ∷ c1 ∷ []) ≡ c1 ∷ c3 ∷ []
@@ -120,3 +136,13 @@ named_in_order = refl
 
 named_is_live : named_live (deletes c2 ∷ full) (c2 ∷ c3 ∷ []) ≡ c3 ∷ []
 named_is_live = refl
+
+-- a tick ends live calls alone, and a stop all of them
+tick_of_none : FitsAt config [] 0 (Tick (c1 ∷ [])) → ⊥
+tick_of_none fits = let e : c1 ∷ [] ≡ [] = fits in cc
+
+tick_of_ended : FitsAt config (deletes c1 ∷ two) 0 (Tick (c1 ∷ [])) → ⊥
+tick_of_ended fits = let e : c1 ∷ [] ≡ [] = fits in cc
+
+stop_of_some : FitsAt config two 0 (Stop (c1 ∷ [])) → ⊥
+stop_of_some fits = let e : c1 ∷ [] ≡ c1 ∷ c2 ∷ [] = fits in cc

@@ -1,11 +1,15 @@
 -- Worked rows of what a turn is given: two opens for each pair, up to the first that fails; a draw for each key, up to the first that fails.
-use Rattle.std.proofs.Common.{◌≡◌, ◌∙◌, ap, ℕ, zero, suc, ◌+◌, ◌*◌, ◌<◌, List, [], ◌∷◌, ◌++◌, length, Bool, true, false, None, refl, arith, length-append}
+use Rattle.std.proofs.Common.{◌≡◌, ap, ℕ, zero, suc, List, [], ◌∷◌, ◌++◌, length, Bool, true, false, Some, refl, arith, length-append}
 use Rattle.std.specs.Prelude.{replicate}
 use Rattle.std.proofs.lemmas.List.{length-replicate}
+use Rattle.ng_reply.specs.declared.code.ErrorCode.TheVariants.{E9, E15}
+use Rattle.sdes_lines.specs.declared.crypto_line.Suite.TheVariants.{Tag80}
+use Rattle.port_pool.specs.declared.holder.Side.TheVariants.{B}
+use Rattle.offer_answer.specs.Rounds.{KeyPlace, Demand}
 use Rattle.call_board.specs.Acts as act
 use Rattle.call_board.specs.Acts.{Given}
-use Rattle.call_board.specs.Fits.{OpensAll, OpenFails, DrawsAll, DrawFails, GivesNothing}
-use Rattle.call_board.proofs.rows.Histories.{given}
+use Rattle.call_board.specs.Fits.{OpensAll, OpenFails, DrawsAll, DrawFails, GivesNothing, GivesFor}
+use Rattle.call_board.proofs.rows.Histories.{given, c1, offer}
 
 abbrev opened : List Bool → Given
 opened opens = record given { opens = opens }
@@ -61,3 +65,30 @@ idle = record { no_opens = refl; no_draws = refl; none_failed = refl }
 
 drew_is_not_idle : GivesNothing (drew ((1 ∷ []) ∷ []) false) → ⊥
 drew_is_not_idle nothing = let e = nothing.no_draws in cc
+
+-- What an act takes.
+
+abbrev place : KeyPlace
+place = record { section = 0; side = B; suite = Tag80 }
+
+abbrev two_keys : Demand
+two_keys = record { pairs = []; keys = place ∷ place ∷ []; dropped = [] }
+
+-- an offer that lacks a key is not accepted
+lacks_a_key : GivesFor two_keys (drew ((1 ∷ []) ∷ []) false) (offer c1 true [] [] []) → ⊥
+lacks_a_key gives = let e = gives.1.all_drawn in absurd (omega (arith, e))
+
+-- nothing is drawn after an open that failed
+draws_after_a_failure : GivesFor two_keys (record given { opens = false ∷ []; draws = (1 ∷ []) ∷ [] }) (act.Undone E15 [] []) → ⊥
+draws_after_a_failure gives = let e = gives.0.1 in cc
+
+-- nothing is drawn, and no report is had, by what fails
+draws_by_a_failure : GivesFor two_keys (drew ((1 ∷ []) ∷ []) false) (act.Failed E9) → ⊥
+draws_by_a_failure gives = let e = gives.0.no_draws in cc
+
+report_of_a_failure : GivesFor two_keys (record given { report = Some [] }) (act.Failed E9) → ⊥
+report_of_a_failure gives = let e = gives.1 in cc
+
+-- a query has a report
+lacks_a_report : GivesFor two_keys given (act.Queried c1) → ⊥
+lacks_a_report gives = let e : false ≡ true = gives.1 in cc

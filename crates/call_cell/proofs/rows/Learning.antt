@@ -3,13 +3,14 @@ use Rattle.std.proofs.Common.{◌≡◌, true, [], ◌∷◌, Some, None, refl}
 use Rattle.relay_outside.specs.declared.address.Addr.{Addr}
 use Rattle.rtp_packet.specs.declared.head.Half.TheVariants.{Rtp, Rtcp}
 use Rattle.rtp_packet.specs.Head.{rtp_head, rtcp_ssrc}
+use Rattle.port_pool.specs.declared.holder.Side.TheVariants.{B}
 use Rattle.call_cell.specs.declared.outcome.Refused.TheVariants as refused
 use Rattle.call_cell.specs.declared.outcome.Lost.TheVariants as lost
 use Rattle.call_cell.specs.declared.outcome.Outcome.TheVariants as outcomes
 use Rattle.call_cell.specs.Cells.{CellEvent, Relay}
 use Rattle.call_cell.specs.Learning.{learned, endpoint}
 use Rattle.call_cell.specs.Deeds.{deed, lost_deed}
-use Rattle.call_cell.proofs.rows.Calls.{leg_a, leg_b, at_a, at_b, next_port, first_place, second_place, third_place, no_flags, strict, handover, strict_handover, asymmetric, strict_asymmetric, plain, side_a, side_b, held, committed, received, from_a, from_b, control_a, control_b, answered, steps, now, packet, outcomes_of, sent_to_a, sent_to_b}
+use Rattle.call_cell.proofs.rows.Calls.{leg_a, leg_b, at_a, at_b, next_port, first_place, second_place, third_place, no_flags, strict, handover, strict_handover, asymmetric, strict_asymmetric, plain, side_a, side_b, held, committed, received, from_a, from_b, control_a, control_b, answered, steps, now, packet, outcomes_of, sent_to_a, sent_to_b, rtp_of}
 
 -- Before any packet, packets go to the signalled addresses.
 
@@ -48,6 +49,11 @@ strict_refuses = refl
 strict_refuses_host : outcomes_of (steps (answered (plain at_a strict) side_b) (packet (from_a first_place 1) ∷ packet (from_a third_place 2) ∷ [])) ≡ outcomes.Refused refused.WrongSource ∷ sent_to_b at_b ∷ []
 unfolding deed rtp_head
 strict_refuses_host = refl
+
+-- it is the leg that is found whose learned source counts
+strict_asks_the_leg : outcomes_of (steps (answered (plain at_a strict) side_b) (packet (from_a first_place 1) ∷ packet (received (record leg_a { section = 5; side = B }) Rtp second_place (rtp_of 1 1)) ∷ [])) ≡ outcomes.Refused refused.WrongSource ∷ sent_to_b at_b ∷ []
+unfolding deed rtp_head
+strict_asks_the_leg = refl
 
 -- the flags are those of the leg that received the packet
 strict_is_of_its_side : outcomes_of (steps (answered (plain at_a strict) side_b) (packet (from_b first_place 1) ∷ packet (from_b second_place 2) ∷ [])) ≡ sent_to_a at_a ∷ sent_to_a at_a ∷ []

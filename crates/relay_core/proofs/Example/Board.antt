@@ -1,0 +1,174 @@
+-- The board's entries of the worked call, and that each is the one that the board's history demands.
+use Rattle.std.proofs.Common.{◌≡◌, refl, List, [], ◌∷◌, ◌++◌, false, true, Some, None, codes, length, nat_lt}
+use Rattle.relay_outside.specs.declared.address.Addr.{Addr}
+use Rattle.relay_outside.specs.declared.address.Ip.TheVariants as ips
+use Rattle.ng_frame.specs.Frame.{frame}
+use Rattle.cookie_cache.specs.Keepings as cache
+use Rattle.port_pool.specs.Ports.{pair_count}
+use Rattle.offer_answer.specs.Plan as plan
+use Rattle.call_board.specs.Acts as act
+use Rattle.call_board.specs.Acts.{Call, Given, Control, Turn, Tick, BoardEntry}
+use Rattle.call_board.specs.Kept.{kept}
+use Rattle.call_board.specs.Replies.{Done, Described, reply_text}
+use Rattle.call_board.specs.Answers.{answering_unless}
+use Rattle.call_board.specs.Fits.{answer_of, FitsControl}
+use Rattle.relay_core.proofs.Example.Datagrams.{config, id, offer, answer, legs, keys, first_draw, second_draw, offered, line, signal, offer_body, offer_pairs, offer_is_read, offer_is_asked, offer_is_faultless, offer_demands, offer_is_heard, answer_body, answer_pairs, answer_is_read, answer_is_asked, answer_is_faultless, answer_commits, answer_is_heard, delete_body, delete_pairs, delete_is_read, delete_is_asked}
+
+-- who sends the datagrams
+abbrev pub controller : Addr
+controller = record { ip = ips.V4 (127 ∷ 0 ∷ 0 ∷ 1 ∷ []); port = 2223 }
+
+abbrev pub the_call : Call
+the_call = record { number = 0; cell = 1; id = id }
+
+abbrev pub nothing_given : Given
+nothing_given = record { starved = false; opens = []; draws = []; draw_failed = false; report = None }
+
+-- The offer begins the call, leases two pairs and draws two keys.
+
+abbrev pub accepted_offer : act.Offer
+accepted_offer = record { of = the_call; begins = true; ask = offer; legs = legs; keys = keys; dropped = [] }
+
+abbrev pub offer_turn : Control
+offer_turn = record {
+  source = controller;
+  cookie = codes "1";
+  body = offer_body;
+  too_long = false;
+  pairs = Some offer_pairs;
+  chosen = None ∷ [];
+  given = record { starved = false; opens = true ∷ true ∷ true ∷ true ∷ []; draws = first_draw ∷ second_draw ∷ []; draw_failed = false; report = None };
+  reply = reply_text config (Described (plan.offer_text config [] offer (30000 ∷ 30002 ∷ []) keys));
+  act = act.Offered accepted_offer;
+}
+
+offer_is_answered : answer_of offer_turn ≡ answering_unless config [] offer_turn (kept [] controller (codes "1") 1000)
+unfolding cache.kept pair_count
+offer_is_answered = rw (offer_is_asked, offer_is_faultless, offer_demands) refl
+
+offer_is_framed : frame (codes "1" ++ 32 ∷ offer_body) ≡ Some (codes "1", offer_body)
+unfolding offer_body
+offer_is_framed = refl
+
+offer_length : false ≡ nat_lt 16384 (length (codes "1" ++ 32 ∷ offer_body))
+unfolding offer_body
+offer_length = refl
+
+pub offer_fits : FitsControl config [] 1000 offer_turn
+offer_fits = record {
+  framed = offer_is_framed;
+  length_is = offer_length;
+  reads = offer_is_read;
+  hears = rw offer_is_asked offer_is_heard;
+  gives = rw (offer_is_asked, offer_demands) (record { all_opened = refl }, record { all_drawn = refl; none_failed = refl }, refl);
+  answers = offer_is_answered;
+}
+
+-- The same datagram again, a tenth of a second later, has the same reply and does nothing.
+
+abbrev pub repeat_turn : Control
+repeat_turn = record offer_turn { given = nothing_given; act = act.Repeated }
+
+abbrev pub after_offer : List BoardEntry
+after_offer = record { moment = 1000; event = Turn offer_turn } ∷ []
+
+repeat_is_answered : answer_of repeat_turn ≡ answering_unless config after_offer repeat_turn (kept after_offer controller (codes "1") 1100)
+unfolding cache.kept
+repeat_is_answered = refl
+
+pub repeat_fits : FitsControl config after_offer 1100 repeat_turn
+repeat_fits = record {
+  framed = offer_is_framed;
+  length_is = offer_length;
+  reads = offer_is_read;
+  hears = rw offer_is_asked offer_is_heard;
+  gives = (record { no_opens = refl; no_draws = refl; none_failed = refl }, refl);
+  answers = repeat_is_answered;
+}
+
+abbrev pub after_repeat : List BoardEntry
+after_repeat = record { moment = 1100; event = Turn repeat_turn } ∷ after_offer
+
+-- The answer.
+
+abbrev pub accepted_answer : act.Answer
+accepted_answer = record { of = the_call; ask = answer; signal = signal }
+
+abbrev pub answer_turn : Control
+answer_turn = record {
+  source = controller;
+  cookie = codes "2";
+  body = answer_body;
+  too_long = false;
+  pairs = Some answer_pairs;
+  chosen = Some line ∷ [];
+  given = nothing_given;
+  reply = reply_text config (Described (plan.answer_text config offered answer));
+  act = act.Answered accepted_answer;
+}
+
+answer_is_answered : answer_of answer_turn ≡ answering_unless config after_repeat answer_turn (kept after_repeat controller (codes "2") 2000)
+unfolding cache.kept
+answer_is_answered = rw (answer_is_asked, answer_is_faultless, answer_commits) refl
+
+answer_is_framed : frame (codes "2" ++ 32 ∷ answer_body) ≡ Some (codes "2", answer_body)
+unfolding answer_body
+answer_is_framed = refl
+
+answer_length : false ≡ nat_lt 16384 (length (codes "2" ++ 32 ∷ answer_body))
+unfolding answer_body
+answer_length = refl
+
+pub answer_fits : FitsControl config after_repeat 2000 answer_turn
+answer_fits = record {
+  framed = answer_is_framed;
+  length_is = answer_length;
+  reads = answer_is_read;
+  hears = rw answer_is_asked answer_is_heard;
+  gives = (record { no_opens = refl; no_draws = refl; none_failed = refl }, refl);
+  answers = answer_is_answered;
+}
+
+-- The delete.
+
+abbrev pub delete_turn : Control
+delete_turn = record {
+  source = controller;
+  cookie = codes "3";
+  body = delete_body;
+  too_long = false;
+  pairs = Some delete_pairs;
+  chosen = [];
+  given = nothing_given;
+  reply = reply_text config Done;
+  act = act.Deleted the_call;
+}
+
+abbrev pub after_answer : List BoardEntry
+after_answer = record { moment = 2000; event = Turn answer_turn } ∷ after_repeat
+
+-- a tick finds no call due
+abbrev pub after_tick : List BoardEntry
+after_tick = record { moment = 3000; event = Tick [] } ∷ after_answer
+
+delete_is_answered : answer_of delete_turn ≡ answering_unless config after_tick delete_turn (kept after_tick controller (codes "3") 5000)
+unfolding cache.kept
+delete_is_answered = rw delete_is_asked refl
+
+delete_is_framed : frame (codes "3" ++ 32 ∷ delete_body) ≡ Some (codes "3", delete_body)
+unfolding delete_body
+delete_is_framed = refl
+
+delete_length : false ≡ nat_lt 16384 (length (codes "3" ++ 32 ∷ delete_body))
+unfolding delete_body
+delete_length = refl
+
+pub delete_fits : FitsControl config after_tick 5000 delete_turn
+delete_fits = record {
+  framed = delete_is_framed;
+  length_is = delete_length;
+  reads = delete_is_read;
+  hears = rw delete_is_asked refl;
+  gives = (record { no_opens = refl; no_draws = refl; none_failed = refl }, refl);
+  answers = delete_is_answered;
+}

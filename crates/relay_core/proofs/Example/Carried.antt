@@ -1,0 +1,85 @@
+-- What the worked call has.
+use Rattle.std.proofs.Common.{refl}
+use Rattle.rtp_packet.specs.declared.head.Half.TheVariants.{Rtp}
+use Rattle.histories.specs.Words.{here, there}
+use Rattle.port_pool.specs.declared.holder.Holder.{Holder}
+use Rattle.port_pool.specs.Boxes.{Close}
+use Rattle.relay_core.specs.Entries.{Box, box_of}
+use Rattle.relay_core.specs.Carried.{Occurs, CarriesPacket, CarriesCall}
+use Rattle.relay_core.proofs.Example.Datagrams.{config, leg_a, leg_b, legs, key_80, line}
+use Rattle.relay_core.proofs.Example.Board.{accepted_offer, accepted_answer, offer_turn, repeat_turn, answer_turn, delete_turn}
+use Rattle.relay_core.proofs.Example.Cell.{relayed, sending, relayed_back, sending_back, reply_note, is_wire}
+use Rattle.relay_core.proofs.Example.Members.{Each, none_left, ◌&◌, of_each, at_place}
+use Rattle.relay_core.proofs.Example.Entries.{entries, offered, repeated, answered, taken, sent, taken_back, sent_back, asked, ended, closed_b, closed_a, deleted}
+
+-- the box of the leg closes
+abbrev Closes : Holder → Type 0
+Closes leg = Occurs entries (box_of config leg.pair) (Box Close)
+
+boxes_close : Each Closes legs
+boxes_close = (closed_b, at_place entries 14 refl, refl, refl) & (closed_a, at_place entries 15 refl, refl, refl) & none_left
+
+to_b : CarriesPacket config entries leg_a leg_b
+to_b = record {
+  relay = relayed;
+  is_relayed = (sent, at_place entries 8 refl, refl, refl);
+  is_taken = (taken, at_place entries 7 refl, refl, refl);
+  sending = sending;
+  sends = refl;
+  is_sent = refl;
+}
+
+to_a : CarriesPacket config entries leg_b leg_a
+to_a = record {
+  relay = relayed_back;
+  is_relayed = (sent_back, at_place entries 10 refl, refl, refl);
+  is_taken = (taken_back, at_place entries 9 refl, refl, refl);
+  sending = sending_back;
+  sends = refl;
+  is_sent = refl;
+}
+
+pub carries : CarriesCall config entries
+unfolding to_a to_b
+carries = record {
+  offer_turn = offer_turn;
+  is_offered = (offered, at_place entries 3 refl, refl, refl);
+  offer = accepted_offer;
+  accepts_offer = refl;
+  begins = refl;
+  repeat_turn = repeat_turn;
+  is_repeated = (repeated, at_place entries 4 refl, refl, refl);
+  same_datagram = (refl, refl);
+  repeats = refl;
+  answer_turn = answer_turn;
+  is_answered = (answered, at_place entries 6 refl, refl, refl);
+  answer = accepted_answer;
+  accepts_answer = refl;
+  answers_offer = refl;
+  is_asked = (asked, at_place entries 11 refl, refl, refl);
+  delete_turn = delete_turn;
+  is_deleted = (deleted, at_place entries 16 refl, refl, refl);
+  accepts_delete = refl;
+  ends = (ended, at_place entries 13 refl, refl, refl);
+  closes = of_each Closes legs boxes_close;
+  leg_a = leg_a;
+  leg_b = leg_b;
+  has_leg_a = there (here refl);
+  has_leg_b = here refl;
+  sides = (refl, refl);
+  same_section = refl;
+  to_b = to_b;
+  key = key_80;
+  is_drawn = here refl;
+  shield = record { key = 0; note = record { half = Rtp; ssrc = 286331153; index = 100 } };
+  is_shielded = refl;
+  under_key = refl;
+  protects = refl;
+  to_a = to_a;
+  line = line;
+  is_chosen = here refl;
+  note = reply_note;
+  is_noted = refl;
+  opens = is_wire;
+  learned = refl;
+}

@@ -1,0 +1,79 @@
+-- What a list has that carries a call from its offer to its end.
+use Rattle.std.specs.Prelude.{◌≡◌, ℕ, false, true, List, length, Some}
+use Rattle.relay_outside.specs.declared.settings.Config.{Config}
+use Rattle.srtp_sources.specs.Notes.{Note}
+use Rattle.srtp_context.specs.Packets as srtp
+use Rattle.sdes_lines.specs.declared.crypto_line.CryptoLine.{CryptoLine}
+use Rattle.histories.specs.Words.{In}
+use Rattle.port_pool.specs.declared.holder.Side.TheVariants.{A, B}
+use Rattle.port_pool.specs.declared.holder.Holder.{Holder}
+use Rattle.port_pool.specs.Signals.{NewKey}
+use Rattle.port_pool.specs.Boxes.{Take, Datagram, Close}
+use Rattle.port_pool.specs.Ports.{half_port}
+use Rattle.call_cell.specs.declared.outcome.Outcome.TheVariants.{Sent}
+use Rattle.call_cell.specs.Cells.{Relay, Expire, End, Relayed, Shield, Sending}
+use Rattle.call_board.specs.Acts as act
+use Rattle.call_board.specs.Acts.{Control, Turn}
+use Rattle.relay_core.specs.Entries.{Event, Board, Cell, Box, Entry, box_of}
+
+-- an entry of the list, at this place, has this event
+abbrev pub Occurs : List Entry → ℕ → Event → Type 0
+Occurs l place event = (e : Entry) × In e l × (e.place ≡ place) × (e.event ≡ event)
+
+-- a packet is taken for one leg, and another leg's port sends it on
+pub record CarriesPacket (config : Config) (l : List Entry) (from to : Holder) : Type 0 where
+  pub relay : Relayed
+  pub is_relayed : Occurs l from.cell (Cell (Relay relay))
+  pub is_taken : Occurs l (box_of config from.pair) (Box (Take relay.packet.half (Datagram from relay.packet.source relay.packet.bytes)))
+  pub sending : Sending
+  pub sends : relay.deed.sending ≡ Some sending
+  pub is_sent : relay.deed.outcome ≡ Sent (half_port config to.pair sending.half) sending.to (length sending.bytes)
+
+-- An offer begins a call and draws keys, its datagram comes again, the offer is answered, a tick finds the call not due, and it
+-- is deleted, which ends its cell and closes the boxes of its legs. In between a packet of side A is sent on to side B,
+-- protected under a key that was drawn, and one of side B, protected under the key of its crypto line, is sent on in the clear
+-- to where the first one came from.
+pub record CarriesCall (config : Config) (l : List Entry) : Type 0 where
+  pub offer_turn : Control
+  pub is_offered : Occurs l 0 (Board (Turn offer_turn))
+  pub offer : act.Offer
+  pub accepts_offer : offer_turn.act ≡ act.Offered offer
+  pub begins : offer.begins ≡ true
+  pub repeat_turn : Control
+  pub is_repeated : Occurs l 0 (Board (Turn repeat_turn))
+  pub same_datagram : (repeat_turn.source ≡ offer_turn.source) × (repeat_turn.cookie ≡ offer_turn.cookie)
+  pub repeats : repeat_turn.act ≡ act.Repeated
+  pub answer_turn : Control
+  pub is_answered : Occurs l 0 (Board (Turn answer_turn))
+  pub answer : act.Answer
+  pub accepts_answer : answer_turn.act ≡ act.Answered answer
+  pub answers_offer : answer.of ≡ offer.of
+  pub is_asked : Occurs l offer.of.cell (Cell (Expire false))
+  pub delete_turn : Control
+  pub is_deleted : Occurs l 0 (Board (Turn delete_turn))
+  pub accepts_delete : delete_turn.act ≡ act.Deleted offer.of
+  pub ends : Occurs l offer.of.cell (Cell End)
+  pub closes : (leg : Holder) → In leg offer.legs → Occurs l (box_of config leg.pair) (Box Close)
+  -- the two legs of a section
+  pub leg_a : Holder
+  pub leg_b : Holder
+  pub has_leg_a : In leg_a offer.legs
+  pub has_leg_b : In leg_b offer.legs
+  pub sides : (leg_a.side ≡ A) × (leg_b.side ≡ B)
+  pub same_section : leg_a.section ≡ leg_b.section
+  -- to side B
+  pub to_b : CarriesPacket config l leg_a leg_b
+  pub key : NewKey
+  pub is_drawn : In key offer.keys
+  pub shield : Shield
+  pub is_shielded : to_b.relay.deed.shield ≡ Some shield
+  pub under_key : shield.key ≡ key.number
+  pub protects : to_b.sending.bytes ≡ srtp.protect key.bytes key.suite to_b.relay.packet.bytes shield.note.index
+  -- to side A
+  pub to_a : CarriesPacket config l leg_b leg_a
+  pub line : CryptoLine
+  pub is_chosen : In (Some line) answer.ask.chosen
+  pub note : Note
+  pub is_noted : to_a.relay.deed.noted ≡ Some note
+  pub opens : to_a.relay.packet.bytes ≡ srtp.protect line.key line.suite to_a.sending.bytes note.index
+  pub learned : to_a.sending.to ≡ to_b.relay.packet.source
