@@ -5,9 +5,17 @@ pub mod Tells
 pub mod Calls
 pub mod Lowest
 pub mod Cells
+pub mod Ids
 pub mod Keys
 pub mod Held
 pub mod Free
 pub mod Leases
 pub mod Repeats
 pub mod Offers
+pub mod Reporting
+pub mod Unheld
+pub mod Idle
+pub mod Keeps
+pub mod Draws
+pub mod Demands
+mod rows

@@ -34,7 +34,7 @@ filter_all [] = refl
 filter_all (x ∷ xs) = ap (λ ys. x ∷ ys) (filter_all xs)
 
 -- the entry of a repeat, as a literal
-abbrev repeat : ℕ → Control → BoardEntry
+abbrev pub repeat : ℕ → Control → BoardEntry
 repeat moment c = record { moment = moment; event = Turn (record c { act = act.Repeated }) }
 
 held_alike : (moment : ℕ) (c : Control) (h : List BoardEntry) → held (repeat moment c ∷ h) ≡ held h
@@ -47,7 +47,7 @@ abbrev free_by : Config → List BoardEntry → List Holder → List ℕ → Lis
 free_by config h holders given_back =
     filter (λ p. not (has (leased h) p)) (numbers 0 (pair_count config)) ++ filter (λ p. not (has (map (λ (leg : Holder). leg.pair) holders) p)) (last_once given_back)
 
-repeat_alike : (config : Config) (moment : ℕ) (c : Control) (h : List BoardEntry) → ChangesNothing config (repeat moment c) h
+pub repeat_alike : (config : Config) (moment : ℕ) (c : Control) (h : List BoardEntry) → ChangesNothing config (repeat moment c) h
 repeat_alike config moment c h = record {
   same_live = ap (filter (λ (d : Call). not (has_ended h d))) (append-nil (begun h));
   same_rounds = λ n. refl;

@@ -1,5 +1,5 @@
 -- Which entries a board's history demands: what a datagram says, what the outside gave in its turn, and what it is answered.
-use Rattle.std.specs.Prelude.{◌≡◌, ℕ, ◌*◌, ◌<◌, Bool, true, false, not, List, [], ◌∷◌, ◌++◌, map, length, replicate, Option, Some, None, IsSome, Result, Ok, Err, filter, if◌then◌else◌}
+use Rattle.std.specs.Prelude.{◌≡◌, ℕ, ◌*◌, ◌<◌, Bool, true, false, not, List, [], ◌∷◌, ◌++◌, map, length, nat_lt, replicate, Option, Some, None, IsSome, Result, Ok, Err, filter, if◌then◌else◌}
 use Rattle.std.specs.List.{list_any}
 use Rattle.relay_outside.specs.declared.settings.Config.{Config}
 use Rattle.ng_frame.specs.Frame.{frame}
@@ -89,6 +89,7 @@ answer_of c = record { bytes = c.reply; act = c.act }
 -- the turn of a datagram is the one that the board's history demands at that moment
 pub record FitsControl (config : Config) (h : List BoardEntry) (now : ℕ) (c : Control) : Type 0 where
   pub framed : frame (c.cookie ++ 32 ∷ c.body) ≡ Some (c.cookie, c.body)
+  pub length_is : c.too_long ≡ nat_lt 16384 (length (c.cookie ++ 32 ∷ c.body))
   pub reads : Reads c.body c.pairs
   pub hears : Hears h c (asked c.too_long c.pairs)
   pub gives : GivesFor (demanded h c) c.given c.act

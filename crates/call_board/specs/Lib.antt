@@ -2,6 +2,7 @@ pub mod Acts
 pub mod Calls
 pub mod Pairs
 pub mod Kept
+pub mod Reports
 pub mod Replies
 pub mod Asked
 pub mod Answers

@@ -5,15 +5,7 @@ use Rattle.ng_bencode.specs.Tree.{Tree}
 use Rattle.ng_bencode.specs.Spells.{spelling}
 use Rattle.ng_reply.specs.declared.code.ErrorCode.{ErrorCode}
 use Rattle.ng_reply.specs.Replies.{pong_reply, ok_reply, sdp_reply, warning_reply, error_reply}
-use Rattle.port_pool.specs.Reports.{LegReport}
-use Rattle.offer_answer.specs.Rounds.{Round}
-
--- what is told of a call: the moments of its first and of its last accepted offer or answer, these, and its legs
-pub record Report : Type 0 where
-  pub created : ℕ
-  pub last_signal : ℕ
-  pub rounds : List Round
-  pub legs : List LegReport
+use Rattle.call_board.specs.Reports.{Report, report_tree, listing_tree}
 
 pub data Reply : Type 0 where
   Pong : Reply
@@ -23,14 +15,6 @@ pub data Reply : Type 0 where
   Reported : Report → Reply
   Listed : (call_ids : List (List ℕ)) → Reply
   Fault : ErrorCode → Reply
-
--- PLACEHOLDER until reports are written; nothing may unfold it
-unfoldable pub report_tree : Config → Report → Tree
-report_tree config told = ok_reply
-
--- PLACEHOLDER until reports are written; nothing may unfold it
-unfoldable pub listing_tree : List (List ℕ) → Tree
-listing_tree call_ids = ok_reply
 
 abbrev pub tree_of_reply : Config → Reply → Tree
 tree_of_reply config Pong = pong_reply

@@ -107,8 +107,6 @@ leg_before (x ∷ newer) older leg none i =
     (before_case x (newer ++ older) leg (none x (here refl))
     (in_append (legs_of x.event) (filter (keeps_leg x) (legs (newer ++ older))) i))
 
--- of two tests
-
 -- a leg is the same as itself, and what is the same as it is of its call, pair and lease
 pub is_same_leg : (leg : Holder) → same_leg leg leg ≡ true
 is_same_leg leg =

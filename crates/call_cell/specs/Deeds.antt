@@ -98,7 +98,7 @@ deed config h p sent_ok = deed_found config h p sent_ok (found h p)
 
 abbrev pub plain_of : Judged → Option (List ℕ)
 plain_of (Stopped cause) = None
-plain_of (Passed note plain) = Some plain
+plain_of (Passed noted plain) = Some plain
 
 abbrev pub bytes_of : Wrapped → Option (List ℕ)
 bytes_of (Held cause) = None

@@ -22,7 +22,7 @@ use Rattle.offer_answer.specs.Profiles.{is_srtp, written}
 use Rattle.offer_answer.specs.Keys.{chosen_in, leg_key, key_in_force, place_of, missing_keys, suite_of, offerers_suites, others_suites, section_keys}
 use Rattle.offer_answer.specs.Demands.{new_leg, legs_for, new_active_sections, is_dropped}
 use Rattle.offer_answer.specs.Plan.{demand}
-use Rattle.offer_answer.proofs.Members.{in-append}
+use Rattle.offer_answer.proofs.Members.{kept, in-append}
 use Rattle.offer_answer.proofs.Numbers.{Ordered, numbers-rise, in-numbers, in-filter, filter-ordered, append-ordered, in-flat_map, flat_map-ordered, in-map, map-ordered}
 
 other-side_differs : (side : Side) → other_side side ≡ side → ⊥
@@ -36,7 +36,7 @@ active_sections-rise sdp = filter-ordered (λ i j. i < j) (is_active_in sdp) (al
 abbrev pub AreLegsApart : NewLeg → NewLeg → Type 0
 AreLegsApart l m = l.section ≡ m.section → l.side ≡ m.side → ⊥
 
-in-legs_for : (rounds : List Round) (ask : OfferAsk) (section : ℕ) (l : NewLeg) → In l (legs_for rounds ask section) → l.section ≡ section
+pub in-legs_for : (rounds : List Round) (ask : OfferAsk) (section : ℕ) (l : NewLeg) → In l (legs_for rounds ask section) → l.section ≡ section
 in-legs_for rounds ask section l (here e) = ap (λ (m : NewLeg). m.section) e
 in-legs_for rounds ask section l (there (here e)) = ap (λ (m : NewLeg). m.section) e
 in-legs_for rounds ask section l (there (there i)) = elim i [ ]
@@ -172,3 +172,36 @@ few_sections sdp e = go (faulty_line (lines_of sdp)) (unplaced_fault (parts (lin
     go None None (Some d) b t e = cc
     go None None None true t e = cc
     go None None None false t e = rw counted (grind (arith, t))
+
+-- What a demand asks for isn't there yet.
+
+-- a new leg is of a section that has no pairs
+pub new_leg-is_new : (rounds : List Round) (ask : OfferAsk) (l : NewLeg) → In l (demand rounds ask).pairs → has_pairs rounds l.section ≡ false
+unfolding demand
+new_leg-is_new rounds ask l i =
+    let c = in-flat_map (legs_for rounds ask) (new_active_sections rounds ask) l i in
+    let without = kept (λ section. not (has_pairs rounds section)) (active_sections ask.sdp) c.source c.is_in in
+    subst (λ n. has_pairs rounds n ≡ false) (sym (in-legs_for rounds ask c.source l c.gives)) (negated (has_pairs rounds c.source) without.passes)
+  where
+    negated : (b : Bool) → not b ≡ true → b ≡ false
+    negated true e = cc
+    negated false e = refl
+
+-- a new key is for a leg that has none for that suite
+missing_keys-missing : (rounds : List Round) (section : ℕ) (side : Side) (suites : List Suite) (k : KeyPlace) →
+    In k (missing_keys rounds section side suites) → is_none (leg_key rounds k.section k.side k.suite) ≡ true
+missing_keys-missing rounds section side suites k i =
+    let c = in-map (place_of section side) (filter (λ suite. is_none (leg_key rounds section side suite)) suites) k i in
+    let p = kept (λ suite. is_none (leg_key rounds section side suite)) suites c.0 c.1 in
+    subst (λ (l : KeyPlace). is_none (leg_key rounds l.section l.side l.suite) ≡ true) (sym c.2) p.passes
+
+pub new_key-is_missing : (rounds : List Round) (ask : OfferAsk) (k : KeyPlace) → In k (demand rounds ask).keys →
+    is_none (leg_key rounds k.section k.side k.suite) ≡ true
+unfolding demand
+new_key-is_missing rounds ask k i =
+    let c = in-flat_map (section_keys rounds ask) (active_sections ask.sdp) k i in
+    elim (in-append (missing_keys rounds c.source (offerer rounds ask) (offerers_suites ask c.source))
+    (missing_keys rounds c.source (other_side (offerer rounds ask)) (others_suites rounds ask c.source)) c.gives) [
+      | inl j ↦ missing_keys-missing rounds c.source (offerer rounds ask) (offerers_suites ask c.source) k j
+      | inr j ↦ missing_keys-missing rounds c.source (other_side (offerer rounds ask)) (others_suites rounds ask c.source) k j
+    ]

@@ -21,7 +21,7 @@ use Rattle.offer_answer.specs.Laws.{IsDrawnInLife, IsKeyOf, NamesDrawnKeys}
 use Rattle.offer_answer.proofs.Members.{found, kept}
 use Rattle.offer_answer.proofs.Lives.{drawn_in-life, drawn_for-call}
 
-same_side : (a b : Side) → side_eq a b ≡ true → a ≡ b
+pub same_side : (a b : Side) → side_eq a b ≡ true → a ≡ b
 same_side A A e = refl
 same_side B B e = refl
 same_side A B e = cc
@@ -68,7 +68,7 @@ committed_key-drawn rounds ask section side key e = go (committed_line rounds as
     go (Some line) l e = record { line = line; line_is = l; is_key = leg_key-drawn rounds section side line.suite key e }
 
 -- what a signal says of a leg's key is what the answer commits
-signal-outbound : (rounds : List Round) (offer : MadeOffer) (ask : AnswerAsk) (section : ℕ) (side : Side) →
+pub signal-outbound : (rounds : List Round) (offer : MadeOffer) (ask : AnswerAsk) (section : ℕ) (side : Side) →
     (side_signal rounds offer ask section side).outbound ≡ option_map (λ (k : NewKey). k.number) (committed_key rounds ask section side)
 signal-outbound rounds offer ask section side = go (side_eq side (maker offer)) refl
   where
@@ -77,7 +77,7 @@ signal-outbound rounds offer ask section side = go (side_eq side (maker offer)) 
     go true e = rw e refl
     go false e = rw e refl
 
-signal-inbound : (rounds : List Round) (offer : MadeOffer) (ask : AnswerAsk) (section : ℕ) (side : Side) →
+pub signal-inbound : (rounds : List Round) (offer : MadeOffer) (ask : AnswerAsk) (section : ℕ) (side : Side) →
     (side_signal rounds offer ask section side).inbound ≡ option_map key_of (committed_line rounds ask section side)
 signal-inbound rounds offer ask section side = go (side_eq side (maker offer)) refl
   where
@@ -111,28 +111,29 @@ number-at k zero i j e = cc
 number-at k (suc n) zero j e = let s : j ≡ k = cc in omega (arith, s)
 number-at k (suc n) (suc i) j e = let s = number-at (suc k) n i j e in omega (arith, s)
 
-section-signal : (rounds : List Round) (offer : MadeOffer) (ask : AnswerAsk) (section : ℕ) (side : Side) (s : LegSignal) →
-    side_of side (section_signal rounds offer ask section) ≡ Some s → side_signal rounds offer ask section side ≡ s
+pub section-signal : (rounds : List Round) (offer : MadeOffer) (ask : AnswerAsk) (section : ℕ) (side : Side) (s : LegSignal) →
+    side_of side (section_signal rounds offer ask section) ≡ Some s → (is_rejected_by rounds ask section ≡ false) × (side_signal rounds offer ask section side ≡ s)
 section-signal rounds offer ask section side s e = go side (is_rejected_by rounds ask section) refl e
   where
     go : (side : Side) (b : Bool) → is_rejected_by rounds ask section ≡ b →
         side_of side (if b then Reject else Commit (side_signal rounds offer ask section A) (side_signal rounds offer ask section B)) ≡ Some s →
-        side_signal rounds offer ask section side ≡ s
+        (is_rejected_by rounds ask section ≡ false) × (side_signal rounds offer ask section side ≡ s)
     go A true r e = cc
     go B true r e = cc
-    go A false r e = cc
-    go B false r e = cc
+    go A false r e = (r, cc)
+    go B false r e = (r, cc)
 
--- what a signal says of a leg
-answer-signal : (rounds : List Round) (offer : MadeOffer) (ask : AnswerAsk) (section : ℕ) (side : Side) (s : LegSignal) →
-    signal_at (answer_signal rounds offer ask) section side ≡ Some s → side_signal rounds offer ask section side ≡ s
+-- what a signal says of a leg is said by the leg's section, which isn't rejected
+pub answer-signal : (rounds : List Round) (offer : MadeOffer) (ask : AnswerAsk) (section : ℕ) (side : Side) (s : LegSignal) →
+    signal_at (answer_signal rounds offer ask) section side ≡ Some s → (is_rejected_by rounds ask section ≡ false) × (side_signal rounds offer ask section side ≡ s)
 answer-signal rounds offer ask section side s e =
     go (slice_get (all_sections ask.sdp) section) refl
     (subst (λ (o : Option SectionSignal). elim o [ None ↦ None | Some t ↦ side_of side t ] ≡ Some s)
     (slice_get-map (section_signal rounds offer ask) (all_sections ask.sdp) section) e)
   where
     go : (at : Option ℕ) → slice_get (all_sections ask.sdp) section ≡ at →
-        elim (option_map (section_signal rounds offer ask) at) [ None ↦ None | Some t ↦ side_of side t ] ≡ Some s → side_signal rounds offer ask section side ≡ s
+        elim (option_map (section_signal rounds offer ask) at) [ None ↦ None | Some t ↦ side_of side t ] ≡ Some s →
+        (is_rejected_by rounds ask section ≡ false) × (side_signal rounds offer ask section side ≡ s)
     go None a e = cc
     go (Some number) a e =
         let same = number-at 0 (section_count ask.sdp) section number a in
@@ -146,7 +147,7 @@ names_drawn_keys rounds ask section side s number e o = go (last_offer rounds) e
   where
     go : (offer : Option MadeOffer) → signal_at (elim offer [ None ↦ [] | Some made ↦ answer_signal rounds made ask ]) section side ≡ Some s → IsKeyOf rounds section side s number
     go None e = cc
-    go (Some offer) e = leg-named rounds offer ask section side s number (answer-signal rounds offer ask section side s e) o
+    go (Some offer) e = leg-named rounds offer ask section side s number (answer-signal rounds offer ask section side s e).1 o
 
 -- the same of all that the call drew
 pub signal-names-drawn : (rounds : List Round) (ask : AnswerAsk) (section : ℕ) (side : Side) (s : LegSignal) (number : ℕ) →

@@ -4,4 +4,9 @@ pub mod Drawn
 pub mod Numbers
 pub mod Demanded
 pub mod Standing
+pub mod Keyed
+pub mod Secured
+pub mod Committing
+pub mod Legs
+pub mod Edits
 mod rows

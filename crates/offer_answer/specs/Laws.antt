@@ -1,13 +1,15 @@
 -- What holds of every plan.
-use Rattle.std.specs.Prelude.{◌≡◌, ℕ, ◌<◌, List, [], ◌∷◌, ◌++◌, length, false, true, not, ◌&&◌, Some}
+use Rattle.std.specs.Prelude.{◌≡◌, ℕ, ◌<◌, List, [], ◌∷◌, ◌++◌, length, map, Bool, false, true, not, ◌&&◌, Some, None, IsSome}
 use Rattle.histories.specs.Words.{In, has}
 use Rattle.port_pool.specs.declared.holder.Side.{Side}
 use Rattle.port_pool.specs.declared.holder.Holder.{Holder}
 use Rattle.port_pool.specs.declared.signal.LegSignal.{LegSignal}
 use Rattle.port_pool.specs.Signals.{NewKey, signal_at, is_rejected}
-use Rattle.offer_answer.specs.Rounds.{Round, Offered, Answered, OfferAsk, AnswerAsk}
-use Rattle.offer_answer.specs.Sections.{most_sections, leases, has_pairs}
-use Rattle.offer_answer.specs.Plan.{signal, demand}
+use Rattle.offer_answer.specs.Rounds.{Round, Offered, Answered, OfferAsk, AnswerAsk, NewLeg, KeyPlace}
+use Rattle.offer_answer.specs.Sections.{most_sections, leases, has_pairs, leg_of}
+use Rattle.offer_answer.specs.Profiles.{is_srtp_leg, profile_offered}
+use Rattle.offer_answer.specs.Keys.{place_of}
+use Rattle.offer_answer.specs.Plan.{AnswerHeard, offer_fault, answer_fault, signal, demand}
 
 -- after the earlier rounds, and through all of the later ones, the section kept its pairs
 abbrev pub KeepsPairs : ℕ → List Round → List Round → Type 0
@@ -54,3 +56,46 @@ DropsWhatGoes =
     (rounds : List Round) (ask : OfferAsk) (legs : List Holder) (keys : List NewKey) (section : ℕ) → section < most_sections →
     leases (Offered ask legs keys) section ≡ false →
     has (demand rounds ask).dropped section ≡ (has_pairs rounds section && not (has_pairs (Offered ask legs keys ∷ rounds) section))
+
+-- Rounds as they come about.
+
+abbrev pub leg_place : Holder → ℕ × Side
+leg_place leg = (leg.section, leg.side)
+
+abbrev pub new_leg_place : NewLeg → ℕ × Side
+new_leg_place leg = (leg.section, leg.side)
+
+abbrev pub key_place : NewKey → KeyPlace
+key_place key = place_of key.section key.side key.suite
+
+-- an offer without a fault, with the legs and the keys that it demanded
+pub record IsOfferRound (rounds : List Round) (ask : OfferAsk) (legs : List Holder) (keys : List NewKey) : Type 0 where
+  pub no_fault : offer_fault rounds ask ≡ None
+  pub leased : map leg_place legs ≡ map new_leg_place (demand rounds ask).pairs
+  pub drawn : map key_place keys ≡ (demand rounds ask).keys
+
+-- an answer without a fault, with the crypto lines that are heard in it
+pub record IsAnswerRound (rounds : List Round) (ask : AnswerAsk) : Type 0 where
+  pub no_fault : answer_fault rounds ask ≡ None
+  pub heard : AnswerHeard rounds ask
+
+abbrev pub AreRounds : List Round → Type 0
+AreRounds [] = Unit {0}
+AreRounds (Offered ask legs keys ∷ rounds) = IsOfferRound rounds ask legs keys × AreRounds rounds
+AreRounds (Answered ask ∷ rounds) = IsAnswerRound rounds ask × AreRounds rounds
+
+-- keys for both directions where the profile is SRTP, and else for none
+abbrev pub IsSecured : Bool → LegSignal → Type 0
+IsSecured true s = IsSome s.inbound × IsSome s.outbound
+IsSecured false s = (s.inbound ≡ None) × (s.outbound ≡ None)
+
+-- A leg is committed with keys exactly where its profile is SRTP: nothing is sent in the clear to a side that agreed on SRTP.
+abbrev pub SecuresLegs : Type 0
+SecuresLegs =
+    (rounds : List Round) (ask : AnswerAsk) (section : ℕ) (side : Side) (s : LegSignal) →
+    AreRounds rounds → IsAnswerRound rounds ask → signal_at (signal rounds ask) section side ≡ Some s →
+    IsSecured (is_srtp_leg (profile_offered rounds section side)) s
+
+-- A section that has pairs has one for each of its legs.
+abbrev pub HaveLegs : Type 0
+HaveLegs = (rounds : List Round) (section : ℕ) (side : Side) → AreRounds rounds → has_pairs rounds section ≡ true → IsSome (leg_of rounds section side)

@@ -8,4 +8,6 @@
 
 mod law;
 
-pub use law::{offers_drop_what_goes, signals_name_drawn_keys, signals_reject_what_goes};
+pub use law::{
+    offers_drop_what_goes, signals_name_drawn_keys, signals_reject_what_goes, signals_secure_legs,
+};

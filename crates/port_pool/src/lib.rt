@@ -1,7 +1,8 @@
 //! Port pairs: who holds one, what an answer commits for the legs that hold them, and the history of a pair's box.
 //!
 //! Module `holder` names the leg that holds a pair, `signal` what an answer commits for each section. `specs/Boxes.antt`
-//! has the history of a box, `specs/Signals.antt` the questions to a signal, `specs/Reports.antt` what is told of a leg.
+//! has the history of a box, `specs/Ports.antt` the ports of a pair, `specs/Signals.antt` the questions to a signal,
+//! `specs/Reports.antt` what is told of a leg.
 #![tactic(auto)]
 
 mod holder;

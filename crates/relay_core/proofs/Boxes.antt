@@ -1,13 +1,13 @@
 -- The holder of a box, by the entries of its place.
-use Rattle.std.proofs.Common.{◌≡◌, ◌∙◌, sym, ap, subst, refl, ℕ, zero, suc, ◌+◌, ◌<◌, ◌≤◌, ◌⊎◌, inl, inr, List, [], ◌∷◌, ◌++◌, Bool, true, false, cond, Option, Some, None, map, length, filter, ◌==◌, max, arith}
+use Rattle.std.proofs.Common.{◌≡◌, ◌∙◌, sym, ap, subst, refl, ℕ, zero, suc, ◌+◌, ◌<◌, ◌≤◌, ◌⊎◌, inl, inr, List, [], ◌∷◌, ◌++◌, Bool, true, false, cond, Option, Some, None, map, length, filter, ◌==◌, arith}
 use Rattle.std.specs.List.{filter_map, cons_option}
 use Rattle.histories.specs.Words.{In, here, there, greatest}
-use Rattle.histories.proofs.Lists.{filtered, keeps, maps, equal}
+use Rattle.histories.proofs.Lists.{keeps, maps, equal}
 use Rattle.port_pool.specs.declared.holder.Holder.{Holder}
-use Rattle.port_pool.specs.Boxes.{BoxEvent, Open, Take, Close, Taken, holder}
-use Rattle.relay_core.specs.Entries.{Event, Board, Cell, Box, Entry, is_at, history, front, box_in, box_event}
+use Rattle.port_pool.specs.Boxes.{BoxEvent, Open, Take, Close, holder}
+use Rattle.relay_core.specs.Entries.{Entry, is_at, history, front, box_event}
 use Rattle.relay_core.proofs.Histories.{Step, nothing, single, step, same_at, is_there}
-use Rattle.relay_core.proofs.Moments.{below_or_last}
+use Rattle.relay_core.proofs.Boards.{lt_or_eq}
 
 -- Fronts.
 
@@ -54,7 +54,7 @@ opened_more l place p n leg o at_n = record {
   below = let q = o.below in omega (arith, q);
   passes = o.passes;
   opens = o.opens;
-  stays = λ g i q later before t. one_more g i q later t (below_or_last g.number n before);
+  stays = λ g i q later before t. one_more g i q later t (lt_or_eq g.number n before);
 }
   where
     one_more : (g : Entry) → In g l → g.place ≡ place → o.entry.number < g.number → p g ≡ true
@@ -174,4 +174,4 @@ pub opened_holder : (l : List Entry) → ((e : Entry) → In e l → length (fil
 opened_holder l numbered place p zero leg o = absurd (let k = o.below in omega (arith, k))
 opened_holder l numbered place p (suc n) leg o =
     holder_case l numbered place p n leg o (λ k. opened_holder l numbered place p n leg (opened_before l place p n leg o k))
-    (below_or_last o.entry.number n o.below) (step l numbered place n)
+    (lt_or_eq o.entry.number n o.below) (step l numbered place n)

@@ -1,35 +1,37 @@
 -- No port has two holders: the box of a pair is open for the leg that holds the pair, and for no other.
-use Rattle.std.proofs.Common.{◌≡◌, ◌∙◌, sym, ap, subst, refl, ℕ, ◌+◌, ◌<◌, ◌≤◌, ◌⊎◌, inl, inr, List, [], ◌∷◌, ◌++◌, Bool, true, false, Option, Some, None, map, length, filter, arith}
+use Rattle.std.proofs.Common.{◌≡◌, ◌∙◌, sym, ap, subst, refl, ℕ, ◌<◌, ◌⊎◌, inl, inr, List, Bool, true, false, Option, Some, None, arith}
 use Rattle.std.specs.Prelude.{◌&&◌, nat_lt}
 use Rattle.std.proofs.lemmas.Bool.Decides.{nat_tests}
 use Rattle.relay_outside.specs.declared.settings.Config.{Config}
-use Rattle.histories.specs.Words.{In, here, there}
+use Rattle.histories.specs.Words.{In}
 use Rattle.port_pool.specs.declared.holder.Holder.{Holder}
-use Rattle.port_pool.specs.Boxes.{BoxEvent, Open, Take, Close, Taken, holder}
+use Rattle.port_pool.specs.Boxes.{BoxEvent, Open, Close, holder}
 use Rattle.call_board.specs.Acts as act
 use Rattle.call_board.specs.Acts.{Act, Call, BoardEntry}
-use Rattle.call_board.specs.Pairs.{held, closes_leg, closed_of, calls_in}
+use Rattle.call_board.specs.Pairs.{held, closes_leg}
 use Rattle.call_board.specs.Fits.{FitsBoard, IsFitting}
 use Rattle.call_board.proofs.Once.{once_equal}
 use Rattle.call_board.proofs.Held.{closes_held, closed_of_held}
 use Rattle.call_board.proofs.Free.{free_not_held, new_leg_free, new_legs_once, held_apart}
 use Rattle.relay_core.specs.Entries.{Event, Board, Cell, Box, Entry, is_nested, front, board_entry, board_history, box_in, box_event, box_of}
-use Rattle.relay_core.specs.Scripts.{Owed, owed_by, opening, closing, script}
+use Rattle.relay_core.specs.Scripts.{Owed, owed_by, opening, closing}
 use Rattle.relay_core.specs.Legal.{Orderly}
 use Rattle.relay_core.specs.Safe.{box_before}
 use Rattle.relay_core.proofs.Histories.{both, and_true, same_at, good_history}
+use Rattle.relay_core.proofs.Boards.{lt_or_eq, less_or}
+use Rattle.relay_core.proofs.Lives.{not_after}
 use Rattle.relay_core.proofs.Scripts.{IsOwed, opens, prepares, commits, closes, ends, expires, reads, owed, has_opening, has_closing, IsNestedIn, nested_in, IsMade, is_made}
-use Rattle.relay_core.proofs.Moments.{Leasing, HeldSince, IsUnclosed, FirstClose, HeldOrClosed, held_since, still_held, held_until, held_or_closed, same_entry}
-use Rattle.relay_core.proofs.Boxes.{below_front, Leaves, Opened, box_events, holder_opened, opened_holder}
+use Rattle.relay_core.proofs.Leases.{Leasing, HeldSince, FirstClose, HeldOrClosed, held_since, still_held, held_until, held_or_closed, same_entry}
+use Rattle.relay_core.proofs.Boxes.{below_front, Leaves, Opened, holder_opened, opened_holder}
 
 pub pairs_apart : (config : Config) (l : List Entry) → Orderly config l → (n : ℕ) (a b : Holder)
     → In a (held (board_history l n)) → In b (held (board_history l n)) → a.pair ≡ b.pair → a ≡ b
 pairs_apart config l o n a b i j q = held_apart config (board_history l n) a b (good_history config l o n) i j q
 
-less : (a b : ℕ) → nat_lt a b ≡ true → a < b
+pub less : (a b : ℕ) → nat_lt a b ≡ true → a < b
 less a b is = grind (arith, nat_tests)
 
-is_less : (a b : ℕ) → a < b → nat_lt a b ≡ true
+pub is_less : (a b : ℕ) → a < b → nat_lt a b ≡ true
 is_less a b is = grind (arith, nat_tests)
 
 -- the nested entries that belong to board entries below n
@@ -105,18 +107,6 @@ keeps_held config l o n leg s b x i p h k (inr m) =
     let one = same_entry l o.numbered b s.lease.board x s.lease.entry i s.lease.is_in p s.lease.at_board (sym m) h s.lease.is in
     leased s.lease.offer (ap act.act one ∙ s.lease.acts) s.lease.has_leg
 
-not_before : (config : Config) (l : List Entry) → Orderly config l → (f g : Entry) → In f l → In g l → is_nested f.event ≡ true → is_nested g.event ≡ true
-    → f.place ≡ g.place → f.number < g.number → (f.board < g.board) ⊎ (f.board ≡ g.board)
-not_before config l o f g i j a b p k = less_or_same (o.ordered f g i j a b p k)
-  where
-    less_or_same : {X : Type 0} → (f.board < g.board) ⊎ ((f.board ≡ g.board) × X) → (f.board < g.board) ⊎ (f.board ≡ g.board)
-    less_or_same (inl q) = inl q
-    less_or_same (inr q) = inr q.0
-
-moved : (a b c d : ℕ) → a ≡ c → b ≡ d → (a < b) ⊎ (a ≡ b) → (c < d) ⊎ (c ≡ d)
-moved a b c d p q (inl k) = inl (omega (arith, p, q, k))
-moved a b c d p q (inr k) = inr (sym p ∙ k ∙ q)
-
 -- what comes to the box after its opening leaves it the leg's
 stays_open : (config : Config) (l : List Entry) → Orderly config l → (n : ℕ) (leg : Holder) (s : HeldSince l n leg)
     → (m : IsMade l s.lease.board (opening config leg)) → (g : Entry) → In g l → g.place ≡ box_of config leg.pair
@@ -125,8 +115,8 @@ stays_open config l o n leg s m g i p later nested before None is = tt
 stays_open config l o n leg s m g i p later nested before (Some v) is =
     let b = nested_in config l o g i nested in
     let at = ap (λ (u : Owed). u.place) m.is in
-    let order = moved m.entry.board g.board s.lease.board.number b.board.number m.board_is (sym b.number_is)
-    (not_before config l o m.entry g m.is_in i m.nested nested (at ∙ sym p) later) in
+    let k = not_after config l o m.entry g m.is_in i m.nested nested (at ∙ sym p) later in
+    let order = lt_or_eq s.lease.board.number b.board.number (let q = m.board_is in let r = b.number_is in omega (arith, k, q, r)) in
     leaves_held config (board_history l b.board.number) b.entry leg v (good_history config l o b.board.number) b.fits
     (keeps_held config l o n leg s b.board b.entry b.is_in b.at_board b.is (let q = b.number_is in omega (arith, q, before)) order)
     (subst (λ t. OwedBox config (board_history l b.board.number) b.entry t v) p (box_owed config l o g v b is))
@@ -183,38 +173,22 @@ opened_lease config l o e leg i nested is =
         )
     leased_by b (closed other j c at v) = absurd (let k = v in cc)
 
-data Order (a b : ℕ) : Type 0 where
-  lower : a < b → Order a b
-  level : a ≡ b → Order a b
-  higher : b < a → Order a b
-
-order_of : (a b : ℕ) → (a < b) ⊎ (a ≡ b) ⊎ (b < a) → Order a b
-order_of a b (inl k) = lower k
-order_of a b (inr (inl k)) = level k
-order_of a b (inr (inr k)) = higher k
-
-order : (a b : ℕ) → Order a b
-order a b = order_of a b (grind arith)
-
 close_refuted : (config : Config) (l : List Entry) → Orderly config l → (pair n : ℕ) (leg : Holder)
     → (s : Opened l (box_of config pair) (passes_below n) (front l (box_of config pair)) leg) → s.entry.place ≡ box_of config leg.pair
     → (g : Entry) → In g l → is_nested g.event ≡ true → owed_by g ≡ closing config leg → s.entry.board < g.board → g.board < n
-    → Order s.entry.number g.number → ⊥
-close_refuted config l o pair n leg s at g i nested is later before (lower k) =
+    → (s.entry.number < g.number) ⊎ ((s.entry.number ≡ g.number) ⊎ (g.number < s.entry.number)) → ⊥
+close_refuted config l o pair n leg s at g i nested is later before (inl k) =
     let place : g.place ≡ box_of config pair = ap (λ (u : Owed). u.place) is ∙ sym at ∙ s.at in
     let leaves : Leaves leg (box_event g) = s.stays g i place k (below_front l g (box_of config pair) i place)
     (and_true (is_nested g.event) (nat_lt g.board n) nested (is_less g.board n before)) in
     subst (Leaves leg) (ap (λ (u : Owed). box_in u.event) is) leaves
-close_refuted config l o pair n leg s at g i nested is later before (level k) =
+close_refuted config l o pair n leg s at g i nested is later before (inr (inl k)) =
     let one = same_at l o.numbered s.entry g s.is_in i (at ∙ sym (ap (λ (u : Owed). u.place) is)) k in
     absurd (let q = ap (λ (e : Entry). e.board) one in omega (arith, q, later))
-close_refuted config l o pair n leg s at g i nested is later before (higher k) =
-    board_refuted (not_before config l o g s.entry i s.is_in nested (both (is_nested s.entry.event) (nat_lt s.entry.board n) s.passes).0
-    (ap (λ (u : Owed). u.place) is ∙ sym at) k)
-  where
-    board_refuted : (g.board < s.entry.board) ⊎ (g.board ≡ s.entry.board) → ⊥
-    board_refuted (inl q) = omega (arith, q, later)
-    board_refuted (inr q) = omega (arith, q, later)
+close_refuted config l o pair n leg s at g i nested is later before (inr (inr k)) =
+    let q = not_after config l o g s.entry i s.is_in nested (both (is_nested s.entry.event) (nat_lt s.entry.board n) s.passes).0
+    (ap (λ (u : Owed). u.place) is ∙ sym at) k in
+    omega (arith, q, later)
 
 first_close_refuted : (config : Config) (l : List Entry) → Orderly config l → (pair n : ℕ) (leg : Holder)
     → (s : Opened l (box_of config pair) (passes_below n) (front l (box_of config pair)) leg) → s.entry.place ≡ box_of config leg.pair
@@ -227,7 +201,7 @@ first_close_refuted config l o pair n leg s at lease of_board c =
     close_refuted config l o pair n leg s at m.entry m.is_in m.nested m.is
     (let q = of_board in let r = m.board_is in let k = c.later in omega (arith, q, r, k))
     (let r = m.board_is in let k = c.below in omega (arith, r, k))
-    (order s.entry.number m.entry.number)
+    (less_or s.entry.number m.entry.number)
 
 -- the leg for which the box of a pair is open holds that pair
 pub held_is_box : (config : Config) (l : List Entry) → Orderly config l → (n pair : ℕ) (leg : Holder)

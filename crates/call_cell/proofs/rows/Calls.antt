@@ -1,8 +1,7 @@
 -- The calls, packets and histories of the worked rows.
-use Rattle.std.proofs.Common.{ℕ, ◌+◌, ◌*◌, ◌/◌, ◌%◌, List, [], ◌∷◌, ◌++◌, map, Bool, false, true, Option, Some, None, max}
+use Rattle.std.proofs.Common.{ℕ, ◌+◌, ◌/◌, ◌%◌, List, [], ◌∷◌, ◌++◌, map, Bool, false, true, Option, Some, None}
 use Rattle.relay_outside.specs.declared.settings.Config.{Config}
 use Rattle.relay_outside.specs.declared.settings.Flags.{Flags}
-use Rattle.relay_outside.specs.declared.address.Ip.{Ip}
 use Rattle.relay_outside.specs.declared.address.Ip.TheVariants as ips
 use Rattle.relay_outside.specs.declared.address.Addr.{Addr}
 use Rattle.rtp_packet.specs.declared.head.Half.{Half}
@@ -10,17 +9,14 @@ use Rattle.rtp_packet.specs.declared.head.Half.TheVariants.{Rtp, Rtcp}
 use Rattle.sdes_lines.specs.declared.crypto_line.Suite.{Suite}
 use Rattle.sdes_lines.specs.declared.crypto_line.Suite.TheVariants.{Tag80, Tag32}
 use Rattle.srtp_sources.specs.Notes.{Note}
-use Rattle.histories.specs.Words.{greatest}
-use Rattle.port_pool.specs.declared.holder.Side.{Side}
 use Rattle.port_pool.specs.declared.holder.Side.TheVariants.{A, B}
 use Rattle.port_pool.specs.declared.holder.Holder.{Holder}
 use Rattle.port_pool.specs.declared.signal.LegSignal.{LegSignal}
-use Rattle.port_pool.specs.declared.signal.SectionSignal.{SectionSignal}
 use Rattle.port_pool.specs.declared.signal.SectionSignal.TheVariants as section
 use Rattle.port_pool.specs.Signals.{NewKey}
 use Rattle.call_cell.specs.declared.outcome.Outcome.{Outcome}
 use Rattle.call_cell.specs.declared.outcome.Outcome.TheVariants as outcomes
-use Rattle.call_cell.specs.Cells.{CellEvent, CellEntry, Prepare, Commit, Relay, Expire, Read, End, Receipt, Shield, Relayed, Deed, since_end, relay_in}
+use Rattle.call_cell.specs.Cells.{CellEvent, CellEntry, Prepare, Commit, Relay, Receipt, Shield, Relayed, Deed, since_end, relay_in}
 use Rattle.call_cell.specs.Deeds.{deed}
 
 abbrev pub config : Config

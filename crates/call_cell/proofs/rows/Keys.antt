@@ -1,22 +1,20 @@
 -- Worked rows of packets that are protected: under which key and index they leave, and which are lost for want of one.
-use Rattle.std.proofs.Common.{◌≡◌, ℕ, ◌^◌, ◌-◌, List, [], ◌∷◌, ◌++◌, map, replicate, false, true, Option, Some, None, refl}
-use Rattle.rtp_packet.specs.declared.head.Half.{Half}
+use Rattle.std.proofs.Common.{◌≡◌, ℕ, ◌^◌, ◌-◌, List, [], ◌∷◌, ◌++◌, map, true, Option, Some, None, refl}
 use Rattle.rtp_packet.specs.declared.head.Half.TheVariants.{Rtp, Rtcp}
 use Rattle.rtp_packet.specs.Head.{rtp_head, rtcp_ssrc}
 use Rattle.replay_window.specs.Indices.{near, nearest_lifted, fresh}
-use Rattle.srtp_sources.specs.Notes.{Note, indices, sources, has_room}
+use Rattle.srtp_sources.specs.Notes.{indices, sources, has_room}
 use Rattle.srtp_context.specs.Packets as srtp
 use Rattle.srtp_context.specs.Wrapping as srtp_out
 use Rattle.srtcp_context.specs.Wrapping as srtcp_out
-use Rattle.sdes_lines.specs.declared.crypto_line.Suite.TheVariants.{Tag80, Tag32}
+use Rattle.sdes_lines.specs.declared.crypto_line.Suite.TheVariants.{Tag80}
 use Rattle.histories.specs.Words.{first, numbers}
 use Rattle.call_cell.specs.declared.outcome.Lost.TheVariants as lost
-use Rattle.call_cell.specs.declared.outcome.Outcome.{Outcome}
 use Rattle.call_cell.specs.declared.outcome.Outcome.TheVariants as outcomes
-use Rattle.call_cell.specs.Cells.{CellEvent, CellEntry, Prepare, Relay, Shield, Sending}
-use Rattle.call_cell.specs.Keyed.{protected, wrapped_under}
+use Rattle.call_cell.specs.Cells.{CellEvent, CellEntry, Relay, Shield}
+use Rattle.call_cell.specs.Keyed.{wrapped_under}
 use Rattle.call_cell.specs.Deeds.{deed}
-use Rattle.call_cell.proofs.rows.Calls.{Step, leg_a, leg_b, at_a, at_b, first_place, plain, side_a, side_b, held, under, committed, rejected, received, from_a, from_b, control_a, answered, answered_keyed, steps, now, packet, fails, outcomes_of, shields_of, deeds, note, shield, rtp_of, rtcp_of}
+use Rattle.call_cell.proofs.rows.Calls.{Step, leg_a, at_a, at_b, side_a, side_b, held, under, committed, received, from_a, from_b, answered, answered_keyed, steps, now, packet, fails, outcomes_of, shields_of, deeds, shield, rtp_of, rtcp_of}
 
 -- a call whose side B takes SRTP under the first key
 abbrev keyed : List CellEntry
@@ -82,6 +80,11 @@ failed_stays_used = refl
 held_is_unused : shields_of (steps (answered_keyed side_a (held (under 0 side_b))) (packet (from_a at_a 100) ∷ now (committed side_a (under 0 side_b)) ∷ packet (from_a at_a 100) ∷ [])) ≡ index 100 ∷ None ∷ []
 unfolding deed rtp_head wrapped_under srtp_out.wrapping srtp_out.sent_index near nearest_lifted fresh indices sources has_room
 held_is_unused = refl
+
+-- hold is asked before the key
+held_before_used : first (outcomes_of (steps keyed (packets (100 ∷ []) ++ now (committed side_a (held (under 0 side_b))) ∷ packets (100 ∷ [])))) ≡ Some (outcomes.Lost lost.Hold)
+unfolding deed rtp_head wrapped_under srtp_out.wrapping srtp_out.sent_index near nearest_lifted fresh indices sources has_room
+held_before_used = refl
 
 -- The notes of a key outlive what is in force: a new answer with the same key doesn't begin them anew.
 

@@ -1,14 +1,16 @@
 -- Worked rows of learning: where packets go, and whose packets are taken.
-use Rattle.std.proofs.Common.{◌≡◌, List, [], ◌∷◌, ◌++◌, false, true, Some, None, refl}
+use Rattle.std.proofs.Common.{◌≡◌, true, [], ◌∷◌, Some, None, refl}
+use Rattle.relay_outside.specs.declared.address.Addr.{Addr}
 use Rattle.rtp_packet.specs.declared.head.Half.TheVariants.{Rtp, Rtcp}
 use Rattle.rtp_packet.specs.Head.{rtp_head, rtcp_ssrc}
+use Rattle.port_pool.specs.declared.holder.Side.TheVariants.{B}
 use Rattle.call_cell.specs.declared.outcome.Refused.TheVariants as refused
 use Rattle.call_cell.specs.declared.outcome.Lost.TheVariants as lost
 use Rattle.call_cell.specs.declared.outcome.Outcome.TheVariants as outcomes
-use Rattle.call_cell.specs.Cells.{Prepare}
+use Rattle.call_cell.specs.Cells.{CellEvent, Relay}
 use Rattle.call_cell.specs.Learning.{learned, endpoint}
-use Rattle.call_cell.specs.Deeds.{deed}
-use Rattle.call_cell.proofs.rows.Calls.{leg_a, leg_b, at_a, at_b, next_port, first_place, second_place, third_place, no_flags, strict, handover, strict_handover, asymmetric, strict_asymmetric, plain, side_a, side_b, held, committed, received, from_a, from_b, control_a, control_b, answered, steps, now, packet, outcomes_of, sent_to_a, sent_to_b}
+use Rattle.call_cell.specs.Deeds.{deed, lost_deed}
+use Rattle.call_cell.proofs.rows.Calls.{leg_a, leg_b, at_a, at_b, next_port, first_place, second_place, third_place, no_flags, strict, handover, strict_handover, asymmetric, strict_asymmetric, plain, side_a, side_b, held, committed, received, from_a, from_b, control_a, control_b, answered, steps, now, packet, outcomes_of, sent_to_a, sent_to_b, rtp_of}
 
 -- Before any packet, packets go to the signalled addresses.
 
@@ -48,6 +50,11 @@ strict_refuses_host : outcomes_of (steps (answered (plain at_a strict) side_b) (
 unfolding deed rtp_head
 strict_refuses_host = refl
 
+-- it is the leg that is found whose learned source counts
+strict_asks_the_leg : outcomes_of (steps (answered (plain at_a strict) side_b) (packet (from_a first_place 1) ∷ packet (received (record leg_a { section = 5; side = B }) Rtp second_place (rtp_of 1 1)) ∷ [])) ≡ outcomes.Refused refused.WrongSource ∷ sent_to_b at_b ∷ []
+unfolding deed rtp_head
+strict_asks_the_leg = refl
+
 -- the flags are those of the leg that received the packet
 strict_is_of_its_side : outcomes_of (steps (answered (plain at_a strict) side_b) (packet (from_b first_place 1) ∷ packet (from_b second_place 2) ∷ [])) ≡ sent_to_a at_a ∷ sent_to_a at_a ∷ []
 unfolding deed rtp_head
@@ -71,6 +78,13 @@ handover_moves_back = refl
 strict_handover_refuses : outcomes_of (steps (answered (plain at_a strict_handover) side_b) (packet (from_a first_place 1) ∷ packet (from_a second_place 2) ∷ packet (from_b at_b 1) ∷ [])) ≡ sent_to_a first_place ∷ outcomes.Refused refused.WrongSource ∷ sent_to_b at_b ∷ []
 unfolding deed rtp_head
 strict_handover_refuses = refl
+
+-- even if a packet of another source were accepted under it
+abbrev heard_from : Addr → CellEvent
+heard_from source = Relay (record { packet = from_a source 1; sent_ok = true; deed = lost_deed Rtp None lost.Hold })
+
+strict_handover_stays : learned (steps (answered (plain at_a strict_handover) side_b) (now (heard_from first_place) ∷ now (heard_from second_place) ∷ [])) leg_a Rtp ≡ Some first_place
+strict_handover_stays = refl
 
 -- what counts is the flag with which the packet was taken
 handover_then_none : learned (steps (answered side_a side_b) (packet (from_a first_place 1) ∷ now (committed (plain at_a handover) side_b) ∷ packet (from_a second_place 2) ∷ now (committed side_a side_b) ∷ packet (from_a third_place 3) ∷ [])) leg_a Rtp ≡ Some second_place
@@ -134,6 +148,15 @@ other_half_keeps = refl
 back_again_forgets : learned (steps (answered side_a side_b) (packet (from_a first_place 1) ∷ now (committed (plain third_place no_flags) side_b) ∷ now (committed side_a side_b) ∷ [])) leg_a Rtp ≡ None
 unfolding deed rtp_head
 back_again_forgets = refl
+
+-- what counts is the address before, not the first one
+back_to_the_first_forgets : learned (steps (answered side_a side_b) (now (committed (plain third_place no_flags) side_b) ∷ packet (from_a first_place 1) ∷ now (committed side_a side_b) ∷ [])) leg_a Rtp ≡ None
+unfolding deed rtp_head
+back_to_the_first_forgets = refl
+
+changed_once_keeps : learned (steps (answered side_a side_b) (now (committed (plain third_place no_flags) side_b) ∷ packet (from_a first_place 1) ∷ now (committed (plain third_place no_flags) (held side_b)) ∷ [])) leg_a Rtp ≡ Some first_place
+unfolding deed rtp_head
+changed_once_keeps = refl
 
 forgotten_is_learned_anew : outcomes_of (steps (answered (plain at_a strict) side_b) (packet (from_a first_place 1) ∷ now (committed (plain third_place strict) side_b) ∷ packet (from_a second_place 2) ∷ packet (from_a first_place 3) ∷ [])) ≡ outcomes.Refused refused.WrongSource ∷ sent_to_b at_b ∷ sent_to_b at_b ∷ []
 unfolding deed rtp_head

@@ -1,16 +1,15 @@
 -- Worked rows of packets that are refused whatever key stands, or lost since the opposite leg is on hold.
-use Rattle.std.proofs.Common.{◌≡◌, List, [], ◌∷◌, ◌++◌, false, true, Some, None, refl}
+use Rattle.std.proofs.Common.{◌≡◌, List, [], ◌∷◌, Some, None, refl}
 use Rattle.rtp_packet.specs.declared.head.Half.TheVariants.{Rtp, Rtcp}
 use Rattle.rtp_packet.specs.Head.{rtp_head, rtcp_ssrc}
-use Rattle.port_pool.specs.declared.holder.Side.TheVariants.{A, B}
+use Rattle.port_pool.specs.declared.holder.Side.TheVariants.{B}
 use Rattle.port_pool.specs.declared.holder.Holder.{Holder}
 use Rattle.port_pool.specs.declared.signal.SectionSignal.TheVariants as section
 use Rattle.call_cell.specs.declared.outcome.Refused.TheVariants as refused
 use Rattle.call_cell.specs.declared.outcome.Lost.TheVariants as lost
 use Rattle.call_cell.specs.declared.outcome.Outcome.{Outcome}
 use Rattle.call_cell.specs.declared.outcome.Outcome.TheVariants as outcomes
-use Rattle.call_cell.specs.Cells.{CellEvent, CellEntry, Prepare, Commit, End, call, legs, in_force, since_end}
-use Rattle.call_cell.specs.Learning.{learned}
+use Rattle.call_cell.specs.Cells.{CellEntry, Prepare, Commit, End, call, legs, in_force, since_end}
 use Rattle.call_cell.specs.Deeds.{deed}
 use Rattle.call_cell.proofs.rows.Calls.{leg_a, leg_b, at_a, at_b, first_place, second_place, third_place, no_flags, strict, plain, side_a, side_b, held, prepared, committed, rejected, received, from_a, from_b, control_a, answered, steps, now, packet, outcomes_of, sent_to_a, sent_to_b, rtp_of, rtcp_of, fails}
 
@@ -112,6 +111,10 @@ second_section_is_open = refl
 abbrev both_answered : List CellEntry
 both_answered = steps two_sections (now (Commit (section.Commit side_a side_b ∷ section.Commit side_a (plain third_place no_flags) ∷ [])) ∷ [])
 
+-- the legs of the later Prepare stand first
+legs_in_order : legs two_sections ≡ second_b ∷ second_a ∷ leg_b ∷ leg_a ∷ []
+legs_in_order = refl
+
 -- a packet leaves by the opposite leg of its own section
 own_section : outcomes_of (steps both_answered (packet (received second_a Rtp at_a (rtp_of 1 1)) ∷ packet (received second_b Rtp at_b (rtp_of 1 1)) ∷ [])) ≡ outcomes.Sent 30006 at_a 13 ∷ outcomes.Sent 30004 third_place 13 ∷ []
 unfolding deed rtp_head
@@ -172,7 +175,7 @@ send_fails = refl
 
 -- The call is that of the first Prepare since the last End.
 
-call_is_begun : call (since_end (steps (answered side_a side_b) (now End ∷ now (Prepare 1 [] [] []) ∷ now (Prepare 1 [] [] []) ∷ []))) ≡ Some 1
+call_is_begun : call (since_end (steps (answered side_a side_b) (now End ∷ now (Prepare 1 [] [] []) ∷ now (Prepare 2 [] [] []) ∷ []))) ≡ Some 1
 call_is_begun = refl
 
 no_call : call (since_end (steps (answered side_a side_b) (now End ∷ []))) ≡ None

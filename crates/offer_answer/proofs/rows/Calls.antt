@@ -70,6 +70,9 @@ feedback_audio = codes "m=audio 6000 RTP/AVPF 0\r\n"
 abbrev pub secure_audio : List ℕ
 secure_audio = codes "m=audio 6000 RTP/SAVP 0\r\n"
 
+abbrev pub no_secure_audio : List ℕ
+no_secure_audio = codes "m=audio 0 RTP/SAVP 0\r\n"
+
 abbrev pub no_audio : List ℕ
 no_audio = codes "m=audio 0 RTP/AVP 0\r\n"
 

@@ -91,6 +91,11 @@ answer_from_other_side : answer_fault answered_once (answer_by b a (bob_with aud
 unfolding answer_fault
 answer_from_other_side = refl
 
+-- the side comes before the number of sections
+other_side_with_two_sections : answer_fault answered_once (answer_by b a (bob_with (audio ++ video)) plain none2) ≡ Some E11
+unfolding answer_fault
+other_side_with_two_sections = refl
+
 answer_with_two_sections : answer_fault answered_once (answer_by a b (bob_with (audio ++ video)) plain none2) ≡ Some E12
 unfolding answer_fault
 answer_with_two_sections = refl
@@ -203,6 +208,15 @@ fewer_before_an_answer = refl
 fewer_after_an_answer : offer_fault answered_two audio_offer ≡ Some E12
 unfolding offer_fault answered_two offered_two
 fewer_after_an_answer = refl
+
+-- the unknown tag comes first
+stranger_with_fewer : offer_fault answered_two (offer_by (codes "q") (alice_with audio) plain none1) ≡ Some E10
+unfolding offer_fault answered_two offered_two
+stranger_with_fewer = refl
+
+more_after_an_answer : offer_fault answered_once (offer_by a (alice_with (audio ++ video)) plain none2) ≡ None
+unfolding offer_fault
+more_after_an_answer = refl
 
 -- an offer with more sections that nobody answered doesn't count
 fewer_than_an_open_offer : offer_fault (Offered (offer_by a (alice_with (audio ++ video)) plain none2) (two_legs 1 2) [] ∷ answered_once) audio_offer ≡ None

@@ -11,7 +11,7 @@ use Rattle.port_pool.specs.Signals.{NewKey}
 use Rattle.offer_answer.specs.Rounds.{Round, Offered, Answered, OfferAsk, AnswerAsk}
 use Rattle.offer_answer.specs.Keys.{last_lines}
 use Rattle.offer_answer.specs.Plan.{offer_fault, demand, answer_fault, signal, protocol}
-use Rattle.offer_answer.proofs.rows.Calls.{plain, towards, alice_ip, bob_ip, alice_with, bob_with, audio, feedback_audio, secure_audio, no_audio, video, line80, line32, two_legs, key, place, nothing, new_two, offer_by, answer_by, a, b, d, none1, none2, audio_offer, audio_answer, plain_leg}
+use Rattle.offer_answer.proofs.rows.Calls.{plain, towards, alice_ip, bob_ip, alice_with, bob_with, audio, feedback_audio, secure_audio, no_secure_audio, no_audio, video, line80, line32, two_legs, key, place, nothing, new_two, offer_by, answer_by, a, b, d, none1, none2, audio_offer, audio_answer, plain_leg}
 
 -- a committed leg with SRTP: the line that its side chose, and the number of the key that it is sent to under
 abbrev secure_leg : LegSignal → CryptoLine → ℕ → LegSignal
@@ -54,6 +54,11 @@ takes_no_line : answer_fault secured (answer_by a b (bob_with secure_audio) plai
 unfolding answer_fault
 takes_no_line = refl
 
+-- whatever the answer's own protocol is
+plain_answer_takes_no_line : answer_fault secured audio_answer ≡ Some E8
+unfolding answer_fault
+plain_answer_takes_no_line = refl
+
 takes_first_line : answer_fault secured (takes b first_line) ≡ None
 unfolding answer_fault
 takes_first_line = refl
@@ -62,6 +67,11 @@ takes_first_line = refl
 rejects_without_line : answer_fault secured (answer_by a b (bob_with no_audio) plain none1) ≡ None
 unfolding answer_fault
 rejects_without_line = refl
+
+-- nor does one that the offer doesn't use
+unused_needs_no_line_taken : answer_fault (Offered (offer_by a (alice_with no_audio) (towards Savp) none1) [] [] ∷ []) (answer_by a b (bob_with secure_audio) plain none1) ≡ None
+unfolding answer_fault
+unused_needs_no_line_taken = refl
 
 -- the number of sections comes before the crypto lines
 count_before_lines : answer_fault secured (answer_by a b (bob_with (secure_audio ++ video)) plain none2) ≡ Some E12
@@ -116,6 +126,19 @@ in_force_while_open = refl
 asked_comes_first : protocol (Answered audio_answer ∷ Offered (offer_by a (alice_with audio) (towards Avpf) none1) [] [] ∷ taken) 0 B ≡ Some Avpf
 unfolding protocol
 asked_comes_first = refl
+
+-- towards plain RTP no line is written, though a key is in force
+plain_has_no_line : last_lines (Offered (offer_by a (alice_with audio) (towards Avp) none1) [] [] ∷ taken) 0 ≡ None ∷ None ∷ []
+plain_has_no_line = refl
+
+-- a section that isn't active has no line either
+unused_has_no_line : last_lines (Offered (offer_by a (alice_with no_audio) plain none1) [] [] ∷ taken) 0 ≡ None ∷ None ∷ []
+unused_has_no_line = refl
+
+-- an offer that nobody answered changes neither the profile nor the key in force
+replaced_offer_changes_nothing : last_lines (Offered audio_offer [] [] ∷ Offered (offer_by a (alice_with audio) (towards Avp) none1) [] [] ∷ taken) 0
+    ≡ carrying 1 (key 0 0 B Tag80) ∷ None ∷ []
+replaced_offer_changes_nothing = refl
 
 -- The other side offers.
 
@@ -180,6 +203,18 @@ feedback_draws_nothing : demand [] (offer_by a (alice_with audio) (towards Avpf)
 unfolding demand
 feedback_draws_nothing = refl
 
+-- nor is a section that isn't active
+unused_section_needs_no_line : offer_fault [] (offer_by a (alice_with (audio ++ no_secure_audio)) plain none2) ≡ None
+unfolding offer_fault
+unused_section_needs_no_line = refl
+
+-- the number of sections comes before the crypto lines
+count_before_lines_of_offers : offer_fault
+    (Answered (answer_by a b (bob_with (audio ++ video)) plain none2) ∷ Offered (offer_by a (alice_with (audio ++ video)) plain none2) (two_legs 0 0 ++ two_legs 1 2) [] ∷ [])
+    (offer_by a (alice_with secure_audio) plain none1) ≡ Some E12
+unfolding offer_fault
+count_before_lines_of_offers = refl
+
 one_key_is_drawn : demand [] unsecuring ≡ record { pairs = new_two 0; keys = place 0 A Tag32 ∷ []; dropped = [] }
 unfolding demand
 one_key_is_drawn = refl
@@ -193,6 +228,10 @@ plain_is_offered = refl
 plain_answer_is_taken : answer_fault unsecured audio_answer ≡ None
 unfolding answer_fault
 plain_answer_is_taken = refl
+
+secure_answer_to_plain_needs_no_line : answer_fault unsecured (answer_by a b (bob_with secure_audio) plain none1) ≡ None
+unfolding answer_fault
+secure_answer_to_plain_needs_no_line = refl
 
 alice_is_sent_to_under_her_suite : signal unsecured audio_answer ≡ Commit (secure_leg (plain_leg alice_ip 6000) line32 0) (plain_leg bob_ip 6000) ∷ []
 unfolding signal
@@ -251,6 +290,10 @@ unsecured_taken = Answered audio_answer ∷ unsecured
 
 one_line_to_a : last_lines (Offered (offer_by b (bob_with audio) plain none1) [] [] ∷ unsecured_taken) 0 ≡ carrying 1 (key 0 0 A Tag32) ∷ None ∷ []
 one_line_to_a = refl
+
+key_in_force_draws_no_other : demand unsecured_taken (offer_by b (bob_with audio) plain none1) ≡ nothing
+unfolding demand
+key_in_force_draws_no_other = refl
 
 -- with a key for one suite and none in force, the other one alone is drawn, and both are offered
 abbrev offered_to_a : List Round

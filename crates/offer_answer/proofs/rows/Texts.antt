@@ -94,6 +94,14 @@ unused_profile_is_written : offer_text config [] (offer_by a (alice_with (image 
 unfolding offers_and_answers
 unused_profile_is_written = refl
 
+-- a committed section that an offer doesn't use is written with port 0, though its pairs stand
+unused_port_is_zero : offer_text config
+    (Answered (answer_by a b (bob_with (audio ++ video)) plain none2) ∷ Offered (offer_by a (alice_with (audio ++ video)) plain none2) (two_legs 0 0 ++ two_legs 1 2) [] ∷ [])
+    (offer_by a (alice_with (no_audio ++ video)) plain none2) [] []
+    ≡ codes "v=0\r\nc=IN IP4 192.0.2.10\r\nm=audio 0 RTP/AVP 0\r\nc=IN IP4 203.0.113.1\r\nm=video 30004 RTP/AVP 31\r\nc=IN IP4 203.0.113.1\r\n"
+unfolding offers_and_answers
+unused_port_is_zero = refl
+
 -- SRTP.
 
 secured_is_written : offer_text config [] (offer_by a alice (towards Savp) none1) (30000 ∷ 30002 ∷ []) (key 0 0 B Tag80 ∷ key 1 0 B Tag32 ∷ [])

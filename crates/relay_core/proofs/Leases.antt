@@ -1,41 +1,14 @@
--- The moments of the board's history: which entry stood there, and where a leg was leased and held since.
-use Rattle.std.proofs.Common.{◌≡◌, ◌∙◌, sym, ap, subst, refl, ℕ, zero, suc, ◌<◌, ◌≤◌, ◌⊎◌, inl, inr, List, [], ◌∷◌, ◌++◌, Bool, true, false, Option, Some, None, length, filter, arith}
-use Rattle.relay_outside.specs.declared.settings.Config.{Config}
-use Rattle.histories.specs.Words.{In, here, there}
+-- Where a leg was leased, and whether it is held since.
+use Rattle.std.proofs.Common.{◌≡◌, ◌∙◌, sym, ap, subst, refl, ℕ, zero, suc, ◌<◌, ◌≤◌, ◌⊎◌, inl, inr, List, Bool, true, false, Some, length, filter, arith}
+use Rattle.histories.specs.Words.{In}
 use Rattle.port_pool.specs.declared.holder.Holder.{Holder}
 use Rattle.call_board.specs.Acts.{Act, BoardEntry}
 use Rattle.call_board.specs.Acts as act
 use Rattle.call_board.specs.Pairs.{held, legs_of_act, closes_leg}
-use Rattle.call_board.proofs.Moments.{Later, now, after}
 use Rattle.call_board.proofs.Held.{held_split, held_stays, held_new}
 use Rattle.relay_core.specs.Entries.{Entry, is_at, board_entry, board_history}
-use Rattle.relay_core.proofs.Histories.{More, same, added, more, same_at, IsNumbered}
-
-pub below_or_last : (a b : ℕ) → a < suc b → (a < b) ⊎ (a ≡ b)
-below_or_last a b h = grind (arith, h)
-
-later_case : (l : List Entry) → ((e : Entry) → In e l → length (filter (is_at e.place e.number) l) ≡ 1)
-    → (n : ℕ) (b : Entry) (x : BoardEntry) → In b l → b.place ≡ 0 → board_entry b ≡ Some x
-    → (b.number < n → Later (x ∷ board_history l b.number) (board_history l n))
-    → (b.number < n) ⊎ (b.number ≡ n) → More board_entry l 0 n → Later (x ∷ board_history l b.number) (board_history l (suc n))
-later_case l numbered n b x i p h rest (inl k) (same q none) =
-    subst (λ t. Later (x ∷ board_history l b.number) t) (sym q) (rest k)
-later_case l numbered n b x i p h rest (inl k) (added e y j ep en eh q) =
-    subst (λ t. Later (x ∷ board_history l b.number) t) (sym q) (after (rest k))
-later_case l numbered n b x i p h rest (inr m) (same q none) = absurd (let k = none b i p m in let z = h in cc)
-later_case l numbered n b x i p h rest (inr m) (added e y j ep en eh q) =
-    let one = same_at l numbered b e i j (p ∙ sym ep) (m ∙ sym en) in
-    let o : Some x ≡ Some y = sym h ∙ ap board_entry one ∙ eh in
-    let same_entry : x ≡ y = cc in
-    now (ap (λ k. x ∷ board_history l k) m ∙ ap (λ z. z ∷ board_history l n) same_entry ∙ sym q)
-
--- an entry of the board stood at its moment
-pub later_at : (l : List Entry) → ((e : Entry) → In e l → length (filter (is_at e.place e.number) l) ≡ 1)
-    → (n : ℕ) (b : Entry) (x : BoardEntry) → In b l → b.place ≡ 0 → board_entry b ≡ Some x → b.number < n
-    → Later (x ∷ board_history l b.number) (board_history l n)
-later_at l numbered zero b x i p h k = absurd (let q = k in omega (arith, q))
-later_at l numbered (suc n) b x i p h k =
-    later_case l numbered n b x i p h (later_at l numbered n b x i p h) (below_or_last b.number n k) (more board_entry l numbered 0 n)
+use Rattle.relay_core.proofs.Boards.{lt_or_eq}
+use Rattle.relay_core.proofs.Histories.{More, same, added, more, same_at}
 
 -- the offer by which the leg was leased
 pub record Leasing (l : List Entry) (leg : Holder) : Type 0 where
@@ -74,7 +47,7 @@ leases_offered act.Told i = elim i [ ]
 unclosed_more : (l : List Entry) (from n : ℕ) (leg : Holder) → IsUnclosed l from n leg
     → ((f : Entry) (y : BoardEntry) → In f l → f.place ≡ 0 → f.number ≡ n → board_entry f ≡ Some y → closes_leg y leg ≡ false)
     → IsUnclosed l from (suc n) leg
-unclosed_more l from n leg rest at_n f y i p later before h = one_more f y i p later h (below_or_last f.number n before)
+unclosed_more l from n leg rest at_n f y i p later before h = one_more f y i p later h (lt_or_eq f.number n before)
   where
     one_more : (f : Entry) (y : BoardEntry) → In f l → f.place ≡ 0 → from < f.number → board_entry f ≡ Some y
         → (f.number < n) ⊎ (f.number ≡ n) → closes_leg y leg ≡ false
@@ -154,7 +127,7 @@ pub still_held : (l : List Entry) → ((e : Entry) → In e l → length (filter
 still_held l numbered zero leg s = absurd (let k = s.below in omega (arith, k))
 still_held l numbered (suc n) leg s =
     still_case l numbered n leg s (λ k. still_held l numbered n leg (held_until l (suc n) n leg s k (omega arith)))
-    (below_or_last s.lease.board.number n s.below) (more board_entry l numbered 0 n)
+    (lt_or_eq s.lease.board.number n s.below) (more board_entry l numbered 0 n)
 
 -- the first of the board's entries since the lease that closes the leg
 pub record FirstClose (l : List Entry) (lease n : ℕ) (leg : Holder) : Type 0 where
@@ -230,4 +203,4 @@ pub held_or_closed : (l : List Entry) → ((e : Entry) → In e l → length (fi
     → (leg : Holder) (lease : Leasing l leg) (n : ℕ) → lease.board.number < n → HeldOrClosed l leg lease n
 held_or_closed l numbered leg lease zero k = absurd (let q = k in omega (arith, q))
 held_or_closed l numbered leg lease (suc n) k =
-    or_closed_step l numbered leg lease n (held_or_closed l numbered leg lease n) (below_or_last lease.board.number n k)
+    or_closed_step l numbered leg lease n (held_or_closed l numbered leg lease n) (lt_or_eq lease.board.number n k)

@@ -1,0 +1,9 @@
+mod Histories
+mod Calls
+mod Pairs
+mod Keys
+mod Kept
+mod Answers
+mod Given
+mod Turns
+mod Replies

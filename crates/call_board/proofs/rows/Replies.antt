@@ -1,0 +1,168 @@
+-- Worked turns of other commands and of errors, whole.
+use Rattle.std.proofs.Common.{◌≡◌, ℕ, List, [], ◌∷◌, true, false, Some, None, Err, codes, refl, arith}
+use Rattle.ng_bencode.specs.Tree.{Bytes, Entries, no_entries, entry}
+use Rattle.ng_command.specs.declared.fault.KeyName.TheVariants.{CallId}
+use Rattle.ng_reply.specs.declared.code.ErrorCode.TheVariants.{E1, E3, E4, E6, E13, E14, E18}
+use Rattle.offer_answer.specs.Plan.{tag, protocol}
+use Rattle.call_board.specs.Acts as act
+use Rattle.call_board.specs.Acts.{Act, Control, BoardEntry}
+use Rattle.call_board.specs.Asked.{asked}
+use Rattle.call_board.specs.Reports.{report_tree, listing_tree}
+use Rattle.call_board.specs.Fits.{FitsControl}
+use Rattle.call_board.proofs.rows.Histories.{config, from_port, given, c1, c2, begins}
+use Rattle.call_board.proofs.rows.Turns.{turns, at, ping, ping_fits, offered, offered_fits}
+
+replies : Unit {0}
+unfolding turns tag protocol report_tree listing_tree
+replies = tt
+
+-- a datagram whose turn opens and draws nothing
+abbrev plain : (cookie body : List ℕ) → Entries → (reply : List ℕ) → Act → Control
+plain cookie body pairs reply does = record {
+  source = from_port 2223;
+  cookie = cookie;
+  body = body;
+  too_long = false;
+  pairs = Some pairs;
+  chosen = [];
+  given = given;
+  reply = reply;
+  act = does;
+}
+
+abbrev pair : List ℕ → List ℕ → Entries → Entries
+pair key text rest = entry key (Bytes text) rest
+
+-- the call of the worked offer, from moment 0 on
+abbrev one_call : List BoardEntry
+one_call = at 0 offered ∷ []
+
+unrecognized : FitsControl config [] 0 (plain (codes "1") (codes "d7:command3:fooe") (pair (codes "command") (codes "foo") no_entries)
+    (codes "d12:error-reason20:unrecognized command6:result5:errore") (act.Failed E3))
+unfolding replies
+unrecognized = record {
+  framed = refl;
+  length_is = refl;
+  reads = record { ints = (tt, tt); deep = omega arith; spelled = refl };
+  hears = refl;
+  gives = (record { no_opens = refl; no_draws = refl; none_failed = refl }, refl);
+  answers = refl;
+}
+
+call_id_is_missing : FitsControl config [] 0 (plain (codes "x") (codes "d7:command5:offere") (pair (codes "command") (codes "offer") no_entries)
+    (codes "d12:error-reason29:missing or wrong key: call-id6:result5:errore") (act.Failed (E4 CallId)))
+unfolding replies
+call_id_is_missing = record {
+  framed = refl;
+  length_is = refl;
+  reads = record { ints = (tt, tt); deep = omega arith; spelled = refl };
+  hears = refl;
+  gives = (record { no_opens = refl; no_draws = refl; none_failed = refl }, refl);
+  answers = refl;
+}
+
+listed : FitsControl config one_call 0 (plain (codes "3") (codes "d7:command4:liste") (pair (codes "command") (codes "list") no_entries)
+    (codes "d5:callsl2:c1e6:result2:oke") act.Told)
+unfolding replies
+listed = record {
+  framed = refl;
+  length_is = refl;
+  reads = record { ints = (tt, tt); deep = omega arith; spelled = refl };
+  hears = refl;
+  gives = (record { no_opens = refl; no_draws = refl; none_failed = refl }, refl);
+  answers = refl;
+}
+
+abbrev query : Control
+query = plain (codes "4") (codes "d7:call-id2:c17:command5:querye") (pair (codes "call-id") (codes "c1") (pair (codes "command") (codes "query") no_entries))
+    (codes "d7:createdi0e11:last signali0e6:result2:ok4:tagsd1:ad6:mediasleeee") (act.Queried c1)
+
+queried : FitsControl config one_call 0 (record query { given = record given { report = Some [] } })
+unfolding replies
+queried = record {
+  framed = refl;
+  length_is = refl;
+  reads = record { ints = (tt, (tt, tt)); deep = omega arith; spelled = refl };
+  hears = refl;
+  gives = (record { no_opens = refl; no_draws = refl; none_failed = refl }, refl);
+  answers = refl;
+}
+
+-- a delete of an unknown call-id warns and changes nothing
+unknown_is_warned : FitsControl config one_call 0 (plain (codes "9") (codes "d7:call-id1:z7:command6:deletee") (pair (codes "call-id") (codes "z") (pair (codes "command") (codes "delete") no_entries))
+    (codes "d6:result2:ok7:warning15:unknown call-ide") act.Told)
+unfolding replies
+unknown_is_warned = record {
+  framed = refl;
+  length_is = refl;
+  reads = record { ints = (tt, (tt, tt)); deep = omega arith; spelled = refl };
+  hears = refl;
+  gives = (record { no_opens = refl; no_draws = refl; none_failed = refl }, refl);
+  answers = refl;
+}
+
+-- Want of sessions and of pairs, for the worked offer.
+
+abbrev failing : List ℕ → Act → Control
+failing reply does = record offered { given = given; reply = reply; act = does }
+
+no_session : FitsControl (record config { max_sessions = 1 }) (begins c2 [] ∷ []) 0 (record (failing (codes "d12:error-reason21:session limit reached6:result5:errore") (act.Failed E14)) { cookie = codes "7_p" })
+unfolding replies
+no_session = record {
+  framed = refl;
+  length_is = refl;
+  reads = offered_fits.reads;
+  hears = offered_fits.hears;
+  gives = (record { no_opens = refl; no_draws = refl; none_failed = refl }, refl);
+  answers = refl;
+}
+
+-- a range of one pair
+no_pair : FitsControl (record config { port_max = 30001 }) [] 0 (failing (codes "d12:error-reason17:no free port pair6:result5:errore") (act.Failed E13))
+unfolding replies
+no_pair = record {
+  framed = refl;
+  length_is = refl;
+  reads = offered_fits.reads;
+  hears = offered_fits.hears;
+  gives = (record { no_opens = refl; no_draws = refl; none_failed = refl }, refl);
+  answers = refl;
+}
+
+-- What comes first of a datagram's bytes.
+
+too_long_first : asked true None ≡ Err E18
+unfolding asked
+too_long_first = refl
+
+no_dictionary : asked false None ≡ Err E1
+unfolding asked
+no_dictionary = refl
+
+-- a description that is none, of a command whose keys are right
+abbrev describes : List ℕ → Entries
+describes sdp = pair (codes "call-id") (codes "c1") (pair (codes "command") (codes "offer") (pair (codes "from-tag") (codes "a") (pair (codes "sdp") sdp no_entries)))
+
+no_description : asked false (Some (describes (codes "foo"))) ≡ Err (E6 1)
+unfolding replies
+no_description = refl
+
+-- a wrong key comes first
+key_first : asked false (Some (pair (codes "command") (codes "offer") (pair (codes "from-tag") (codes "a") (pair (codes "sdp") (codes "foo") no_entries)))) ≡ Err (E4 CallId)
+unfolding replies
+key_first = refl
+
+-- What no turn is.
+
+not_too_long : FitsControl config [] 0 (record ping { too_long = true }) → ⊥
+not_too_long fits = let e = fits.length_is in cc
+
+without_a_cookie : FitsControl config [] 0 (record ping { cookie = [] }) → ⊥
+without_a_cookie fits = let e = fits.framed in cc
+
+misread : FitsControl config [] 0 (record ping { pairs = None }) → ⊥
+misread fits = fits.reads (entry (codes "command") (Bytes (codes "ping")) no_entries) ping_fits.reads
+
+misheard : FitsControl config [] 0 (record ping { chosen = None ∷ [] }) → ⊥
+unfolding replies
+misheard fits = let e = fits.hears in cc

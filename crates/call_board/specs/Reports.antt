@@ -1,0 +1,91 @@
+-- The texts of reports, as bencoded values with their keys in byte order.
+use Rattle.std.specs.Prelude.{ℕ, ℤ, pos, ◌+◌, ◌-◌, ◌^◌, ◌&&◌, ◌==◌, Bool, true, false, List, [], ◌∷◌, map, min, nat_lt, Option, Some, None, filter, filter_map, codes, if◌then◌else◌}
+use Rattle.relay_outside.specs.declared.settings.Config.{Config}
+use Rattle.relay_outside.specs.declared.address.Addr.{Addr}
+use Rattle.ng_bencode.specs.Tree.{Tree, Int, Bytes, Items, Dict, Entries, no_entries, entry, items_of}
+use Rattle.sdp_text.specs.Hosts.{text_of}
+use Rattle.sdp_text.specs.declared.proto.Proto.{Proto}
+use Rattle.sdp_edit.specs.Texts.{proto_text}
+use Rattle.histories.specs.Words.{first, numbers}
+use Rattle.port_pool.specs.Ports.{pair_port}
+use Rattle.port_pool.specs.declared.holder.Side.{Side}
+use Rattle.port_pool.specs.declared.holder.Side.TheVariants.{A, B}
+use Rattle.port_pool.specs.Signals.{side_eq}
+use Rattle.port_pool.specs.Reports.{LegReport}
+use Rattle.offer_answer.specs.Rounds.{Round}
+use Rattle.offer_answer.specs.Texts.{host_of_ip}
+use Rattle.offer_answer.specs.Plan as plan
+
+-- what is told of a call: the moments of its first and of its last accepted offer or answer, these, and its committed legs
+pub record Report : Type 0 where
+  pub created : ℕ
+  pub last_signal : ℕ
+  pub rounds : List Round
+  pub legs : List LegReport
+
+abbrev pub whole : ℕ → Tree
+whole n = Int (pos n)
+
+-- a moment, at most 2 ^ 63 - 1
+abbrev pub moment_value : ℕ → Tree
+moment_value n = whole (min n (2 ^ 63 - 1))
+
+-- how many packets of one half were accepted from a leg, and sent by its ports
+abbrev pub counts : ℕ → ℕ → Tree
+counts accepted sent = Dict (entry (codes "accepted") (whole accepted) (entry (codes "sent") (whole sent) no_entries))
+
+abbrev pub endpoint_value : Addr → Tree
+endpoint_value at = Dict (entry (codes "address") (Bytes (text_of (host_of_ip at.ip))) (entry (codes "port") (whole at.port) no_entries))
+
+abbrev pub profile_text : Option Proto → List ℕ
+profile_text None = []
+profile_text (Some proto) = proto_text proto []
+
+-- one leg; sections count from 1 here
+abbrev pub leg_value : Config → List Round → LegReport → Tree
+leg_value config rounds told = Dict (
+    entry (codes "RTCP") (counts told.rtcp_accepted told.rtcp_sent) (
+    entry (codes "RTP") (counts told.rtp_accepted told.rtp_sent) (
+    entry (codes "endpoint") (endpoint_value told.endpoint) (
+    entry (codes "index") (whole (told.leg.section + 1)) (
+    entry (codes "local port") (whole (pair_port config told.leg.pair)) (
+    entry (codes "protocol") (Bytes (profile_text (plan.protocol rounds told.leg.section told.leg.side))) no_entries))))))
+
+-- the leg of a section and side
+abbrev pub leg_at : List LegReport → Side → ℕ → Option LegReport
+leg_at legs side section = first (filter (λ told. (told.leg.section == section) && side_eq told.leg.side side) legs)
+
+-- the legs of a side in the order of their sections
+abbrev pub side_value : Config → Report → Side → Tree
+side_value config told side =
+    Dict (entry (codes "medias") (Items (items_of (map (leg_value config told.rounds) (filter_map (leg_at told.legs side) (numbers 0 8))))) no_entries)
+
+-- the first differing byte is smaller, or the text ends first
+abbrev pub stands_before : List ℕ → List ℕ → Bool
+stands_before [] others = true
+stands_before (a ∷ more) [] = false
+stands_before (a ∷ more) (b ∷ others) = if a == b then stands_before more others else nat_lt a b
+
+abbrev pub tag_pair : List ℕ → Tree → List ℕ → Tree → Entries
+tag_pair a of_a b of_b = if stands_before a b then entry a of_a (entry b of_b no_entries) else entry b of_b (entry a of_a no_entries)
+
+-- the tags of the sides, in byte order
+abbrev pub tags_by : Option (List ℕ) → Tree → Option (List ℕ) → Tree → Entries
+tags_by None of_a None of_b = no_entries
+tags_by (Some a) of_a None of_b = entry a of_a no_entries
+tags_by None of_a (Some b) of_b = entry b of_b no_entries
+tags_by (Some a) of_a (Some b) of_b = tag_pair a of_a b of_b
+
+abbrev pub tags_value : Config → Report → Tree
+tags_value config told = Dict (tags_by (plan.tag told.rounds A) (side_value config told A) (plan.tag told.rounds B) (side_value config told B))
+
+unfoldable pub report_tree : Config → Report → Tree
+report_tree config told = Dict (
+    entry (codes "created") (moment_value told.created) (
+    entry (codes "last signal") (moment_value told.last_signal) (
+    entry (codes "result") (Bytes (codes "ok")) (
+    entry (codes "tags") (tags_value config told) no_entries))))
+
+-- the call-ids of live calls
+unfoldable pub listing_tree : List (List ℕ) → Tree
+listing_tree call_ids = Dict (entry (codes "calls") (Items (items_of (map Bytes call_ids))) (entry (codes "result") (Bytes (codes "ok")) no_entries))

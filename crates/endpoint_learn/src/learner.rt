@@ -1,0 +1,97 @@
+ghost use Rattle.std.specs.Prelude.{◌≡◌, List, [], ◌∷◌, Some};
+ghost use Rattle.endpoint_learn.specs.Learning as lessons;
+ghost use Rattle.endpoint_learn.specs.Learning.{Step, Signalled, Heard, is_wrong, endpoint};
+ghost use Rattle.endpoint_learn.specs.Learners.{StandsFor, judge_of};
+
+use relay_outside::{Addr, Flags};
+
+/// Whether a source may send.
+#[derive(Clone, Copy, PartialEq, Eq, Debug)]
+pub enum Judge {
+    /// It may.
+    Pass,
+    /// Another source was learned under `strict source`.
+    WrongSource,
+}
+
+/// Where packets go that are sent to one leg and half.
+///
+/// Contracts see it by the lists of steps that it stands for: what was signalled, and the sources of accepted packets.
+#[derive(Clone, Copy, PartialEq, Eq, Debug)]
+pub struct Learner {
+    /// The address that was signalled last.
+    signalled: Addr,
+    /// The flags that were signalled with it.
+    flags: Flags,
+    /// The learned source.
+    learned: Option<Addr>,
+}
+
+/// What is learned once an accepted packet came from this source.
+fn taught(flags: Flags, learned: Option<Addr>, source: Addr) -> Option<Addr>
+    ensures { result ≡ lessons.taught flags learned source }
+{
+    let Some(known) = learned else {
+        return if flags.asymmetric { None } else { Some(source) };
+    };
+    if !flags.asymmetric && flags.handover && !flags.strict {
+        Some(source)
+    } else {
+        Some(known)
+    }
+}
+
+impl Learner {
+    /// A learner that was signalled this address with these flags.
+    pub fn new(signalled: Addr, flags: Flags) -> Learner
+        ensures { StandsFor result (Signalled signalled flags ∷ []) }
+    {
+        Learner {
+            signalled,
+            flags,
+            learned: None,
+        }
+    }
+
+    /// Whether a packet from this source may be taken.
+    pub fn judge(&self, source: Addr) -> Judge
+        ensures { (steps : List Step) → StandsFor self.now steps → result ≡ judge_of (is_wrong steps source) }
+    {
+        let Some(known) = self.learned else {
+            return Judge::Pass;
+        };
+        if self.flags.strict && !self.flags.asymmetric && known != source {
+            Judge::WrongSource
+        } else {
+            Judge::Pass
+        }
+    }
+
+    /// Learns from the source of an accepted packet.
+    pub fn learn(&mut self, source: Addr)
+        ensures { (steps : List Step) → StandsFor self.old steps → StandsFor self.new (Heard source ∷ steps) }
+    {
+        self.learned = taught(self.flags, self.learned, source);
+    }
+
+    /// Takes a new signal. Learning begins anew exactly where the address is another one.
+    pub fn signal(&mut self, signalled: Addr, flags: Flags)
+        ensures { (steps : List Step) → StandsFor self.old steps → StandsFor self.new (Signalled signalled flags ∷ steps) }
+    {
+        if self.signalled != signalled {
+            self.learned = None;
+        }
+        self.signalled = signalled;
+        self.flags = flags;
+    }
+
+    /// Where packets go.
+    pub fn endpoint(&self) -> Addr
+        ensures { (steps : List Step) → StandsFor self.now steps → endpoint steps ≡ Some result }
+    {
+        match self.learned {
+            Some(source) if !self.flags.asymmetric => source,
+            _ => self.signalled,
+        }
+    }
+}
