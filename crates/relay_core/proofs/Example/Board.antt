@@ -1,5 +1,6 @@
 -- The board's entries of the worked calls, and that each is the one that the board's history demands.
-use Rattle.std.proofs.Common.{◌≡◌, refl, List, [], ◌∷◌, ◌++◌, false, true, Some, None, codes}
+use Rattle.std.proofs.Common.{◌≡◌, refl, List, [], ◌∷◌, ◌++◌, false, true, Some, None, codes, length}
+use Rattle.std.specs.Prelude.{nat_lt}
 use Rattle.relay_outside.specs.declared.address.Addr.{Addr}
 use Rattle.relay_outside.specs.declared.address.Ip.TheVariants as ips
 use Rattle.ng_frame.specs.Frame.{frame}
@@ -50,9 +51,14 @@ offer_is_framed : frame (codes "1" ++ 32 ∷ offer_body) ≡ Some (codes "1", of
 unfolding offer_body
 offer_is_framed = refl
 
+offer_is_short : false ≡ nat_lt 16384 (length (codes "1" ++ 32 ∷ offer_body))
+unfolding offer_body
+offer_is_short = refl
+
 pub offer_fits : FitsControl config [] 1000 offer_turn
 offer_fits = record {
   framed = offer_is_framed;
+  length_is = offer_is_short;
   reads = offer_is_read;
   hears = rw offer_is_asked offer_is_heard;
   gives = rw (offer_is_asked, offer_demands) (record { all_opened = refl }, record { all_drawn = refl; none_failed = refl }, refl);
@@ -74,6 +80,7 @@ repeat_is_answered = refl
 pub repeat_fits : FitsControl config after_offer 1100 repeat_turn
 repeat_fits = record {
   framed = offer_is_framed;
+  length_is = offer_is_short;
   reads = offer_is_read;
   hears = rw offer_is_asked offer_is_heard;
   gives = (record { no_opens = refl; no_draws = refl; none_failed = refl }, refl);
@@ -109,9 +116,14 @@ answer_is_framed : frame (codes "2" ++ 32 ∷ answer_body) ≡ Some (codes "2", 
 unfolding answer_body
 answer_is_framed = refl
 
+answer_is_short : false ≡ nat_lt 16384 (length (codes "2" ++ 32 ∷ answer_body))
+unfolding answer_body
+answer_is_short = refl
+
 pub answer_fits : FitsControl config after_repeat 2000 answer_turn
 answer_fits = record {
   framed = answer_is_framed;
+  length_is = answer_is_short;
   reads = answer_is_read;
   hears = rw answer_is_asked answer_is_heard;
   gives = (record { no_opens = refl; no_draws = refl; none_failed = refl }, refl);
@@ -148,9 +160,14 @@ delete_is_framed : frame (codes "3" ++ 32 ∷ delete_body) ≡ Some (codes "3", 
 unfolding delete_body
 delete_is_framed = refl
 
+delete_is_short : false ≡ nat_lt 16384 (length (codes "3" ++ 32 ∷ delete_body))
+unfolding delete_body
+delete_is_short = refl
+
 pub delete_fits : FitsControl config after_tick 5000 delete_turn
 delete_fits = record {
   framed = delete_is_framed;
+  length_is = delete_is_short;
   reads = delete_is_read;
   hears = rw delete_is_asked refl;
   gives = (record { no_opens = refl; no_draws = refl; none_failed = refl }, refl);
@@ -189,9 +206,14 @@ next_is_framed : frame (codes "4" ++ 32 ∷ next_body) ≡ Some (codes "4", next
 unfolding next_body
 next_is_framed = refl
 
+next_is_short : false ≡ nat_lt 16384 (length (codes "4" ++ 32 ∷ next_body))
+unfolding next_body
+next_is_short = refl
+
 pub next_fits : FitsControl config after_delete 6000 next_turn
 next_fits = record {
   framed = next_is_framed;
+  length_is = next_is_short;
   reads = next_is_read;
   hears = rw next_is_asked next_is_heard;
   gives = rw (next_is_asked, next_demands) (record { all_opened = refl }, record { all_drawn = refl; none_failed = refl }, refl);
