@@ -1,10 +1,11 @@
 -- The keys that a cell got, by their numbers.
-use Rattle.std.proofs.Common.{◌≡◌, refl, ap, subst, ℕ, List, [], ◌∷◌, Some, filter, ◌==◌, ◌⊎◌, inl, inr}
-use Rattle.histories.specs.Words.{In, here, there, first}
+use Rattle.std.proofs.Common.{◌≡◌, refl, subst, ℕ, List, [], ◌∷◌, Some, filter, ◌==◌, ◌⊎◌, inl, inr}
+use Rattle.histories.specs.Words.{In, here, there}
 use Rattle.histories.proofs.Lists.{in_left, in_right, in_append, filtered, keeps, first_is_in, equal, equal_if}
 use Rattle.port_pool.specs.Signals.{NewKey}
 use Rattle.call_cell.specs.Cells.{CellEvent, CellEntry, Prepare, Commit, Relay, Expire, Read, End, keys_of, keys_in, key_numbered}
 use Rattle.call_cell.proofs.Legs.{IsPrepare}
+use Rattle.call_cell.proofs.Splits.{first_of_one}
 
 brings_event : {key : NewKey} (moment : ℕ) (event : CellEvent) → In key (keys_of event)
     → (p : IsPrepare (record { moment = moment; event = event })) × In key p.keys
@@ -41,10 +42,6 @@ pub key_found : (h : List CellEntry) (number : ℕ) (key : NewKey) → key_numbe
 key_found h number key q =
     let f = filtered (λ (k : NewKey). k.number == number) (keys_in h) (first_is_in (filter (λ (k : NewKey). k.number == number) (keys_in h)) q) in
     (f.0, equal_if key.number number f.1)
-
-first_of_one : (xs : List NewKey) (x : NewKey) → In x xs → ((y : NewKey) → In y xs → y ≡ x) → first xs ≡ Some x
-first_of_one [] x i all = elim i [ ]
-first_of_one (y ∷ ys) x i all = ap Some (all y (here refl))
 
 -- a key whose number no other key has is the one that is found
 pub finds_key : (h : List CellEntry) (key : NewKey) → In key (keys_in h)

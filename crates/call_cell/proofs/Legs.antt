@@ -1,7 +1,7 @@
 -- The legs of a cell: which entry added one, and that none took it away since.
 use Rattle.std.proofs.Common.{◌≡◌, refl, ap, subst, sym, ◌∙◌, ℕ, List, [], ◌∷◌, ◌++◌, Bool, true, false, cond, Some, filter, not, ◌==◌, ◌⊎◌, inl, inr}
 use Rattle.std.specs.Prelude.{◌&&◌}
-use Rattle.histories.specs.Words.{In, here, there, first}
+use Rattle.histories.specs.Words.{In, here, there}
 use Rattle.histories.proofs.Lists.{in_left, in_right, in_append, filtered, keeps, first_is_in, equal, equal_if}
 use Rattle.port_pool.specs.declared.holder.Side.{Side}
 use Rattle.port_pool.specs.declared.holder.Side.TheVariants.{A, B}
@@ -9,7 +9,7 @@ use Rattle.port_pool.specs.declared.holder.Holder.{Holder}
 use Rattle.port_pool.specs.Signals.{NewKey, same_leg, side_eq, other_side}
 use Rattle.call_cell.specs.Cells.{CellEvent, CellEntry, Prepare, Commit, Relay, Expire, Read, End, Receipt, legs_of, takes_away, legs, is_opposite, opposite}
 use Rattle.call_cell.specs.Deeds.{found}
-use Rattle.call_cell.proofs.Splits.{both_left, both_right, both}
+use Rattle.call_cell.proofs.Splits.{both_left, both_right, both, first_of_one}
 
 -- the entry is a Prepare of these
 pub record IsPrepare (e : CellEntry) : Type 0 where
@@ -150,11 +150,6 @@ pub found_is : (h : List CellEntry) (p : Receipt) (leg : Holder) → found h p �
 found_is h p leg q =
     let f = filtered (same_leg p.holder) (legs h) (first_is_in (filter (same_leg p.holder) (legs h)) q) in
     record { is_leg = f.0; is_same = f.1 }
-
--- the first of a list, where all that are in it are one
-first_of_one : (xs : List Holder) (x : Holder) → In x xs → ((y : Holder) → In y xs → y ≡ x) → first xs ≡ Some x
-first_of_one [] x i all = elim i [ ]
-first_of_one (y ∷ ys) x i all = ap Some (all y (here refl))
 
 -- a leg that is there is found, where no other leg there is of its call, pair and lease
 pub finds : (h : List CellEntry) (p : Receipt) → In p.holder (legs h)

@@ -81,10 +81,10 @@ packet_case true false rest noted plain q = q
 packet_case false wrong rest noted plain q = absurd (let f = q in cc)
 
 -- a leg whose packet was taken was answered, and something is noted exactly under an inbound key
-record Own (h : List CellEntry) (leg : Holder) (noted : Option Note) : Type 0 where
-  signal : LegSignal
-  is_in_force : in_force h leg ≡ Some signal
-  notes : is_some noted ≡ is_some signal.inbound
+pub record Own (h : List CellEntry) (leg : Holder) (noted : Option Note) : Type 0 where
+  pub signal : LegSignal
+  pub is_in_force : in_force h leg ≡ Some signal
+  pub notes : is_some noted ≡ is_some signal.inbound
 
 own_case : (h : List CellEntry) (leg : Holder) (s : Option LegSignal) → in_force h leg ≡ s → (known : Option Addr) (notes : List Note)
     (half : Half) (source : Addr) (bytes : List ℕ) (noted : Option Note) (plain : List ℕ)
@@ -98,7 +98,7 @@ own_case h leg (Some s) e known notes half source bytes noted plain q = record {
       (packet_case (is_packet half bytes) (is_wrong_source s.flags known source) (opened_by s.inbound notes half bytes) noted plain q);
 }
 
-own : (h : List CellEntry) (p : Receipt) (t : Taken h p) → Own h t.leg t.note
+pub own : (h : List CellEntry) (p : Receipt) (t : Taken h p) → Own h t.leg t.note
 own h p t =
     own_case h t.leg (in_force h t.leg) refl (learned h t.leg p.half) (accepted h t.leg) (kind h p) p.source p.bytes t.note t.plain t.is_judged
 

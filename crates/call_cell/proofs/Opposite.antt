@@ -1,7 +1,7 @@
 -- Where each Prepare adds the two legs of a section together, a leg has an opposite one, and what was committed for the one
 -- was committed for the other: no packet is held back for want of them.
 use Rattle.std.proofs.Common.{◌≡◌, refl, ap, subst, sym, ◌∙◌, ℕ, List, [], ◌∷◌, ◌++◌, Bool, true, false, cond, Option, Some, None, filter, filter_map, not, ◌==◌}
-use Rattle.std.specs.Prelude.{◌&&◌, slice_get}
+use Rattle.std.specs.Prelude.{slice_get}
 use Rattle.std.specs.List.{list_any, cons_option}
 use Rattle.histories.specs.Words.{In, here, there, first}
 use Rattle.histories.proofs.Lists.{keeps, equal}
@@ -12,9 +12,9 @@ use Rattle.port_pool.specs.declared.signal.LegSignal.{LegSignal}
 use Rattle.port_pool.specs.declared.signal.SectionSignal.{SectionSignal}
 use Rattle.port_pool.specs.declared.signal.SectionSignal.TheVariants as section
 use Rattle.port_pool.specs.Signals.{same_leg, side_eq, side_of, other_side, signal_at}
-use Rattle.call_cell.specs.Cells.{CellEvent, CellEntry, Commit, legs_of, legs, is_opposite, opposite, life, committed, commits_for, in_force, takes_away}
+use Rattle.call_cell.specs.Cells.{CellEvent, CellEntry, legs_of, legs, is_opposite, opposite, life, committed, commits_for, in_force, takes_away}
 use Rattle.call_cell.proofs.Splits.{both, in_middle}
-use Rattle.call_cell.proofs.Legs.{IsAdded, leg_added, leg_is_there}
+use Rattle.call_cell.proofs.Legs.{leg_added, leg_is_there}
 use Rattle.call_cell.proofs.Committed.{IsCommitted}
 
 -- the other leg of the same section

@@ -1,6 +1,6 @@
 -- A packet that was taken has the head of the received one: what is protected after it, is of the same source and sequence
 -- number.
-use Rattle.std.proofs.Common.{◌≡◌, refl, ap, subst, sym, ◌∙◌, ℕ, ◌+◌, ◌-◌, ◌≤◌, ◌<◌, List, [], ◌++◌, Bool, true, false, cond, Option, Some, None, Result, Ok, Err, length, take, drop, arith, length-append, length-take-le, take-append-drop, take_at}
+use Rattle.std.proofs.Common.{◌≡◌, refl, ap, subst, sym, ◌∙◌, ℕ, ◌+◌, ◌-◌, ◌≤◌, List, [], ◌++◌, Bool, true, false, cond, Option, Some, None, Result, Ok, Err, length, take, drop, arith, length-append, length-take-le, take-append-drop, take_at}
 use Rattle.std.specs.Prelude.{nat_lt, not, is_some}
 use Rattle.std.specs.Option.{option_map_or}
 use Rattle.std.proofs.lemmas.Bool.{ltb-false}
@@ -12,7 +12,6 @@ use Rattle.rtp_packet.specs.declared.head.RtpHead.{RtpHead}
 use Rattle.rtp_packet.specs.Head.{rtp_head, rtcp_ssrc}
 use Rattle.rtp_packet.proofs.HeadLemmas.{rtp_head-front, rtcp_ssrc-front}
 use Rattle.sdes_lines.specs.declared.crypto_line.Suite.{Suite}
-use Rattle.replay_window.specs.declared.answers.Near.{Near}
 use Rattle.replay_window.specs.Indices.{near, fresh}
 use Rattle.srtp_keys.specs.declared.faults.UnprotectFault.{UnprotectFault}
 use Rattle.srtp_keys.specs.declared.faults.UnprotectFault.TheVariants as fault
@@ -23,7 +22,6 @@ use Rattle.srtcp_context.specs.Packets as srtcp
 use Rattle.srtcp_context.specs.Opening as srtcp_in
 use Rattle.port_pool.specs.declared.holder.Holder.{Holder}
 use Rattle.port_pool.specs.declared.signal.LegSignal.{LegSignal}
-use Rattle.call_cell.specs.declared.outcome.Refused.{Refused}
 use Rattle.call_cell.specs.declared.outcome.Refused.TheVariants as refused
 use Rattle.call_cell.specs.Cells.{CellEntry, Receipt, in_force}
 use Rattle.call_cell.specs.Keyed.{accepted, Judged, Stopped, Passed, is_packet, opened_rtp, opened_rtcp, opened_under, opened_by}

@@ -2,7 +2,6 @@
 use Rattle.std.proofs.Common.{◌≡◌, refl, ap, subst, sym, ◌∙◌, ℕ, List, Bool, true, false, Option, Some, None, length}
 use Rattle.relay_outside.specs.declared.address.Addr.{Addr}
 use Rattle.relay_outside.specs.declared.settings.Config.{Config}
-use Rattle.srtp_sources.specs.Notes.{Note}
 use Rattle.histories.specs.Words.{In}
 use Rattle.port_pool.specs.Ports.{half_port}
 use Rattle.port_pool.specs.declared.holder.Holder.{Holder}
@@ -13,11 +12,12 @@ use Rattle.call_cell.specs.declared.outcome.Lost.{Lost}
 use Rattle.call_cell.specs.declared.outcome.Lost.TheVariants as lost
 use Rattle.call_cell.specs.declared.outcome.Outcome.TheVariants as outcomes
 use Rattle.call_cell.specs.Cells.{CellEntry, Receipt, Sending, Deed, legs, opposite, in_force}
-use Rattle.call_cell.specs.Keyed.{Judged, Passed, Wrapped}
+use Rattle.call_cell.specs.Keyed.{Judged, Wrapped}
 use Rattle.call_cell.specs.Learning.{learned, endpoint, endpoint_in}
-use Rattle.call_cell.specs.Deeds.{deed, found, kind, way, judged_leg, bytes_of, transform, transformed, plain_of, sent_outcome}
+use Rattle.call_cell.specs.Deeds.{deed, found, way, bytes_of, transform, transformed, plain_of, sent_outcome}
 use Rattle.call_cell.proofs.Legs.{found_is}
 use Rattle.call_cell.proofs.Does.{Does, refuses, loses, leaves, Taken, Leaving, sending_of, does}
+use Rattle.call_cell.proofs.Noted.{own, refused_is}
 
 -- a send of a relay: by the leg opposite to the one that is found, to its endpoint, what the packet is turned into
 pub record Sends (h : List CellEntry) (p : Receipt) (w : Sending) : Type 0 where
@@ -36,19 +36,6 @@ pub record Sends (h : List CellEntry) (p : Receipt) (w : Sending) : Type 0 where
   pub from_pair : w.pair ≡ other.pair
   pub by_half : w.half ≡ way h p
   pub sends_to : endpoint h other w.half ≡ Some w.to
-
--- a leg whose packet was taken was answered
-pub record Own (h : List CellEntry) (leg : Holder) : Type 0 where
-  pub signal : LegSignal
-  pub is_in_force : in_force h leg ≡ Some signal
-
-own_case : (h : List CellEntry) (p : Receipt) (leg : Holder) (s : Option LegSignal) → in_force h leg ≡ s → (note : Option Note) (plain : List ℕ)
-    → (known : Option Addr) (notes : List Note) → judged_leg s known notes (kind h p) p.source p.bytes ≡ Passed note plain → Own h leg
-own_case h p leg None e note plain known notes q = absurd (let f = q in cc)
-own_case h p leg (Some s) e note plain known notes q = record { signal = s; is_in_force = e }
-
-pub own : (h : List CellEntry) (p : Receipt) (t : Taken h p) → Own h t.leg
-own h p t = own_case h p t.leg (in_force h t.leg) refl t.note t.plain _ _ t.is_judged
 
 transform_is : (h : List CellEntry) (p : Receipt) (t : Taken h p) (l : Leaving h p t) → transform h p t.leg l.signal ≡ Some l.bytes
 unfolding transform
@@ -140,20 +127,9 @@ pub send_failed : (config : Config) (h : List CellEntry) (p : Receipt) (ok : Boo
     → (w : Sending) × ((deed config h p ok).sending ≡ Some w)
 send_failed config h p ok q = failed_case config h p ok (deed config h p ok) (does config h p ok) q
 
-sent_is_none : (config : Config) (w : Sending) (ok : Bool) (cause : Refused) → sent_outcome config w ok ≡ outcomes.Refused cause → ⊥
-sent_is_none config w true cause q = let f = q in cc
-sent_is_none config w false cause q = let f = q in cc
-
-refused_case : (config : Config) (h : List CellEntry) (p : Receipt) (ok : Bool) (cause : Refused) (d : Deed) → Does config h p ok d
-    → d.outcome ≡ outcomes.Refused cause → d.sending ≡ None
-refused_case config h p ok cause d (refuses c e) q = ap (λ (x : Deed). x.sending) e
-refused_case config h p ok cause d (loses t c n e) q = ap (λ (x : Deed). x.sending) e
-refused_case config h p ok cause d (leaves t l e) q =
-    absurd (sent_is_none config (sending_of h p l.other l.signal l.bytes) ok cause (sym (ap (λ (x : Deed). x.outcome) e) ∙ q))
-
 pub refused_sends_none : (config : Config) (h : List CellEntry) (p : Receipt) (ok : Bool) (cause : Refused)
     → (deed config h p ok).outcome ≡ outcomes.Refused cause → (deed config h p ok).sending ≡ None
-refused_sends_none config h p ok cause q = refused_case config h p ok cause (deed config h p ok) (does config h p ok) q
+refused_sends_none config h p ok cause q = ap (λ (x : Deed). x.sending) (refused_is config h p ok cause q)
 
 sent_is_fault : (config : Config) (w : Sending) (ok : Bool) (cause : Lost) → sent_outcome config w ok ≡ outcomes.Lost cause → cause ≡ lost.SendFault
 sent_is_fault config w true cause q = absurd (let f = q in cc)

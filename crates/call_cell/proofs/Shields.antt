@@ -16,7 +16,7 @@ use Rattle.call_cell.specs.Good.{IsGood, GoodCell, begins, goes_on}
 use Rattle.call_cell.proofs.Legs.{found_is}
 use Rattle.call_cell.proofs.Keys.{key_found}
 use Rattle.call_cell.proofs.Does.{Does, refuses, loses, leaves, Taken, Leaving, sending_of, does}
-use Rattle.call_cell.proofs.Sends.{own}
+use Rattle.call_cell.proofs.Noted.{own}
 use Rattle.call_cell.proofs.Next.{IsNextIndex, IsNext, wraps_next}
 use Rattle.call_cell.proofs.Protected.{in_protected, Adds, adds, stays, adds_note, in_indices, Counts, more, same, counts_note, Below, below_more}
 

@@ -1,7 +1,7 @@
 -- Lists in two parts, what holds of each element, and two tests at once.
-use Rattle.std.proofs.Common.{◌≡◌, subst, sym, refl, List, [], ◌∷◌, ◌++◌, Bool, true, false}
+use Rattle.std.proofs.Common.{◌≡◌, subst, sym, refl, List, [], ◌∷◌, ◌++◌, Bool, true, false, ap, Some}
 use Rattle.std.specs.Prelude.{◌&&◌}
-use Rattle.histories.specs.Words.{In, here, there}
+use Rattle.histories.specs.Words.{In, here, there, first}
 
 pub none_in : {A : Type 0} (P : A → Type 0) (x : A) → In x [] → P x
 none_in P x i = elim i [ ]
@@ -25,3 +25,8 @@ both_left false b q = let e = q in cc
 pub both_right : (a b : Bool) → (a && b) ≡ true → b ≡ true
 both_right true b q = q
 both_right false b q = absurd (let e = q in cc)
+
+-- the first of a list, where all that are in it are one
+pub first_of_one : {A : Type 0} (xs : List A) (x : A) → In x xs → ((y : A) → In y xs → y ≡ x) → first xs ≡ Some x
+first_of_one [] x i all = elim i [ ]
+first_of_one (y ∷ ys) x i all = ap Some (all y (here refl))

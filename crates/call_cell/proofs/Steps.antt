@@ -1,5 +1,5 @@
 -- What one more entry does to each question to a cell.
-use Rattle.std.proofs.Common.{◌≡◌, refl, ap, subst, sym, ◌∙◌, ℕ, List, [], ◌∷◌, ◌++◌, Bool, true, false, cond, Option, Some, None, map, filter, filter_map, not, ◌==◌}
+use Rattle.std.proofs.Common.{◌≡◌, refl, ap, sym, ◌∙◌, ℕ, List, [], ◌∷◌, ◌++◌, Bool, true, false, cond, Option, Some, None, map, filter, filter_map, not, ◌==◌}
 use Rattle.std.specs.Prelude.{◌&&◌}
 use Rattle.std.specs.List.{list_any, cons_option}
 use Rattle.relay_outside.specs.declared.address.Addr.{Addr}
@@ -11,7 +11,7 @@ use Rattle.port_pool.specs.declared.holder.Holder.{Holder}
 use Rattle.port_pool.specs.declared.signal.LegSignal.{LegSignal}
 use Rattle.port_pool.specs.declared.signal.SectionSignal.{SectionSignal}
 use Rattle.port_pool.specs.Signals.{NewKey, same_leg, signal_at, is_rejected}
-use Rattle.call_cell.specs.Cells.{CellEvent, CellEntry, Prepare, Commit, Relay, Expire, Read, End, Relayed, Shield, call, legs, legs_of, keys_in, life, committed, in_force, differs, is_accepted, relayed, accepted_of, since_change}
+use Rattle.call_cell.specs.Cells.{CellEvent, CellEntry, Prepare, Commit, Relay, Relayed, Shield, call, legs, keys_in, life, committed, in_force, differs, is_accepted, accepted_of, since_change}
 use Rattle.call_cell.specs.Keyed.{same_inbound, span, accepted, shield_of, protected}
 use Rattle.call_cell.specs.Learning.{Lesson, lesson_of, lesson_under, heard, same_address, lessons, lessons_in, learned_from, source_in}
 use Rattle.call_cell.proofs.Legs.{legs_stay}
