@@ -1,5 +1,5 @@
--- What a list has that carries a call from its offer to its end.
-use Rattle.std.specs.Prelude.{◌≡◌, ℕ, false, true, List, length, Some}
+-- What a list has that carries a call from its offer to its end, and then another one.
+use Rattle.std.specs.Prelude.{◌≡◌, ℕ, ◌+◌, false, true, List, [], ◌∷◌, length, Some}
 use Rattle.relay_outside.specs.declared.settings.Config.{Config}
 use Rattle.srtp_sources.specs.Notes.{Note}
 use Rattle.srtp_context.specs.Packets as srtp
@@ -10,10 +10,11 @@ use Rattle.port_pool.specs.declared.holder.Holder.{Holder}
 use Rattle.port_pool.specs.Signals.{NewKey}
 use Rattle.port_pool.specs.Boxes.{Take, Datagram, Close}
 use Rattle.port_pool.specs.Ports.{half_port}
-use Rattle.call_cell.specs.declared.outcome.Outcome.TheVariants.{Sent}
+use Rattle.call_cell.specs.declared.outcome.Outcome.TheVariants.{Refused, Sent}
+use Rattle.call_cell.specs.declared.outcome.Refused.TheVariants.{Stale}
 use Rattle.call_cell.specs.Cells.{Relay, Expire, End, Relayed, Shield, Sending}
 use Rattle.call_board.specs.Acts as act
-use Rattle.call_board.specs.Acts.{Control, Turn}
+use Rattle.call_board.specs.Acts.{Control, Turn, Tick}
 use Rattle.relay_core.specs.Entries.{Event, Board, Cell, Box, Entry, box_of}
 
 -- an entry of the list, at this place, has this event
@@ -32,8 +33,9 @@ pub record CarriesPacket (config : Config) (l : List Entry) (from to : Holder) :
 -- An offer begins a call and draws keys, its datagram comes again, the offer is answered, a tick finds the call not due, and it
 -- is deleted, which ends its cell and closes the boxes of its legs. In between a packet of side A is sent on to side B,
 -- protected under a key that was drawn, and one of side B, protected under the key of its crypto line, is sent on in the clear
--- to where the first one came from.
-pub record CarriesCall (config : Config) (l : List Entry) : Type 0 where
+-- to where the first one came from. The next call gets a port pair of the first one in a later lease, a packet that was taken for
+-- the first one is refused as stale, and a tick ends the next call.
+pub record CarriesCalls (config : Config) (l : List Entry) : Type 0 where
   pub offer_turn : Control
   pub is_offered : Occurs l 0 (Board (Turn offer_turn))
   pub offer : act.Offer
@@ -77,3 +79,18 @@ pub record CarriesCall (config : Config) (l : List Entry) : Type 0 where
   pub is_noted : to_a.relay.deed.noted ≡ Some note
   pub opens : to_a.relay.packet.bytes ≡ srtp.protect line.key line.suite to_a.sending.bytes note.index
   pub learned : to_a.sending.to ≡ to_b.relay.packet.source
+  -- the next call
+  pub next_turn : Control
+  pub is_offered_next : Occurs l 0 (Board (Turn next_turn))
+  pub next : act.Offer
+  pub accepts_next : next_turn.act ≡ act.Offered next
+  pub begins_next : next.begins ≡ true
+  pub next_leg : Holder
+  pub has_next_leg : In next_leg next.legs
+  pub same_pair : next_leg.pair ≡ leg_a.pair
+  pub later_lease : next_leg.generation ≡ leg_a.generation + 1
+  pub late : Relayed
+  pub is_late : Occurs l next.of.cell (Cell (Relay late))
+  pub for_former : late.packet.holder ≡ leg_a
+  pub is_stale : late.deed.outcome ≡ Refused Stale
+  pub times_out : Occurs l 0 (Board (Tick (next.of ∷ [])))

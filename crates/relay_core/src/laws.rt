@@ -2,7 +2,7 @@ ghost use Rattle.std.specs.Prelude.{List};
 ghost use Rattle.relay_outside.specs.declared.settings.Config.{Config};
 ghost use Rattle.relay_core.specs.Entries.{Entry};
 ghost use Rattle.relay_core.specs.Legal.{Orderly, Legal};
-ghost use Rattle.relay_core.specs.Carried.{CarriesCall};
+ghost use Rattle.relay_core.specs.Carried.{CarriesCalls};
 ghost use Rattle.relay_core.specs.Safe.{BoardSafe, Safe, IsIsolated};
 
 /// A legal list is safe, for every configuration and every list: every packet sent is the transform of one received packet,
@@ -25,7 +25,8 @@ pub fn orderly_is_safe()
 {}
 
 /// There are legal lists that do something, so that what is said of every legal list is said of something: one that carries a
-/// call from its offer to its end, with a packet that is taken as plain RTP and sent as SRTP under a key that the offer drew.
+/// call from its offer to its end, with a packet that is taken as plain RTP and sent as SRTP under a key that the offer drew,
+/// and one that is opened and sent in the clear; and then another call at the same ports, which times out.
 pub fn a_legal_list_exists()
-    ensures { (config : Config) × (l : List Entry) × Legal config l × CarriesCall config l }
+    ensures { (config : Config) × (l : List Entry) × Legal config l × CarriesCalls config l }
 {}

@@ -1,5 +1,6 @@
--- The board's entries of the worked call, and that each is the one that the board's history demands.
-use Rattle.std.proofs.Common.{◌≡◌, refl, List, [], ◌∷◌, ◌++◌, false, true, Some, None, codes, length, nat_lt}
+-- The board's entries of the worked calls, and that each is the one that the board's history demands.
+use Rattle.std.proofs.Common.{◌≡◌, refl, List, [], ◌∷◌, ◌++◌, false, true, Some, None, codes, length}
+use Rattle.std.specs.Prelude.{nat_lt}
 use Rattle.relay_outside.specs.declared.address.Addr.{Addr}
 use Rattle.relay_outside.specs.declared.address.Ip.TheVariants as ips
 use Rattle.ng_frame.specs.Frame.{frame}
@@ -12,7 +13,7 @@ use Rattle.call_board.specs.Kept.{kept}
 use Rattle.call_board.specs.Replies.{Done, Described, reply_text}
 use Rattle.call_board.specs.Answers.{answering_unless}
 use Rattle.call_board.specs.Fits.{answer_of, FitsControl}
-use Rattle.relay_core.proofs.Example.Datagrams.{config, id, offer, answer, legs, keys, first_draw, second_draw, offered, line, signal, offer_body, offer_pairs, offer_is_read, offer_is_asked, offer_is_faultless, offer_demands, offer_is_heard, answer_body, answer_pairs, answer_is_read, answer_is_asked, answer_is_faultless, answer_commits, answer_is_heard, delete_body, delete_pairs, delete_is_read, delete_is_asked}
+use Rattle.relay_core.proofs.Example.Datagrams.{config, id, offer, answer, legs, keys, first_draw, second_draw, offered, line, signal, offer_body, offer_pairs, offer_is_read, offer_is_asked, offer_is_faultless, offer_demands, offer_is_heard, answer_body, answer_pairs, answer_is_read, answer_is_asked, answer_is_faultless, answer_commits, answer_is_heard, delete_body, delete_pairs, delete_is_read, delete_is_asked, next_id, next_body, next_pairs, next_offer, next_legs, next_is_read, next_is_asked, next_is_faultless, next_demands, next_is_heard}
 
 -- who sends the datagrams
 abbrev pub controller : Addr
@@ -50,14 +51,14 @@ offer_is_framed : frame (codes "1" ++ 32 ∷ offer_body) ≡ Some (codes "1", of
 unfolding offer_body
 offer_is_framed = refl
 
-offer_length : false ≡ nat_lt 16384 (length (codes "1" ++ 32 ∷ offer_body))
+offer_is_short : false ≡ nat_lt 16384 (length (codes "1" ++ 32 ∷ offer_body))
 unfolding offer_body
-offer_length = refl
+offer_is_short = refl
 
 pub offer_fits : FitsControl config [] 1000 offer_turn
 offer_fits = record {
   framed = offer_is_framed;
-  length_is = offer_length;
+  length_is = offer_is_short;
   reads = offer_is_read;
   hears = rw offer_is_asked offer_is_heard;
   gives = rw (offer_is_asked, offer_demands) (record { all_opened = refl }, record { all_drawn = refl; none_failed = refl }, refl);
@@ -79,7 +80,7 @@ repeat_is_answered = refl
 pub repeat_fits : FitsControl config after_offer 1100 repeat_turn
 repeat_fits = record {
   framed = offer_is_framed;
-  length_is = offer_length;
+  length_is = offer_is_short;
   reads = offer_is_read;
   hears = rw offer_is_asked offer_is_heard;
   gives = (record { no_opens = refl; no_draws = refl; none_failed = refl }, refl);
@@ -115,14 +116,14 @@ answer_is_framed : frame (codes "2" ++ 32 ∷ answer_body) ≡ Some (codes "2", 
 unfolding answer_body
 answer_is_framed = refl
 
-answer_length : false ≡ nat_lt 16384 (length (codes "2" ++ 32 ∷ answer_body))
+answer_is_short : false ≡ nat_lt 16384 (length (codes "2" ++ 32 ∷ answer_body))
 unfolding answer_body
-answer_length = refl
+answer_is_short = refl
 
 pub answer_fits : FitsControl config after_repeat 2000 answer_turn
 answer_fits = record {
   framed = answer_is_framed;
-  length_is = answer_length;
+  length_is = answer_is_short;
   reads = answer_is_read;
   hears = rw answer_is_asked answer_is_heard;
   gives = (record { no_opens = refl; no_draws = refl; none_failed = refl }, refl);
@@ -159,16 +160,62 @@ delete_is_framed : frame (codes "3" ++ 32 ∷ delete_body) ≡ Some (codes "3", 
 unfolding delete_body
 delete_is_framed = refl
 
-delete_length : false ≡ nat_lt 16384 (length (codes "3" ++ 32 ∷ delete_body))
+delete_is_short : false ≡ nat_lt 16384 (length (codes "3" ++ 32 ∷ delete_body))
 unfolding delete_body
-delete_length = refl
+delete_is_short = refl
 
 pub delete_fits : FitsControl config after_tick 5000 delete_turn
 delete_fits = record {
   framed = delete_is_framed;
-  length_is = delete_length;
+  length_is = delete_is_short;
   reads = delete_is_read;
   hears = rw delete_is_asked refl;
   gives = (record { no_opens = refl; no_draws = refl; none_failed = refl }, refl);
   answers = delete_is_answered;
+}
+
+-- The next call gets the cell and the pairs of the one that has ended.
+
+abbrev pub after_delete : List BoardEntry
+after_delete = record { moment = 5000; event = Turn delete_turn } ∷ after_tick
+
+abbrev pub next_call : Call
+next_call = record { number = 1; cell = 1; id = next_id }
+
+abbrev pub accepted_next : act.Offer
+accepted_next = record { of = next_call; begins = true; ask = next_offer; legs = next_legs; keys = []; dropped = [] }
+
+abbrev pub next_turn : Control
+next_turn = record {
+  source = controller;
+  cookie = codes "4";
+  body = next_body;
+  too_long = false;
+  pairs = Some next_pairs;
+  chosen = None ∷ [];
+  given = record nothing_given { opens = true ∷ true ∷ true ∷ true ∷ [] };
+  reply = reply_text config (Described (plan.offer_text config [] next_offer (30000 ∷ 30002 ∷ []) []));
+  act = act.Offered accepted_next;
+}
+
+next_is_answered : answer_of next_turn ≡ answering_unless config after_delete next_turn (kept after_delete controller (codes "4") 6000)
+unfolding cache.kept pair_count
+next_is_answered = rw (next_is_asked, next_is_faultless, next_demands) refl
+
+next_is_framed : frame (codes "4" ++ 32 ∷ next_body) ≡ Some (codes "4", next_body)
+unfolding next_body
+next_is_framed = refl
+
+next_is_short : false ≡ nat_lt 16384 (length (codes "4" ++ 32 ∷ next_body))
+unfolding next_body
+next_is_short = refl
+
+pub next_fits : FitsControl config after_delete 6000 next_turn
+next_fits = record {
+  framed = next_is_framed;
+  length_is = next_is_short;
+  reads = next_is_read;
+  hears = rw next_is_asked next_is_heard;
+  gives = rw (next_is_asked, next_demands) (record { all_opened = refl }, record { all_drawn = refl; none_failed = refl }, refl);
+  answers = next_is_answered;
 }

@@ -1,4 +1,4 @@
--- The relays of the worked call: a packet of side A leaves towards side B under the key of 80 bits, and one of side B, which
+-- The relays of the worked calls: a packet of side A leaves towards side B under the key of 80 bits, and one of side B, which
 -- is opened under the key of its crypto line, leaves towards side A.
 use Rattle.std.proofs.Common.{◌≡◌, ◌∙◌, sym, ap, refl, ℕ, List, [], ◌∷◌, ◌≤◌, false, true, Some, None, length, arith}
 use Rattle.std.specs.Prelude.{Result, Ok, Err, not, is_some, nat_lt, if◌then◌else◌}
@@ -18,12 +18,12 @@ use Rattle.srtp_context.specs.Wrapping as srtp_out
 use Rattle.srtp_context.proofs.PacketLemmas.{protect-opens}
 use Rattle.sdes_lines.specs.declared.crypto_line.Suite.TheVariants.{Tag80}
 use Rattle.call_cell.specs.declared.outcome.Refused.TheVariants as refused
-use Rattle.call_cell.specs.declared.outcome.Outcome.TheVariants.{Sent}
+use Rattle.call_cell.specs.declared.outcome.Outcome.TheVariants.{Refused, Sent}
 use Rattle.call_cell.specs.Cells.{CellEntry, Prepare, Commit, Relay, Receipt, Relayed, Sending}
 use Rattle.call_cell.specs.Keyed.{Stopped, Passed, opened_rtp, opened_under, wrapped_under}
 use Rattle.call_cell.specs.Asked.{is_due}
 use Rattle.call_cell.specs.Deeds.{judged, deed_judged, deed}
-use Rattle.relay_core.proofs.Example.Datagrams.{config, leg_a, leg_b, legs, keys, first_draw, answerers_key, signal, signal_b}
+use Rattle.relay_core.proofs.Example.Datagrams.{config, leg_a, leg_b, legs, keys, first_draw, answerers_key, signal, signal_b, next_legs}
 use Rattle.relay_core.proofs.Example.Wire.{IsWire, protected_is_wire}
 
 -- From side A to side B.
@@ -153,7 +153,26 @@ pub is_wire : receipt_back.bytes ≡ srtp.protect answerers_key Tag80 sending_ba
 unfolding wire
 is_wire = refl
 
--- Afterwards a tick doesn't find the call due.
+-- A packet that was taken for side A's leg is relayed when the next call has the cell.
+
+abbrev pub late_receipt : Receipt
+late_receipt = record receipt { take = 2 }
+
+abbrev pub refused_late : Relayed
+refused_late = record {
+  packet = late_receipt;
+  sent_ok = false;
+  deed = record { outcome = Refused refused.Stale; kind = Rtp; noted = None; shield = None; sending = None };
+}
+
+abbrev next_offered : List CellEntry
+next_offered = record { moment = 6000; event = Prepare 1 next_legs [] [] } ∷ []
+
+pub late_fits : refused_late.deed ≡ deed config next_offered late_receipt false
+unfolding deed
+late_fits = refl
+
+-- A tick doesn't find the first call due after its packets; it finds the next one due an hour after its offer.
 
 abbrev after_relays : List CellEntry
 after_relays = record { moment = 2040; event = Relay relayed_back } ∷ after_relay
@@ -161,3 +180,10 @@ after_relays = record { moment = 2040; event = Relay relayed_back } ∷ after_re
 pub is_not_due : false ≡ is_due config after_relays 3000
 unfolding is_due
 is_not_due = refl
+
+abbrev after_late : List CellEntry
+after_late = record { moment = 6010; event = Relay refused_late } ∷ next_offered
+
+pub is_due_now : true ≡ is_due config after_late 3606000
+unfolding is_due
+is_due_now = refl

@@ -1,4 +1,5 @@
--- A worked call: an offer of plain RTP towards SRTP, its answer and a delete, and what each of these datagrams asks.
+-- Two worked calls: an offer of plain RTP towards SRTP, its answer, a delete and another offer, and what each of these
+-- datagrams asks.
 use Rattle.std.proofs.Common.{◌≡◌, refl, inl, ℕ, zero, suc, ◌<◌, List, [], ◌∷◌, false, Some, None, replicate, codes, arith}
 use Rattle.std.specs.Prelude.{Ok, slice_index}
 use Rattle.std.specs.Fmt.{digits}
@@ -224,3 +225,49 @@ delete_is_read = record { ints = (tt, (tt, tt)); deep = omega arith; spelled = r
 pub delete_is_asked : asked false (Some delete_pairs) ≡ Ok (said.Delete id None false)
 unfolding asked delete_pairs
 delete_is_asked = refl
+
+-- The offer of the next call, of plain RTP.
+
+abbrev pub next_id : List ℕ
+next_id = codes "d"
+
+unfoldable pub next_body : List ℕ
+next_body = codes "d7:command5:offer7:call-id1:d8:from-tag1:a3:sdp47:v=0\nc=IN IP4 192.0.2.10\nm=audio 6000 RTP/AVP 0\ne"
+
+unfoldable pub next_pairs : Entries
+next_pairs =
+    entry (codes "command") (Bytes (codes "offer")) (entry (codes "call-id") (Bytes next_id) (entry (codes "from-tag") (Bytes tag_a)
+    (entry (codes "sdp") (Bytes offer_sdp) no_entries)))
+
+pub next_is_read : Spells next_body (Dict next_pairs)
+unfolding next_body next_pairs offer_sdp digits
+next_is_read = record { ints = (tt, (tt, (tt, (tt, tt)))); deep = omega arith; spelled = refl }
+
+pub next_is_asked : asked false (Some next_pairs) ≡ Ok (said.Offer next_id tag_a offer_sdp plain)
+unfolding asked sdp_error next_pairs offer_sdp
+next_is_asked = refl
+
+abbrev pub next_offer : OfferAsk
+next_offer = record { from_tag = tag_a; sdp = offer_sdp; options = plain; chosen = None ∷ [] }
+
+pub next_is_faultless : plan.offer_fault [] next_offer ≡ None
+unfolding plan.offer_fault offer_sdp
+next_is_faultless = refl
+
+pub next_demands : plan.demand [] next_offer ≡ record { pairs = new_leg 0 B ∷ new_leg 0 A ∷ []; keys = []; dropped = [] }
+unfolding plan.demand offer_sdp
+next_demands = refl
+
+pub next_is_heard : plan.OfferHeard next_offer
+unfolding plan.OfferHeard offer_sdp
+next_is_heard = record { count = refl; first = of_one_section _ refl }
+
+-- it gets the same pairs, in their next leases
+abbrev pub next_leg_b : Holder
+next_leg_b = record leg_b { call = 1; generation = 2 }
+
+abbrev pub next_leg_a : Holder
+next_leg_a = record leg_a { call = 1; generation = 2 }
+
+abbrev pub next_legs : List Holder
+next_legs = next_leg_b ∷ next_leg_a ∷ []

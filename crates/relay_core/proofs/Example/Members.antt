@@ -1,8 +1,10 @@
 -- What holds of each element of a list that is written out.
-use Rattle.std.proofs.Common.{◌≡◌, ◌∙◌, sym, ap, subst, refl, ℕ, zero, suc, List, [], ◌∷◌, Bool, true, false, Some, None}
-use Rattle.std.specs.Prelude.{◌&&◌, slice_get}
+use Rattle.std.proofs.Common.{◌≡◌, ◌∙◌, sym, ap, subst, refl, arith, ◌≤◌, ◌⊎◌, inl, inr, filter, ◌==◌, ℕ, zero, suc, ◌<◌, List, [], ◌∷◌, Bool, true, false, Some, None}
+use Rattle.std.specs.Prelude.{◌&&◌, ◌||◌, not, nat_lt, nat_le, slice_get}
 use Rattle.std.specs.List.{list_all}
-use Rattle.histories.specs.Words.{In, here, there}
+use Rattle.std.proofs.lemmas.Bool.Decides.{nat_tests}
+use Rattle.histories.proofs.Lists.{keeps}
+use Rattle.histories.specs.Words.{In, here, there, Before, begins, goes_on}
 
 infixr 4 ◌&◌
 -- each element has the property, the first one first
@@ -20,6 +22,14 @@ pub at_place : {A : Type 0} (xs : List A) (n : ℕ) {x : A} → slice_get xs n �
 at_place [] n q = absurd cc
 at_place (y ∷ ys) zero {x = x} q = let e : x ≡ y = cc in here e
 at_place (y ∷ ys) (suc n) q = there (at_place ys n q)
+
+-- and the element at an earlier one
+pub before_at : {A : Type 0} (xs : List A) (m n : ℕ) {x y : A} → slice_get xs m ≡ Some x → slice_get xs n ≡ Some y → m < n → Before x y xs
+before_at [] m n p q h = absurd cc
+before_at (z ∷ xs) zero zero p q h = absurd (omega arith)
+before_at (z ∷ xs) zero (suc n) {x = x} p q h = let e : x ≡ z = cc in begins e (at_place xs n q)
+before_at (z ∷ xs) (suc m) zero p q h = absurd (omega arith)
+before_at (z ∷ xs) (suc m) (suc n) p q h = goes_on (before_at xs m n p q (omega arith))
 
 -- both tests pass
 pub first_passes : (a b : Bool) → a && b ≡ true → a ≡ true
@@ -46,3 +56,44 @@ of_none P y q = absurd cc
 
 pub of_false : {P : Type 0} → false ≡ true → P
 of_false q = absurd cc
+
+-- the one element that passes
+sole : {A : Type 0} {x y : A} → In x (y ∷ []) → x ≡ y
+sole (here q) = q
+sole (there i) = elim i [ ]
+
+pub only_one : {A : Type 0} (p : A → Bool) (xs : List A) {y : A} → filter p xs ≡ y ∷ [] → (x : A) → In x xs → p x ≡ true → x ≡ y
+only_one p xs q x i h = sole (subst (In x) q (keeps p xs i h))
+
+-- Tests.
+
+pub together : (a b : Bool) → a ≡ true → b ≡ true → a && b ≡ true
+together true b p q = q
+together false b p q = p
+
+pub implied : (a b : Bool) → not a || b ≡ true → a ≡ true → b ≡ true
+implied true b h p = h
+implied false b h p = absurd cc
+
+pub otherwise : (a b : Bool) → a || b ≡ true → a ≡ false → b ≡ true
+otherwise true b h p = absurd cc
+otherwise false b h p = h
+
+pub either : (a b : Bool) → a || b ≡ true → (a ≡ true) ⊎ (b ≡ true)
+either true b h = inl refl
+either false b h = inr h
+
+pub equal_by : (m n : ℕ) → (m == n) ≡ true → m ≡ n
+equal_by m n h = grind (arith, nat_tests)
+
+pub equal_is : (m n : ℕ) → m ≡ n → (m == n) ≡ true
+equal_is m n h = grind (arith, nat_tests)
+
+pub less_by : (m n : ℕ) → nat_lt m n ≡ true → m < n
+less_by m n h = grind (arith, nat_tests)
+
+pub less_is : (m n : ℕ) → m < n → nat_lt m n ≡ true
+less_is m n h = grind (arith, nat_tests)
+
+pub at_most_by : (m n : ℕ) → nat_le m n ≡ true → m ≤ n
+at_most_by m n h = grind (arith, nat_tests)
