@@ -1,5 +1,5 @@
 -- The legs of a cell: which entry added one, and that none took it away since.
-use Rattle.std.proofs.Common.{◌≡◌, refl, ap, subst, sym, ◌∙◌, ℕ, List, [], ◌∷◌, ◌++◌, Bool, true, false, cond, Some, filter, not, ◌==◌, ◌⊎◌, inl, inr}
+use Rattle.std.proofs.Common.{◌≡◌, refl, ap, subst, sym, ◌∙◌, ℕ, List, [], ◌∷◌, ◌++◌, Bool, true, false, cond, Some, filter, not, ◌==◌, ◌⊎◌, inl, inr, append-nil}
 use Rattle.std.specs.Prelude.{◌&&◌}
 use Rattle.histories.specs.Words.{In, here, there}
 use Rattle.histories.proofs.Lists.{in_left, in_right, in_append, filtered, keeps, first_is_in, equal, equal_if}
@@ -64,9 +64,9 @@ and_here leg x newer q rest e (here p) = ap (λ (y : CellEntry). takes_away y.ev
 and_here leg x newer q rest e (there i) = rest e i
 
 added_case : (x : CellEntry) (h : List CellEntry) (leg : Holder) → (In leg (legs h) → IsAdded h leg)
-    → In leg (legs_of x.event) ⊎ In leg (filter (keeps_leg x) (legs h)) → IsAdded (x ∷ h) leg
-added_case x h leg rest (inl i) = record { newer = []; entry = x; older = h; splits = refl; adds = i; stays = none_yet leg }
-added_case x h leg rest (inr i) =
+    → In leg (filter (keeps_leg x) (legs h)) ⊎ In leg (legs_of x.event) → IsAdded (x ∷ h) leg
+added_case x h leg rest (inr i) = record { newer = []; entry = x; older = h; splits = refl; adds = i; stays = none_yet leg }
+added_case x h leg rest (inl i) =
     let f = filtered (keeps_leg x) (legs h) i in
     let a = rest f.0 in
     record {
@@ -80,13 +80,13 @@ added_case x h leg rest (inr i) =
 
 pub leg_added : (h : List CellEntry) (leg : Holder) → In leg (legs h) → IsAdded h leg
 leg_added [] leg i = elim i [ ]
-leg_added (x ∷ h) leg i = added_case x h leg (leg_added h leg) (in_append (legs_of x.event) (filter (keeps_leg x) (legs h)) i)
+leg_added (x ∷ h) leg i = added_case x h leg (leg_added h leg) (in_append (filter (keeps_leg x) (legs h)) (legs_of x.event) i)
 
 stays_there : (newer older : List CellEntry) (entry : CellEntry) (leg : Holder) → In leg (legs_of entry.event)
     → ((e : CellEntry) → In e newer → takes_away e.event leg.section ≡ false) → In leg (legs (newer ++ entry ∷ older))
-stays_there [] older entry leg i stays = in_left (legs_of entry.event) (filter (keeps_leg entry) (legs older)) i
+stays_there [] older entry leg i stays = in_right (filter (keeps_leg entry) (legs older)) (legs_of entry.event) i
 stays_there (x ∷ newer) older entry leg i stays =
-    in_right (legs_of x.event) (filter (keeps_leg x) (legs (newer ++ entry ∷ older)))
+    in_left (filter (keeps_leg x) (legs (newer ++ entry ∷ older))) (legs_of x.event)
     (keeps (keeps_leg x) (legs (newer ++ entry ∷ older)) (stays_there newer older entry leg i (λ e j. stays e (there j)))
     (not_false (takes_away x.event leg.section) (stays x (here refl))))
 
@@ -94,9 +94,9 @@ pub leg_is_there : (h : List CellEntry) (leg : Holder) → IsAdded h leg → In 
 leg_is_there h leg a = subst (λ (k : List CellEntry). In leg (legs k)) (sym a.splits) (stays_there a.newer a.older a.entry leg a.adds a.stays)
 
 before_case : (x : CellEntry) (h : List CellEntry) (leg : Holder) → (In leg (legs_of x.event) → ⊥)
-    → In leg (legs_of x.event) ⊎ In leg (filter (keeps_leg x) (legs h)) → In leg (legs h)
-before_case x h leg none (inl i) = absurd (none i)
-before_case x h leg none (inr i) = (filtered (keeps_leg x) (legs h) i).0
+    → In leg (filter (keeps_leg x) (legs h)) ⊎ In leg (legs_of x.event) → In leg (legs h)
+before_case x h leg none (inr i) = absurd (none i)
+before_case x h leg none (inl i) = (filtered (keeps_leg x) (legs h) i).0
 
 -- a leg was there before newer entries that didn't add it
 pub leg_before : (newer older : List CellEntry) (leg : Holder) → ((e : CellEntry) → In e newer → In leg (legs_of e.event) → ⊥)
@@ -105,7 +105,7 @@ leg_before [] older leg none i = i
 leg_before (x ∷ newer) older leg none i =
     leg_before newer older leg (λ e j. none e (there j))
     (before_case x (newer ++ older) leg (none x (here refl))
-    (in_append (legs_of x.event) (filter (keeps_leg x) (legs (newer ++ older))) i))
+    (in_append (filter (keeps_leg x) (legs (newer ++ older))) (legs_of x.event) i))
 
 -- a leg is the same as itself, and what is the same as it is of its call, pair and lease
 pub is_same_leg : (leg : Holder) → same_leg leg leg ≡ true
@@ -166,5 +166,5 @@ filter_all q (x ∷ xs) all =
 -- what stays as it was over an entry that neither adds nor takes away legs
 pub legs_stay : (e : CellEntry) (h : List CellEntry) → legs_of e.event ≡ [] → ((section : ℕ) → takes_away e.event section ≡ false) → legs (e ∷ h) ≡ legs h
 legs_stay e h none stays =
-    ap (λ (ls : List Holder). ls ++ filter (keeps_leg e) (legs h)) none
-    ∙ filter_all (keeps_leg e) (legs h) (λ leg. not_false (takes_away e.event leg.section) (stays leg.section))
+    ap (λ (ls : List Holder). filter (keeps_leg e) (legs h) ++ ls) none
+    ∙ append-nil (filter (keeps_leg e) (legs h)) ∙ filter_all (keeps_leg e) (legs h) (λ leg. not_false (takes_away e.event leg.section) (stays leg.section))

@@ -1,5 +1,5 @@
 -- What one more entry does to each question to a cell.
-use Rattle.std.proofs.Common.{◌≡◌, refl, ap, sym, ◌∙◌, ℕ, List, [], ◌∷◌, ◌++◌, Bool, true, false, cond, Option, Some, None, map, filter, filter_map, not, ◌==◌}
+use Rattle.std.proofs.Common.{◌≡◌, refl, ap, sym, ◌∙◌, ℕ, List, [], ◌∷◌, ◌++◌, Bool, true, false, cond, Option, Some, None, map, filter, filter_map, not, ◌==◌, append-nil}
 use Rattle.std.specs.Prelude.{◌&&◌}
 use Rattle.std.specs.List.{list_any, cons_option}
 use Rattle.relay_outside.specs.declared.address.Addr.{Addr}
@@ -95,7 +95,7 @@ heard_is moment r leg half = heard_case half r (same_leg leg r.packet.holder && 
 
 pub commit_legs : (moment : ℕ) (signal : List SectionSignal) (h : List CellEntry)
     → legs (entry moment (Commit signal) ∷ h) ≡ filter (λ (leg : Holder). not (is_rejected signal leg.section)) (legs h)
-commit_legs moment signal h = refl
+commit_legs moment signal h = append-nil (filter (λ (leg : Holder). not (is_rejected signal leg.section)) (legs h))
 
 pub commit_call : (moment : ℕ) (signal : List SectionSignal) (h : List CellEntry) → call (entry moment (Commit signal) ∷ h) ≡ call h
 commit_call moment signal h = refl

@@ -96,10 +96,10 @@ takes_away (Prepare call legs keys dropped) section = has dropped section
 takes_away (Commit signal) section = is_rejected signal section
 takes_away _ section = false
 
--- the legs that were added, without those of sections that an offer dropped or an answer rejected later
+-- the legs that were added, in lease order, without those of sections that an offer dropped or an answer rejected later
 abbrev pub legs : List CellEntry → List Holder
 legs [] = []
-legs (e ∷ h) = legs_of e.event ++ filter (λ leg. not (takes_away e.event leg.section)) (legs h)
+legs (e ∷ h) = filter (λ leg. not (takes_away e.event leg.section)) (legs h) ++ legs_of e.event
 
 -- the leg of the same section on the other side
 abbrev pub is_opposite : Holder → Holder → Bool

@@ -111,8 +111,8 @@ second_section_is_open = refl
 abbrev both_answered : List CellEntry
 both_answered = steps two_sections (now (Commit (section.Commit side_a side_b ∷ section.Commit side_a (plain third_place no_flags) ∷ [])) ∷ [])
 
--- the legs of the later Prepare stand first
-legs_in_order : legs two_sections ≡ second_b ∷ second_a ∷ leg_b ∷ leg_a ∷ []
+-- the legs of the later Prepare stand last: legs stand in lease order
+legs_in_order : legs two_sections ≡ leg_b ∷ leg_a ∷ second_b ∷ second_a ∷ []
 legs_in_order = refl
 
 -- a packet leaves by the opposite leg of its own section
