@@ -5,7 +5,11 @@
 #![tactic(auto)]
 
 mod holder;
+mod sections;
 mod signal;
+#[cfg(test)]
+mod tests;
 
 pub use holder::{Holder, Side};
+pub use sections::Signal;
 pub use signal::{LegSignal, SectionSignal};
