@@ -2,3 +2,5 @@ pub mod Signals
 pub mod Boxes
 pub mod Reports
 pub mod Ports
+pub mod Pools
+pub mod Leases

@@ -5,11 +5,13 @@
 #![tactic(auto)]
 
 mod holder;
+mod pairs;
 mod sections;
 mod signal;
 #[cfg(test)]
 mod tests;
 
 pub use holder::{Holder, Side};
+pub use pairs::{Lease, Pool};
 pub use sections::Signal;
 pub use signal::{LegSignal, SectionSignal};
