@@ -4,3 +4,5 @@ pub mod Reports
 pub mod Ports
 pub mod Pools
 pub mod Leases
+pub mod Taking
+pub mod PairBoxes

@@ -4,6 +4,7 @@
 //! has the history of a box, `specs/Signals.antt` the questions to a signal, `specs/Reports.antt` what is told of a leg.
 #![tactic(auto)]
 
+mod boxes;
 mod holder;
 mod pairs;
 mod sections;
@@ -11,6 +12,7 @@ mod signal;
 #[cfg(test)]
 mod tests;
 
+pub use boxes::{BoxTake, PairBox};
 pub use holder::{Holder, Side};
 pub use pairs::{Lease, Pool};
 pub use sections::Signal;
