@@ -6,3 +6,4 @@ pub mod Pools
 pub mod Leases
 pub mod Taking
 pub mod PairBoxes
+pub mod LeaseLists

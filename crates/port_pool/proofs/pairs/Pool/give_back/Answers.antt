@@ -1,4 +1,4 @@
-use Rattle.std.proofs.Common.{◌≡◌, ◌<◌, ◌≤◌, false, sym, subst, arith, length}
+use Rattle.std.proofs.Common.{List, ℕ, ◌≡◌, ◌<◌, ◌≤◌, false, sym, subst, arith, length}
 use Rattle.std.specs.VecDeque.{deque_capacity}
 use Rattle.histories.specs.Words.{has}
 use Rattle.port_pool.specs.Pools.{Pairs, AreFree}
@@ -21,4 +21,4 @@ invariant_of-self c =
     let out : has c.self.inside.free.items c.args.lease.pair ≡ false = subst (λ (pool : Pairs). has pool.free c.args.lease.pair ≡ false) (sym c.self.view_is) c.requires.not_free in
     let room : count ≤ deque_capacity c.push_back_reserved.new.self = omega (arith, c.self.invariant.1, c.push_back_reserved.ensures.capacity) in
     let behind = one_behind count c.self.inside.free.items c.args.lease.pair c.self.invariant.2 within out in
-    (c.self.invariant.0, room, subst (AreFree count) (sym c.push_back_reserved.ensures.items) behind)
+    (c.self.invariant.0, room, subst (AreFree count) (sym {A = List ℕ} c.push_back_reserved.ensures.items) behind)
