@@ -2,8 +2,9 @@
 //!
 //! Module `pairs` has the pool of port pairs and its leases, `lease_list` leases in order, `boxes` the box of a pair with
 //! its in ends, `holder` the leg that holds a pair, `signal` what an answer commits for a section and `sections` for all.
-//! `specs/Pools.antt` says what a pool holds, `specs/Ports.antt` has the ports of a pair, `specs/Boxes.antt` the history of a box and `specs/Taking.antt` what a
-//! take tells of it, `specs/Signals.antt` the questions to a signal, `specs/Reports.antt` what is told of a leg.
+//! `specs/Pools.antt` says what a pool holds, `specs/Ports.antt` has the ports of a pair, `specs/Boxes.antt` the history of
+//! a box and `specs/Taking.antt` what a take tells of it, `specs/Signals.antt` the questions to a signal, `specs/Reports.antt`
+//! what is told of a leg.
 #![tactic(auto)]
 
 mod boxes;
