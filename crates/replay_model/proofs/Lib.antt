@@ -1,1 +1,4 @@
+pub mod Given
+pub mod Fitting
+pub mod Orderly
 mod rows
