@@ -1,4 +1,7 @@
 pub mod Given
 pub mod Fitting
 pub mod Orderly
+pub mod Growing
+pub mod Nested
+pub mod Grown
 mod rows

@@ -33,7 +33,7 @@ use Rattle.replay_model.proofs.Fitting.{turn_fits}
 
 -- Turns of the board.
 
-nested_gains : (l : List Entry) (board handed : ℕ) (ws : List Owed) → Gained l board ws (nested_entries l board handed ws)
+pub nested_gains : (l : List Entry) (board handed : ℕ) (ws : List Owed) → Gained l board ws (nested_entries l board handed ws)
 nested_gains l board handed [] = gained_nothing l board
 nested_gains l board handed (w ∷ ws) =
     gained_more l board (w ∷ []) ws (nested_entry l board handed w ∷ []) (nested_entries (l ++ nested_entry l board handed w ∷ []) board handed ws)
