@@ -4,4 +4,5 @@ pub mod Orderly
 pub mod Growing
 pub mod Nested
 pub mod Grown
+pub mod Turned
 mod rows
