@@ -31,7 +31,7 @@ use Rattle.replay_model.proofs.Given.{OpenedSo, all_open, one_fails, opened_so, 
 use Rattle.replay_model.proofs.Given as given
 
 -- the answer, where memory may be short
-abbrev unless_starved : Config → Bool → Answering → Answered
+abbrev pub unless_starved : Config → Bool → Answering → Answered
 unless_starved config starved a = cond starved (record { bytes = reply_text config (Fault E17); act = act.Starved }) (spelled config a)
 
 -- What is answered by what is given in this way fits what the devices give for it.

@@ -5,4 +5,7 @@ pub mod Growing
 pub mod Nested
 pub mod Grown
 pub mod Turned
+pub mod Calm
+pub mod Held
+pub mod Lawful
 mod rows

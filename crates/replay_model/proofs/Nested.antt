@@ -109,7 +109,7 @@ nested_append l board handed (w ∷ ws) vs =
     ∙ ap (λ xs. nested_entries (l ++ nested_entry l board handed w ∷ []) board handed ws ++ nested_entries xs board handed vs)
     (append_assoc l (nested_entry l board handed w ∷ []) (nested_entries (l ++ nested_entry l board handed w ∷ []) board handed ws)))
 
-all_append : (config : Config) (l : List Entry) (board handed : ℕ) (ws vs : List Owed) → AllFit config l board handed ws
+pub all_append : (config : Config) (l : List Entry) (board handed : ℕ) (ws vs : List Owed) → AllFit config l board handed ws
     → AllFit config (l ++ nested_entries l board handed ws) board handed vs → AllFit config l board handed (ws ++ vs)
 all_append config l board handed [] vs a b = subst (λ xs. AllFit config xs board handed vs) (nothing_more l) b
 all_append config l board handed (w ∷ ws) vs a b =
@@ -128,10 +128,10 @@ due_same config k l handed c s =
     sym (s.history_is (front k c.cell)) ∙ ap (history l c.cell) (sym s.front_is) in
     ap (λ xs. is_due config (since_end (filter_map cell_entry xs)) (max handed (greatest (map (λ (e : Entry). e.moment) xs)))) whole
 
-closings_box : (config : Config) (h : List BoardEntry) (e : BoardEntry) (c : Call) (w : Owed) → In w (closings config h e c) → (leg : Holder) × (w ≡ closing config leg)
+pub closings_box : (config : Config) (h : List BoardEntry) (e : BoardEntry) (c : Call) (w : Owed) → In w (closings config h e c) → (leg : Holder) × (w ≡ closing config leg)
 closings_box config h e c w i = let m = mapped (closing config) (closed_of h e c) i in (m.from, sym m.makes)
 
-ending_anywhere : (config : Config) (h : List BoardEntry) (e : BoardEntry) (c : Call) (w : Owed) → In w (ending config h e c) → FitsAnywhere w.event
+pub ending_anywhere : (config : Config) (h : List BoardEntry) (e : BoardEntry) (c : Call) (w : Owed) → In w (ending config h e c) → FitsAnywhere w.event
 ending_anywhere config h e c w (here q) = subst (λ (v : Owed). FitsAnywhere v.event) (sym q) tt
 ending_anywhere config h e c w (there i) = let b = closings_box config h e c w i in subst (λ (v : Owed). FitsAnywhere v.event) (sym b.1) tt
 

@@ -65,26 +65,35 @@ same_truth false false f g = refl
 same_truth true false f g = absurd (let k = f refl in cc)
 same_truth false true f g = absurd (let k = g refl in cc)
 
--- of the live calls those with the numbers of some of them are these
-picked_named : (config : Config) (h : List BoardEntry) (p : Call → Bool) → IsFitting config h → filter p (live h) ≡ named_live h (filter p (live h))
-picked_named config h p good =
-    same_tests p (λ (c : Call). has (map (λ (d : Call). d.number) (filter p (live h))) c.number) (live h)
-    (λ c i. same_truth (p c) (has (map (λ (d : Call). d.number) (filter p (live h))) c.number) (named c i) (picked c i))
+-- a live call is picked where its number is one of those that were
+pub picked_is : (config : Config) (h : List BoardEntry) (p : Call → Bool) → IsFitting config h → (c : Call) → In c (live h)
+    → p c ≡ has (map (λ (d : Call). d.number) (filter p (live h))) c.number
+picked_is config h p good c i =
+    same_truth (p c) (has (map (λ (d : Call). d.number) (filter p (live h))) c.number) named picked
   where
-    named : (c : Call) → In c (live h) → p c ≡ true → has (map (λ (d : Call). d.number) (filter p (live h))) c.number ≡ true
-    named c i t = it_has c.number (map (λ (d : Call). d.number) (filter p (live h))) (maps (λ (d : Call). d.number) (filter p (live h)) (keeps p (live h) i t))
+    named : p c ≡ true → has (map (λ (d : Call). d.number) (filter p (live h))) c.number ≡ true
+    named t = it_has c.number (map (λ (d : Call). d.number) (filter p (live h))) (maps (λ (d : Call). d.number) (filter p (live h)) (keeps p (live h) i t))
 
-    picked : (c : Call) → In c (live h) → has (map (λ (d : Call). d.number) (filter p (live h))) c.number ≡ true → p c ≡ true
-    picked c i t =
+    picked : has (map (λ (d : Call). d.number) (filter p (live h))) c.number ≡ true → p c ≡ true
+    picked t =
         let m = mapped (λ (d : Call). d.number) (filter p (live h)) (has_it c.number (map (λ (d : Call). d.number) (filter p (live h))) t) in
         let f = filtered p (live h) m.is_in in
         subst (λ d. p d ≡ true) (live_numbers config h m.from c good f.0 i m.makes) f.1
+
+-- of the live calls those with the numbers of some of them are these
+picked_named : (config : Config) (h : List BoardEntry) (p : Call → Bool) → IsFitting config h → filter p (live h) ≡ named_live h (filter p (live h))
+picked_named config h p good =
+    same_tests p (λ (c : Call). has (map (λ (d : Call). d.number) (filter p (live h))) c.number) (live h) (picked_is config h p good)
+
+pub tick_fits_board : (config : Config) (l : List Entry) → Orderly config l → (moment : ℕ)
+    → FitsBoard config (board_now l) (record { moment = moment; event = Tick (due_calls config l moment) })
+tick_fits_board config l o moment = picked_named config (board_now l) (call_is_due config l moment) (good_history config l o (front l 0))
 
 pub tick_orderly : (config : Config) (l : List Entry) → Orderly config l → (moment : ℕ)
     → Orderly config (after_turn config l (record { moment = moment; event = Tick (due_calls config l moment) }))
 tick_orderly config l o moment =
     turn_orderly config l o (record { moment = moment; event = Tick (due_calls config l moment) })
-    (picked_named config (board_now l) (call_is_due config l moment) (good_history config l o (front l 0)))
+    (tick_fits_board config l o moment)
 
 -- Steps of the script.
 
