@@ -1,6 +1,6 @@
 -- Receipts that are held: what keeps them, and what a packet that arrives gives.
 use Rattle.std.proofs.Common.{◌≡◌, ◌∙◌, sym, ap, subst, refl, ℕ, zero, suc, ◌+◌, ◌<◌, ◌≤◌, ◌⊎◌, inl, inr, List, [], ◌∷◌, ◌++◌, length, take, Bool, true, false, cond, not, Option, Some, None, ◌==◌, filter, arith}
-use Rattle.std.proofs.lemmas.Grind.{common_steps}
+use Rattle.std.proofs.lemmas.List.{length-take-le}
 use Rattle.std.specs.Prelude.{◌||◌, nat_lt, filter_map}
 use Rattle.std.proofs.lemmas.Bool.Decides.{nat_tests}
 use Rattle.std.specs.List.{list_any}
@@ -134,17 +134,11 @@ pub receipt_is : (h : List BoxEvent) (taking : ℕ) (half : Half) (failing : Boo
     → receipt_in taking half (arriving_at (holder h) failing source bytes) ≡ Some p → IsOf h taking half (arriving_at (holder h) failing source bytes) p
 receipt_is h taking half failing source bytes p r = holder_case h taking half failing source bytes p (holder h) refl r
 
-taken_length : (n : ℕ) (xs : List ℕ) → n ≤ length xs → length (take n xs) ≡ n
-taken_length zero [] k = refl
-taken_length zero (x ∷ xs) k = refl
-taken_length (suc n) [] k = absurd (omega (arith, k))
-taken_length (suc n) (x ∷ xs) k = ap suc (taken_length n xs (omega (arith, k)))
-
 -- what arrives fits the box
 fits_case : (leg : Holder) (source : Addr) (bytes : List ℕ) → (failing long : Bool) → nat_lt 2000 (length bytes) ≡ long
     → FitsTaken (Some leg) (cond failing box.Fault (cond long (box.TooLong source (take 2001 bytes)) (box.Datagram leg source bytes)))
 fits_case leg source bytes true long is = tt
-fits_case leg source bytes false true is = taken_length 2001 bytes (let k = below 2000 (length bytes) is in omega (arith, k))
+fits_case leg source bytes false true is = length-take-le 2001 bytes (let k = below 2000 (length bytes) is in omega (arith, k))
   where
     below : (a b : ℕ) → nat_lt a b ≡ true → a < b
     below a b h = grind (arith, nat_tests)

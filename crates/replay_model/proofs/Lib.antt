@@ -7,5 +7,6 @@ pub mod Grown
 pub mod Turned
 pub mod Calm
 pub mod Held
+pub mod Receipts
 pub mod Lawful
 mod rows

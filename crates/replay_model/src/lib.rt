@@ -8,4 +8,4 @@
 
 mod laws;
 
-pub use laws::{replays_are_orderly, replays_are_safe};
+pub use laws::{replays_are_legal, replays_are_safe};
