@@ -1,10 +1,10 @@
 -- The turn of a datagram in a replay is the one that the board's history demands.
-use Rattle.std.proofs.Common.{◌≡◌, ◌∙◌, sym, ap, subst, refl, ℕ, zero, suc, ◌+◌, ◌*◌, ◌<◌, List, [], ◌∷◌, ◌++◌, length, Bool, true, false, cond, not, Option, Some, None, Result, Ok, Err, replicate, arith}
+use Rattle.std.proofs.Common.{◌≡◌, ◌∙◌, sym, ap, subst, refl, ℕ, ◌*◌, List, [], length, Bool, true, false, cond, not, Option, Some, None, Result, Ok, Err, replicate}
 use Rattle.std.specs.Prelude.{◌&&◌, nat_le}
 use Rattle.std.specs.List.{list_any}
 use Rattle.relay_outside.specs.declared.settings.Config.{Config}
 use Rattle.relay_outside.specs.declared.address.Addr.{Addr}
-use Rattle.ng_frame.specs.Frame.{IsFrame, frame}
+use Rattle.ng_frame.specs.Frame.{frame}
 use Rattle.ng_frame.proofs.Framed.{frame_real}
 use Rattle.ng_command.specs.Said.{Said, Ping, Offer, Answer, Delete, Query, Listing}
 use Rattle.ng_reply.specs.declared.code.ErrorCode.{ErrorCode}
@@ -20,12 +20,12 @@ use Rattle.call_board.specs.Asked.{asked}
 use Rattle.call_board.specs.Replies as replies
 use Rattle.call_board.specs.Replies.{Fault, reply_text}
 use Rattle.call_board.specs.Answers.{Answering, Answered, failing, leased_pairs, offer_ask, answer_ask, offer_leased, offer_unless, offer_to, answer_unless, answer_to, delete_of, missing, names_side, query_of, answering_asked, answering_unless, spelled}
-use Rattle.call_board.specs.Fits.{FitsControl, GivesFor, GivesUndone, Hears, HearsAnswer, demanded, demanded_by, answer_of}
+use Rattle.call_board.specs.Fits.{FitsControl, GivesFor, GivesUndone, Hears, demanded, demanded_by}
 use Rattle.call_board.proofs.Tells.{leased_case}
 use Rattle.call_board.proofs.Demands.{legs_count}
 use Rattle.relay_core.specs.Entries.{Entry}
 use Rattle.replay_model.specs.Devices.{Happening, Opens, opens, Draws, draws}
-use Rattle.replay_model.specs.Turns.{Heard, nothing_given, control, asking, Outside, with_draws, with_opens, ends_of, outside_of, answered_with, outside, turned, board_now}
+use Rattle.replay_model.specs.Turns.{Heard, nothing_given, control, asking, with_draws, ends_of, outside_of, answered_with, outside, turned, board_now}
 use Rattle.replay_model.specs.Replay.{HearsIt}
 use Rattle.replay_model.proofs.Given.{OpenedSo, all_open, one_fails, opened_so, DrawnSo, all_drawn, drawn_so, ends_count, none_failed, some_failed}
 use Rattle.replay_model.proofs.Given as given
@@ -52,9 +52,11 @@ drawn_case config h ask of begins before pairs answers opened good d (all_drawn 
     (record { all_opened = opened }, record { all_drawn = is; none_failed = fine }, refl)
 drawn_case config h ask of begins before pairs answers opened good d (all_drawn is fine) true failed = absurd (let a = fine in let b = failed in cc)
 drawn_case config h ask of begins before pairs answers opened good d (given.one_fails less bad) false failed = absurd (let a = bad in let b = failed in cc)
-drawn_case config h ask of begins before pairs answers opened good d (given.one_fails less bad) true failed =
-    (subst (λ b. GivesUndone (plan.demand before ask) (with_draws answers d).given b) (sym good)
-    (record { all_opened = opened }, record { some_are_left = less; then_fails = bad }), refl)
+drawn_case config h ask of begins before pairs answers opened good d (given.one_fails less bad) true failed = (
+  subst (λ b. GivesUndone (plan.demand before ask) (with_draws answers d).given b) (sym good)
+      (record { all_opened = opened }, record { some_are_left = less; then_fails = bad }),
+  refl,
+)
 
 opened_case : (config : Config) (stream : ℕ → List ℕ) (h : List BoardEntry) (ask : OfferAsk) (of : Call) (begins : Bool) (before : List Round) (pairs : List ℕ)
     → (o : Opens) → OpenedSo o.answers (2 * length (plan.demand before ask).pairs) → (failed : Bool) → list_any not o.answers ≡ failed

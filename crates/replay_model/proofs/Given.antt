@@ -1,8 +1,6 @@
 -- What the devices of a replay give in a turn is what a board's turn is given.
-use Rattle.std.proofs.Common.{◌≡◌, ◌∙◌, sym, ap, subst, refl, ℕ, zero, suc, ◌+◌, ◌*◌, ◌<◌, List, [], ◌∷◌, ◌++◌, length, Bool, true, false, cond, not, Option, Some, None, replicate, arith}
+use Rattle.std.proofs.Common.{◌≡◌, ap, refl, ℕ, zero, suc, ◌*◌, ◌<◌, List, [], ◌∷◌, ◌++◌, length, Bool, true, false, cond, not, replicate, arith}
 use Rattle.std.specs.List.{list_any}
-use Rattle.relay_outside.specs.declared.settings.Config.{Config}
-use Rattle.relay_outside.specs.declared.address.Addr.{Addr}
 use Rattle.rtp_packet.specs.declared.head.Half.{Half}
 use Rattle.port_pool.specs.declared.holder.Holder.{Holder}
 use Rattle.replay_model.specs.Steps.{Opening, Drawing}

@@ -1,22 +1,19 @@
 -- A list that grows at the fronts of places: what it keeps.
-use Rattle.std.proofs.Common.{◌≡◌, ◌∙◌, sym, ap, subst, refl, ℕ, zero, suc, ◌+◌, ◌<◌, ◌≤◌, ◌⊎◌, inl, inr, List, [], ◌∷◌, ◌++◌, map, filter, Bool, true, false, max, ◌==◌, arith}
-use Rattle.std.proofs.Common.{append_assoc}
+use Rattle.std.proofs.Common.{◌≡◌, ◌∙◌, sym, ap, subst, refl, ℕ, zero, suc, ◌+◌, ◌<◌, ◌≤◌, ◌⊎◌, inl, inr, List, [], ◌∷◌, ◌++◌, map, filter, true, max, ◌==◌, arith}
 use Rattle.relay_outside.specs.declared.settings.Config.{Config}
 use Rattle.histories.specs.Words.{In, here, there, greatest}
-use Rattle.histories.proofs.Lists.{in_append, in_left, in_right, filtered, mapped, equal_if}
+use Rattle.histories.proofs.Lists.{in_append, in_left, filtered, mapped, equal_if}
 use Rattle.call_cell.specs.Cells.{Prepare, Commit, Relay, Expire, Read, End}
 use Rattle.relay_core.specs.Entries.{Entry, Event, Board, Cell, Box, board_entry, cell_entry, box_event, history, front, is_at, is_nested, board_history}
 use Rattle.std.specs.Prelude.{filter_map}
 use Rattle.port_pool.specs.Boxes.{FitsBox}
 use Rattle.call_cell.specs.Asked.{FitsCell}
 use Rattle.call_board.specs.Fits.{FitsBoard}
-use Rattle.relay_core.specs.Legal.{Orderly, Fits, FitsEvent, IsTimed, last_moment, is_handed_own, is_handed_boards}
+use Rattle.relay_core.specs.Legal.{Orderly, Fits, FitsEvent, IsTimed, last_moment, is_handed_boards}
 use Rattle.relay_core.proofs.Histories.{at_place}
 use Rattle.relay_core.proofs.Boards.{lt_or_eq}
-use Rattle.relay_core.proofs.Boxes.{below_front}
 use Rattle.relay_core.proofs.Counts.{Stands}
 use Rattle.relay_core.proofs.Turns.{IsAbove, filter_append, filter_none, false_if, nothing_more}
-use Rattle.replay_model.specs.Turns.{latest, moment_at}
 
 -- Histories.
 

@@ -1,23 +1,18 @@
 -- A turn of the board and a step of a lane keep a list legal.
-use Rattle.std.proofs.Common.{◌≡◌, ◌∙◌, sym, ap, subst, refl, ℕ, suc, ◌+◌, ◌<◌, ◌≤◌, ◌⊎◌, inl, inr, List, [], ◌∷◌, ◌++◌, map, Bool, true, false, max, append_assoc, arith}
+use Rattle.std.proofs.Common.{◌≡◌, ◌∙◌, sym, ap, subst, refl, ℕ, ◌≤◌, ◌⊎◌, inl, inr, List, [], ◌∷◌, ◌++◌, map, Bool, true, false, arith}
 use Rattle.relay_outside.specs.declared.settings.Config.{Config}
-use Rattle.histories.specs.Words.{In, here, there, Before, begins, goes_on, greatest}
-use Rattle.histories.proofs.Lists.{in_append, in_left, in_right}
+use Rattle.histories.specs.Words.{In, here, there, greatest}
+use Rattle.histories.proofs.Lists.{in_append}
 use Rattle.port_pool.specs.Boxes.{Open, Take, Close}
 use Rattle.call_cell.specs.Cells.{Prepare, Commit, Relay, Expire, Read, End, Relayed}
-use Rattle.call_board.specs.Acts.{BoardEntry}
-use Rattle.call_board.specs.Fits.{FitsBoard}
-use Rattle.relay_core.specs.Entries.{Event, Board, Cell, Box, Entry, is_nested, history, front, board_history}
-use Rattle.relay_core.specs.Scripts.{Owed, owed_by, script}
+use Rattle.relay_core.specs.Entries.{Event, Board, Cell, Box, Entry, history, front}
 use Rattle.relay_core.specs.Legal.{Orderly, Legal, Fits, FitsEvent, IsReceived, IsTimed, last_moment, is_handed_own, is_handed_boards}
 use Rattle.relay_core.proofs.Boxes.{below_front}
-use Rattle.relay_core.proofs.Counts.{Stands, counted_if}
-use Rattle.relay_core.proofs.Turns.{IsAbove, IsOfLane, IsTurn, turn_elsewhere, before_left}
-use Rattle.relay_core.proofs.Gains.{rising_above, turn_made}
-use Rattle.replay_model.specs.Turns.{latest, moment_at, nested_entry, nested_entries, board_now, board_step, after_turn, lane_step}
-use Rattle.replay_model.proofs.Orderly.{nested_gains, turn_orderly, lane_orderly}
-use Rattle.replay_model.proofs.Growing.{AreAbove, same_history, before_it, IsFull, below_stands, stands_longer, full_more, timed_longer, event_fits, fits_longer}
-use Rattle.replay_model.proofs.Nested.{FitsNow, AllFit}
+use Rattle.relay_core.proofs.Counts.{counted_if}
+use Rattle.relay_core.proofs.Turns.{IsAbove, IsOfLane, before_left}
+use Rattle.replay_model.specs.Turns.{latest, moment_at, lane_step}
+use Rattle.replay_model.proofs.Orderly.{lane_orderly}
+use Rattle.replay_model.proofs.Growing.{AreAbove, same_history, IsFull, below_stands, full_more, timed_longer, event_fits, fits_longer}
 
 -- what is kept of a list, from which it is legal
 pub record Grown (config : Config) (l : List Entry) : Type 0 where

@@ -1,5 +1,5 @@
 -- Receipts that are held: what keeps them, and what a packet that arrives gives.
-use Rattle.std.proofs.Common.{◌≡◌, ◌∙◌, sym, ap, subst, refl, ℕ, zero, suc, ◌+◌, ◌<◌, ◌≤◌, ◌⊎◌, inl, inr, List, [], ◌∷◌, ◌++◌, length, take, Bool, true, false, cond, not, Option, Some, None, ◌==◌, filter, arith}
+use Rattle.std.proofs.Common.{◌≡◌, ◌∙◌, sym, ap, refl, ℕ, zero, suc, ◌+◌, ◌<◌, ◌≤◌, ◌⊎◌, inl, inr, List, [], ◌∷◌, length, take, Bool, true, false, cond, not, Option, Some, None, ◌==◌, filter, arith}
 use Rattle.std.proofs.lemmas.List.{length-take-le}
 use Rattle.std.specs.Prelude.{◌||◌, nat_lt, filter_map}
 use Rattle.std.proofs.lemmas.Bool.Decides.{nat_tests}
@@ -7,23 +7,22 @@ use Rattle.std.specs.List.{list_any}
 use Rattle.relay_outside.specs.declared.settings.Config.{Config}
 use Rattle.relay_outside.specs.declared.address.Addr.{Addr}
 use Rattle.rtp_packet.specs.declared.head.Half.{Half}
-use Rattle.histories.specs.Words.{In}
-use Rattle.histories.proofs.Lists.{in_left, equal, equal_if}
+use Rattle.histories.proofs.Lists.{equal, equal_if}
 use Rattle.port_pool.specs.declared.holder.Holder.{Holder}
 use Rattle.port_pool.specs.Boxes.{Taken, BoxEvent, holder, FitsTaken, Take, Open}
 use Rattle.port_pool.specs.Boxes as box
-use Rattle.call_cell.specs.Cells.{Receipt, Relayed, Relay, Sending}
+use Rattle.call_cell.specs.Cells.{Receipt, Sending}
 use Rattle.call_board.specs.Acts as act
 use Rattle.call_board.specs.Acts.{Act}
-use Rattle.relay_core.specs.Entries.{Event, Board, Cell, Box, Entry, is_nested, history, front, box_event, box_in, box_history, box_of}
+use Rattle.relay_core.specs.Entries.{Event, Board, Cell, Box, Entry, is_nested, history, box_event, box_in, box_history, box_of}
 use Rattle.relay_core.specs.Legal.{Orderly}
 use Rattle.relay_core.proofs.Boxes.{holder_opened}
 use Rattle.relay_core.proofs.Holders.{opened_lease, same_box}
 use Rattle.relay_core.proofs.Turns.{filter_every}
 use Rattle.replay_model.specs.Steps.{Step, Opening, Drawing}
 use Rattle.replay_model.specs.Steps as step
-use Rattle.replay_model.specs.Devices.{Happening, Made, Opened, Drew, Received, fails, Opens, after_open, opens, Draws, after_draw, draws, next_key, arriving, arriving_at, received_count, receipt_numbered, is_used_up, uses_up, held}
-use Rattle.replay_model.specs.Turns.{Outside, with_opens, with_draws, ends_of, outside_of}
+use Rattle.replay_model.specs.Devices.{Happening, Made, Opened, Drew, Received, fails, Opens, after_open, opens, Draws, after_draw, draws, next_key, arriving_at, received_count, receipt_numbered, is_used_up, held}
+use Rattle.replay_model.specs.Turns.{with_draws, ends_of, outside_of}
 use Rattle.replay_model.specs.Replay.{receipt_in, after_send}
 
 -- What leaves the held receipts as they are.
@@ -142,7 +141,6 @@ fits_case leg source bytes false true is = length-take-le 2001 bytes (let k = be
   where
     below : (a b : ℕ) → nat_lt a b ≡ true → a < b
     below a b h = grind (arith, nat_tests)
-
 fits_case leg source bytes false false is = (refl, not_above 2000 (length bytes) is)
   where
     not_above : (a b : ℕ) → nat_lt a b ≡ false → b ≤ a

@@ -1,19 +1,15 @@
 -- The list of each replay is legal.
-use Rattle.std.proofs.Common.{◌≡◌, ◌∙◌, sym, ap, subst, refl, ℕ, suc, ◌+◌, ◌<◌, ◌≤◌, ◌⊎◌, inl, inr, List, [], ◌∷◌, ◌++◌, Bool, true, false, cond, not, max, Option, Some, None, length, arith}
+use Rattle.std.proofs.Common.{◌≡◌, ◌∙◌, ap, refl, ℕ, suc, ◌≤◌, List, [], ◌∷◌, ◌++◌, Bool, true, false, cond, not, max, Option, Some, None, length, arith}
 use Rattle.relay_outside.specs.declared.settings.Config.{Config}
 use Rattle.relay_outside.specs.declared.address.Addr.{Addr}
-use Rattle.rtp_packet.specs.declared.head.Half.{Half}
 use Rattle.ng_frame.specs.Frame.{frame}
-use Rattle.histories.specs.Words.{In, here, there, Before, begins, goes_on}
-use Rattle.histories.proofs.Lists.{in_append, in_left, in_right}
-use Rattle.port_pool.specs.Boxes.{Taken, holder}
-use Rattle.port_pool.specs.Boxes as box
-use Rattle.call_cell.specs.Cells.{Receipt, Relayed, Relay, since_end}
+use Rattle.histories.specs.Words.{In}
+use Rattle.histories.proofs.Lists.{in_left}
 use Rattle.call_board.specs.Acts.{BoardEntry, Tick}
-use Rattle.relay_core.specs.Entries.{Event, Cell, Box, Entry, is_nested, front, box_history, box_of}
+use Rattle.relay_core.specs.Entries.{Entry, is_nested, front}
 use Rattle.call_board.specs.Fits.{demanded}
 use Rattle.relay_core.specs.Scripts.{script}
-use Rattle.relay_core.specs.Legal.{Orderly, Legal, IsReceived}
+use Rattle.relay_core.specs.Legal.{Orderly, Legal}
 use Rattle.relay_core.proofs.Boxes.{below_front}
 use Rattle.relay_core.proofs.Turns.{part_of, Part, old, new, last, turn_elsewhere, nothing_is_orderly}
 use Rattle.relay_core.proofs.Gains.{turn_made}
@@ -21,17 +17,17 @@ use Rattle.replay_model.specs.Steps.{Step, Ending}
 use Rattle.replay_model.specs.Steps as step
 use Rattle.replay_model.specs.Printing.{Printed}
 use Rattle.replay_model.specs.Printing as printing
-use Rattle.replay_model.specs.Devices.{Happening, Made, Replied, Received, clock, fails, held, received_count}
-use Rattle.replay_model.specs.Turns.{Heard, nothing_given, asking, latest, nested_entries, board_now, board_step, after_turn, lane_step, answered_with, due_calls}
-use Rattle.replay_model.specs.Replay.{Replay, doing, after, HearsStep, HearsFramed, HearsUnless, filled, framed_turn, turn_moment, turn_entry, turn_of, turn_past, arrival, arrival_at, taken_at, end_at, family_of, passing_on, relaying, relaying_held, relayed_with, send_answers, deed_now, keeping, only_printing, Arrival, Gone}
+use Rattle.replay_model.specs.Devices.{Happening, Made, Replied, clock, fails, held}
+use Rattle.replay_model.specs.Turns.{Heard, nothing_given, asking, latest, nested_entries, board_now, board_step, after_turn, answered_with, due_calls}
+use Rattle.replay_model.specs.Replay.{Replay, doing, after, HearsStep, HearsFramed, HearsUnless, filled, framed_turn, turn_moment, turn_entry, turn_of, turn_past, arrival, end_at, family_of, only_printing}
 use Rattle.replay_model.specs.Running as running
 use Rattle.replay_model.specs.Running.{at_first, Runs, Replays, ends, stops}
 use Rattle.replay_model.proofs.Fitting.{turn_fits}
 use Rattle.replay_model.proofs.Orderly.{nested_gains, tick_fits_board}
-use Rattle.replay_model.proofs.Grown.{Grown, Relays, lane_grown, grown_legal, nothing_grown}
+use Rattle.replay_model.proofs.Grown.{grown_legal, nothing_grown}
 use Rattle.replay_model.proofs.Turned.{Turns, turn_grown}
 use Rattle.replay_model.proofs.Calm.{turn_calm, act_fits, due_fits}
-use Rattle.replay_model.proofs.Held.{Idle, outside_idle, send_idle, held_received, held_relayed, IsOf, receipt_is, arriving_fits, holder_pair}
+use Rattle.replay_model.proofs.Held.{Idle, outside_idle}
 use Rattle.replay_model.proofs.Receipts.{Holding, Lawful, HasNoMore, holding_longer, arrived_at, keeping_lawful, passing_lawful, held_lawful}
 
 -- Turns of the board.

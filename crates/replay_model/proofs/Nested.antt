@@ -1,22 +1,22 @@
 -- The nested entries of a turn in a replay are those that the histories of their places demand.
-use Rattle.std.proofs.Common.{◌≡◌, ◌∙◌, sym, ap, subst, refl, ℕ, zero, suc, ◌+◌, ◌<◌, ◌≤◌, ◌⊎◌, inl, inr, List, [], ◌∷◌, ◌++◌, map, filter, Bool, true, false, cond, max, Option, Some, None, Result, Ok, Err, append_assoc, ◌==◌, arith}
+use Rattle.std.proofs.Common.{◌≡◌, ◌∙◌, sym, ap, subst, refl, ℕ, zero, suc, ◌+◌, ◌≤◌, List, [], ◌∷◌, ◌++◌, map, filter, Bool, true, false, cond, max, append_assoc, ◌==◌, arith}
 use Rattle.std.specs.Prelude.{filter_map}
 use Rattle.std.specs.List.{flat_map}
 use Rattle.relay_outside.specs.declared.settings.Config.{Config}
 use Rattle.histories.specs.Words.{In, here, there, has, greatest}
-use Rattle.histories.proofs.Lists.{in_append, in_left, in_right, mapped, maps, equal_if}
+use Rattle.histories.proofs.Lists.{mapped, maps, equal_if}
 use Rattle.call_board.specs.Pairs.{closed_of}
 use Rattle.call_board.proofs.Once.{Once}
 use Rattle.relay_core.proofs.Histories.{at_place}
 use Rattle.port_pool.specs.declared.holder.Holder.{Holder}
 use Rattle.port_pool.specs.Boxes.{Open, Take, Close}
-use Rattle.call_cell.specs.Cells.{CellEvent, Prepare, Commit, Relay, Expire, Read, End, since_end}
+use Rattle.call_cell.specs.Cells.{Prepare, Commit, Relay, Expire, Read, End, since_end}
 use Rattle.call_cell.specs.Asked.{is_due}
 use Rattle.call_board.specs.Acts.{Call, BoardEntry}
-use Rattle.relay_core.specs.Entries.{Entry, Event, Board, Cell, Box, history, front, is_at, cell_entry, cell_history, box_of}
-use Rattle.relay_core.specs.Scripts.{Owed, opening, closing, in_cell, closings, ending, expiring}
-use Rattle.relay_core.specs.Legal.{Fits, FitsEvent, is_handed_boards}
-use Rattle.relay_core.proofs.Turns.{IsAbove, filter_append, filter_none, false_if, nothing_more}
+use Rattle.relay_core.specs.Entries.{Entry, Event, Board, Cell, Box, history, front, is_at, cell_entry, cell_history}
+use Rattle.relay_core.specs.Scripts.{Owed, closing, in_cell, closings, ending, expiring}
+use Rattle.relay_core.specs.Legal.{FitsEvent, is_handed_boards}
+use Rattle.relay_core.proofs.Turns.{filter_append, filter_none, false_if, nothing_more}
 use Rattle.replay_model.specs.Turns.{latest, moment_at, nested_entry, nested_entries}
 
 -- the event fits at the front of its place
@@ -51,9 +51,10 @@ anywhere_fits config l place number moment (Board b) a = absurd a
 
 pub all_anywhere : (config : Config) (l : List Entry) (board handed : ℕ) (ws : List Owed) → ((w : Owed) → In w ws → FitsAnywhere w.event) → AllFit config l board handed ws
 all_anywhere config l board handed [] fit = tt
-all_anywhere config l board handed (w ∷ ws) fit =
-    (anywhere_fits config l w.place (front l w.place) (moment_at handed (latest l w.place) (is_handed_boards w.event)) w.event (fit w (here refl)),
-    all_anywhere config (l ++ nested_entry l board handed w ∷ []) board handed ws (λ v i. fit v (there i)))
+all_anywhere config l board handed (w ∷ ws) fit = (
+  anywhere_fits config l w.place (front l w.place) (moment_at handed (latest l w.place) (is_handed_boards w.event)) w.event (fit w (here refl)),
+  all_anywhere config (l ++ nested_entry l board handed w ∷ []) board handed ws (λ v i. fit v (there i)),
+)
 
 -- Places that others leave as they are.
 
@@ -112,9 +113,11 @@ nested_append l board handed (w ∷ ws) vs =
 pub all_append : (config : Config) (l : List Entry) (board handed : ℕ) (ws vs : List Owed) → AllFit config l board handed ws
     → AllFit config (l ++ nested_entries l board handed ws) board handed vs → AllFit config l board handed (ws ++ vs)
 all_append config l board handed [] vs a b = subst (λ xs. AllFit config xs board handed vs) (nothing_more l) b
-all_append config l board handed (w ∷ ws) vs a b =
-    (a.0, all_append config (l ++ nested_entry l board handed w ∷ []) board handed ws vs a.1
-    (subst (λ xs. AllFit config xs board handed vs) (sym (append_assoc l (nested_entry l board handed w ∷ []) (nested_entries (l ++ nested_entry l board handed w ∷ []) board handed ws))) b))
+all_append config l board handed (w ∷ ws) vs a b = (
+  a.0,
+  all_append config (l ++ nested_entry l board handed w ∷ []) board handed ws vs a.1
+      (subst (λ xs. AllFit config xs board handed vs) (sym (append_assoc l (nested_entry l board handed w ∷ []) (nested_entries (l ++ nested_entry l board handed w ∷ []) board handed ws))) b),
+)
 
 -- Ticks.
 
@@ -166,11 +169,12 @@ pub tick_fits : (config : Config) (k l : List Entry) (board handed : ℕ) (h : L
     → AllFit config l board handed (flat_map (expiring config h e calls) cs)
 tick_fits config k l board handed h e calls [] due low once same = tt
 tick_fits config k l board handed h e calls (c ∷ cs) due low once same =
-    all_append config l board handed (expiring config h e calls c) (flat_map (expiring config h e calls) cs)
-    (due c (here refl) ∙ due_same config k l handed c (same c (here refl)),
-    all_anywhere config (l ++ nested_entry l board handed (in_cell c (Expire (has (map (λ (d : Call). d.number) calls) c.number))) ∷ []) board handed
-    (cond (has (map (λ (d : Call). d.number) calls) c.number) (ending config h e c) [])
-    (if_anywhere config h e c (has (map (λ (d : Call). d.number) calls) c.number)))
+    all_append config l board handed (expiring config h e calls c) (flat_map (expiring config h e calls) cs) (
+      due c (here refl) ∙ due_same config k l handed c (same c (here refl)),
+      all_anywhere config (l ++ nested_entry l board handed (in_cell c (Expire (has (map (λ (d : Call). d.number) calls) c.number))) ∷ []) board handed
+          (cond (has (map (λ (d : Call). d.number) calls) c.number) (ending config h e c) [])
+          (if_anywhere config h e c (has (map (λ (d : Call). d.number) calls) c.number)),
+    )
     (tick_fits config k (l ++ nested_entries l board handed (expiring config h e calls c)) board handed h e calls cs
     (λ d i. due d (there i)) (λ d i. low d (there i)) once.1
     (λ d i. same_after k l board handed (expiring config h e calls c) d.cell

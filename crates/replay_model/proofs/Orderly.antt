@@ -1,5 +1,5 @@
 -- The list of each replay is orderly.
-use Rattle.std.proofs.Common.{◌≡◌, ◌∙◌, sym, ap, subst, refl, ℕ, suc, List, [], ◌∷◌, ◌++◌, map, filter, Bool, true, false, cond, Option, Some, None, arith}
+use Rattle.std.proofs.Common.{◌≡◌, ◌∙◌, ap, subst, refl, ℕ, suc, List, [], ◌∷◌, ◌++◌, map, filter, Bool, true, false, cond, Option, Some, None}
 use Rattle.relay_outside.specs.declared.settings.Config.{Config}
 use Rattle.relay_outside.specs.declared.address.Addr.{Addr}
 use Rattle.rtp_packet.specs.declared.head.Half.{Half}
@@ -14,7 +14,7 @@ use Rattle.call_board.specs.Acts.{Call, Tick, BoardEntry}
 use Rattle.call_board.specs.Calls.{live}
 use Rattle.call_board.specs.Fits.{FitsBoard, IsFitting, named_live}
 use Rattle.call_board.proofs.Calls.{live_numbers}
-use Rattle.relay_core.specs.Entries.{Entry, Event, Cell, Box, front, board_history, box_of}
+use Rattle.relay_core.specs.Entries.{Entry, Event, Cell, Box, front, box_of}
 use Rattle.relay_core.specs.Scripts.{Owed, script}
 use Rattle.relay_core.specs.Legal.{Orderly}
 use Rattle.relay_core.proofs.Histories.{good_history}
@@ -27,7 +27,7 @@ use Rattle.replay_model.specs.Printing as printing
 use Rattle.replay_model.specs.Printing.{Printed}
 use Rattle.replay_model.specs.Devices.{Happening, clock, fails, held}
 use Rattle.replay_model.specs.Turns.{Heard, nested_entry, nested_entries, board_now, board_step, after_turn, lane_step, call_is_due, due_calls}
-use Rattle.replay_model.specs.Replay.{Replay, doing, after, HearsStep, HearsFramed, HearsUnless, filled, framed_turn, turn_moment, turn_entry, control_turn, arrival, arrival_at, arrival_with, taken_at, end_at, family_of, passing_on, relaying, relaying_held, keeping, only_printing, Arrival, Gone}
+use Rattle.replay_model.specs.Replay.{Replay, doing, HearsStep, HearsFramed, HearsUnless, filled, framed_turn, turn_moment, turn_entry, arrival, arrival_at, taken_at, end_at, family_of, passing_on, relaying, relaying_held, keeping, only_printing, Arrival}
 use Rattle.replay_model.specs.Running.{at_first, Runs, Replays, ends, goes_on, stops}
 use Rattle.replay_model.proofs.Fitting.{turn_fits}
 

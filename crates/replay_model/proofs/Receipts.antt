@@ -1,37 +1,23 @@
 -- Packets that arrive, receipts that are held and relays keep the list of a replay legal.
-use Rattle.std.proofs.Common.{◌≡◌, ◌∙◌, sym, ap, subst, refl, ℕ, suc, ◌+◌, ◌<◌, ◌≤◌, ◌⊎◌, inl, inr, List, [], ◌∷◌, ◌++◌, Bool, true, false, cond, not, max, Option, Some, None, length, arith}
+use Rattle.std.proofs.Common.{◌≡◌, ◌∙◌, sym, ap, subst, refl, ℕ, ◌+◌, ◌<◌, ◌⊎◌, inl, inr, List, [], ◌∷◌, ◌++◌, true, Option, Some, None, arith}
 use Rattle.relay_outside.specs.declared.settings.Config.{Config}
 use Rattle.relay_outside.specs.declared.address.Addr.{Addr}
 use Rattle.rtp_packet.specs.declared.head.Half.{Half}
-use Rattle.ng_frame.specs.Frame.{frame}
 use Rattle.histories.specs.Words.{In, here, there, Before, begins, goes_on}
 use Rattle.histories.proofs.Lists.{in_append, in_left, in_right}
 use Rattle.port_pool.specs.Boxes.{Taken, holder}
 use Rattle.port_pool.specs.Boxes as box
-use Rattle.call_cell.specs.Cells.{Receipt, Relayed, Relay, since_end}
-use Rattle.call_board.specs.Acts.{BoardEntry, Tick}
-use Rattle.relay_core.specs.Entries.{Event, Cell, Box, Entry, is_nested, front, box_history, box_of}
-use Rattle.call_board.specs.Fits.{demanded}
-use Rattle.relay_core.specs.Scripts.{script}
-use Rattle.relay_core.specs.Legal.{Orderly, Legal, IsReceived}
+use Rattle.call_cell.specs.Cells.{Receipt, Relayed, Relay}
+use Rattle.relay_core.specs.Entries.{Cell, Box, Entry, front, box_history, box_of}
+use Rattle.relay_core.specs.Legal.{IsReceived}
 use Rattle.relay_core.proofs.Boxes.{below_front}
-use Rattle.relay_core.proofs.Turns.{part_of, Part, old, new, last, turn_elsewhere, nothing_is_orderly}
-use Rattle.relay_core.proofs.Gains.{turn_made}
 use Rattle.replay_model.specs.Steps.{Step, Ending}
 use Rattle.replay_model.specs.Steps as step
-use Rattle.replay_model.specs.Printing.{Printed}
-use Rattle.replay_model.specs.Printing as printing
-use Rattle.replay_model.specs.Devices.{Happening, Made, Replied, Received, clock, fails, held, received_count}
-use Rattle.replay_model.specs.Turns.{Heard, nothing_given, asking, latest, nested_entries, board_now, board_step, after_turn, lane_step, answered_with, due_calls}
-use Rattle.replay_model.specs.Replay.{Replay, doing, after, HearsStep, HearsFramed, HearsUnless, filled, framed_turn, turn_moment, turn_entry, turn_of, turn_past, arrival, arrival_at, taken_at, end_at, family_of, passing_on, relaying, relaying_held, relayed_with, send_answers, deed_now, keeping, only_printing, Arrival, Gone}
-use Rattle.replay_model.specs.Running as running
-use Rattle.replay_model.specs.Running.{at_first, Runs, Replays, ends, stops}
-use Rattle.replay_model.proofs.Fitting.{turn_fits}
-use Rattle.replay_model.proofs.Orderly.{nested_gains, tick_fits_board}
-use Rattle.replay_model.proofs.Grown.{Grown, Relays, lane_grown, grown_legal, nothing_grown}
-use Rattle.replay_model.proofs.Turned.{Turns, turn_grown}
-use Rattle.replay_model.proofs.Calm.{turn_calm, act_fits, due_fits}
-use Rattle.replay_model.proofs.Held.{Idle, outside_idle, send_idle, held_received, held_relayed, IsOf, receipt_is, arriving_fits, holder_pair}
+use Rattle.replay_model.specs.Devices.{Happening, Made, Received, clock, fails, held, received_count}
+use Rattle.replay_model.specs.Turns.{lane_step}
+use Rattle.replay_model.specs.Replay.{Replay, after, arrival_at, taken_at, passing_on, relaying, relaying_held, relayed_with, send_answers, deed_now, keeping, Arrival}
+use Rattle.replay_model.proofs.Grown.{Grown, lane_grown}
+use Rattle.replay_model.proofs.Held.{Idle, send_idle, held_received, held_relayed, receipt_is, arriving_fits, holder_pair}
 
 -- the packet of the receipt was taken by an entry of the list
 pub record IsTaken (config : Config) (l : List Entry) (p : Receipt) : Type 0 where
@@ -100,20 +86,20 @@ arrived_at config r w source bytes (Some e) = record {
   longer = λ f i. in_left l (one ∷ []) i;
   no_more = λ f y i q. no_more_case f y q (in_append l (one ∷ []) i);
   taken = λ p q. (
-    let is = receipt_is h (front l place) e.1 (fails step.Taking r.past) source bytes p q in
-    record {
-      taking = one;
-      is_in = in_right l (one ∷ []) (here refl);
-      at_box = ap (box_of config) (sym (holder_pair config l w.grown.orderly e.0 (front l place) p.holder is.held_by));
-      with_number = sym is.with_number;
-      gave = ap (λ t. Box (box.Take e.1 t)) is.gave ∙ ap (λ half. Box (box.Take half (box.Datagram p.holder p.source p.bytes))) (sym is.by_half);
-    });
+      let is = receipt_is h (front l place) e.1 (fails step.Taking r.past) source bytes p q in
+      record {
+        taking = one;
+        is_in = in_right l (one ∷ []) (here refl);
+        at_box = ap (box_of config) (sym (holder_pair config l w.grown.orderly e.0 (front l place) p.holder is.held_by));
+        with_number = sym is.with_number;
+        gave = ap (λ t. Box (box.Take e.1 t)) is.gave ∙ ap (λ half. Box (box.Take half (box.Datagram p.holder p.source p.bytes))) (sym is.by_half);
+      });
   is_new = λ p q f i at. (
-    let is = receipt_is h (front l place) e.1 (fails step.Taking r.past) source bytes p q in
-    let same = holder_pair config l w.grown.orderly e.0 (front l place) p.holder is.held_by in
-    let k : f.number < front l place = below_front l f place i (at ∙ ap (box_of config) same) in
-    let m = is.with_number in
-    omega (arith, k, m));
+      let is = receipt_is h (front l place) e.1 (fails step.Taking r.past) source bytes p q in
+      let same = holder_pair config l w.grown.orderly e.0 (front l place) p.holder is.held_by in
+      let k : f.number < front l place = below_front l f place i (at ∙ ap (box_of config) same) in
+      let m = is.with_number in
+      omega (arith, k, m));
 }
   where
     l : List Entry

@@ -1,22 +1,21 @@
 -- A turn of the board in a replay keeps its list legal.
-use Rattle.std.proofs.Common.{◌≡◌, ◌∙◌, sym, ap, subst, refl, ℕ, suc, ◌+◌, ◌<◌, ◌≤◌, ◌⊎◌, inl, inr, List, [], ◌∷◌, ◌++◌, map, Bool, true, false, max, Option, Some, None, append_assoc, arith}
+use Rattle.std.proofs.Common.{◌≡◌, ◌∙◌, sym, ap, subst, refl, ℕ, ◌<◌, ◌≤◌, ◌⊎◌, inl, inr, List, [], ◌∷◌, ◌++◌, map, Bool, true, false, max, append_assoc, arith}
 use Rattle.relay_outside.specs.declared.settings.Config.{Config}
 use Rattle.histories.specs.Words.{In, here, there, greatest}
-use Rattle.histories.proofs.Lists.{in_append, in_left, in_right, maps}
-use Rattle.port_pool.specs.Boxes.{Open, Take, Close}
-use Rattle.call_cell.specs.Cells.{Prepare, Commit, Relay, Expire, Read, End, Relayed}
+use Rattle.histories.proofs.Lists.{in_append, in_left, in_right}
+use Rattle.call_cell.specs.Cells.{Relay, Relayed}
 use Rattle.call_board.specs.Acts.{BoardEntry}
 use Rattle.call_board.specs.Fits.{FitsBoard}
-use Rattle.relay_core.specs.Entries.{Event, Board, Cell, Box, Entry, is_nested, history, front, board_history}
-use Rattle.relay_core.specs.Scripts.{Owed, owed_by, script}
-use Rattle.relay_core.specs.Legal.{Orderly, Fits, FitsEvent, IsReceived, IsTimed, last_moment, is_handed_own, is_handed_boards}
+use Rattle.relay_core.specs.Entries.{Event, Board, Cell, Entry, is_nested, history, front}
+use Rattle.relay_core.specs.Scripts.{Owed, script}
+use Rattle.relay_core.specs.Legal.{Fits, IsReceived, IsTimed, last_moment, is_handed_own, is_handed_boards}
 use Rattle.relay_core.proofs.Boxes.{below_front}
 use Rattle.relay_core.proofs.Turns.{IsAbove, IsTurn, turn_elsewhere, before_left, nothing_more}
 use Rattle.relay_core.proofs.Gains.{Rising, rising_above, turn_made}
 use Rattle.replay_model.specs.Turns.{latest, moment_at, nested_entry, nested_entries, board_now, board_step, after_turn}
 use Rattle.replay_model.proofs.Orderly.{nested_gains, turn_orderly}
 use Rattle.replay_model.proofs.Growing.{AreAbove, same_history, before_it, IsFull, below_stands, stands_longer, full_more, timed_longer, event_fits, fits_longer}
-use Rattle.replay_model.proofs.Nested.{FitsNow, AllFit}
+use Rattle.replay_model.proofs.Nested.{AllFit}
 use Rattle.replay_model.proofs.Grown.{Grown}
 
 -- Nested entries, in the list that has them.

@@ -6,7 +6,7 @@ use Rattle.relay_outside.specs.declared.address.Addr.{Addr}
 use Rattle.relay_outside.specs.declared.settings.Config.{Config}
 use Rattle.rtp_packet.specs.declared.head.Half.{Half}
 use Rattle.srtp_sources.specs.Notes.{is_half}
-use Rattle.histories.specs.Words.{first, until, has, numbers}
+use Rattle.histories.specs.Words.{first, until, numbers}
 use Rattle.port_pool.specs.declared.holder.Holder.{Holder}
 use Rattle.port_pool.specs.Ports.{half_port}
 use Rattle.port_pool.specs.Boxes as box

@@ -29,7 +29,7 @@ use Rattle.replay_model.specs.Steps as step
 use Rattle.replay_model.specs.Printing.{Printed}
 use Rattle.replay_model.specs.Printing as printing
 use Rattle.replay_model.specs.Devices.{Happening, Made, Replied, Sent, Received, clock, fails, send_fails, arriving_at, received_count, held, held_count}
-use Rattle.replay_model.specs.Turns.{board_now, board_moment, after_turn, lane_step, Heard, nothing_given, asking, Outside, outside, turn_given, turned, due_calls}
+use Rattle.replay_model.specs.Turns.{board_now, board_moment, after_turn, lane_step, Heard, nothing_given, asking, outside, turned, due_calls}
 
 -- A replay so far: the list of entries, and what happened, the latest first
 pub record Replay : Type 0 where

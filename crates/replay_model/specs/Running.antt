@@ -1,11 +1,10 @@
 -- What a replayed script prints.
 use Rattle.std.specs.Prelude.{◌≡◌, ℕ, suc, true, false, List, [], ◌∷◌, ◌++◌}
 use Rattle.relay_outside.specs.declared.settings.Config.{Config}
-use Rattle.relay_core.specs.Entries.{Entry}
 use Rattle.replay_model.specs.Steps.{Step, Ending, NoMoreLines, LineOutside}
 use Rattle.replay_model.specs.Printing.{Printed, ScriptFault}
 use Rattle.replay_model.specs.Turns.{Heard}
-use Rattle.replay_model.specs.Replay.{Replay, is_faulty, doing, HearsStep, after, Gone}
+use Rattle.replay_model.specs.Replay.{Replay, is_faulty, doing, HearsStep, after}
 
 -- nothing has happened
 abbrev pub at_first : Replay

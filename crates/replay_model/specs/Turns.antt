@@ -1,5 +1,5 @@
 -- What one turn does to the list of entries: a turn of the board with all that it owes, and a step of a box or of a cell.
-use Rattle.std.specs.Prelude.{ℕ, ◌+◌, Bool, true, false, not, ◌==◌, List, [], ◌∷◌, ◌++◌, map, max, length, nat_lt, Option, Some, None, filter, if◌then◌else◌}
+use Rattle.std.specs.Prelude.{ℕ, Bool, true, false, not, List, [], ◌∷◌, ◌++◌, map, max, length, nat_lt, Option, Some, None, filter, if◌then◌else◌}
 use Rattle.std.specs.List.{list_any}
 use Rattle.relay_outside.specs.declared.address.Addr.{Addr}
 use Rattle.relay_outside.specs.declared.settings.Config.{Config}
@@ -21,7 +21,7 @@ use Rattle.call_board.specs.Fits.{demanded}
 use Rattle.relay_core.specs.Entries.{Event, Board, Entry, history, front, board_history, cell_history}
 use Rattle.relay_core.specs.Scripts.{Owed, script}
 use Rattle.relay_core.specs.Legal.{is_handed_own, is_handed_boards}
-use Rattle.replay_model.specs.Devices.{Happening, Replied, Opens, opens, Draws, draws}
+use Rattle.replay_model.specs.Devices.{Happening, Opens, opens, Draws, draws}
 
 -- Entries.
 

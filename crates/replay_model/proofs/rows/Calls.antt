@@ -1,9 +1,9 @@
 -- Worked scripts: an offer, its answer, and packets that are sent, refused and lost.
-use Rattle.std.proofs.Common.{◌≡◌, refl, ℕ, List, [], ◌∷◌, true, false, Some, None, codes, replicate, zero, suc, ◌<◌, arith}
+use Rattle.std.proofs.Common.{◌≡◌, refl, ℕ, List, [], ◌∷◌, Some, None, codes, replicate, zero, suc, ◌<◌, arith}
 use Rattle.std.specs.Fmt.{digits}
 use Rattle.relay_outside.specs.declared.address.Addr.{Addr}
 use Rattle.relay_outside.specs.declared.address.Ip.TheVariants as ips
-use Rattle.ng_bencode.specs.Tree.{Bytes, Entries, no_entries, entry}
+use Rattle.ng_bencode.specs.Tree.{Bytes, no_entries, entry}
 use Rattle.sdp_edit.specs.Attributes.{is_removed, is_feedback}
 use Rattle.sdp_edit.specs.Images.{image_of}
 use Rattle.sdp_edit.specs.Places.{place_of}
@@ -20,12 +20,11 @@ use Rattle.call_cell.specs.declared.outcome.Lost.TheVariants as lost
 use Rattle.call_board.specs.Asked.{asked, sdp_error}
 use Rattle.call_board.specs.Replies.{reply_text}
 use Rattle.rtp_packet.specs.Head.{rtp_head}
-use Rattle.replay_model.specs.Steps.{Step, Skip, At, Fail, FailSend, Ng, Take, Relay, Packet, Tick, Opening, Replying, Taking, NoMoreLines}
+use Rattle.replay_model.specs.Steps.{Step, At, Fail, FailSend, Ng, Take, Relay, Packet, Tick, Opening, Replying, Taking, NoMoreLines}
 use Rattle.replay_model.specs.Printing as printing
 use Rattle.replay_model.specs.Printing.{Printed}
-use Rattle.replay_model.specs.Devices.{Made}
 use Rattle.replay_model.specs.Turns.{Heard}
-use Rattle.replay_model.specs.Replay.{Replay, doing, after, HearsIt, HearsStep}
+use Rattle.replay_model.specs.Replay.{Replay, doing, after, HearsStep}
 use Rattle.replay_model.specs.Running.{at_first, Replays, goes_on, ends}
 use Rattle.replay_model.proofs.rows.Lines.{config, stream, source, silent}
 

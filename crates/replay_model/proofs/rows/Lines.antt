@@ -10,14 +10,13 @@ use Rattle.port_pool.specs.declared.holder.Holder.{Holder}
 use Rattle.port_pool.specs.Ports.{pair_count}
 use Rattle.port_pool.specs.Boxes as box
 use Rattle.call_cell.specs.Cells.{Receipt}
-use Rattle.call_board.specs.Acts as act
 use Rattle.relay_core.specs.Entries as entry
-use Rattle.replay_model.specs.Steps.{Skip, At, Key, Fail, FailSend, Ng, Take, Relay, Packet, Tick, Opening, Drawing, Replying, Reading, Taking, NoMoreLines, LineOutside}
+use Rattle.replay_model.specs.Steps.{Skip, At, Key, Fail, FailSend, Ng, Take, Relay, Packet, Tick, Opening, Drawing, Reading, Taking, NoMoreLines, LineOutside}
 use Rattle.replay_model.specs.Printing as printing
-use Rattle.replay_model.specs.Devices.{Happening, Made, Opened, Drew, Replied, Sent, Received, clock, fails, send_fails, opens, draws, arriving, held, held_count}
+use Rattle.replay_model.specs.Devices.{Happening, Made, Opened, Drew, Sent, Received, clock, fails, send_fails, opens, draws, held, held_count}
 use Rattle.replay_model.specs.Turns.{Heard}
 use Rattle.replay_model.specs.Replay.{doing}
-use Rattle.replay_model.specs.Running.{at_first, Runs, Replays, ends, goes_on, stops}
+use Rattle.replay_model.specs.Running.{at_first, Replays, ends, goes_on, stops}
 
 -- two pairs: 30000 and 30001, 30002 and 30003
 abbrev pub config : Config
