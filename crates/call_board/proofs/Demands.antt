@@ -109,3 +109,15 @@ legs_demanded config h e o told =
 -- the new keys of an offer are for those that its plan demands, in order
 pub keys_demanded : (config : Config) (h : List BoardEntry) (e : BoardEntry) (o : Offer) → (told : IsOffer config h e o) → map of_key o.keys ≡ map of_new_key told.demand.keys
 keys_demanded config h e o told = ap (map of_key) told.keys_are ∙ keys_places (length (drawn h)) told.draws told.demand.keys told.as_many
+
+legs_length : (h : List BoardEntry) (c : Call) (pairs : List ℕ) (legs : List NewLeg) → length pairs ≡ length legs → length (new_legs h c pairs legs) ≡ length legs
+legs_length h c [] [] same = refl
+legs_length h c [] (leg ∷ legs) same = absurd (let e = same in omega (arith, e))
+legs_length h c (p ∷ pairs) [] same = absurd (let e = same in omega (arith, e))
+legs_length h c (p ∷ pairs) (leg ∷ legs) same = let rest = legs_length h c pairs legs (let e = same in omega (arith, e)) in omega (arith, rest)
+
+-- where no family is short of pairs there is a leg with a pair for each new leg
+pub legs_count : (config : Config) (h : List BoardEntry) (c : Call) (legs : List NewLeg) → is_short (free_in config h) legs ≡ false
+    → length (new_legs h c (fronts (free_in config h) legs) legs) ≡ length legs
+legs_count config h c legs enough =
+    legs_length h c (fronts (free_in config h) legs) legs (fronts_length (free_in config h) legs (enough_of (free_in config h) legs enough))

@@ -1,0 +1,12 @@
+pub mod Given
+pub mod Fitting
+pub mod Orderly
+pub mod Growing
+pub mod Nested
+pub mod Grown
+pub mod Turned
+pub mod Calm
+pub mod Held
+pub mod Receipts
+pub mod Lawful
+mod rows
