@@ -6,8 +6,14 @@
 //! is due to end and what is told of its legs, `specs/Good.antt` which histories fit. `proofs/rows` has worked examples of each.
 #![tactic(auto)]
 
+mod cell;
+mod contexts;
 mod law;
+mod leg;
 mod outcome;
+mod receiving;
+mod sending;
 
+pub use cell::Cell;
 pub use law::notes_are_new;
 pub use outcome::{Incoming, Lost, Outcome, Refused};

@@ -1,12 +1,23 @@
-//! Port pairs: who holds one, what an answer commits for the legs that hold them, and the history of a pair's box.
+//! Port pairs: who holds one, which are free, what arrives at one, and what an answer commits for the legs that hold them.
 //!
-//! Module `holder` names the leg that holds a pair, `signal` what an answer commits for each section. `specs/Boxes.antt`
-//! has the history of a box, `specs/Ports.antt` the ports of a pair, `specs/Signals.antt` the questions to a signal,
-//! `specs/Reports.antt` what is told of a leg.
+//! Module `pairs` has the pool of port pairs and its leases, `lease_list` leases in order, `boxes` the box of a pair with
+//! its in ends, `holder` the leg that holds a pair, `signal` what an answer commits for a section and `sections` for all.
+//! `specs/Pools.antt` says what a pool holds, `specs/Boxes.antt` has the history of a box and `specs/Taking.antt` what a
+//! take tells of it, `specs/Signals.antt` the questions to a signal, `specs/Reports.antt` what is told of a leg.
 #![tactic(auto)]
 
+mod boxes;
 mod holder;
+mod lease_list;
+mod pairs;
+mod sections;
 mod signal;
+#[cfg(test)]
+mod tests;
 
+pub use boxes::{BoxTake, PairBox};
 pub use holder::{Holder, Side};
+pub use lease_list::Leases;
+pub use pairs::{Lease, Pool};
+pub use sections::Signal;
 pub use signal::{LegSignal, SectionSignal};

@@ -1,0 +1,117 @@
+ghost use Rattle.std.specs.Prelude.{◌≡◌, ℕ, ◌≤◌, None};
+
+use crate::{BoxTake, Holder, PairBox, Side};
+use relay_outside::{Addr, Arrivals, Failed, InEnd, Ip, Packet, PortMaker, SteadyIn, SteadyMaker};
+use rtp_packet::Half;
+use std::alloc::Global;
+use std::test::Fail;
+
+/// An address of documentation (RFC 5737).
+const HERE: Addr = Addr {
+    ip: Ip::V4([192, 0, 2, 1]),
+    port: 6000,
+};
+
+/// A leg of the call in the last of four cells.
+const LEG: Holder = Holder {
+    cell: 4,
+    call: 9,
+    section: 0,
+    side: Side::B,
+    pair: 3,
+    generation: 2,
+};
+
+/// An in end that gives these packets.
+fn end(alloc: Global, packets: Vec<Packet>) -> Result<SteadyIn, Fail> {
+    let mut arrivals = Vec::new(alloc);
+    arrivals.push(Arrivals::new(HERE, packets))?;
+    let mut maker = SteadyMaker::new(alloc, arrivals);
+    let (receiving, _) = maker.open(HERE)?;
+    Ok(receiving)
+}
+
+/// A datagram of so many bytes.
+fn datagram(alloc: Global, len: usize) -> Result<Packet, Fail> {
+    let bytes = Vec::from_elem(alloc, 5u8, len)?;
+    Ok(Packet::datagram(alloc, HERE, bytes.as_slice())?)
+}
+
+/// A box of that leg. For RTP nothing is there at first, then datagrams of 2,000, 2,001 and 3,000 bytes; for RTCP there
+/// is one of 28.
+fn full(alloc: Global) -> Result<PairBox<SteadyIn>, Fail> {
+    let mut rtp = Vec::new(alloc);
+    rtp.push(Packet::Nothing)?;
+    for len in [2_000, 2_001, 3_000] {
+        rtp.push(datagram(alloc, len)?)?;
+    }
+    let mut rtcp = Vec::new(alloc);
+    rtcp.push(datagram(alloc, 28)?)?;
+    let rtp = end(alloc, rtp)?;
+    let rtcp = end(alloc, rtcp)?;
+    let mut pair = PairBox::empty(4);
+    pair.put_in(LEG, rtp, rtcp);
+    Ok(pair)
+}
+
+/// A datagram of so many bytes for that leg.
+fn for_leg(len: usize) -> BoxTake {
+    BoxTake::Datagram {
+        holder: LEG,
+        source: HERE,
+        len,
+    }
+}
+
+#[test]
+fn a_box_takes_from_the_end_of_each_half(rt: HostRuntime) -> Result<(), Fail> {
+    let mut pair = full(rt.alloc())?;
+    let mut buf = [0; 2001];
+    let too_long = BoxTake::TooLong { source: HERE };
+    for (step, (half, want)) in [
+        (Half::Rtp, BoxTake::Nothing),
+        (Half::Rtp, for_leg(2_000)),
+        (Half::Rtcp, for_leg(28)),
+        (Half::Rtp, too_long),
+        (Half::Rtcp, BoxTake::Nothing),
+        (Half::Rtp, too_long),
+        (Half::Rtp, BoxTake::Nothing),
+    ]
+    .into_iter()
+    .enumerate()
+    {
+        assert_eq!(rt; pair.take(half, &mut buf), want, "take {step}");
+    }
+    assert!(rt; buf[0] == 5 && buf[2000] == 5);
+    assert!(rt; pair.shut().is_some());
+    assert_eq!(rt; pair.take(Half::Rtp, &mut buf), BoxTake::Closed);
+    assert!(rt; pair.shut().is_none());
+    Ok(())
+}
+
+/// An in end whose takes all fail.
+#[derive(Drop)]
+struct BrokenIn {
+    faults: u64,
+}
+
+impl InEnd for BrokenIn {
+    ghost told = { λ end. None };
+
+    ghost faults = { λ end. end.faults };
+
+    fn take(&mut self, _buf: &mut [u8]) -> Result<Option<(Addr, usize)>, Failed> {
+        self.faults = self.faults.saturating_add(1);
+        Err(Failed)
+    }
+}
+
+#[test]
+fn a_fault_of_the_end_is_told(rt: HostRuntime) {
+    let mut pair = PairBox::empty(4);
+    pair.put_in(LEG, BrokenIn { faults: 0 }, BrokenIn { faults: 0 });
+    let mut buf = [0; 2001];
+    assert_eq!(rt; pair.take(Half::Rtcp, &mut buf), BoxTake::Fault);
+    let ends = pair.shut();
+    assert!(rt; ends.is_some_and(|(rtp, rtcp)| rtp.faults == 0 && rtcp.faults == 1));
+}
