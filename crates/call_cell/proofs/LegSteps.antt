@@ -149,6 +149,8 @@ pub leg_keeps : {O : Type 0} (config : Config) (m : ℕ) (p : Receipt) (ok : Boo
     → takes leg.holder p d ≡ false → IsElsewhere leg.holder (key_numbered h) d.shield → LegFor config h leg → LegFor config (relay_entry m p ok d ∷ h) leg
 leg_keeps config m p ok d h leg is_not apart for =
     record {
+      pair = for.pair;
+      generation = for.generation;
       signal = for.signal;
       port = for.port;
       receiving = receiving_keeps m p ok d h leg.holder (inbound_of leg.signal) leg.receiving is_not for.receiving;
@@ -165,6 +167,8 @@ leg_takes config m p ok d h leg s receiving is_so apart signal takes_it for =
     let key : inbound_of (Some s) ≡ inbound_of leg.signal = ap inbound_of (sym signal) in
     let new = receiving_takes m p ok d h leg.holder s receiving is_so (sym for.signal ∙ signal) takes_it in
     record {
+      pair = for.pair;
+      generation = for.generation;
       signal = for.signal;
       port = for.port;
       receiving = subst (λ (k : Option (List ℕ × Suite)). ReceivingFor k receiving (learned (relay_entry m p ok d ∷ h) leg.holder) (accepted (relay_entry m p ok d ∷ h) leg.holder)) key new;
@@ -178,6 +182,8 @@ pub leg_sends : {O : Type 0} (config : Config) (m : ℕ) (p : Receipt) (ok : Boo
     → LegFor config h leg → LegFor config (relay_entry m p ok d ∷ h) (with_sending leg sending)
 leg_sends config m p ok d h leg sending is_not noted same for =
     record {
+      pair = for.pair;
+      generation = for.generation;
       signal = for.signal;
       port = for.port;
       receiving = receiving_keeps m p ok d h leg.holder (inbound_of leg.signal) leg.receiving is_not for.receiving;

@@ -23,3 +23,4 @@ pub mod Relaying
 pub mod Crossing
 pub mod Towards
 pub mod Handing
+pub mod Ends

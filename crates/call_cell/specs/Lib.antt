@@ -8,3 +8,4 @@ pub mod Contexts
 pub mod Parts
 pub mod Standing
 pub mod CellStanding
+pub mod Ending

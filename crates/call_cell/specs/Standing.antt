@@ -107,6 +107,8 @@ LegForwardsBy told faults (Some s) keys notes half known plain old new buf resul
 
 -- the leg stands for a history since the last End
 pub record LegFor {O : Type 0} (config : Config) (h : List CellEntry) (leg : Leg O) : Type 0 where
+  pub pair : leg.lease.pair ≡ leg.holder.pair
+  pub generation : leg.lease.generation ≡ leg.holder.generation
   pub signal : leg.signal ≡ in_force h leg.holder
   pub port : (half : Half) → port_by half leg.lease.rtp_port ≡ half_port config leg.holder.pair half
   pub receiving : ReceivingFor (inbound_of leg.signal) leg.receiving (learned h leg.holder) (accepted h leg.holder)

@@ -3,10 +3,12 @@ ghost use Rattle.relay_outside.specs.declared.settings.Config.{Config};
 ghost use Rattle.call_cell.specs.Cells.{CellEntry, since_end};
 ghost use Rattle.call_cell.specs.Standing.{LegsFor, LegsRelay, receipt_of};
 
+use crate::gone::Gone;
 use crate::leg::{Leg, place_of, place_of_opposite};
 use crate::outcome::{Incoming, Lost, Outcome, Refused};
 use relay_outside::{Config, OutEnd};
 use std::alloc::Global;
+use std::mem;
 
 /// One call's media: its legs, and what they keep. Contracts see it by the histories that it stands for.
 #[derive(Drop)]
@@ -43,6 +45,7 @@ fn relay_legs<O: OutEnd>(legs: &mut [Leg<O>], packet: &Incoming, buf: &mut [u8; 
 
 impl<O: OutEnd> Cell<O> {
     ghost use Rattle.call_cell.specs.CellStanding.{CellFor, CellRelays};
+    ghost use Rattle.call_cell.specs.Ending.{CellEnds, parts_in};
 
     /// An empty cell, which takes no memory.
     pub fn empty(alloc: Global, config: &Config) -> Cell<O>
@@ -65,5 +68,14 @@ impl<O: OutEnd> Cell<O> {
     {
         self.moment = self.moment.max(now);
         relay_legs(self.legs.as_mut_slice(), packet, buf)
+    }
+
+    /// Ends the call: all its legs go to `gone`, which is empty. It takes no memory.
+    pub fn end(&mut self, gone: &mut Gone<O>)
+        requires empty { parts_in gone.old ≡ [] }
+        ensures { (config : Config) (h : List CellEntry) → CellFor config self.old h → CellEnds config self.old self.new h gone.new }
+    {
+        self.call = None;
+        mem::swap(&mut self.legs, &mut gone.legs);
     }
 }

@@ -7,6 +7,7 @@ ghost use Rattle.call_cell.specs.Cells.{is_opposite};
 ghost use Rattle.call_cell.specs.Learning.{address, endpoint_by};
 ghost use Rattle.call_cell.specs.Deeds.{judged_leg};
 ghost use Rattle.call_cell.specs.Standing.{port_by, outcome_of};
+ghost use Rattle.call_cell.specs.Ending.{parts_of};
 
 use crate::outcome::{Lost, Outcome, Refused};
 use crate::receiving::Receiving;
@@ -97,6 +98,23 @@ fn outcome_of(port: u16, to: Addr, sent: Result<usize, Lost>) -> Outcome
     match sent {
         Ok(len) => Outcome::Sent { port, to, len },
         Err(cause) => Outcome::Lost(cause),
+    }
+}
+
+impl<O> Leg<O> {
+    /// The leg's lease and its out ends.
+    pub(crate) fn into_parts(self) -> (Lease, O, O)
+        ensures { result ≡ parts_of self }
+    {
+        let Leg {
+            holder: _,
+            lease,
+            signal: _,
+            receiving: _,
+            sending,
+        } = self;
+        let (rtp, rtcp) = sending.into_ends();
+        (lease, rtp, rtcp)
     }
 }
 

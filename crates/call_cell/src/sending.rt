@@ -61,6 +61,21 @@ fn send_answer(size: usize, done: bool) -> Result<usize, Lost>
     if done { Ok(size) } else { Err(Lost::SendFault) }
 }
 
+impl<O> Sending<O> {
+    /// The out ends, for RTP and for RTCP.
+    pub(crate) fn into_ends(self) -> (O, O)
+        ensures { result ≡ (self.rtp, self.rtcp) }
+    {
+        let Sending {
+            rtp,
+            rtcp,
+            tag80: _,
+            tag32: _,
+        } = self;
+        (rtp, rtcp)
+    }
+}
+
 impl<O: OutEnd> Sending<O> {
     ghost use Rattle.relay_outside.specs.declared.address.Addr.{Addr};
     ghost use Rattle.call_cell.specs.Parts.{SendingFor, HasNamed, ProtectsTo, SameEnds, SameKeys, SameNumbers, SendsBy, ForwardsTo, wrapped_by, wrapped_for};
