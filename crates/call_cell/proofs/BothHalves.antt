@@ -1,5 +1,5 @@
 -- What the contexts of one key do, half by half: a note of one half changes nothing in the other half's context.
-use Rattle.std.proofs.Common.{◌≡◌, refl, ap, subst, sym, ◌∙◌, ℕ, List, ◌∷◌, ◌++◌, Bool, true, false, Option, Some, None, Result, Ok, Err, length, take, drop, take_at}
+use Rattle.std.proofs.Common.{◌≡◌, refl, ap, subst, sym, ◌∙◌, ℕ, List, ◌∷◌, ◌++◌, Bool, false, Option, Some, None, Result, Ok, Err, length, take, drop, take_at}
 use Rattle.std.specs.Prelude.{is_some, ◌==◌, ◌&&◌, if◌then◌else◌}
 use Rattle.std.specs.List.{cons_option, filter_map}
 use Rattle.std.specs.Option.{option_map_or}
@@ -13,7 +13,6 @@ use Rattle.srtp_keys.specs.declared.faults.UnprotectFault.TheVariants as opening
 use Rattle.srtp_keys.specs.declared.faults.ProtectFault.{ProtectFault}
 use Rattle.srtp_keys.specs.declared.faults.ProtectFault.TheVariants as wrapping_fault
 use Rattle.srtp_sources.specs.Notes.{Note, is_half, once, source_under, sources, index_under, indices}
-use Rattle.srtp_sources.specs.Tables.{SourcesFor}
 use Rattle.srtp_sources.proofs.Tabling.{noted_elsewhere}
 use Rattle.srtp_context.specs.declared.inbound.InRtp.{InRtp}
 use Rattle.srtp_context.specs.declared.outbound.OutRtp.{OutRtp}

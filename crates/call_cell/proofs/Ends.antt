@@ -1,5 +1,5 @@
 -- A cell over the end of its call.
-use Rattle.std.proofs.Common.{◌≡◌, refl, ap, subst, sym, ◌∙◌, ℕ, List, [], ◌∷◌, map, max, length, arith, None, Vec}
+use Rattle.std.proofs.Common.{◌≡◌, refl, ap, subst, sym, ◌∙◌, ℕ, List, [], ◌∷◌, map, max, arith, None, Vec}
 use Rattle.relay_outside.specs.declared.settings.Config.{Config}
 use Rattle.call_cell.specs.declared.leg.Leg.{Leg}
 use Rattle.call_cell.specs.declared.gone.Gone.{Gone}
@@ -7,7 +7,7 @@ use Rattle.call_cell.specs.declared.cell.Cell.{Cell}
 use Rattle.call_cell.specs.Cells.{CellEntry}
 use Rattle.call_cell.specs.Standing.{LegsFor}
 use Rattle.call_cell.specs.CellStanding.{CellFor, last_moment}
-use Rattle.call_cell.specs.Ending.{parts_of, parts_in, ended_after, CellEnds}
+use Rattle.call_cell.specs.Ending.{parts_of, parts_in, CellEnds}
 
 pub same_items : {X Z : Type 0} (v w : Vec X Z) → v ≡ w → v.items ≡ w.items
 same_items {X} {Z} v w q = ap (λ (x : Vec X Z). x.items) q

@@ -1,5 +1,5 @@
 -- What a leg does with an accepted packet: it stays, or leaves by one send of the leg's end of the half.
-use Rattle.std.proofs.Common.{◌≡◌, refl, ap, subst, sym, ◌∙◌, ℕ, Bool, true, false, List, length, take, Option, Some, None, Result, Ok, Err}
+use Rattle.std.proofs.Common.{◌≡◌, refl, ap, subst, sym, ◌∙◌, ℕ, Bool, true, false, List, length, take, Option, Some, Result, Ok, Err}
 use Rattle.std.specs.Prelude.{◌≤◌, if◌then◌else◌, is_ok}
 use Rattle.relay_outside.specs.declared.address.Addr.{Addr}
 use Rattle.relay_outside.specs.declared.ports.OutCall.{OutCall}
@@ -15,14 +15,12 @@ use Rattle.port_pool.specs.Signals.{NewKey}
 use Rattle.call_cell.specs.declared.outcome.Lost.{Lost}
 use Rattle.call_cell.specs.declared.outcome.Lost.TheVariants as lost
 use Rattle.call_cell.specs.declared.outcome.Outcome.{Outcome}
-use Rattle.call_cell.specs.declared.outcome.Outcome.TheVariants as outcomes
 use Rattle.call_cell.specs.declared.contexts.Outbound.{Outbound}
 use Rattle.call_cell.specs.declared.sending.Sending.{Sending}
 use Rattle.call_cell.specs.declared.leg.Leg.{Leg}
-use Rattle.call_cell.specs.Cells.{Shield}
 use Rattle.call_cell.specs.Keyed.{Wrapped, Held, Leaves}
 use Rattle.call_cell.specs.Learning.{endpoint_by}
-use Rattle.call_cell.specs.Parts.{OutboundIn, SendingFor, ProtectsTo, ForwardsTo, SendsBy, SameEnds, SameKeys, ends_of, other_half, noted_under, wrapped_by, wrapped_for, send_answer}
+use Rattle.call_cell.specs.Parts.{OutboundIn, ProtectsTo, ForwardsTo, SendsBy, SameEnds, SameKeys, ends_of, other_half, noted_under, wrapped_by, wrapped_for, send_answer}
 use Rattle.call_cell.specs.Standing.{LegForwards, LegForwardsBy, with_sending, port_by, outcome_of, send_outcome, sent_ok}
 
 -- A refusal.

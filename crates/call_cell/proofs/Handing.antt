@@ -1,5 +1,5 @@
 -- A cell over one relay.
-use Rattle.std.proofs.Common.{◌≡◌, refl, ap, subst, sym, ◌∙◌, ℕ, List, ◌∷◌, map, max, arith}
+use Rattle.std.proofs.Common.{◌≡◌, refl, ap, subst, sym, ◌∙◌, ℕ, List, ◌∷◌, max, arith}
 use Rattle.relay_outside.specs.declared.settings.Config.{Config}
 use Rattle.relay_outside.specs.declared.ports.OutCall.{OutCall}
 use Rattle.std.specs.Prelude.{Option, slice_index_or}
@@ -8,7 +8,7 @@ use Rattle.call_cell.specs.declared.leg.Leg.{Leg}
 use Rattle.call_cell.specs.declared.cell.Cell.{Cell}
 use Rattle.call_cell.specs.Cells.{CellEntry, Receipt, since_end}
 use Rattle.call_cell.specs.Deeds.{deed, found}
-use Rattle.call_cell.specs.Standing.{LegsFor, LegsRelay, EndsFor, relay_entry, sent_ok, opposite_of, is_leaving}
+use Rattle.call_cell.specs.Standing.{LegsFor, LegsRelay, EndsFor, sent_ok, opposite_of, is_leaving}
 use Rattle.call_cell.specs.CellStanding.{CellFor, CellRelays, last_moment, relayed_at}
 
 max_again : (m n : ℕ) → max m n ≡ max (max n m) m

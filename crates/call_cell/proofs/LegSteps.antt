@@ -2,7 +2,6 @@
 use Rattle.std.proofs.Common.{◌≡◌, refl, ap, subst, sym, ◌∙◌, ℕ, Bool, true, false, List, ◌∷◌, ◌++◌, Option, Some, None}
 use Rattle.std.specs.Prelude.{◌&&◌, ◌==◌, ◌||◌, if◌then◌else◌}
 use Rattle.std.specs.List.{cons_option}
-use Rattle.relay_outside.specs.declared.address.Addr.{Addr}
 use Rattle.relay_outside.specs.declared.settings.Config.{Config}
 use Rattle.rtp_packet.specs.declared.head.Half.{Half}
 use Rattle.sdes_lines.specs.declared.crypto_line.Suite.{Suite}
@@ -15,7 +14,7 @@ use Rattle.call_cell.specs.declared.contexts.Outbound.{Outbound}
 use Rattle.call_cell.specs.declared.receiving.Receiving.{Receiving}
 use Rattle.call_cell.specs.declared.sending.Sending.{Sending}
 use Rattle.call_cell.specs.declared.leg.Leg.{Leg}
-use Rattle.call_cell.specs.Cells.{CellEntry, Relay, Relayed, Receipt, Shield, Deed, in_force, is_accepted, key_numbered}
+use Rattle.call_cell.specs.Cells.{CellEntry, Relayed, Receipt, Shield, Deed, in_force, is_accepted, key_numbered}
 use Rattle.call_cell.specs.Keyed.{accepted, protected}
 use Rattle.call_cell.specs.Learning.{Lesson, lessons, lesson_of, learned, learned_from}
 use Rattle.call_cell.specs.Contexts.{OutboundFor}

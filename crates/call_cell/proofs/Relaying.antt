@@ -1,37 +1,28 @@
 -- The legs of a cell over one relay.
-use Rattle.std.proofs.Common.{◌≡◌, refl, ap, subst, sym, ◌∙◌, ℕ, ◌<◌, ◌⊎◌, inl, inr, Bool, true, false, cond, List, ◌∷◌, length, take, filter, Option, Some, None, Result, Ok, Err, arith, get_or, set}
+use Rattle.std.proofs.Common.{◌≡◌, refl, ap, subst, sym, ◌∙◌, ℕ, Bool, true, false, List, ◌∷◌, filter, Option, Some, None, Err, get_or, set}
 use Rattle.std.specs.Prelude.{◌&&◌}
-use Rattle.std.specs.List.{cons_option}
-use Rattle.std.proofs.lemmas.List.{length-set, set-get_or}
-use Rattle.relay_outside.specs.declared.address.Addr.{Addr}
+use Rattle.std.proofs.lemmas.List.{set-get_or}
 use Rattle.relay_outside.specs.declared.settings.Config.{Config}
 use Rattle.relay_outside.specs.declared.ports.OutCall.{OutCall}
-use Rattle.rtp_packet.specs.declared.head.Half.{Half}
-use Rattle.sdes_lines.specs.declared.crypto_line.Suite.{Suite}
 use Rattle.srtp_sources.specs.Notes.{Note}
 use Rattle.histories.specs.Words.{first}
-use Rattle.port_pool.specs.Ports.{half_port}
 use Rattle.port_pool.specs.declared.holder.Holder.{Holder}
 use Rattle.port_pool.specs.declared.signal.LegSignal.{LegSignal}
 use Rattle.port_pool.specs.Signals.{NewKey, same_leg}
 use Rattle.call_cell.specs.declared.outcome.Refused.{Refused}
 use Rattle.call_cell.specs.declared.outcome.Refused.TheVariants as refused
-use Rattle.call_cell.specs.declared.outcome.Lost.{Lost}
 use Rattle.call_cell.specs.declared.outcome.Lost.TheVariants as lost
-use Rattle.call_cell.specs.declared.outcome.Outcome.{Outcome}
 use Rattle.call_cell.specs.declared.outcome.Outcome.TheVariants as outcomes
-use Rattle.call_cell.specs.declared.receiving.Receiving.{Receiving}
 use Rattle.call_cell.specs.declared.sending.Sending as parts
 use Rattle.call_cell.specs.declared.leg.Leg.{Leg}
-use Rattle.call_cell.specs.Cells.{CellEntry, Receipt, Shield, Sending, Deed, Relay, legs, in_force, is_accepted, is_opposite, opposite, key_numbered}
-use Rattle.call_cell.specs.Keyed.{accepted, protected, Judged, Stopped, Passed, Wrapped, Held, Leaves}
-use Rattle.call_cell.specs.Learning.{learned, endpoint_by}
-use Rattle.call_cell.specs.Deeds.{deed, deed_found, deed_judged, deed_opposite, deed_towards, deed_wrapped, found, judged, judged_leg, refused_deed, lost_deed, sent_deed, wrapped_towards}
-use Rattle.call_cell.specs.Parts.{ReceivingFor, taught_half, noted_under, SendingFor, SendsBy, SameNumbers, IsOf, wrapped_for, learned_in}
-use Rattle.call_cell.specs.Standing.{LegFor, LegsFor, AreApart, LegsDo, LegsRelay, LegTakes, LegAccepts, LegSends, LegForwards, LegForwardsBy, EndsFor, opposite_of, is_leaving, relay_entry, sent_ok, with_receiving, with_sending, port_by, send_outcome}
+use Rattle.call_cell.specs.Cells.{CellEntry, Receipt, Deed, legs, in_force, opposite, key_numbered}
+use Rattle.call_cell.specs.Keyed.{accepted, Judged, Stopped, Passed}
+use Rattle.call_cell.specs.Learning.{learned}
+use Rattle.call_cell.specs.Deeds.{deed, deed_found, deed_judged, deed_opposite, deed_towards, found, judged, judged_leg, refused_deed, lost_deed}
+use Rattle.call_cell.specs.Standing.{LegFor, LegsFor, LegsDo, LegsRelay, LegAccepts, EndsFor, opposite_of, is_leaving, relay_entry}
 use Rattle.call_cell.proofs.Steps.{relay_legs}
-use Rattle.call_cell.proofs.LegSteps.{takes, IsElsewhere, leg_keeps, leg_takes, leg_sends}
-use Rattle.call_cell.proofs.Placing.{holders_of, IsPlace, same_or_not, at_set, off_set, same_holders, same_swap, same_both, same_itself, not_opposite, true_or_not}
+use Rattle.call_cell.proofs.LegSteps.{IsElsewhere, leg_keeps}
+use Rattle.call_cell.proofs.Placing.{holders_of, IsPlace}
 
 -- The deed, by cases.
 

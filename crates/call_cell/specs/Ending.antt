@@ -1,5 +1,5 @@
 -- The legs that go from a cell, and what the end of its call does.
-use Rattle.std.specs.Prelude.{◌≡◌, ℕ, List, ◌∷◌, map}
+use Rattle.std.specs.Prelude.{◌≡◌, List, ◌∷◌, map}
 use Rattle.relay_outside.specs.declared.settings.Config.{Config}
 use Rattle.port_pool.specs.declared.pairs.Lease.{Lease}
 use Rattle.call_cell.specs.declared.leg.Leg.{Leg}

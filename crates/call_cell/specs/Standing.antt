@@ -1,5 +1,5 @@
 -- For which histories a cell stands, and what a relay does to it.
-use Rattle.std.specs.Prelude.{◌≡◌, ◌≤◌, ◌<◌, ◌+◌, ℕ, Bool, true, false, min, max, List, ◌∷◌, map, take, length, Option, Some, None, Result, Ok, Err, slice_index_or}
+use Rattle.std.specs.Prelude.{◌≡◌, ◌<◌, ◌+◌, ℕ, Bool, true, false, min, List, ◌∷◌, map, take, length, Option, Some, None, Result, Ok, Err, slice_index_or}
 use Rattle.std.specs.List.{cons_option}
 use Rattle.relay_outside.specs.declared.address.Addr.{Addr}
 use Rattle.relay_outside.specs.declared.settings.Config.{Config}
@@ -8,7 +8,6 @@ use Rattle.rtp_packet.specs.declared.head.Half.{Half}
 use Rattle.rtp_packet.specs.declared.head.Half.TheVariants.{Rtp, Rtcp}
 use Rattle.sdes_lines.specs.declared.crypto_line.Suite.{Suite}
 use Rattle.srtp_sources.specs.Notes.{Note}
-use Rattle.histories.specs.Words.{greatest}
 use Rattle.port_pool.specs.Ports.{half_port}
 use Rattle.port_pool.specs.declared.holder.Holder.{Holder}
 use Rattle.port_pool.specs.declared.signal.LegSignal.{LegSignal}

@@ -1,4 +1,4 @@
-use Rattle.std.proofs.Common.{◌≡◌, ℕ, refl, arith, sym, subst, List, length}
+use Rattle.std.proofs.Common.{refl, arith, sym, subst, List}
 use Rattle.std.proofs.lemmas.List.{with_items_is}
 use Rattle.call_cell.specs.declared.leg.Leg.{Leg}
 use Rattle.call_cell.specs.Cells.{since_end}

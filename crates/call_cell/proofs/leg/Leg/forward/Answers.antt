@@ -1,4 +1,4 @@
-use Rattle.std.proofs.Common.{◌≡◌, ap, subst, sym, ◌∙◌, ℕ, Option, Some, take}
+use Rattle.std.proofs.Common.{◌≡◌, ap, subst, ◌∙◌, ℕ, Option, Some, take}
 use Rattle.relay_outside.specs.declared.address.Addr.{Addr}
 use Rattle.port_pool.specs.declared.signal.LegSignal.{LegSignal}
 use Rattle.call_cell.specs.Learning.{endpoint_by}

@@ -1,4 +1,4 @@
-use Rattle.std.proofs.Common.{◌≡◌, ap, sym, ◌∙◌, false, take, Bool, Option}
+use Rattle.std.proofs.Common.{◌≡◌, ap, sym, ◌∙◌, false, take, Option}
 use Rattle.std.specs.Prelude.{not}
 use Rattle.relay_outside.specs.declared.address.Addr.{Addr}
 use Rattle.call_cell.specs.Keyed.{is_packet}

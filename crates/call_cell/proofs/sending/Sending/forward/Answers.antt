@@ -1,4 +1,4 @@
-use Rattle.std.proofs.Common.{refl, take}
+use Rattle.std.proofs.Common.{take}
 use Rattle.call_cell.proofs.Forwarding.{held, sent}
 use Rattle.call_cell.proofs.sending.Sending.forward.Goals as goal
 
