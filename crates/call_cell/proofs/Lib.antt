@@ -13,3 +13,14 @@ pub mod Shields
 pub mod Steps
 pub mod Plain
 mod rows
+pub mod BothHalves
+pub mod Protecting
+pub mod Accepting
+pub mod Forwarding
+pub mod LegSteps
+pub mod Placing
+pub mod Relaying
+pub mod Crossing
+pub mod Towards
+pub mod Handing
+pub mod Ends

@@ -14,6 +14,7 @@ use Rattle.port_pool.specs.Signals.{NewKey, same_leg, signal_at, is_rejected}
 use Rattle.call_cell.specs.Cells.{CellEvent, CellEntry, Prepare, Commit, Relay, Relayed, Shield, call, legs, keys_in, life, committed, in_force, differs, is_accepted, accepted_of, since_change}
 use Rattle.call_cell.specs.Keyed.{same_inbound, span, accepted, shield_of, protected}
 use Rattle.call_cell.specs.Learning.{Lesson, lesson_of, lesson_under, heard, same_address, lessons, lessons_in, learned_from, source_in}
+use Rattle.call_cell.specs.Parts.{note_under, taught}
 use Rattle.call_cell.proofs.Legs.{legs_stay}
 
 abbrev entry : ℕ → CellEvent → CellEntry
@@ -51,13 +52,8 @@ pub relay_accepted : (moment : ℕ) (r : Relayed) (h : List CellEntry) (leg : Ho
 relay_accepted moment r h leg =
     noted_case r (accepted_of (span h leg) leg) (same_leg leg r.packet.holder && is_accepted r.deed.outcome)
 
--- what the relay notes under an outbound key
-abbrev pub note_under : ℕ → Option Shield → Option Note
-note_under key None = None
-note_under key (Some s) = if_true (s.key == key) (Some s.note)
-
 under_case : (key : ℕ) (s : Shield) (rest : List Shield) (b : Bool)
-    → map (λ (x : Shield). x.note) (cond b (s ∷ rest) rest) ≡ cons_option (if_true b (Some s.note)) (map (λ (x : Shield). x.note) rest)
+    → map (λ (x : Shield). x.note) (cond b (s ∷ rest) rest) ≡ cons_option (cond b (Some s.note) None) (map (λ (x : Shield). x.note) rest)
 under_case key s rest true = refl
 under_case key s rest false = refl
 
@@ -186,11 +182,6 @@ new_leg_learned_nothing moment call new keys dropped h leg half q =
     ap (λ (k : List CellEntry). lessons_in leg half k) (prepare_begins moment call new keys dropped h leg q)
 
 -- Learning, packet by packet.
-
--- what is learned after one more accepted packet under these flags
-abbrev pub taught : Flags → Option Addr → Addr → Option Addr
-taught flags None source = cond flags.asymmetric None (Some source)
-taught flags (Some known) source = cond flags.asymmetric (Some known) (cond (flags.handover && not flags.strict) (Some source) (Some known))
 
 final_is_some : (x : Lesson) (xs : List Lesson) → (y : Lesson) × (final (x ∷ xs) ≡ Some y)
 final_is_some x [] = (x, refl)

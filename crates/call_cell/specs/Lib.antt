@@ -4,3 +4,8 @@ pub mod Learning
 pub mod Deeds
 pub mod Asked
 pub mod Good
+pub mod Contexts
+pub mod Parts
+pub mod Standing
+pub mod CellStanding
+pub mod Ending

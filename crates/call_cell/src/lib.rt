@@ -1,13 +1,29 @@
 //! The state of one call's media: which packets are taken, where they go, and under which keys.
 //!
-//! Module `outcome` says what becomes of a packet that a leg received, `law` that no packet is protected under an index that
-//! another had. `specs/Cells.antt` has the history of a cell and its legs, `specs/Learning.antt` where packets go,
-//! `specs/Keyed.antt` what is taken and sent under a key, `specs/Deeds.antt` what a relay does, `specs/Asked.antt` when a call
-//! is due to end and what is told of its legs, `specs/Good.antt` which histories fit. `proofs/rows` has worked examples of each.
+//! Module `cell` has the cell, `leg` one leg of its call, which `receiving` packets keeps learned sources and the contexts of
+//! `contexts`, and by `sending` sends; `gone` takes the legs that went. Module `outcome` says what becomes of a packet that a
+//! leg received, `law` that no packet is protected under an index that another had.
+//!
+//! `specs/Cells.antt` has the history of a cell and its legs, `specs/Learning.antt` where packets go, `specs/Keyed.antt` what is
+//! taken and sent under a key, `specs/Deeds.antt` what a relay does, `specs/Asked.antt` when a call is due to end and what is
+//! told of its legs, `specs/Good.antt` which histories fit. `specs/CellStanding.antt` says for which histories a cell stands and
+//! what a relay does to it, `specs/Ending.antt` the same of the end of its call; they stand over `specs/Standing.antt` for legs,
+//! `specs/Parts.antt` for the parts of a leg and `specs/Contexts.antt` for the contexts of one key. `proofs/rows` has worked
+//! examples.
 #![tactic(auto)]
 
+mod cell;
+mod contexts;
+mod gone;
 mod law;
+mod leg;
 mod outcome;
+mod receiving;
+mod sending;
+#[cfg(test)]
+mod tests;
 
+pub use cell::Cell;
+pub use gone::Gone;
 pub use law::notes_are_new;
 pub use outcome::{Incoming, Lost, Outcome, Refused};

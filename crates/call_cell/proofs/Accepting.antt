@@ -1,0 +1,49 @@
+-- What a leg's part for receiving does with a packet that opens.
+use Rattle.std.proofs.Common.{◌≡◌, refl, subst, sym, ◌∙◌, ℕ, Bool, false, List, Option, Some, Ok}
+use Rattle.std.specs.Prelude.{not, if◌then◌else◌}
+use Rattle.std.specs.List.{cons_option}
+use Rattle.relay_outside.specs.declared.address.Addr.{Addr}
+use Rattle.rtp_packet.specs.declared.head.Half.{Half}
+use Rattle.rtp_packet.specs.declared.head.Half.TheVariants.{Rtp, Rtcp}
+use Rattle.srtp_sources.specs.Notes.{Note}
+use Rattle.port_pool.specs.declared.signal.LegSignal.{LegSignal}
+use Rattle.call_cell.specs.declared.outcome.Refused.TheVariants as refused
+use Rattle.call_cell.specs.declared.contexts.Inbound.{Inbound}
+use Rattle.call_cell.specs.declared.receiving.Receiving.{Receiving}
+use Rattle.call_cell.specs.Keyed.{Judged, Stopped, Passed, is_packet, opened_by}
+use Rattle.call_cell.specs.Learning.{is_wrong_source}
+use Rattle.call_cell.specs.Deeds.{judged_leg}
+use Rattle.call_cell.specs.Parts.{ReceivingFor, OpensIn, AcceptsTo, learned_in, taught_half}
+
+abbrev with_inbound : Receiving → Option Inbound → Receiving
+with_inbound old inbound = record { rtp = old.rtp; rtcp = old.rtcp; inbound = inbound }
+
+same_learned : (old : Receiving) (inbound : Option Inbound) (half : Half) → learned_in half (with_inbound old inbound) ≡ learned_in half old
+same_learned old inbound Rtp = refl
+same_learned old inbound Rtcp = refl
+
+accepts_case : (s : LegSignal) (half : Half) (source : Addr) (known : Half → Option Addr) (notes : List Note) (old new : Receiving) (inbound : Option Inbound)
+    (buf : List ℕ) (size : ℕ) → ReceivingFor s.inbound old known notes → (j : Judged) → OpensIn j s.inbound notes old.inbound inbound buf (Ok size)
+    → ((l : List Note) → ReceivingFor s.inbound (with_inbound old inbound) known l → ReceivingFor s.inbound new (taught_half half s.flags source known) l)
+    → AcceptsTo j half source s known notes old new buf (Ok size)
+accepts_case s half source known notes old new inbound buf size for (Stopped cause) opens learns = absurd (let f = opens.answer in cc)
+accepts_case s half source known notes old new inbound buf size for (Passed noted plain) opens learns =
+    record {
+      answer = opens.answer;
+      buffer = opens.buffer;
+      receiving = learns (cons_option noted notes) (record { learned = λ other. same_learned old inbound other ∙ for.learned other; inbound = opens.contexts });
+    }
+
+pub accepts : (s : LegSignal) (half : Half) (source : Addr) (bytes : List ℕ) (known : Half → Option Addr) (notes : List Note) (old new : Receiving)
+    (inbound : Option Inbound) (buf : List ℕ) (size : ℕ) → ReceivingFor s.inbound old known notes
+    → not (is_packet half bytes) ≡ false → is_wrong_source s.flags (known half) source ≡ false
+    → OpensIn (opened_by s.inbound notes half bytes) s.inbound notes old.inbound inbound buf (Ok size)
+    → ((l : List Note) → ReceivingFor s.inbound (with_inbound old inbound) known l → ReceivingFor s.inbound new (taught_half half s.flags source known) l)
+    → AcceptsTo (judged_leg (Some s) (known half) notes half source bytes) half source s known notes old new buf (Ok size)
+accepts s half source bytes known notes old new inbound buf size for is right opens learns =
+    let P : Bool → Type 0 = λ (b : Bool).
+    AcceptsTo (if b then Stopped refused.Malformed else (if is_wrong_source s.flags (known half) source then Stopped refused.WrongSource else opened_by s.inbound notes half bytes))
+    half source s known notes old new buf (Ok size) in
+    let Q : Bool → Type 0 = λ (b : Bool).
+    AcceptsTo (if b then Stopped refused.WrongSource else opened_by s.inbound notes half bytes) half source s known notes old new buf (Ok size) in
+    subst P (sym is) (subst Q (sym right) (accepts_case s half source known notes old new inbound buf size for (opened_by s.inbound notes half bytes) opens learns))

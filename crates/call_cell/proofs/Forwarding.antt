@@ -1,0 +1,145 @@
+-- What a leg does with an accepted packet: it stays, or leaves by one send of the leg's end of the half.
+use Rattle.std.proofs.Common.{◌≡◌, refl, ap, subst, sym, ◌∙◌, ℕ, Bool, true, false, List, length, take, Option, Some, Result, Ok, Err}
+use Rattle.std.specs.Prelude.{◌≤◌, if◌then◌else◌, is_ok}
+use Rattle.relay_outside.specs.declared.address.Addr.{Addr}
+use Rattle.relay_outside.specs.declared.ports.OutCall.{OutCall}
+use Rattle.relay_outside.specs.declared.ports.OutCall.TheVariants.{Send}
+use Rattle.relay_outside.specs.Told.{Gains, Rose}
+use Rattle.rtp_packet.specs.declared.head.Half.{Half}
+use Rattle.rtp_packet.specs.declared.head.Half.TheVariants.{Rtp, Rtcp}
+use Rattle.sdes_lines.specs.declared.crypto_line.Suite.TheVariants.{Tag80, Tag32}
+use Rattle.srtp_sources.specs.Notes.{Note}
+use Rattle.port_pool.specs.declared.holder.Holder.{Holder}
+use Rattle.port_pool.specs.declared.signal.LegSignal.{LegSignal}
+use Rattle.port_pool.specs.Signals.{NewKey}
+use Rattle.call_cell.specs.declared.outcome.Lost.{Lost}
+use Rattle.call_cell.specs.declared.outcome.Lost.TheVariants as lost
+use Rattle.call_cell.specs.declared.outcome.Outcome.{Outcome}
+use Rattle.call_cell.specs.declared.contexts.Outbound.{Outbound}
+use Rattle.call_cell.specs.declared.sending.Sending.{Sending}
+use Rattle.call_cell.specs.declared.leg.Leg.{Leg}
+use Rattle.call_cell.specs.Keyed.{Wrapped, Held, Leaves}
+use Rattle.call_cell.specs.Learning.{endpoint_by}
+use Rattle.call_cell.specs.Parts.{OutboundIn, ProtectsTo, ForwardsTo, SendsBy, SameEnds, SameKeys, ends_of, other_half, noted_under, wrapped_by, wrapped_for, send_answer}
+use Rattle.call_cell.specs.Standing.{LegForwards, LegForwardsBy, with_sending, port_by, outcome_of, send_outcome, sent_ok}
+
+-- A refusal.
+
+held_case : {O : Type 0} (told : O → Option (List OutCall)) (faults : O → ℕ) (leg : Holder) (keys : ℕ → Option NewKey) (notes : ℕ → List Note) (half : Half)
+    (to : Addr) (old new : Sending O) (buf : List ℕ) (cause : Lost) (w : Wrapped) → ProtectsTo w leg keys notes old new buf (Err cause)
+    → ForwardsTo told faults w leg keys notes half to old new buf (Err cause)
+held_case told faults leg keys notes half to old new buf cause (Held other) does = does
+held_case told faults leg keys notes half to old new buf cause (Leaves shield bytes) does = absurd (let f = does.answer in cc)
+
+pub held : {O : Type 0} (told : O → Option (List OutCall)) (faults : O → ℕ) (leg : Holder) (keys : ℕ → Option NewKey) (notes : ℕ → List Note) (s : LegSignal)
+    (half : Half) (bytes : List ℕ) (to : Addr) (old new : Sending O) (buf : List ℕ) (cause : Lost) → s.hold ≡ false
+    → ProtectsTo (wrapped_by keys notes s.outbound half bytes) leg keys notes old new buf (Err cause)
+    → ForwardsTo told faults (wrapped_for keys notes s half bytes) leg keys notes half to old new buf (Err cause)
+held {O} told faults leg keys notes s half bytes to old new buf cause free does =
+    let P : Bool → Type 0 = λ (b : Bool).
+    ForwardsTo {O = O} told faults (if b then Held lost.Hold else wrapped_by keys notes s.outbound half bytes) leg keys notes half to old new buf (Err cause) in
+    subst P (sym free) (held_case told faults leg keys notes half to old new buf cause (wrapped_by keys notes s.outbound half bytes) does)
+
+-- A send.
+
+same_end : {O : Type 0} (half : Half) (old mid : Sending O) → SameEnds old mid → ends_of half mid ≡ ends_of half old
+same_end Rtp old mid same = same.rtp
+same_end Rtcp old mid same = same.rtcp
+
+sends_from : {O : Type 0} (told : O → Option (List OutCall)) (faults : O → ℕ) (half : Half) (to : Addr) (bytes : List ℕ) (ok : Bool) (old mid new : Sending O)
+    → SameEnds old mid → SendsBy told faults half to bytes ok mid new → SendsBy told faults half to bytes ok old new
+sends_from {O} told faults half to bytes ok old mid new same sends =
+    let here : ends_of half mid ≡ ends_of half old = same_end half old mid same in
+    record {
+      gains = subst (λ (x : O). Gains (told x) (told (ends_of half new)) (Send to bytes ok)) here sends.gains;
+      later = subst (λ (x : O). faults x ≤ faults (ends_of half new)) here sends.later;
+      cause = λ q. subst (λ (x : O). Rose (faults x) (faults (ends_of half new))) here (sends.cause q);
+      other = sends.other ∙ same_end (other_half half) old mid same;
+    }
+
+answered : (size : ℕ) (done : Bool) → is_ok (send_answer size done) ≡ done
+answered size true = refl
+answered size false = refl
+
+same_size : (size n : ℕ) → ◌≡◌ {A = Result ℕ Lost} (Ok size) (Ok n) → size ≡ n
+same_size size n q = let f = q in cc
+
+sent_case : {O : Type 0} (told : O → Option (List OutCall)) (faults : O → ℕ) (leg : Holder) (keys : ℕ → Option NewKey) (notes : ℕ → List Note) (half : Half)
+    (to : Addr) (old mid new : Sending O) (buf : List ℕ) (size : ℕ) (done : Bool) (result : Result ℕ Lost) (w : Wrapped)
+    → ProtectsTo w leg keys notes old mid buf (Ok size) → SameEnds old mid → SameKeys mid new → SendsBy told faults half to (take size buf) done mid new
+    → result ≡ send_answer size done → ForwardsTo told faults w leg keys notes half to old new buf result
+sent_case told faults leg keys notes half to old mid new buf size done result (Held cause) does ends same sends is = absurd (let f = does.answer in cc)
+sent_case {O} told faults leg keys notes half to old mid new buf size done result (Leaves shield bytes) does ends same sends is =
+    let many : size ≡ length bytes = same_size size (length bytes) does.answer in
+    let ok : done ≡ is_ok result = sym (answered size done) ∙ ap (λ (r : Result ℕ Lost). is_ok r) (sym is) in
+    let front : take size buf ≡ bytes = ap (λ (n : ℕ). take n buf) many ∙ does.buffer in
+    let sent : SendsBy told faults half to bytes (is_ok result) old new
+    = subst (λ (l : List ℕ). SendsBy told faults half to l (is_ok result) old new) front
+    (subst (λ (b : Bool). SendsBy told faults half to (take size buf) b old new) ok
+    (sends_from told faults half to (take size buf) done old mid new ends sends)) in
+    record {
+      answer = is ∙ ap (λ (n : ℕ). send_answer n done) many ∙ ap (λ (b : Bool). send_answer (length bytes) b) ok;
+      buffer = does.buffer;
+      under = does.under;
+      keeps = record {
+        tag80 = subst (λ (o : Option Outbound). OutboundIn leg Tag80 keys (noted_under shield notes) o) (sym same.tag80) does.keeps.tag80;
+        tag32 = subst (λ (o : Option Outbound). OutboundIn leg Tag32 keys (noted_under shield notes) o) (sym same.tag32) does.keeps.tag32;
+      };
+      sends = sent;
+    }
+
+pub sent : {O : Type 0} (told : O → Option (List OutCall)) (faults : O → ℕ) (leg : Holder) (keys : ℕ → Option NewKey) (notes : ℕ → List Note) (s : LegSignal)
+    (half : Half) (bytes : List ℕ) (to : Addr) (old mid new : Sending O) (buf : List ℕ) (size : ℕ) (done : Bool) (result : Result ℕ Lost) → s.hold ≡ false
+    → ProtectsTo (wrapped_by keys notes s.outbound half bytes) leg keys notes old mid buf (Ok size) → SameEnds old mid → SameKeys mid new
+    → SendsBy told faults half to (take size buf) done mid new → result ≡ send_answer size done
+    → ForwardsTo told faults (wrapped_for keys notes s half bytes) leg keys notes half to old new buf result
+sent {O} told faults leg keys notes s half bytes to old mid new buf size done result free does ends same sends is =
+    let P : Bool → Type 0 = λ (b : Bool).
+    ForwardsTo {O = O} told faults (if b then Held lost.Hold else wrapped_by keys notes s.outbound half bytes) leg keys notes half to old new buf result in
+    subst P (sym free)
+    (sent_case told faults leg keys notes half to old mid new buf size done result (wrapped_by keys notes s.outbound half bytes) does ends same sends is)
+
+-- A leg.
+
+by_answer : (port : ℕ) (to : Addr) (size : ℕ) (ok : Bool) → outcome_of port to (send_answer size ok) ≡ send_outcome port to size ok
+by_answer port to size true = refl
+by_answer port to size false = refl
+
+ok_of : (port : ℕ) (to : Addr) (size : ℕ) (ok : Bool) → sent_ok (send_outcome port to size ok) ≡ ok
+ok_of port to size true = refl
+ok_of port to size false = refl
+
+leg_case : {O : Type 0} (told : O → Option (List OutCall)) (faults : O → ℕ) (keys : ℕ → Option NewKey) (notes : ℕ → List Note) (half : Half) (to : Addr)
+    (old : Leg O) (new : Sending O) (buf : List ℕ) (sent : Result ℕ Lost) (result : Outcome) → result ≡ outcome_of (port_by half old.lease.rtp_port) to sent
+    → (w : Wrapped) → ForwardsTo told faults w old.holder keys notes half to old.sending new buf sent
+    → LegForwards told faults w keys notes half to old (with_sending old new) buf result
+leg_case {O} told faults keys notes half to old new buf sent result is (Held cause) does =
+    record {
+      answer = is ∙ ap (λ (r : Result ℕ Lost). outcome_of (port_by half old.lease.rtp_port) to r) does.answer;
+      leg = ap (λ (x : Sending O). with_sending old x) does.contexts;
+    }
+leg_case {O} told faults keys notes half to old new buf sent result is (Leaves shield bytes) does =
+    let port = port_by half old.lease.rtp_port in
+    let whole : result ≡ send_outcome port to (length bytes) (is_ok sent)
+    = is ∙ ap (λ (r : Result ℕ Lost). outcome_of port to r) does.answer ∙ by_answer port to (length bytes) (is_ok sent) in
+    let ok : is_ok sent ≡ sent_ok result = sym (ap (λ (o : Outcome). sent_ok o) whole ∙ ok_of port to (length bytes) (is_ok sent)) in
+    record {
+      answer = whole ∙ ap (λ (b : Bool). send_outcome port to (length bytes) b) ok;
+      buffer = does.buffer;
+      under = does.under;
+      sending = does.keeps;
+      sends = subst (λ (b : Bool). SendsBy told faults half to bytes b old.sending new) ok does.sends;
+      rest = refl;
+    }
+
+pub leg_forwards : {O : Type 0} (told : O → Option (List OutCall)) (faults : O → ℕ) (keys : ℕ → Option NewKey) (notes : ℕ → List Note) (half : Half)
+    (known : Option Addr) (plain : List ℕ) (s : LegSignal) (to : Addr) (port : ℕ) (old : Leg O) (new : Sending O) (buf : List ℕ) (sent : Result ℕ Lost)
+    (result : Outcome) → old.signal ≡ Some s → to ≡ endpoint_by s known half → port ≡ port_by half old.lease.rtp_port → result ≡ outcome_of port to sent
+    → ForwardsTo told faults (wrapped_for keys notes s half plain) old.holder keys notes half to old.sending new buf sent
+    → LegForwardsBy told faults old.signal keys notes half known plain old (with_sending old new) buf result
+leg_forwards {O} told faults keys notes half known plain s to port old new buf sent result signal to_is port_is is does =
+    let P : Option LegSignal → Type 0 = λ (o : Option LegSignal). LegForwardsBy {O = O} told faults o keys notes half known plain old (with_sending old new) buf result in
+    let Q : Addr → Type 0 = λ (a : Addr). LegForwards {O = O} told faults (wrapped_for keys notes s half plain) keys notes half a old (with_sending old new) buf result in
+    subst P (sym signal)
+    (subst Q to_is
+    (leg_case told faults keys notes half to old new buf sent result (is ∙ ap (λ (n : ℕ). outcome_of n to sent) port_is) (wrapped_for keys notes s half plain) does))

@@ -1,0 +1,191 @@
+-- A leg over one relay: it took the packet, sent it, or neither.
+use Rattle.std.proofs.Common.{◌≡◌, refl, ap, subst, sym, ◌∙◌, ℕ, Bool, true, false, List, ◌∷◌, ◌++◌, Option, Some, None}
+use Rattle.std.specs.Prelude.{◌&&◌, ◌==◌, ◌||◌, if◌then◌else◌}
+use Rattle.std.specs.List.{cons_option}
+use Rattle.relay_outside.specs.declared.settings.Config.{Config}
+use Rattle.rtp_packet.specs.declared.head.Half.{Half}
+use Rattle.sdes_lines.specs.declared.crypto_line.Suite.{Suite}
+use Rattle.sdes_lines.specs.declared.crypto_line.Suite.TheVariants.{Tag80, Tag32}
+use Rattle.srtp_sources.specs.Notes.{Note, is_half}
+use Rattle.port_pool.specs.declared.holder.Holder.{Holder}
+use Rattle.port_pool.specs.declared.signal.LegSignal.{LegSignal}
+use Rattle.port_pool.specs.Signals.{NewKey, same_leg}
+use Rattle.call_cell.specs.declared.contexts.Outbound.{Outbound}
+use Rattle.call_cell.specs.declared.receiving.Receiving.{Receiving}
+use Rattle.call_cell.specs.declared.sending.Sending.{Sending}
+use Rattle.call_cell.specs.declared.leg.Leg.{Leg}
+use Rattle.call_cell.specs.Cells.{CellEntry, Relayed, Receipt, Shield, Deed, in_force, is_accepted, key_numbered}
+use Rattle.call_cell.specs.Keyed.{accepted, protected}
+use Rattle.call_cell.specs.Learning.{Lesson, lessons, lesson_of, learned, learned_from}
+use Rattle.call_cell.specs.Contexts.{OutboundFor}
+use Rattle.call_cell.specs.Parts.{ReceivingFor, InboundIn, SendingFor, OutboundIn, HasNamed, SameNumbers, has_number, is_numbered, number_in, noted_under, taught, taught_half}
+use Rattle.call_cell.specs.Standing.{LegFor, inbound_of, outbound_of, relay_entry, with_receiving, with_sending}
+use Rattle.call_cell.proofs.Steps.{if_true, heard_is, relay_accepted, relay_protected, taught_by}
+use Rattle.call_cell.proofs.Protecting.{other_kept}
+
+-- the relay was accepted from this leg
+abbrev pub takes : Holder → Receipt → Deed → Bool
+takes leg p d = same_leg leg p.holder && is_accepted d.outcome
+
+abbrev relayed_of : Receipt → Bool → Deed → Relayed
+relayed_of p ok d = record { packet = p; sent_ok = ok; deed = d }
+
+-- Receiving.
+
+learned_keeps : (m : ℕ) (p : Receipt) (ok : Bool) (d : Deed) (h : List CellEntry) (leg : Holder) (half : Half) → takes leg p d ≡ false
+    → learned (relay_entry m p ok d ∷ h) leg half ≡ learned h leg half
+learned_keeps m p ok d h leg half is_not =
+    ap (λ (o : Option Relayed). learned_from (lesson_of o (in_force h leg) ++ lessons h leg half))
+    (heard_is m (relayed_of p ok d) leg half ∙ ap (λ (b : Bool). if_true (b && is_half p.half half) (Some (relayed_of p ok d))) is_not)
+
+accepted_keeps : (m : ℕ) (p : Receipt) (ok : Bool) (d : Deed) (h : List CellEntry) (leg : Holder) → takes leg p d ≡ false
+    → accepted (relay_entry m p ok d ∷ h) leg ≡ accepted h leg
+accepted_keeps m p ok d h leg is_not =
+    relay_accepted m (relayed_of p ok d) h leg ∙ ap (λ (b : Bool). cons_option (if_true b d.noted) (accepted h leg)) is_not
+
+receiving_keeps : (m : ℕ) (p : Receipt) (ok : Bool) (d : Deed) (h : List CellEntry) (leg : Holder) (key : Option (List ℕ × Suite)) (receiving : Receiving)
+    → takes leg p d ≡ false → ReceivingFor key receiving (learned h leg) (accepted h leg)
+    → ReceivingFor key receiving (learned (relay_entry m p ok d ∷ h) leg) (accepted (relay_entry m p ok d ∷ h) leg)
+receiving_keeps m p ok d h leg key receiving is_not for =
+    record {
+      learned = λ half. for.learned half ∙ sym (learned_keeps m p ok d h leg half is_not);
+      inbound = subst (λ (l : List Note). InboundIn key receiving.inbound l) (sym (accepted_keeps m p ok d h leg is_not)) for.inbound;
+    }
+
+taught_case : (r : Relayed) (s : LegSignal) (ls : List Lesson) (b : Bool)
+    → learned_from (lesson_of (if_true b (Some r)) (Some s) ++ ls) ≡ (if b then taught s.flags (learned_from ls) r.packet.source else learned_from ls)
+taught_case r s ls true = taught_by r.packet.source s ls
+taught_case r s ls false = refl
+
+learned_takes : (m : ℕ) (p : Receipt) (ok : Bool) (d : Deed) (h : List CellEntry) (leg : Holder) (s : LegSignal) (half : Half) → takes leg p d ≡ true
+    → in_force h leg ≡ Some s → learned (relay_entry m p ok d ∷ h) leg half ≡ taught_half p.half s.flags p.source (learned h leg) half
+learned_takes m p ok d h leg s half is_so force =
+    ap (λ (o : Option Relayed). learned_from (lesson_of o (in_force h leg) ++ lessons h leg half))
+    (heard_is m (relayed_of p ok d) leg half ∙ ap (λ (b : Bool). if_true (b && is_half p.half half) (Some (relayed_of p ok d))) is_so)
+    ∙ ap (λ (o : Option LegSignal). learned_from (lesson_of (if_true (is_half p.half half) (Some (relayed_of p ok d))) o ++ lessons h leg half)) force
+    ∙ taught_case (relayed_of p ok d) s (lessons h leg half) (is_half p.half half)
+
+accepted_takes : (m : ℕ) (p : Receipt) (ok : Bool) (d : Deed) (h : List CellEntry) (leg : Holder) → takes leg p d ≡ true
+    → accepted (relay_entry m p ok d ∷ h) leg ≡ cons_option d.noted (accepted h leg)
+accepted_takes m p ok d h leg is_so =
+    relay_accepted m (relayed_of p ok d) h leg ∙ ap (λ (b : Bool). cons_option (if_true b d.noted) (accepted h leg)) is_so
+
+receiving_takes : (m : ℕ) (p : Receipt) (ok : Bool) (d : Deed) (h : List CellEntry) (leg : Holder) (s : LegSignal) (receiving : Receiving)
+    → takes leg p d ≡ true → in_force h leg ≡ Some s
+    → ReceivingFor s.inbound receiving (taught_half p.half s.flags p.source (learned h leg)) (cons_option d.noted (accepted h leg))
+    → ReceivingFor s.inbound receiving (learned (relay_entry m p ok d ∷ h) leg) (accepted (relay_entry m p ok d ∷ h) leg)
+receiving_takes m p ok d h leg s receiving is_so force for =
+    record {
+      learned = λ half. for.learned half ∙ sym (learned_takes m p ok d h leg s half is_so force);
+      inbound = subst (λ (l : List Note). InboundIn s.inbound receiving.inbound l) (sym (accepted_takes m p ok d h leg is_so)) for.inbound;
+    }
+
+-- Sending.
+
+same_in : (leg : Holder) (suite : Suite) (keys : ℕ → Option NewKey) (notes others : ℕ → List Note) → ((n : ℕ) → notes n ≡ others n) → (o : Option Outbound)
+    → OutboundIn leg suite keys notes o → OutboundIn leg suite keys others o
+same_in leg suite keys notes others same None for = tt
+same_in leg suite keys notes others same (Some x) for =
+    record {
+      key = for.key;
+      is_there = for.is_there;
+      section = for.section;
+      side = for.side;
+      suite_is = for.suite_is;
+      contexts_for = subst (λ (l : List Note). OutboundFor for.key x l) (same x.number) for.contexts_for;
+    }
+
+-- after a relay its shield is noted
+sending_over : {O : Type 0} (m : ℕ) (p : Receipt) (ok : Bool) (d : Deed) (h : List CellEntry) (leg : Holder) (sending : Sending O)
+    → SendingFor leg (key_numbered h) (noted_under d.shield (protected h)) sending
+    → SendingFor leg (key_numbered (relay_entry m p ok d ∷ h)) (protected (relay_entry m p ok d ∷ h)) sending
+sending_over m p ok d h leg sending for =
+    let same : (n : ℕ) → noted_under d.shield (protected h) n ≡ protected (relay_entry m p ok d ∷ h) n
+    = λ n. sym (relay_protected m (relayed_of p ok d) h n) in
+    record {
+      tag80 = same_in leg Tag80 (key_numbered h) (noted_under d.shield (protected h)) (protected (relay_entry m p ok d ∷ h)) same sending.tag80 for.tag80;
+      tag32 = same_in leg Tag32 (key_numbered h) (noted_under d.shield (protected h)) (protected (relay_entry m p ok d ∷ h)) same sending.tag32 for.tag32;
+    }
+
+-- the shield is under no key of this leg
+abbrev pub IsElsewhere : Holder → (ℕ → Option NewKey) → Option Shield → Type 0
+IsElsewhere leg keys shield =
+    (s : Shield) → shield ≡ Some s → (key : NewKey) → keys s.key ≡ Some key → key.section ≡ leg.section → key.side ≡ leg.side → ⊥
+
+sending_keeps : {O : Type 0} (leg : Holder) (keys : ℕ → Option NewKey) (notes : ℕ → List Note) (shield : Option Shield) (sending : Sending O)
+    → IsElsewhere leg keys shield → SendingFor leg keys notes sending → SendingFor leg keys (noted_under shield notes) sending
+sending_keeps leg keys notes shield sending apart for =
+    record {
+      tag80 = other_kept leg Tag80 keys notes shield sending.tag80 (λ s q key there section side suite. apart s q key there section side) for.tag80;
+      tag32 = other_kept leg Tag32 keys notes shield sending.tag32 (λ s q key there section side suite. apart s q key there section side) for.tag32;
+    }
+
+by_number : Option ℕ → ℕ → Bool
+by_number None n = false
+by_number (Some m) n = m == n
+
+numbered_by : (o : Option Outbound) (n : ℕ) → is_numbered o n ≡ by_number (number_in o) n
+unfolding by_number
+numbered_by None n = refl
+numbered_by (Some x) n = refl
+
+same_number : (a b : Option Outbound) (n : ℕ) → number_in a ≡ number_in b → is_numbered a n ≡ is_numbered b n
+same_number a b n q = numbered_by a n ∙ ap (λ (o : Option ℕ). by_number o n) q ∙ sym (numbered_by b n)
+
+same_has : {O : Type 0} (old new : Sending O) (n : ℕ) → SameNumbers old new → has_number new n ≡ has_number old n
+same_has old new n same =
+    ap (λ (b : Bool). b || is_numbered new.tag32 n) (same_number new.tag80 old.tag80 n same.tag80)
+    ∙ ap (λ (b : Bool). is_numbered old.tag80 n || b) (same_number new.tag32 old.tag32 n same.tag32)
+
+named_still : {O : Type 0} (number : Option ℕ) (keys : ℕ → Option NewKey) (old new : Sending O) → SameNumbers old new → HasNamed number keys old
+    → HasNamed number keys new
+named_still None keys old new same for = tt
+named_still (Some n) keys old new same for = λ q. for (sym (same_has old new n same) ∙ q)
+
+-- A leg.
+
+pub leg_keeps : {O : Type 0} (config : Config) (m : ℕ) (p : Receipt) (ok : Bool) (d : Deed) (h : List CellEntry) (leg : Leg O)
+    → takes leg.holder p d ≡ false → IsElsewhere leg.holder (key_numbered h) d.shield → LegFor config h leg → LegFor config (relay_entry m p ok d ∷ h) leg
+leg_keeps config m p ok d h leg is_not apart for =
+    record {
+      pair = for.pair;
+      generation = for.generation;
+      signal = for.signal;
+      port = for.port;
+      receiving = receiving_keeps m p ok d h leg.holder (inbound_of leg.signal) leg.receiving is_not for.receiving;
+      sending = sending_over m p ok d h leg.holder leg.sending
+          (sending_keeps leg.holder (key_numbered h) (protected h) d.shield leg.sending apart for.sending);
+      named = for.named;
+    }
+
+pub leg_takes : {O : Type 0} (config : Config) (m : ℕ) (p : Receipt) (ok : Bool) (d : Deed) (h : List CellEntry) (leg : Leg O) (s : LegSignal) (receiving : Receiving)
+    → takes leg.holder p d ≡ true → IsElsewhere leg.holder (key_numbered h) d.shield → leg.signal ≡ Some s
+    → ReceivingFor s.inbound receiving (taught_half p.half s.flags p.source (learned h leg.holder)) (cons_option d.noted (accepted h leg.holder))
+    → LegFor config h leg → LegFor config (relay_entry m p ok d ∷ h) (with_receiving leg receiving)
+leg_takes config m p ok d h leg s receiving is_so apart signal takes_it for =
+    let key : inbound_of (Some s) ≡ inbound_of leg.signal = ap inbound_of (sym signal) in
+    let new = receiving_takes m p ok d h leg.holder s receiving is_so (sym for.signal ∙ signal) takes_it in
+    record {
+      pair = for.pair;
+      generation = for.generation;
+      signal = for.signal;
+      port = for.port;
+      receiving = subst (λ (k : Option (List ℕ × Suite)). ReceivingFor k receiving (learned (relay_entry m p ok d ∷ h) leg.holder) (accepted (relay_entry m p ok d ∷ h) leg.holder)) key new;
+      sending = sending_over m p ok d h leg.holder leg.sending
+          (sending_keeps leg.holder (key_numbered h) (protected h) d.shield leg.sending apart for.sending);
+      named = for.named;
+    }
+
+pub leg_sends : {O : Type 0} (config : Config) (m : ℕ) (p : Receipt) (ok : Bool) (d : Deed) (h : List CellEntry) (leg : Leg O) (sending : Sending O)
+    → takes leg.holder p d ≡ false → SendingFor leg.holder (key_numbered h) (noted_under d.shield (protected h)) sending → SameNumbers leg.sending sending
+    → LegFor config h leg → LegFor config (relay_entry m p ok d ∷ h) (with_sending leg sending)
+leg_sends config m p ok d h leg sending is_not noted same for =
+    record {
+      pair = for.pair;
+      generation = for.generation;
+      signal = for.signal;
+      port = for.port;
+      receiving = receiving_keeps m p ok d h leg.holder (inbound_of leg.signal) leg.receiving is_not for.receiving;
+      sending = sending_over m p ok d h leg.holder sending noted;
+      named = named_still (outbound_of leg.signal) (key_numbered h) leg.sending sending same for.named;
+    }

@@ -1,0 +1,40 @@
+-- For which histories a cell stands, and what a relay does to it.
+use Rattle.std.specs.Prelude.{◌≡◌, ◌<◌, ℕ, max, List, ◌∷◌, map, length, Option, slice_index_or}
+use Rattle.relay_outside.specs.declared.settings.Config.{Config}
+use Rattle.relay_outside.specs.declared.ports.OutCall.{OutCall}
+use Rattle.histories.specs.Words.{greatest}
+use Rattle.call_cell.specs.declared.outcome.Outcome.{Outcome}
+use Rattle.call_cell.specs.declared.leg.Leg.{Leg}
+use Rattle.call_cell.specs.declared.cell.Cell.{Cell}
+use Rattle.call_cell.specs.Cells.{CellEntry, Receipt, call, since_end}
+use Rattle.call_cell.specs.Deeds.{deed, found}
+use Rattle.call_cell.specs.Asked.{FitsCell}
+use Rattle.call_cell.specs.Standing.{LegsFor, EndsFor, FrontIs, relay_entry, sent_ok, opposite_of, is_leaving}
+
+-- the greatest moment of a history, at first 0
+abbrev pub last_moment : List CellEntry → ℕ
+last_moment h = greatest (map (λ (e : CellEntry). e.moment) h)
+
+-- the cell stands for this history
+pub record CellFor {O : Type 0} (config : Config) (cell : Cell O) (h : List CellEntry) : Type 0 where
+  pub config_is : cell.config ≡ config
+  pub moment : cell.moment ≡ last_moment h
+  pub call_is : cell.call ≡ call (since_end h)
+  pub legs_for : LegsFor config (since_end h) cell.legs.items
+
+-- the entry of a relay at that moment, with that outcome
+abbrev pub relayed_at : Config → List CellEntry → Receipt → ℕ → Outcome → CellEntry
+relayed_at config h p now result =
+    relay_entry (max now (last_moment h)) p (sent_ok result) (deed config (since_end h) p (sent_ok result))
+
+-- a relay after that history: the new cell stands for it with the relay's entry, the outcome and the bytes are those of the
+-- entry, and its one send is by the end of the opposite leg
+pub record CellRelays {O : Type 0} (told : O → Option (List OutCall)) (faults : O → ℕ) (config : Config) (old new : Cell O) (h : List CellEntry)
+    (p : Receipt) (now : ℕ) (buf : List ℕ) (result : Outcome) : Type 0 where
+  pub fits : FitsCell config h (relayed_at config h p now result)
+  pub stands : CellFor config new (relayed_at config h p now result ∷ h)
+  pub outcome : result ≡ (deed config (since_end h) p (sent_ok result)).outcome
+  pub front : FrontIs result (deed config (since_end h) p (sent_ok result)).sending buf
+  pub ends : (i : ℕ) (d : Leg O) → i < length old.legs.items
+      → EndsFor told faults (is_leaving (opposite_of (since_end h) (found (since_end h) p)) (slice_index_or old.legs.items i d).holder)
+      (deed config (since_end h) p (sent_ok result)).sending (sent_ok result) (slice_index_or old.legs.items i d).sending (slice_index_or new.legs.items i d).sending

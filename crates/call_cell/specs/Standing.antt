@@ -1,0 +1,174 @@
+-- For which histories a cell stands, and what a relay does to it.
+use Rattle.std.specs.Prelude.{◌≡◌, ◌<◌, ◌+◌, ℕ, Bool, true, false, min, List, ◌∷◌, map, take, length, Option, Some, None, Result, Ok, Err, slice_index_or}
+use Rattle.std.specs.List.{cons_option}
+use Rattle.relay_outside.specs.declared.address.Addr.{Addr}
+use Rattle.relay_outside.specs.declared.settings.Config.{Config}
+use Rattle.relay_outside.specs.declared.ports.OutCall.{OutCall}
+use Rattle.rtp_packet.specs.declared.head.Half.{Half}
+use Rattle.rtp_packet.specs.declared.head.Half.TheVariants.{Rtp, Rtcp}
+use Rattle.sdes_lines.specs.declared.crypto_line.Suite.{Suite}
+use Rattle.srtp_sources.specs.Notes.{Note}
+use Rattle.port_pool.specs.Ports.{half_port}
+use Rattle.port_pool.specs.declared.holder.Holder.{Holder}
+use Rattle.port_pool.specs.declared.signal.LegSignal.{LegSignal}
+use Rattle.port_pool.specs.Signals.{NewKey, same_leg}
+use Rattle.call_cell.specs.declared.outcome.Incoming.{Incoming}
+use Rattle.call_cell.specs.declared.outcome.Refused.{Refused}
+use Rattle.call_cell.specs.declared.outcome.Lost.{Lost}
+use Rattle.call_cell.specs.declared.outcome.Lost.TheVariants as lost
+use Rattle.call_cell.specs.declared.outcome.Outcome.{Outcome}
+use Rattle.call_cell.specs.declared.outcome.Outcome.TheVariants as outcomes
+use Rattle.call_cell.specs.declared.receiving.Receiving.{Receiving}
+use Rattle.call_cell.specs.declared.sending.Sending as parts
+use Rattle.call_cell.specs.declared.leg.Leg.{Leg}
+use Rattle.call_cell.specs.Cells.{CellEntry, Receipt, Shield, Sending, Deed, Relay, legs, in_force, key_numbered, opposite}
+use Rattle.call_cell.specs.Keyed.{accepted, protected, Judged, Stopped, Passed, Wrapped, Held, Leaves}
+use Rattle.call_cell.specs.Learning.{learned, endpoint_by}
+use Rattle.call_cell.specs.Deeds.{deed, found}
+use Rattle.call_cell.specs.Contexts.{Refuses}
+use Rattle.call_cell.specs.Parts.{ReceivingFor, SendingFor, HasNamed, SendsBy, IsOf, taught_half, noted_under, wrapped_for}
+
+-- A leg.
+
+abbrev pub inbound_of : Option LegSignal → Option (List ℕ × Suite)
+inbound_of None = None
+inbound_of (Some s) = s.inbound
+
+abbrev pub outbound_of : Option LegSignal → Option ℕ
+outbound_of None = None
+outbound_of (Some s) = s.outbound
+
+-- the port of a half, by the even port of the pair
+abbrev pub port_by : Half → ℕ → ℕ
+port_by Rtp port = port
+port_by Rtcp port = min (port + 1) 65535
+
+abbrev pub with_receiving : {O : Type 0} → Leg O → Receiving → Leg O
+with_receiving leg receiving = record { holder = leg.holder; lease = leg.lease; signal = leg.signal; receiving = receiving; sending = leg.sending }
+
+abbrev pub with_sending : {O : Type 0} → Leg O → parts.Sending O → Leg O
+with_sending leg sending = record { holder = leg.holder; lease = leg.lease; signal = leg.signal; receiving = leg.receiving; sending = sending }
+
+-- a packet of a half and source was accepted from a leg that was answered
+pub record LegTakes {O : Type 0} (half : Half) (source : Addr) (known : Half → Option Addr) (notes : List Note) (noted : Option Note)
+    (plain : List ℕ) (old new : Leg O) (buf : List ℕ) (result : Result ℕ Refused) : Type 0 where
+  pub answer : result ≡ Ok (length plain)
+  pub buffer : take (length plain) buf ≡ plain
+  pub signal : LegSignal
+  pub in_force : old.signal ≡ Some signal
+  pub receiving : ReceivingFor signal.inbound new.receiving (taught_half half signal.flags source known) (cons_option noted notes)
+  pub rest : new ≡ with_receiving old new.receiving
+
+abbrev pub LegAccepts : {O : Type 0} → Judged → Half → Addr → (Half → Option Addr) → List Note → Leg O → Leg O → List ℕ → Result ℕ Refused → Type 0
+LegAccepts (Stopped cause) half source known notes old new buf result = Refuses cause old new result
+LegAccepts (Passed noted plain) half source known notes old new buf result = LegTakes half source known notes noted plain old new buf result
+
+-- whether the one send of a relay, if it made one, was answered Ok
+abbrev pub sent_ok : Outcome → Bool
+sent_ok (outcomes.Lost lost.SendFault) = false
+sent_ok _ = true
+
+-- the outcome of a send
+abbrev pub send_outcome : ℕ → Addr → ℕ → Bool → Outcome
+send_outcome port to size true = outcomes.Sent port to size
+send_outcome port to size false = outcomes.Lost lost.SendFault
+
+abbrev pub outcome_of : ℕ → Addr → Result ℕ Lost → Outcome
+outcome_of port to (Ok len) = outcomes.Sent port to len
+outcome_of port to (Err cause) = outcomes.Lost cause
+
+-- nothing leaves, and the leg is as before
+pub record LegKeeps {O : Type 0} (cause : Lost) (old new : Leg O) (result : Outcome) : Type 0 where
+  pub answer : result ≡ outcomes.Lost cause
+  pub leg : new ≡ old
+
+-- a packet leaves by the leg's end of the half
+pub record LegSends {O : Type 0} (told : O → Option (List OutCall)) (faults : O → ℕ) (keys : ℕ → Option NewKey) (notes : ℕ → List Note)
+    (shield : Option Shield) (bytes : List ℕ) (half : Half) (to : Addr) (old new : Leg O) (buf : List ℕ) (result : Outcome) : Type 0 where
+  pub answer : result ≡ send_outcome (port_by half old.lease.rtp_port) to (length bytes) (sent_ok result)
+  pub buffer : take (length bytes) buf ≡ bytes
+  pub under : (s : Shield) → shield ≡ Some s → (suite : Suite) × IsOf old.holder suite keys s.key
+  pub sending : SendingFor old.holder keys (noted_under shield notes) new.sending
+  pub sends : SendsBy told faults half to bytes (sent_ok result) old.sending new.sending
+  pub rest : new ≡ with_sending old new.sending
+
+abbrev pub LegForwards : {O : Type 0} → (O → Option (List OutCall)) → (O → ℕ) → Wrapped → (ℕ → Option NewKey) → (ℕ → List Note) → Half → Addr
+    → Leg O → Leg O → List ℕ → Outcome → Type 0
+LegForwards told faults (Held cause) keys notes half to old new buf result = LegKeeps cause old new result
+LegForwards told faults (Leaves shield bytes) keys notes half to old new buf result =
+    LegSends told faults keys notes shield bytes half to old new buf result
+
+abbrev pub LegForwardsBy : {O : Type 0} → (O → Option (List OutCall)) → (O → ℕ) → Option LegSignal → (ℕ → Option NewKey) → (ℕ → List Note) → Half
+    → Option Addr → List ℕ → Leg O → Leg O → List ℕ → Outcome → Type 0
+LegForwardsBy told faults None keys notes half known plain old new buf result = LegKeeps lost.Hold old new result
+LegForwardsBy told faults (Some s) keys notes half known plain old new buf result =
+    LegForwards told faults (wrapped_for keys notes s half plain) keys notes half (endpoint_by s known half) old new buf result
+
+-- the leg stands for a history since the last End
+pub record LegFor {O : Type 0} (config : Config) (h : List CellEntry) (leg : Leg O) : Type 0 where
+  pub pair : leg.lease.pair ≡ leg.holder.pair
+  pub generation : leg.lease.generation ≡ leg.holder.generation
+  pub signal : leg.signal ≡ in_force h leg.holder
+  pub port : (half : Half) → port_by half leg.lease.rtp_port ≡ half_port config leg.holder.pair half
+  pub receiving : ReceivingFor (inbound_of leg.signal) leg.receiving (learned h leg.holder) (accepted h leg.holder)
+  pub sending : SendingFor leg.holder (key_numbered h) (protected h) leg.sending
+  pub named : HasNamed (outbound_of leg.signal) (key_numbered h) leg.sending
+
+-- no two of these legs are the same, or stand on one side of one section
+pub record AreApart {O : Type 0} (those : List (Leg O)) : Type 0 where
+  pub leases : (i j : ℕ) (d : Leg O) → i < length those → j < length those
+      → same_leg (slice_index_or those i d).holder (slice_index_or those j d).holder ≡ true → i ≡ j
+  pub places : (i j : ℕ) (d : Leg O) → i < length those → j < length those
+      → (slice_index_or those i d).holder.section ≡ (slice_index_or those j d).holder.section
+      → (slice_index_or those i d).holder.side ≡ (slice_index_or those j d).holder.side → i ≡ j
+
+-- the legs are those of a history since the last End, in its order
+pub record LegsFor {O : Type 0} (config : Config) (h : List CellEntry) (those : List (Leg O)) : Type 0 where
+  pub holders : map (λ (leg : Leg O). leg.holder) those ≡ legs h
+  pub apart : AreApart those
+  pub each : (i : ℕ) (d : Leg O) → i < length those → LegFor config h (slice_index_or those i d)
+
+-- A relay.
+
+abbrev pub receipt_of : ℕ → Incoming → List ℕ → Receipt
+receipt_of number packet buf =
+    record { take = number; half = packet.half; source = packet.source; bytes = take packet.len buf; holder = packet.holder }
+
+abbrev pub relay_entry : ℕ → Receipt → Bool → Deed → CellEntry
+relay_entry moment p ok d = record { moment = moment; event = Relay (record { packet = p; sent_ok = ok; deed = d }) }
+
+-- the leg by which a packet leaves
+abbrev pub opposite_of : List CellEntry → Option Holder → Option Holder
+opposite_of h None = None
+opposite_of h (Some leg) = opposite h leg
+
+abbrev pub is_leaving : Option Holder → Holder → Bool
+is_leaving None leg = false
+is_leaving (Some other) leg = same_leg other leg
+
+-- what a leg's ends send: nothing, or once by the end of a half
+abbrev pub EndsFor : {O : Type 0} → (O → Option (List OutCall)) → (O → ℕ) → Bool → Option Sending → Bool → parts.Sending O → parts.Sending O → Type 0
+EndsFor told faults leaves None ok old new = (new.rtp ≡ old.rtp) × (new.rtcp ≡ old.rtcp)
+EndsFor told faults false (Some w) ok old new = (new.rtp ≡ old.rtp) × (new.rtcp ≡ old.rtcp)
+EndsFor told faults true (Some w) ok old new = SendsBy told faults w.half w.to w.bytes ok old new
+
+-- with Sent, the bytes that were sent stand at the buffer's front
+abbrev pub FrontIs : Outcome → Option Sending → List ℕ → Type 0
+FrontIs (outcomes.Sent port to len) (Some w) buf = take len buf ≡ w.bytes
+FrontIs _ _ buf = Unit {0}
+
+-- what a relay that does this does to the legs after a history since the last End
+pub record LegsDo {O : Type 0} (told : O → Option (List OutCall)) (faults : O → ℕ) (config : Config) (h : List CellEntry) (p : Receipt)
+    (old new : List (Leg O)) (buf : List ℕ) (result : Outcome) (d : Deed) : Type 0 where
+  pub outcome : result ≡ d.outcome
+  pub front : FrontIs result d.sending buf
+  pub legs_for : (moment : ℕ) → LegsFor config (relay_entry moment p (sent_ok result) d ∷ h) new
+  pub ends : (i : ℕ) (x : Leg O) → i < length old
+      → EndsFor told faults (is_leaving (opposite_of h (found h p)) (slice_index_or old i x).holder) d.sending
+      (sent_ok result) (slice_index_or old i x).sending (slice_index_or new i x).sending
+
+-- a relay does what the history demands, with that answer of its send
+abbrev pub LegsRelay : {O : Type 0} → (O → Option (List OutCall)) → (O → ℕ) → Config → List CellEntry → Receipt → List (Leg O) → List (Leg O)
+    → List ℕ → Outcome → Type 0
+LegsRelay told faults config h p old new buf result =
+    LegsDo told faults config h p old new buf result (deed config h p (sent_ok result))

@@ -1,0 +1,161 @@
+ghost use Rattle.std.specs.Prelude.{ℕ, ◌≡◌, ◌≤◌, ◌<◌, ◌+◌, List, take, Option, Some, IfOk, IfSome, length, position};
+ghost use Rattle.relay_outside.specs.declared.address.Addr.{Addr};
+ghost use Rattle.rtp_packet.specs.declared.head.Half.{Half};
+ghost use Rattle.srtp_sources.specs.Notes.{Note};
+ghost use Rattle.port_pool.specs.Signals.{NewKey, same_leg, side_eq};
+ghost use Rattle.call_cell.specs.Cells.{is_opposite};
+ghost use Rattle.call_cell.specs.Learning.{address, endpoint_by};
+ghost use Rattle.call_cell.specs.Deeds.{judged_leg};
+ghost use Rattle.call_cell.specs.Standing.{port_by, outcome_of};
+ghost use Rattle.call_cell.specs.Ending.{parts_of};
+
+use crate::outcome::{Lost, Outcome, Refused};
+use crate::receiving::Receiving;
+use crate::sending::Sending;
+use port_pool::{Holder, Lease, LegSignal, Side};
+use relay_outside::{Addr, OutEnd};
+use rtp_packet::Half;
+
+/// One leg of the cell's call.
+#[derive(Drop)]
+pub(crate) struct Leg<O> {
+    /// Who it is.
+    pub(crate) holder: Holder,
+    /// The lease of its pair.
+    lease: Lease,
+    /// What was committed for it last.
+    signal: Option<LegSignal>,
+    /// What it keeps of received packets.
+    receiving: Receiving,
+    /// By what it sends.
+    sending: Sending<O>,
+}
+
+/// Whether these are the same leg, in the same lease of its pair.
+fn is_same_leg(a: &Holder, b: &Holder) -> bool
+    ensures { result ≡ same_leg a.now b.now }
+{
+    a.call == b.call && a.pair == b.pair && a.generation == b.generation
+}
+
+/// Whether the other leg is the one of the same section on the other side.
+fn is_opposite(leg: &Holder, other: &Holder) -> bool
+    ensures { result ≡ is_opposite leg.now other.now }
+{
+    other.section == leg.section && other.side != leg.side
+}
+
+/// Where packets of a half go that are sent to a leg with that in force.
+fn endpoint_by(signal: &LegSignal, learned: Option<Addr>, half: Half) -> Addr
+    ensures { result ≡ endpoint_by signal.now learned half }
+{
+    match learned {
+        Some(source) if !signal.flags.asymmetric => source,
+        _ => address(signal, half),
+    }
+}
+
+/// The address of a half that a commit names.
+fn address(signal: &LegSignal, half: Half) -> Addr
+    ensures { result ≡ address half signal.now }
+{
+    match half {
+        Half::Rtp => signal.rtp,
+        Half::Rtcp => signal.rtcp,
+    }
+}
+
+/// The place of the leg that a packet was taken for.
+pub(crate) fn place_of<O>(legs: &[Leg<O>], holder: &Holder) -> Option<usize>
+    ensures place { result ≡ position (λ leg. same_leg holder.now leg.holder) legs.now }
+    ensures within { IfSome result (λ at. at < length legs.now) }
+{
+    legs.iter().position(|leg| is_same_leg(holder, &leg.holder))
+}
+
+/// The place of the leg on the other side.
+pub(crate) fn place_of_opposite<O>(legs: &[Leg<O>], holder: &Holder) -> Option<usize>
+    ensures place { result ≡ position (λ leg. is_opposite holder.now leg.holder) legs.now }
+    ensures within { IfSome result (λ at. at < length legs.now) }
+{
+    legs.iter().position(|leg| is_opposite(holder, &leg.holder))
+}
+
+/// The port of a half, by the even port of the pair.
+fn port_by(half: Half, port: u16) -> u16
+    ensures { result ≡ port_by half port }
+{
+    match half {
+        Half::Rtp => port,
+        Half::Rtcp => port.saturating_add(1),
+    }
+}
+
+/// The outcome of a packet that was sent, or was lost on its way out.
+fn outcome_of(port: u16, to: Addr, sent: Result<usize, Lost>) -> Outcome
+    ensures { result ≡ outcome_of port to sent }
+{
+    match sent {
+        Ok(len) => Outcome::Sent { port, to, len },
+        Err(cause) => Outcome::Lost(cause),
+    }
+}
+
+impl<O> Leg<O> {
+    /// The leg's lease and its out ends.
+    pub(crate) fn into_parts(self) -> (Lease, O, O)
+        ensures { result ≡ parts_of self }
+    {
+        let Leg {
+            holder: _,
+            lease,
+            signal: _,
+            receiving: _,
+            sending,
+        } = self;
+        let (rtp, rtcp) = sending.into_ends();
+        (lease, rtp, rtcp)
+    }
+}
+
+impl<O: OutEnd> Leg<O> {
+    ghost use Rattle.call_cell.specs.Parts.{ReceivingFor, SendingFor, HasNamed, SameNumbers, learned_in};
+    ghost use Rattle.call_cell.specs.Standing.{inbound_of, outbound_of, LegAccepts, LegForwardsBy};
+
+    /// Judges the packet in the buffer's first `len` bytes, which the leg received, opens it in place and learns its source.
+    /// Answers the plain packet's length. After a refusal nothing has changed.
+    pub(crate) fn accept(
+        &mut self,
+        half: Half,
+        source: Addr,
+        buf: &mut [u8; 2064],
+        len: usize,
+    ) -> Result<usize, Refused>
+        requires held { len ≤ 2000 }
+        ensures fits { IfOk result (λ size. size ≤ 2000) }
+        ensures accepts { (known : Half → Option Addr) (notes : List Note) → ReceivingFor (inbound_of self.old.signal) self.old.receiving known notes →
+            LegAccepts (judged_leg self.old.signal (known half) notes half source (take len buf.old)) half source known notes self.old self.new buf.new result }
+    {
+        let Some(signal) = self.signal else {
+            return Err(Refused::NotAnswered);
+        };
+        self.receiving.accept(&signal, half, source, buf, len)
+    }
+
+    /// Sends the plain packet in the buffer's first `len` bytes to the leg's side, protected under the key in force.
+    pub(crate) fn forward(&mut self, half: Half, buf: &mut [u8; 2064], len: usize) -> Outcome
+        requires held { len ≤ 2000 }
+        ensures numbers { SameNumbers self.old.sending self.new.sending }
+        ensures forwards { (keys : ℕ → Option NewKey) (notes : ℕ → List Note) → SendingFor self.old.holder keys notes self.old.sending →
+            HasNamed (outbound_of self.old.signal) keys self.old.sending →
+            LegForwardsBy O.told O.faults self.old.signal keys notes half (learned_in half self.old.receiving) (take len buf.old) self.old self.new buf.new result }
+    {
+        let Some(signal) = self.signal else {
+            return Outcome::Lost(Lost::Hold);
+        };
+        let to = endpoint_by(&signal, self.receiving.learned(half), half);
+        let port = port_by(half, self.lease.rtp_port());
+        let sent = self.sending.forward(&signal, half, to, buf, len);
+        outcome_of(port, to, sent)
+    }
+}

@@ -1,0 +1,163 @@
+ghost use Rattle.std.specs.Prelude.{ℕ, ◌≡◌, ◌≤◌, false, true, List, take, Option, Some, IfOk};
+ghost use Rattle.sdes_lines.specs.declared.crypto_line.Suite.{Suite};
+ghost use Rattle.srtp_sources.specs.Notes.{Note};
+ghost use Rattle.port_pool.specs.declared.holder.Holder.{Holder};
+ghost use Rattle.port_pool.specs.Signals.{NewKey};
+ghost use Rattle.call_cell.specs.Keyed.{wrapped_with};
+ghost use Rattle.call_cell.specs.Parts.{OutboundIn, WrapsInTo, is_numbered, number_in, send_answer};
+
+use crate::contexts::Outbound;
+use crate::outcome::Lost;
+use port_pool::LegSignal;
+use relay_outside::{Addr, OutEnd};
+use rtp_packet::Half;
+
+/// By what a leg sends: the out ends of its ports, and the contexts of the keys that were drawn for it.
+#[derive(Drop)]
+pub(crate) struct Sending<O> {
+    rtp: O,
+    rtcp: O,
+    /// The contexts of its key for the suite with tags of 80 bits.
+    tag80: Option<Outbound>,
+    /// The contexts of its key for the suite with tags of 32 bits.
+    tag32: Option<Outbound>,
+}
+
+/// Whether the contexts are those of the key of this number.
+fn is_numbered(contexts: &Option<Outbound>, number: u64) -> bool
+    ensures { result ≡ is_numbered contexts.now number }
+{
+    match contexts {
+        None => false,
+        Some(contexts) => contexts.number() == number,
+    }
+}
+
+/// Protects a packet in place under the key of this number, where these are its contexts.
+fn protect_under(
+    contexts: &mut Option<Outbound>,
+    number: u64,
+    half: Half,
+    buf: &mut [u8; 2064],
+    len: usize,
+) -> Result<usize, Lost>
+    requires held { len ≤ 2000 }
+    ensures fits { IfOk result (λ size. size ≤ 2064) }
+    ensures number { number_in contexts.new ≡ number_in contexts.old }
+    ensures wraps { (leg : Holder) (suite : Suite) (keys : ℕ → Option NewKey) (notes : ℕ → List Note) → OutboundIn leg suite keys notes contexts.old →
+        is_numbered contexts.old number ≡ true →
+        WrapsInTo (wrapped_with (keys number) (notes number) half (take len buf.old)) leg suite keys notes contexts.old contexts.new buf.new result }
+{
+    match contexts {
+        None => Err(Lost::KeySpent),
+        Some(contexts) => contexts.protect(half, buf, len),
+    }
+}
+
+/// The answer of a send of so many bytes.
+fn send_answer(size: usize, done: bool) -> Result<usize, Lost>
+    ensures { result ≡ send_answer size done }
+{
+    if done { Ok(size) } else { Err(Lost::SendFault) }
+}
+
+impl<O> Sending<O> {
+    /// The out ends, for RTP and for RTCP.
+    pub(crate) fn into_ends(self) -> (O, O)
+        ensures { result ≡ (self.rtp, self.rtcp) }
+    {
+        let Sending {
+            rtp,
+            rtcp,
+            tag80: _,
+            tag32: _,
+        } = self;
+        (rtp, rtcp)
+    }
+}
+
+impl<O: OutEnd> Sending<O> {
+    ghost use Rattle.relay_outside.specs.declared.address.Addr.{Addr};
+    ghost use Rattle.call_cell.specs.Parts.{SendingFor, HasNamed, ProtectsTo, SameEnds, SameKeys, SameNumbers, SendsBy, ForwardsTo, wrapped_by, wrapped_for};
+
+    /// Protects a packet in place under the key of this number.
+    fn protect_numbered(
+        &mut self,
+        number: u64,
+        half: Half,
+        buf: &mut [u8; 2064],
+        len: usize,
+    ) -> Result<usize, Lost>
+        requires held { len ≤ 2000 }
+        ensures fits { IfOk result (λ size. size ≤ 2064) }
+        ensures ends { SameEnds self.old self.new }
+        ensures numbers { SameNumbers self.old self.new }
+        ensures protects { (leg : Holder) (keys : ℕ → Option NewKey) (notes : ℕ → List Note) → SendingFor leg keys notes self.old → HasNamed (Some number) keys self.old →
+            ProtectsTo (wrapped_with (keys number) (notes number) half (take len buf.old)) leg keys notes self.old self.new buf.new result }
+    {
+        if is_numbered(&self.tag80, number) {
+            return protect_under(&mut self.tag80, number, half, buf, len);
+        }
+        if is_numbered(&self.tag32, number) {
+            return protect_under(&mut self.tag32, number, half, buf, len);
+        }
+        Err(Lost::KeySpent)
+    }
+
+    /// Protects in place the packet in the buffer's first `len` bytes, under the key of this number where there is one, and
+    /// answers its length. After a refusal nothing has changed.
+    fn protect(
+        &mut self,
+        number: Option<u64>,
+        half: Half,
+        buf: &mut [u8; 2064],
+        len: usize,
+    ) -> Result<usize, Lost>
+        requires held { len ≤ 2000 }
+        ensures fits { IfOk result (λ size. size ≤ 2064) }
+        ensures ends { SameEnds self.old self.new }
+        ensures numbers { SameNumbers self.old self.new }
+        ensures protects { (leg : Holder) (keys : ℕ → Option NewKey) (notes : ℕ → List Note) → SendingFor leg keys notes self.old → HasNamed number keys self.old →
+            ProtectsTo (wrapped_by keys notes number half (take len buf.old)) leg keys notes self.old self.new buf.new result }
+    {
+        match number {
+            None => Ok(len),
+            Some(number) => self.protect_numbered(number, half, buf, len),
+        }
+    }
+
+    /// Sends a datagram by the end of a half, and answers whether that succeeded.
+    fn send(&mut self, half: Half, to: Addr, bytes: &[u8]) -> bool
+        ensures sends { SendsBy O.told O.faults half to bytes.now result self.old self.new }
+        ensures keys { SameKeys self.old self.new }
+    {
+        match half {
+            Half::Rtp => self.rtp.send(to, bytes).is_ok(),
+            Half::Rtcp => self.rtcp.send(to, bytes).is_ok(),
+        }
+    }
+
+    /// Sends what stands in the buffer's first `len` bytes to a leg with that in force, and answers how many bytes were
+    /// sent.
+    pub(crate) fn forward(
+        &mut self,
+        signal: &LegSignal,
+        half: Half,
+        to: Addr,
+        buf: &mut [u8; 2064],
+        len: usize,
+    ) -> Result<usize, Lost>
+        requires held { len ≤ 2000 }
+        ensures numbers { SameNumbers self.old self.new }
+        ensures forwards { (leg : Holder) (keys : ℕ → Option NewKey) (notes : ℕ → List Note) → SendingFor leg keys notes self.old → HasNamed signal.now.outbound keys self.old →
+            ForwardsTo O.told O.faults (wrapped_for keys notes signal.now half (take len buf.old)) leg keys notes half to self.old self.new buf.new result }
+    {
+        if signal.hold {
+            return Err(Lost::Hold);
+        }
+        match self.protect(signal.outbound, half, buf, len) {
+            Err(cause) => Err(cause),
+            Ok(size) => send_answer(size, self.send(half, to, &buf[..size])),
+        }
+    }
+}
