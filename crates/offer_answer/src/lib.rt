@@ -6,8 +6,18 @@
 //! and `Faults`. `specs/Laws.antt` has what holds of every plan, which `law` proves.
 #![tactic(auto)]
 
+mod dialog;
+mod fault;
 mod law;
+mod leg;
+mod offered;
+mod plan;
+mod planning;
 
+pub use dialog::Dialog;
+pub use fault::OaFault;
 pub use law::{
     offers_drop_what_goes, signals_name_drawn_keys, signals_reject_what_goes, signals_secure_legs,
 };
+pub use plan::Plan;
+pub use planning::offer;
