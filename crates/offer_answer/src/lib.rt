@@ -13,6 +13,8 @@ mod leg;
 mod offered;
 mod plan;
 mod planning;
+#[cfg(test)]
+mod tests;
 
 pub use dialog::Dialog;
 pub use fault::OaFault;
