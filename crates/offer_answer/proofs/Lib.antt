@@ -12,3 +12,4 @@ pub mod Edits
 mod rows
 pub mod Dialogs
 pub mod Offering
+pub mod Steps

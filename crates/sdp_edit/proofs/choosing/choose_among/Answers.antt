@@ -1,4 +1,4 @@
-use Rattle.std.proofs.Common.{◌≡◌, ℕ, List, suc, ◌+◌, drop, None, Some, sym, ap, subst, arith}
+use Rattle.std.proofs.Common.{◌≡◌, ℕ, List, suc, ◌+◌, drop, None, Some, sym, subst, arith}
 use Rattle.sdp_edit.specs.Places.{up_to_media}
 use Rattle.sdp_edit.specs.Choosing.{IsFirstOf, IsOffered}
 use Rattle.sdp_edit.proofs.Lists.{drop-get}
@@ -39,9 +39,11 @@ loop-index-preserved c =
     let more : List (List ℕ) = drop (suc c.loop-index.index) c.args.sdp.now in
     let here = drop-get c.args.sdp.now c.loop-index.index c.line-line.result.now c.line-line.ensures in
     let next : c.loop-index.index + 1 ≡ suc c.loop-index.index = omega arith in
-    ((λ r first. c.loop-index.invariant.0 r (subst (λ (lines : List (List ℕ)). IsFirstOf (IsOffered c.args.offered.now) (up_to_media lines) r) (sym here)
-    (first_later (IsOffered c.args.offered.now) c.line-line.result.now more r (sym c.if-is_media.ensures) c.in_default.ensures.key
-    (subst (λ n. IsFirstOf (IsOffered c.args.offered.now) (up_to_media (drop n c.args.sdp.now)) r) next first))),
-    λ r first. subst (λ n. IsFirstOf (IsOffered c.args.offered.now) (up_to_media (drop n c.args.sdp.now)) r) (sym next)
-    (only_later (IsOffered c.args.offered.now) c.line-line.result.now more r (sym c.if-is_media.ensures) c.in_default.ensures.key
-    (subst (λ (lines : List (List ℕ)). IsFirstOf (IsOffered c.args.offered.now) (up_to_media lines) r) here (c.loop-index.invariant.1 r first)))))
+    ((
+      λ r first. c.loop-index.invariant.0 r (subst (λ (lines : List (List ℕ)). IsFirstOf (IsOffered c.args.offered.now) (up_to_media lines) r) (sym here)
+          (first_later (IsOffered c.args.offered.now) c.line-line.result.now more r (sym c.if-is_media.ensures) c.in_default.ensures.key
+          (subst (λ n. IsFirstOf (IsOffered c.args.offered.now) (up_to_media (drop n c.args.sdp.now)) r) next first))),
+      λ r first. subst (λ n. IsFirstOf (IsOffered c.args.offered.now) (up_to_media (drop n c.args.sdp.now)) r) (sym next)
+          (only_later (IsOffered c.args.offered.now) c.line-line.result.now more r (sym c.if-is_media.ensures) c.in_default.ensures.key
+          (subst (λ (lines : List (List ℕ)). IsFirstOf (IsOffered c.args.offered.now) (up_to_media lines) r) here (c.loop-index.invariant.1 r first))),
+    ))
