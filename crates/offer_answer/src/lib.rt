@@ -4,6 +4,9 @@
 //! of them: faults, demands, signals and texts. It stands over the sides of the call (`Sides`), its sections and their pairs
 //! (`Sections`), the profiles of legs (`Profiles`), their keys and crypto lines (`Keys`), and over `Demands`, `Signals`, `Texts`
 //! and `Faults`. `specs/Laws.antt` has what holds of every plan, which `law` proves.
+//!
+//! A `Dialog` keeps what the rounds come to (`specs/Dialogs.antt`), and `offer` makes the plan of an offer from it, or tells its
+//! first fault (`specs/Offering.antt`).
 #![tactic(auto)]
 
 mod dialog;
