@@ -10,3 +10,6 @@ pub mod Committing
 pub mod Legs
 pub mod Edits
 mod rows
+pub mod Dialogs
+pub mod Offering
+pub mod Steps

@@ -109,7 +109,7 @@ and-false true y e = e
 and-false false y e = refl
 
 -- whether a number stands in a list that was filtered
-has-filter : (test : ℕ → Bool) (xs : List ℕ) (x : ℕ) → has (filter test xs) x ≡ (has xs x && test x)
+pub has-filter : (test : ℕ → Bool) (xs : List ℕ) (x : ℕ) → has (filter test xs) x ≡ (has xs x && test x)
 has-filter test [] x = refl
 has-filter test (y ∷ ys) x = go (y == x) (test y) refl refl (has-filter test ys x)
   where

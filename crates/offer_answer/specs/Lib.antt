@@ -9,3 +9,5 @@ pub mod Texts
 pub mod Faults
 pub mod Plan
 pub mod Laws
+pub mod Dialogs
+pub mod Offering

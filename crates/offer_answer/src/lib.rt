@@ -4,10 +4,25 @@
 //! of them: faults, demands, signals and texts. It stands over the sides of the call (`Sides`), its sections and their pairs
 //! (`Sections`), the profiles of legs (`Profiles`), their keys and crypto lines (`Keys`), and over `Demands`, `Signals`, `Texts`
 //! and `Faults`. `specs/Laws.antt` has what holds of every plan, which `law` proves.
+//!
+//! A `Dialog` keeps what the rounds come to (`specs/Dialogs.antt`), and `offer` makes the plan of an offer from it, or tells its
+//! first fault (`specs/Offering.antt`).
 #![tactic(auto)]
 
+mod dialog;
+mod fault;
 mod law;
+mod leg;
+mod offered;
+mod plan;
+mod planning;
+#[cfg(test)]
+mod tests;
 
+pub use dialog::Dialog;
+pub use fault::OaFault;
 pub use law::{
     offers_drop_what_goes, signals_name_drawn_keys, signals_reject_what_goes, signals_secure_legs,
 };
+pub use plan::Plan;
+pub use planning::offer;

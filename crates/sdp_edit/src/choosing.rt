@@ -1,8 +1,10 @@
 //! Which crypto line of a section is used.
 
 ghost use Rattle.std.specs.Prelude.{◌≡◌, ◌≤◌, ◌↔◌, IsTrue, length, drop};
+ghost use Rattle.std.specs.Prelude.{Option, Some};
+ghost use Rattle.sdes_lines.specs.declared.crypto_line.CryptoLine.{CryptoLine};
 ghost use Rattle.sdp_edit.specs.Places.{up_to_media};
-ghost use Rattle.sdp_edit.specs.Choosing.{section_lines, IsFirstOf, IsAny, IsOffered, IsKeyOf};
+ghost use Rattle.sdp_edit.specs.Choosing.{section_lines, IsFirstOf, IsAny, IsOffered, IsKeyOf, IsLineOf};
 
 use crate::place::is_media;
 use sdes_lines::{CryptoLine, usable};
@@ -11,7 +13,8 @@ use sdp_text::Sdp;
 /// The first usable crypto line of a section (RFC 4568 section 5.1.2). The index counts from 0; a section
 /// that isn't there has none.
 pub fn choose(sdp: &Sdp, section: usize) -> Option<CryptoLine>
-    ensures { IsFirstOf IsAny (section_lines section sdp.now) result }
+    ensures first { IsFirstOf IsAny (section_lines section sdp.now) result }
+    ensures only { (other : Option CryptoLine) → IsFirstOf IsAny (section_lines section sdp.now) other → other ≡ result }
 {
     for index in section_start(sdp, section)..sdp.line_count() {
         let line = sdp.line(index);
@@ -32,7 +35,8 @@ pub fn choose_among(
     section: usize,
     offered: &[Option<CryptoLine>; 2],
 ) -> Option<CryptoLine>
-    ensures { IsFirstOf (IsOffered offered.now) (section_lines section sdp.now) result }
+    ensures first { IsFirstOf (IsOffered offered.now) (section_lines section sdp.now) result }
+    ensures only { (other : Option CryptoLine) → IsFirstOf (IsOffered offered.now) (section_lines section sdp.now) other → other ≡ result }
 {
     for index in section_start(sdp, section)..sdp.line_count() {
         let line = sdp.line(index);
@@ -78,7 +82,8 @@ fn is_offered(key: &CryptoLine, offered: &[Option<CryptoLine>]) -> bool
 
 // The key of a usable line that is offered.
 fn offered_key(line: &[u8], offered: &[Option<CryptoLine>; 2]) -> Option<CryptoLine>
-    ensures { IsKeyOf (IsOffered offered.now) line.now result }
+    ensures key { IsKeyOf (IsOffered offered.now) line.now result }
+    ensures only { (other : CryptoLine) → IsLineOf (IsOffered offered.now) line.now other → result ≡ Some other }
 {
     let key = usable(line)?;
     if is_offered(&key, offered) {

@@ -5,4 +5,6 @@ use Rattle.sdp_edit.specs.Choosing.{section_lines, IsFirstOf, IsAny}
 use Rattle.sdp_edit.proofs.choosing.choose.Given as goal
 
 abbrev pub invariant-loop-index : goal.invariant-loop-index
-invariant-loop-index l = (r : Option CryptoLine) → IsFirstOf IsAny (up_to_media (drop l.index l.sdp)) r → IsFirstOf IsAny (section_lines l.fn.section l.fn.sdp) r
+invariant-loop-index l =
+    ((r : Option CryptoLine) → IsFirstOf IsAny (up_to_media (drop l.index l.sdp)) r → IsFirstOf IsAny (section_lines l.fn.section l.fn.sdp) r)
+    × ((r : Option CryptoLine) → IsFirstOf IsAny (section_lines l.fn.section l.fn.sdp) r → IsFirstOf IsAny (up_to_media (drop l.index l.sdp)) r)

@@ -1,0 +1,128 @@
+//! The dialog of a call.
+
+ghost use Rattle.std.specs.Prelude.{◌≡◌, ◌<◌, ℕ, List, [], length, replicate, IfOk, MatchOption, None, Some, slice_index_or};
+ghost use Rattle.relay_outside.specs.declared.settings.Config.{Config};
+ghost use Rattle.offer_answer.specs.Rounds.{Round};
+ghost use Rattle.offer_answer.specs.Plan as plan;
+ghost use Rattle.offer_answer.specs.Dialogs.{DialogFor, Awaits, no_state};
+
+use crate::leg::DialogSection;
+use ng_bencode::Text;
+use port_pool::Side;
+use relay_outside::OutOfMemory;
+use sdp_text::Proto;
+use std::alloc::Global;
+
+/// How many sections a dialog has at most.
+pub(crate) const MOST_SECTIONS: usize = 8;
+
+/// What the accepted offers and answers of a call come to: all that the next one is judged by.
+///
+/// Contracts see it as a summary of lists of rounds: it stands for each list that comes to this.
+#[derive(Drop)]
+pub struct Dialog {
+    /// The tag of the side that makes the first offer.
+    first_tag: Text,
+    /// Whether that offer was accepted.
+    is_begun: bool,
+    /// The tag of the side that answers it.
+    answering_tag: Option<Text>,
+    /// Whether an answer was committed.
+    has_answer: bool,
+    /// Whether an offer followed the first answer.
+    is_settled: bool,
+    /// How many sections the last committed offer has.
+    committed_count: usize,
+    /// The sections.
+    sections: [DialogSection; 8],
+}
+
+impl Dialog {
+    /// The dialog of a call before its first offer, which will come from the side with this tag.
+    pub fn new(alloc: Global, from_tag: &Text) -> Result<Dialog, OutOfMemory>
+        ensures stands { IfOk result (λ dialog. (config : Config) → DialogFor config dialog []) }
+        ensures awaits { IfOk result (λ dialog. Awaits dialog from_tag.now.list) }
+    {
+        let tag = from_tag.as_slice();
+        let mut first_tag = Text::new(alloc);
+        if first_tag.reserve(tag.len()).is_err() {
+            return Err(OutOfMemory);
+        }
+        first_tag.extend(tag);
+        Ok(Dialog {
+            first_tag,
+            is_begun: false,
+            answering_tag: None,
+            has_answer: false,
+            is_settled: false,
+            committed_count: 0,
+            sections: [DialogSection::NONE; 8],
+        })
+    }
+
+    /// The tag of a side, where it has one.
+    pub fn tag(&self, side: Side) -> Option<&[u8]>
+        ensures { (config : Config) (rounds : List Round) → DialogFor config self.now rounds →
+            MatchOption result (plan.tag rounds side ≡ None) (λ tag. plan.tag rounds side ≡ Some tag.now) }
+    {
+        match side {
+            Side::A => self.first_offerer(),
+            Side::B => self.answerer(),
+        }
+    }
+
+    fn first_offerer(&self) -> Option<&[u8]>
+        ensures { (config : Config) (rounds : List Round) → DialogFor config self.now rounds →
+            MatchOption result (plan.tag rounds Side.A ≡ None) (λ tag. plan.tag rounds Side.A ≡ Some tag.now) }
+    {
+        if self.is_begun {
+            Some(self.first_tag.as_slice())
+        } else {
+            None
+        }
+    }
+
+    fn answerer(&self) -> Option<&[u8]>
+        ensures { (config : Config) (rounds : List Round) → DialogFor config self.now rounds →
+            MatchOption result (plan.tag rounds Side.B ≡ None) (λ tag. plan.tag rounds Side.B ≡ Some tag.now) }
+    {
+        match &self.answering_tag {
+            Some(tag) => Some(tag.as_slice()),
+            None => None,
+        }
+    }
+
+    /// What is kept of a section, by its number from 0.
+    pub(crate) fn section(&self, section: usize) -> DialogSection
+        requires { section < 8 }
+        ensures { result ≡ slice_index_or self.now.sections section no_state }
+    {
+        self.sections[section]
+    }
+
+    /// The profile in force on a section's leg; none where the section isn't committed. Sections count from 0.
+    pub fn protocol(&self, section: usize, side: Side) -> Option<Proto>
+        ensures { (config : Config) (rounds : List Round) → DialogFor config self.now rounds →
+            result ≡ plan.protocol rounds section side }
+    {
+        if section < MOST_SECTIONS {
+            self.section(section).leg(side).in_force
+        } else {
+            None
+        }
+    }
+
+    /// Whether an offer was accepted.
+    pub(crate) fn is_begun(&self) -> bool
+        ensures { result ≡ self.now.is_begun }
+    {
+        self.is_begun
+    }
+
+    /// How many sections the last committed offer has, 0 before the first answer.
+    pub(crate) fn committed_count(&self) -> usize
+        ensures { result ≡ self.now.committed_count }
+    {
+        self.committed_count
+    }
+}
