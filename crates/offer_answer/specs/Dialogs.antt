@@ -8,11 +8,12 @@ use Rattle.port_pool.specs.declared.holder.Side.TheVariants.{A, B}
 use Rattle.port_pool.specs.Signals.{NewKey}
 use Rattle.ng_bencode.specs.Room.{Room}
 use Rattle.offer_answer.specs.Rounds.{Round}
-use Rattle.offer_answer.specs.Sides.{is_begun, has_answer, is_settled, first_tag, answering_tag}
+use Rattle.offer_answer.specs.Sides.{is_begun, has_answer, is_settled, first_tag, answering_tag, last_offer}
 use Rattle.offer_answer.specs.Sections.{most_sections, has_pairs, is_committed, committed_count}
 use Rattle.offer_answer.specs.Profiles.{profile_offered, profile_in_force}
 use Rattle.offer_answer.specs.Keys.{leg_key, key_in_force}
 use Rattle.offer_answer.specs.Texts.{standing_port}
+use Rattle.offer_answer.specs.LastOffers.{OfferKept}
 use Rattle.offer_answer.specs.declared.leg.DrawnKey.{DrawnKey}
 use Rattle.offer_answer.specs.declared.leg.Leg.{Leg}
 use Rattle.offer_answer.specs.declared.leg.DialogSection.{DialogSection}
@@ -59,6 +60,7 @@ pub record DialogFor (config : Config) (dialog : Dialog) (rounds : List Round) :
   pub has_answer_is : dialog.has_answer ≡ has_answer rounds
   pub is_settled_is : dialog.is_settled ≡ is_settled rounds
   pub committed_count_is : dialog.committed_count ≡ committed_count rounds
+  pub offer_is : OfferKept (last_offer rounds) dialog.last_offer
   pub sections_are : (section : ℕ) → section < most_sections → SectionFor config rounds section (slice_index_or dialog.sections section no_state)
   pub no_more : (section : ℕ) (side : Side) → most_sections ≤ section → profile_in_force rounds section side ≡ None
 

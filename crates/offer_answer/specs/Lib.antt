@@ -11,3 +11,5 @@ pub mod Plan
 pub mod Laws
 pub mod Dialogs
 pub mod Offering
+pub mod LastOffers
+pub mod Filled

@@ -6,6 +6,7 @@ ghost use Rattle.offer_answer.specs.Rounds.{Round};
 ghost use Rattle.offer_answer.specs.Plan as plan;
 ghost use Rattle.offer_answer.specs.Dialogs.{DialogFor, Awaits, no_state};
 
+use crate::last_offer::LastOffer;
 use crate::leg::DialogSection;
 use ng_bencode::Text;
 use port_pool::Side;
@@ -33,6 +34,8 @@ pub struct Dialog {
     is_settled: bool,
     /// How many sections the last committed offer has.
     committed_count: usize,
+    /// The last offer.
+    last_offer: Option<LastOffer>,
     /// The sections.
     sections: [DialogSection; 8],
 }
@@ -56,6 +59,7 @@ impl Dialog {
             has_answer: false,
             is_settled: false,
             committed_count: 0,
+            last_offer: None,
             sections: [DialogSection::NONE; 8],
         })
     }

@@ -11,6 +11,7 @@
 
 mod dialog;
 mod fault;
+mod last_offer;
 mod law;
 mod leg;
 mod offered;
