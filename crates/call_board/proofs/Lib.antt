@@ -19,3 +19,7 @@ pub mod Keeps
 pub mod Draws
 pub mod Demands
 mod rows
+pub mod Placed
+pub mod Shown
+pub mod Fresh
+pub mod Plans

@@ -7,3 +7,6 @@ pub mod Replies
 pub mod Asked
 pub mod Answers
 pub mod Fits
+pub mod Views
+pub mod Boards
+pub mod Planned

@@ -4,3 +4,13 @@
 //! who holds which pair and which pairs are free, `specs/Kept.antt` the replies that are kept, `specs/Answers.antt` what a
 //! datagram is answered and does.
 #![tactic(auto)]
+
+mod board;
+mod board_plan;
+mod fault;
+mod live_call;
+mod planning;
+
+pub use board::Board;
+pub use board_plan::BoardPlan;
+pub use fault::BoardFault;

@@ -1,0 +1,131 @@
+-- What an offer is answered, by its plan and by what is short.
+use Rattle.std.proofs.Common.{◌≡◌, ◌≢◌, ◌∙◌, refl, ap, sym, subst, ℕ, ◌+◌, ◌-◌, ◌<◌, ◌≤◌, Bool, true, false, cond, not, List, length, map, ◌⊎◌, inl, inr, Option, Some, None, arith, get_or, if◌then◌else◌}
+use Rattle.std.specs.Prelude.{◌&&◌, nat_le, nat_lt, position, unwrap_or, min, Ok, Err}
+use Rattle.std.specs.List.{position_or_len}
+use Rattle.std.proofs.lemmas.List.{length-map}
+use Rattle.std.proofs.lemmas.List.Sums.{position_or_len_is}
+use Rattle.std.proofs.lemmas.Bool.Decides.{nat_tests}
+use Rattle.relay_outside.specs.declared.settings.Config.{Config}
+use Rattle.ng_reply.specs.declared.code.ErrorCode.{ErrorCode}
+use Rattle.ng_reply.specs.declared.code.ErrorCode.TheVariants.{E8, E10, E11, E12, E13, E14}
+use Rattle.histories.specs.Words.{In, has}
+use Rattle.histories.proofs.Lists.{it_has, has_it}
+use Rattle.offer_answer.specs.Rounds.{Round, OfferAsk, Demand}
+use Rattle.offer_answer.specs.Plan as plan
+use Rattle.offer_answer.specs.Offering.{PlanFor, pair_count, leg_asked, OfferAnswered}
+use Rattle.offer_answer.specs.declared.plan.Plan.{Plan}
+use Rattle.offer_answer.specs.declared.fault.OaFault.{OaFault}
+use Rattle.offer_answer.specs.declared.fault.OaFault.TheVariants as oa
+use Rattle.call_board.specs.declared.board.Board.{Board}
+use Rattle.call_board.specs.declared.fault.BoardFault.TheVariants as faults
+use Rattle.call_board.specs.Calls.{lowest_but}
+use Rattle.call_board.specs.Views.{View, CallView}
+use Rattle.call_board.specs.Boards.{Shows}
+use Rattle.call_board.specs.Planned.{board_fault, code_of, shortage, refusal, fault_or}
+use Rattle.call_board.proofs.Lowest.{lowest_is, lowest_bound}
+use Rattle.call_board.proofs.Shown.{calls_count}
+
+-- a fault of the plan is the answer
+pub refused_by : (config : Config) (v : View) (begins : Bool) (rounds : List Round) (ask : OfferAsk) (fault : OaFault) → OfferAnswered rounds ask (Err fault) →
+    board_fault fault ≢ faults.OutOfMemory → refusal config v begins rounds ask ≡ code_of (board_fault fault)
+refused_by config v begins rounds ask oa.UnknownTag answered n =
+    ap (λ (o : Option ErrorCode). fault_or o (shortage config v begins rounds ask)) (answered (λ e. let f : oa.UnknownTag ≡ oa.OutOfMemory = e in cc))
+refused_by config v begins rounds ask oa.OtherSide answered n =
+    ap (λ (o : Option ErrorCode). fault_or o (shortage config v begins rounds ask)) (answered (λ e. let f : oa.OtherSide ≡ oa.OutOfMemory = e in cc))
+refused_by config v begins rounds ask oa.MediaCount answered n =
+    ap (λ (o : Option ErrorCode). fault_or o (shortage config v begins rounds ask)) (answered (λ e. let f : oa.MediaCount ≡ oa.OutOfMemory = e in cc))
+refused_by config v begins rounds ask oa.NoCrypto answered n =
+    ap (λ (o : Option ErrorCode). fault_or o (shortage config v begins rounds ask)) (answered (λ e. let f : oa.NoCrypto ≡ oa.OutOfMemory = e in cc))
+refused_by config v begins rounds ask oa.OutOfMemory answered n = absurd (n refl)
+
+-- without a fault, what is short is the answer
+refusal_is : (config : Config) (v : View) (begins : Bool) (rounds : List Round) (ask : OfferAsk) (full short : Bool) → plan.offer_fault rounds ask ≡ None →
+    (begins && nat_le config.max_sessions (length v.calls)) ≡ full → nat_lt (length v.free) (length (plan.demand rounds ask).pairs) ≡ short →
+    refusal config v begins rounds ask ≡ (if full then Some E14 else if short then Some E13 else None)
+refusal_is config v begins rounds ask full short fine is_full is_short =
+    ap (λ (o : Option ErrorCode). fault_or o (shortage config v begins rounds ask)) fine
+    ∙ ap (λ (b : Bool). if b then Some E14 else if nat_lt (length v.free) (length (plan.demand rounds ask).pairs) then Some E13 else None) is_full
+    ∙ ap (λ (b : Bool). if full then Some E14 else if b then Some E13 else None) is_short
+
+pairs_asked : (p : Plan) (asked : Demand) → PlanFor p asked → pair_count p ≡ length asked.pairs
+pairs_asked p asked for = sym (length-map p.legs.items leg_asked) ∙ ap length for.pairs_are
+
+-- the board's tests, and what they say of what it keeps
+is_full_by : (config : Config) (board : Board) (v : View) (b : Bool) → Shows config board v → nat_le board.config.max_sessions (length board.calls.items) ≡ b →
+    nat_le config.max_sessions (length v.calls) ≡ b
+is_full_by config board v b s e =
+    sym (ap (λ (c : Config). nat_le c.max_sessions (length v.calls)) s.config_is)
+    ∙ sym (ap (λ n. nat_le board.config.max_sessions n) (calls_count config board.calls.items v.calls s.calls_for)) ∙ e
+
+lacks_by : (config : Config) (board : Board) (v : View) (p : Plan) (asked : Demand) (b : Bool) → Shows config board v → PlanFor p asked →
+    nat_lt (length board.pool.free) (pair_count p) ≡ b → nat_lt (length v.free) (length asked.pairs) ≡ b
+lacks_by config board v p asked b s for e =
+    sym (ap (λ (pairs : List ℕ). nat_lt (length pairs) (length asked.pairs)) s.pool_for.free_is)
+    ∙ sym (ap (λ n. nat_lt (length board.pool.free) n) (pairs_asked p asked for)) ∙ e
+
+pub answers_full : (config : Config) (board : Board) (v : View) (rounds : List Round) (ask : OfferAsk) → Shows config board v → plan.offer_fault rounds ask ≡ None →
+    nat_le board.config.max_sessions (length board.calls.items) ≡ true → refusal config v true rounds ask ≡ Some E14
+answers_full config board v rounds ask s fine full =
+    refusal_is config v true rounds ask true (nat_lt (length v.free) (length (plan.demand rounds ask).pairs)) fine (is_full_by config board v true s full) refl
+
+both_false : (begins full : Bool) → (begins ≡ false) ⊎ (full ≡ false) → (begins && full) ≡ false
+both_false false full o = refl
+both_false true full (inl e) = absurd (let f = e in cc)
+both_false true full (inr e) = e
+
+pub answers_short : (config : Config) (board : Board) (v : View) (begins : Bool) (rounds : List Round) (ask : OfferAsk) (p : Plan) → Shows config board v →
+    (plan.offer_fault rounds ask ≡ None) × PlanFor p (plan.demand rounds ask) →
+    (begins ≡ false) ⊎ (nat_le board.config.max_sessions (length board.calls.items) ≡ false) →
+    nat_lt (length board.pool.free) (pair_count p) ≡ true → refusal config v begins rounds ask ≡ Some E13
+answers_short config board v begins rounds ask p s made room short =
+    refusal_is config v begins rounds ask false true made.0
+    (both_false begins (nat_le config.max_sessions (length v.calls)) (room_by room)) (lacks_by config board v p (plan.demand rounds ask) true s made.1 short)
+  where
+    room_by : (begins ≡ false) ⊎ (nat_le board.config.max_sessions (length board.calls.items) ≡ false) → (begins ≡ false) ⊎ (nat_le config.max_sessions (length v.calls) ≡ false)
+    room_by (inl e) = inl e
+    room_by (inr e) = inr (is_full_by config board v false s e)
+
+pub answers_none : (config : Config) (board : Board) (v : View) (begins : Bool) (rounds : List Round) (ask : OfferAsk) (p : Plan) → Shows config board v →
+    (plan.offer_fault rounds ask ≡ None) × PlanFor p (plan.demand rounds ask) →
+    (begins ≡ false) ⊎ (nat_le board.config.max_sessions (length board.calls.items) ≡ false) →
+    nat_lt (length board.pool.free) (pair_count p) ≡ false → refusal config v begins rounds ask ≡ None
+answers_none config board v begins rounds ask p s made room short =
+    refusal_is config v begins rounds ask false false made.0
+    (both_false begins (nat_le config.max_sessions (length v.calls)) (room_by room)) (lacks_by config board v p (plan.demand rounds ask) false s made.1 short)
+  where
+    room_by : (begins ≡ false) ⊎ (nat_le board.config.max_sessions (length board.calls.items) ≡ false) → (begins ≡ false) ⊎ (nat_le config.max_sessions (length v.calls) ≡ false)
+    room_by (inl e) = inl e
+    room_by (inr e) = inr (is_full_by config board v false s e)
+
+-- The lowest cell.
+
+abbrev pub cells_of : View → List ℕ
+cells_of v = map (λ (c : CallView). c.of.cell) v.calls
+
+free_here : (b : Bool) (cells : List ℕ) (n : ℕ) → has cells n ≡ b → (In n cells → ⊥) → b ≡ false
+free_here true cells n e out = absurd (out (has_it n cells e))
+free_here false cells n e out = refl
+
+pub lowest_place : (taken : List Bool) (cells : List ℕ) (max : ℕ) → length taken ≡ max →
+    ((k : ℕ) (d : Bool) → k < length taken → get_or taken k d ≡ has cells (1 + k)) → length cells < max →
+    position_or_len not taken + 1 ≡ lowest_but cells
+lowest_place taken cells max count are room =
+    let l = lowest_is cells in
+    let bound = lowest_bound cells in
+    let positive = l.positive in
+    let low = lowest_but cells - 1 in
+    let inside : low < length taken = omega (arith, bound, positive, count, room) in
+    let back : 1 + low ≡ lowest_but cells = omega (arith, positive) in
+    let at = position_or_len_is not taken low true (omega (arith, inside))
+    (λ k lt. ap not (are k true (omega (arith, lt, inside)) ∙ it_has (1 + k) cells (l.full (1 + k) (omega arith) (omega (arith, lt, back)))))
+    (λ lt. ap not (are low true lt ∙ ap (has cells) back ∙ free_here (has cells (lowest_but cells)) cells (lowest_but cells) refl l.fresh)) in
+    omega (arith, at, back)
+
+not_full : (config : Config) (board : Board) (v : View) → Shows config board v → nat_le board.config.max_sessions (length board.calls.items) ≡ false → length v.calls < config.max_sessions
+not_full config board v s e = below config.max_sessions (length v.calls) (is_full_by config board v false s e)
+  where
+    below : (m n : ℕ) → nat_le m n ≡ false → n < m
+    below m n e = grind (arith, nat_tests)
+
+pub has_session : (config : Config) (board : Board) (v : View) → Shows config board v → nat_le board.config.max_sessions (length board.calls.items) ≡ false → length v.calls < config.max_sessions
+has_session = not_full

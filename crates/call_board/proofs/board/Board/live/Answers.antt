@@ -1,0 +1,10 @@
+use Rattle.std.proofs.Common.{subst, sym}
+use Rattle.call_board.specs.declared.live_call.LiveCall.{LiveCall}
+use Rattle.call_board.specs.Boards.{ShowsCall}
+use Rattle.call_board.proofs.Shown.{shown_call}
+use Rattle.call_board.proofs.board.Board.live.Goals as goal
+
+pub returns : goal.returns
+returns c = λ config v s.
+    subst (λ (call : LiveCall). ShowsCall config v c.args.call call) (sym c.index.ensures)
+    (shown_call config v c.args.self.now.calls.items c.args.call c.place.result c.index.result.now s.calls_for c.place.ensures.place)

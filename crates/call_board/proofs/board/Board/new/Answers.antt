@@ -1,0 +1,15 @@
+use Rattle.call_board.proofs.Fresh.{fresh_pool, no_calls, none_taken}
+use Rattle.std.proofs.Common.{refl}
+use Rattle.call_board.proofs.board.Board.new.Goals as goal
+
+pub returns : goal.returns
+returns c = record {
+  config_is = refl;
+  moment_is = refl;
+  begun_is = refl;
+  drawn_is = refl;
+  calls_for = no_calls c.args.config.now c.new-3.result.items c.new-3.ensures.items;
+  cells_for = none_taken c.args.config.now c.in-Ok.taken.items (c.in-Ok.ensures.items_if_clones_equal (λ y h. h));
+  pool_for = fresh_pool c.args.config.now c.in_ok-pool.pool (c.in_ok-pool.ensures c.args.config.now refl refl);
+  replies_for = c.in_ok-replies.ensures;
+}

@@ -1,0 +1,57 @@
+-- What a board stands for.
+use Rattle.std.specs.Prelude.{◌≡◌, ◌<◌, ◌+◌, ◌==◌, ℕ, Bool, true, List, [], ◌∷◌, length, map, Some, slice_index_or}
+use Rattle.std.specs.List.{list_any}
+use Rattle.relay_outside.specs.declared.settings.Config.{Config}
+use Rattle.histories.specs.Words.{has}
+use Rattle.port_pool.specs.Pools as pools
+use Rattle.cookie_cache.specs.Caches as caches
+use Rattle.offer_answer.specs.Dialogs.{DialogFor}
+use Rattle.call_board.specs.declared.live_call.LiveCall.{LiveCall}
+use Rattle.call_board.specs.declared.board.Board.{Board}
+use Rattle.call_board.specs.Acts.{BoardEntry}
+use Rattle.call_board.specs.Views.{CallView, View, view_of, call_numbered}
+
+-- what is kept of a live call
+pub record CallFor (config : Config) (call : LiveCall) (c : CallView) : Type 0 where
+  pub number_is : call.number ≡ c.of.number
+  pub cell_is : call.cell ≡ c.of.cell
+  pub id_is : call.id.list ≡ c.of.id
+  pub dialog_for : DialogFor config call.dialog c.rounds
+  pub first_is : call.first_moment ≡ c.first
+  pub last_is : call.last_moment ≡ c.last
+
+abbrev pub CallsFor : Config → List LiveCall → List CallView → Type 0
+CallsFor config [] [] = Unit {0}
+CallsFor config [] (c ∷ cs) = ⊥
+CallsFor config (call ∷ calls) [] = ⊥
+CallsFor config (call ∷ calls) (c ∷ cs) = CallFor config call c × CallsFor config calls cs
+
+-- which of the cells, from 1, are taken
+pub record CellsFor (config : Config) (taken : List Bool) (cs : List CallView) : Type 0 where
+  pub count_is : length taken ≡ config.max_sessions
+  pub taken_are : (k : ℕ) (d : Bool) → k < length taken → slice_index_or taken k d ≡ has (map (λ (c : CallView). c.of.cell) cs) (1 + k)
+
+-- the board keeps this
+pub record Shows (config : Config) (board : Board) (v : View) : Type 0 where
+  pub config_is : board.config ≡ config
+  pub moment_is : board.moment ≡ v.moment
+  pub begun_is : board.begun ≡ v.begun
+  pub drawn_is : board.drawn ≡ v.drawn
+  pub calls_for : CallsFor config board.calls.items v.calls
+  pub cells_for : CellsFor config board.taken.items v.calls
+  pub pool_for : pools.StandsFor config v.free v.leases board.pool
+  pub replies_for : caches.StandsFor board.replies v.keepings
+
+-- the board stands for this history
+abbrev pub BoardFor : Config → Board → List BoardEntry → Type 0
+BoardFor config board h = Shows config board (view_of config h)
+
+-- a call of the board has this number
+abbrev pub IsLive : Board → ℕ → Type 0
+IsLive board number = list_any (λ (call : LiveCall). call.number == number) board.calls.items ≡ true
+
+-- this is kept of the live call of this number
+pub record ShowsCall (config : Config) (v : View) (number : ℕ) (call : LiveCall) : Type 0 where
+  pub of : CallView
+  pub found : call_numbered v number ≡ Some of
+  pub call_for : CallFor config call of

@@ -1,0 +1,112 @@
+-- What the board plans, by what it keeps.
+use Rattle.std.specs.Prelude.{◌≡◌, ◌≢◌, ◌<◌, ◌≤◌, ◌+◌, ℕ, Bool, true, false, ◌&&◌, List, [], ◌∷◌, map, length, nat_lt, nat_le, Option, Some, None, Result, Ok, Err, if◌then◌else◌}
+use Rattle.std.specs.Vec.{vec_len, vec_capacity}
+use Rattle.relay_outside.specs.declared.settings.Config.{Config}
+use Rattle.ng_reply.specs.declared.code.ErrorCode.{ErrorCode}
+use Rattle.ng_reply.specs.declared.code.ErrorCode.TheVariants.{E8, E9, E10, E11, E12, E13, E14}
+use Rattle.port_pool.specs.LeaseLists.{LeaseList}
+use Rattle.offer_answer.specs.Rounds.{Round, OfferAsk}
+use Rattle.offer_answer.specs.Plan as plan
+use Rattle.offer_answer.specs.Dialogs.{DialogFor, Awaits}
+use Rattle.offer_answer.specs.Offering.{PlanFor, pair_count}
+use Rattle.offer_answer.specs.declared.fault.OaFault.{OaFault}
+use Rattle.offer_answer.specs.declared.fault.OaFault.TheVariants as oa
+use Rattle.call_board.specs.declared.fault.BoardFault.{BoardFault}
+use Rattle.call_board.specs.declared.fault.BoardFault.TheVariants as faults
+use Rattle.call_board.specs.declared.board_plan.NewCall.{NewCall}
+use Rattle.call_board.specs.declared.board_plan.BoardPlan.{BoardPlan}
+use Rattle.call_board.specs.declared.board.Board.{Board}
+use Rattle.call_board.specs.Acts.{Call}
+use Rattle.call_board.specs.Calls.{lowest_but}
+use Rattle.call_board.specs.Views.{CallView, View, call_of_id}
+
+-- the error code of a fault
+abbrev pub code_of : BoardFault → Option ErrorCode
+code_of faults.UnknownCall = Some E9
+code_of faults.UnknownTag = Some E10
+code_of faults.OtherSide = Some E11
+code_of faults.MediaCount = Some E12
+code_of faults.NoCrypto = Some E8
+code_of faults.SessionLimit = Some E14
+code_of faults.NoPair = Some E13
+code_of faults.OutOfMemory = None
+
+-- the board's fault for that of a plan
+abbrev pub board_fault : OaFault → BoardFault
+board_fault oa.UnknownTag = faults.UnknownTag
+board_fault oa.OtherSide = faults.OtherSide
+board_fault oa.MediaCount = faults.MediaCount
+board_fault oa.NoCrypto = faults.NoCrypto
+board_fault oa.OutOfMemory = faults.OutOfMemory
+
+-- the shortage of an offer without a fault: of sessions, where it begins a call, and then of pairs
+abbrev pub shortage : Config → View → Bool → List Round → OfferAsk → Option ErrorCode
+shortage config v begins rounds ask =
+    if begins && nat_le config.max_sessions (length v.calls) then Some E14
+    else if nat_lt (length v.free) (length (plan.demand rounds ask).pairs) then Some E13
+    else None
+
+abbrev pub fault_or : Option ErrorCode → Option ErrorCode → Option ErrorCode
+fault_or (Some code) other = Some code
+fault_or None other = other
+
+-- the first fault or shortage of an offer of a call with these rounds
+abbrev pub refusal : Config → View → Bool → List Round → OfferAsk → Option ErrorCode
+refusal config v begins rounds ask = fault_or (plan.offer_fault rounds ask) (shortage config v begins rounds ask)
+
+-- the call that an offer of this call-id begins
+abbrev pub next_call : View → List ℕ → Call
+next_call v id = record { number = v.begun; cell = lowest_but (map (λ (c : CallView). c.of.cell) v.calls); id = id }
+
+-- an offer is of the live call of its call-id, or else of the one that it begins
+pub record Target : Type 0 where
+  pub of : Call
+  pub begins : Bool
+  pub rounds : List Round
+
+abbrev pub target_by : View → List ℕ → Option CallView → Target
+target_by v id None = record { of = next_call v id; begins = true; rounds = [] }
+target_by v id (Some c) = record { of = c.of; begins = false; rounds = c.rounds }
+
+abbrev pub target : View → List ℕ → Target
+target v id = target_by v id (call_of_id v id)
+
+-- what is kept for a call that is to begin
+pub record NewFor (config : Config) (id tag : List ℕ) (new : NewCall) : Type 0 where
+  pub id_is : new.id.list ≡ id
+  pub dialog_for : DialogFor config new.dialog []
+  pub awaits : Awaits new.dialog tag
+
+abbrev pub BeginsFor : Config → Target → List ℕ → Option NewCall → Type 0
+BeginsFor config t tag None = t.begins ≡ false
+BeginsFor config t tag (Some new) = (t.begins ≡ true) × NewFor config t.of.id tag new
+
+-- room for that many leases, none made yet
+abbrev pub RoomFor : ℕ → Option LeaseList → Type 0
+RoomFor count None = ⊥
+RoomFor count (Some leases) = (leases.list ≡ []) × (leases.room ≡ count)
+
+-- the plan of an offer
+pub record OfferPlanFor (config : Config) (t : Target) (ask : OfferAsk) (p : BoardPlan) : Type 0 where
+  pub call_is : p.call ≡ t.of.number
+  pub cell_is : p.cell ≡ t.of.cell
+  pub plan_for : PlanFor p.plan (plan.demand t.rounds ask)
+  pub begins : BeginsFor config t ask.from_tag p.begun
+
+-- what an offer is answered: its first fault or shortage, or a plan, or that memory was refused
+abbrev pub PlansFor : Config → View → Target → OfferAsk → Result BoardPlan BoardFault → Type 0
+PlansFor config v t ask (Err fault) = fault ≢ faults.OutOfMemory → refusal config v t.begins t.rounds ask ≡ code_of fault
+PlansFor config v t ask (Ok p) = (refusal config v t.begins t.rounds ask ≡ None) × OfferPlanFor config t ask p
+
+abbrev pub PlansOffer : Config → View → List ℕ → OfferAsk → Result BoardPlan BoardFault → Type 0
+PlansOffer config v id ask result = PlansFor config v (target v id) ask result
+
+abbrev pub CallRoom : Board → Option NewCall → Type 0
+CallRoom board None = Unit {0}
+CallRoom board (Some new) = vec_len board.calls < vec_capacity board.calls
+
+-- the board has the room that the plan needs when it is leased and applied, and enough pairs
+pub record HasRoom (board : Board) (p : BoardPlan) : Type 0 where
+  pub leases : RoomFor (pair_count p.plan) p.leases
+  pub call : CallRoom board p.begun
+  pub pairs : pair_count p.plan ≤ length board.pool.free

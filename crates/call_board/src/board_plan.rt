@@ -1,0 +1,52 @@
+//! What the board plans for an offer or an answer.
+
+ghost use Rattle.std.specs.Prelude.{◌≡◌};
+
+use ng_bencode::Text;
+use offer_answer::{Dialog, Plan};
+use port_pool::Leases;
+
+/// A call that an offer begins, before the offer is applied.
+#[derive(Drop)]
+pub(crate) struct NewCall {
+    /// Its call-id.
+    pub id: Text,
+    /// Its dialog, before its first offer.
+    pub dialog: Dialog,
+}
+
+/// The plan of an offer or an answer, with the call that it is of, and with all memory that the board needs to take it in.
+#[derive(Drop)]
+pub struct BoardPlan {
+    /// The plan of the call's dialog.
+    pub(crate) plan: Plan,
+    /// The call's number.
+    pub(crate) call: u64,
+    /// The call's cell, from 1.
+    pub(crate) cell: u32,
+    /// The call itself, where the offer begins it.
+    pub(crate) begun: Option<NewCall>,
+    /// Room for the leases that the offer demands.
+    pub(crate) leases: Option<Leases>,
+}
+
+impl BoardPlan {
+    /// The plan of the call's dialog.
+    pub fn plan(&mut self) -> &mut Plan {
+        &mut self.plan
+    }
+
+    /// The number of the call.
+    pub fn call(&self) -> u64
+        ensures { result ≡ self.now.call }
+    {
+        self.call
+    }
+
+    /// The cell of the call, from 1.
+    pub fn cell(&self) -> u32
+        ensures { result ≡ self.now.cell }
+    {
+        self.cell
+    }
+}

@@ -1,0 +1,195 @@
+//! What the board plans for an offer.
+
+ghost use Rattle.std.specs.Prelude.{◌≡◌, ◌≢◌, ℕ, [], List, length, nat_lt, nat_le, Option, Some, None, Ok, Err, IfOk, OnOk, not, map, position, unwrap_or, slice_index_or, ◌<◌};
+ghost use Rattle.relay_outside.specs.declared.settings.Config.{Config};
+ghost use Rattle.offer_answer.specs.Rounds.{Round, OfferAsk};
+ghost use Rattle.offer_answer.specs.Offering.{AsksOffer, pair_count};
+ghost use Rattle.call_board.specs.Calls.{lowest_but};
+ghost use Rattle.call_board.specs.Views.{View, CallView};
+ghost use Rattle.call_board.specs.Boards.{Shows, CallFor};
+ghost use Rattle.call_board.specs.declared.live_call.LiveCall.{LiveCall};
+ghost use Rattle.call_board.specs.Planned.{RoomFor, PlansOffer, PlansFor, HasRoom, NewFor, target_by, board_fault};
+
+use crate::board_plan::{BoardPlan, NewCall};
+use crate::fault::BoardFault;
+use crate::board::Board;
+use crate::live_call::place_of_id;
+use ng_bencode::Text;
+use ng_command::OfferIn;
+use offer_answer::{Dialog, OaFault, Plan, offer};
+use port_pool::Leases;
+use relay_outside::OutOfMemory;
+use sdp_text::Sdp;
+use std::alloc::Global;
+
+/// The board's fault for that of a plan.
+pub(crate) fn fault_by(fault: OaFault) -> BoardFault
+    ensures { result ≡ board_fault fault }
+{
+    match fault {
+        OaFault::UnknownTag => BoardFault::UnknownTag,
+        OaFault::OtherSide => BoardFault::OtherSide,
+        OaFault::MediaCount => BoardFault::MediaCount,
+        OaFault::NoCrypto => BoardFault::NoCrypto,
+        OaFault::OutOfMemory => BoardFault::OutOfMemory,
+    }
+}
+
+/// Room for the leases that a plan demands.
+pub(crate) fn room_for(alloc: Global, plan: &Plan) -> Result<Option<Leases>, OutOfMemory>
+    ensures { IfOk result (RoomFor (pair_count plan.now)) }
+{
+    let leases = Leases::with_room(alloc, plan.pairs())?;
+    Ok(Some(leases))
+}
+
+fn copy_of(alloc: Global, text: &Text) -> Result<Text, OutOfMemory>
+    ensures { IfOk result (λ copied. copied.list ≡ text.now.list) }
+{
+    let bytes = text.as_slice();
+    let mut copied = Text::new(alloc);
+    if copied.reserve(bytes.len()).is_err() {
+        return Err(OutOfMemory);
+    }
+    copied.extend(bytes);
+    Ok(copied)
+}
+
+/// What is kept for a call of this call-id, which the side with this tag is to begin.
+pub(crate) fn new_call(alloc: Global, call_id: &Text, from_tag: &Text) -> Result<NewCall, OutOfMemory>
+    ensures { (config : Config) → IfOk result (NewFor config call_id.now.list from_tag.now.list) }
+{
+    let dialog = Dialog::new(alloc, from_tag)?;
+    let id = copy_of(alloc, call_id)?;
+    Ok(NewCall { id, dialog })
+}
+
+/// The place of the first cell that isn't taken.
+fn first_free(taken: &[bool]) -> Option<usize>
+    ensures { result ≡ position not taken.now }
+{
+    taken.iter().position(|taken| !*taken)
+}
+
+impl Board {
+    /// Whether fewer pairs are free than the plan demands.
+    fn lacks_pairs(&self, plan: &Plan) -> bool
+        ensures { result ≡ nat_lt (length self.now.pool.free) (pair_count plan.now) }
+    {
+        self.pool.free_count() < plan.pairs()
+    }
+
+    /// Whether as many calls are live as may be.
+    fn is_full(&self) -> bool
+        ensures { result ≡ nat_le self.now.config.max_sessions (length self.now.calls.items) }
+    {
+        self.config.max_sessions as usize <= self.calls.as_slice().len()
+    }
+
+    /// The lowest cell that no live call has, from 1.
+    fn lowest_cell(&self) -> u32
+        ensures { (config : Config) (v : View) → Shows config self.now v → length v.calls < config.max_sessions →
+            result ≡ lowest_but (map (λ (c : CallView). c.of.cell) v.calls) }
+    {
+        let place = first_free(self.taken.as_slice())
+            .unwrap_or(0)
+            .min(self.config.max_sessions as usize) as u32;
+        place.saturating_add(1)
+    }
+
+    /// The plan of an offer of the live call in this place.
+    fn plan_later(
+        &self,
+        alloc: Global,
+        place: usize,
+        input: &OfferIn,
+        sdp: &Sdp,
+    ) -> Result<BoardPlan, BoardFault>
+        requires { place < length self.now.calls.items }
+        ensures plans { (config : Config) (v : View) (c : CallView) (ask : OfferAsk) → Shows config self.now v → (call : LiveCall) →
+            CallFor config (slice_index_or self.now.calls.items place call) c → AsksOffer input.now sdp.now ask →
+            PlansFor config v (target_by v input.now.call_id.list (Some c)) ask result }
+        ensures room { IfOk result (HasRoom self.now) }
+    {
+        let call = &self.calls[place];
+        let plan = match offer(alloc, &self.config, &call.dialog, input, sdp) {
+            Ok(plan) => plan,
+            Err(fault) => return Err(fault_by(fault)),
+        };
+        if self.lacks_pairs(&plan) {
+            return Err(BoardFault::NoPair);
+        }
+        let Ok(leases) = room_for(alloc, &plan) else {
+            return Err(BoardFault::OutOfMemory);
+        };
+        Ok(BoardPlan {
+            plan,
+            call: call.number,
+            cell: call.cell,
+            begun: None,
+            leases,
+        })
+    }
+
+    /// The plan of an offer that begins a call.
+    fn plan_first(
+        &mut self,
+        alloc: Global,
+        input: &OfferIn,
+        sdp: &Sdp,
+    ) -> Result<BoardPlan, BoardFault>
+        ensures shows { (config : Config) (v : View) → Shows config self.old v → Shows config self.new v }
+        ensures plans { (config : Config) (v : View) (ask : OfferAsk) → Shows config self.old v → AsksOffer input.now sdp.now ask →
+            PlansFor config v (target_by v input.now.call_id.list None) ask result }
+        ensures room { IfOk result (HasRoom self.new) }
+    {
+        let Ok(begun) = new_call(alloc, &input.call_id, &input.from_tag) else {
+            return Err(BoardFault::OutOfMemory);
+        };
+        let plan = match offer(alloc, &self.config, &begun.dialog, input, sdp) {
+            Ok(plan) => plan,
+            Err(fault) => return Err(fault_by(fault)),
+        };
+        if self.is_full() {
+            return Err(BoardFault::SessionLimit);
+        }
+        if self.lacks_pairs(&plan) {
+            return Err(BoardFault::NoPair);
+        }
+        let Ok(leases) = room_for(alloc, &plan) else {
+            return Err(BoardFault::OutOfMemory);
+        };
+        let cell = self.lowest_cell();
+        if self.calls.reserve(1).is_err() {
+            return Err(BoardFault::OutOfMemory);
+        }
+        Ok(BoardPlan {
+            plan,
+            call: self.begun,
+            cell,
+            begun: Some(begun),
+            leases,
+        })
+    }
+
+    /// The plan of an offer, or its first fault. It takes all memory that the offer needs of the board, and leases nothing.
+    ///
+    /// `SessionLimit`: the offer would begin a call while as many are live as may be. `NoPair`: fewer pairs are free than two
+    /// for each new active section. A plan that was not leased may be let go: the board is as before.
+    pub fn plan_offer(
+        &mut self,
+        alloc: Global,
+        input: &OfferIn,
+        sdp: &Sdp,
+    ) -> Result<BoardPlan, BoardFault>
+        ensures shows { (config : Config) (v : View) → Shows config self.old v → Shows config self.new v }
+        ensures plans { (config : Config) (v : View) (ask : OfferAsk) → Shows config self.old v → AsksOffer input.now sdp.now ask →
+            PlansOffer config v input.now.call_id.list ask result }
+        ensures room { IfOk result (HasRoom self.new) }
+    {
+        match place_of_id(self.calls.as_slice(), input.call_id.as_slice()) {
+            Some(place) => self.plan_later(alloc, place, input, sdp),
+            None => self.plan_first(alloc, input, sdp),
+        }
+    }
+}
