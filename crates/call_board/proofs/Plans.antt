@@ -129,3 +129,21 @@ not_full config board v s e = below config.max_sessions (length v.calls) (is_ful
 
 pub has_session : (config : Config) (board : Board) (v : View) → Shows config board v → nat_le board.config.max_sessions (length board.calls.items) ≡ false → length v.calls < config.max_sessions
 has_session = not_full
+
+unwrapped : (b : Bool) (n : ℕ) → b ≡ true → unwrap_or (if b then Some n else None) 0 ≡ n
+unwrapped true n e = refl
+unwrapped false n e = absurd (let f = e in cc)
+
+is_below : (n m : ℕ) → n < m → nat_lt n m ≡ true
+is_below n m lt = grind (arith, nat_tests)
+
+pub lowest_result : (taken : List Bool) (cells : List ℕ) (max n most result : ℕ) → length taken ≡ max →
+    ((k : ℕ) (d : Bool) → k < length taken → get_or taken k d ≡ has cells (1 + k)) → length cells < max →
+    n ≡ unwrap_or (position not taken) 0 → most ≡ min n max → result ≡ min (most + 1) 4294967295 → max ≤ 4294967295 → result ≡ lowest_but cells
+lowest_result taken cells max n most result count are room is_n is_most is_result small =
+    let at = lowest_place taken cells max count are room in
+    let bound = lowest_bound cells in
+    let inside : position_or_len not taken < length taken = omega (arith, at, bound, count, room) in
+    let there = unwrapped (nat_lt (position_or_len not taken) (length taken)) (position_or_len not taken) (is_below (position_or_len not taken) (length taken) inside) in
+    let same : n ≡ position_or_len not taken = is_n ∙ there in
+    omega (arith, at, bound, count, room, same, is_most, is_result, small)

@@ -1,13 +1,13 @@
 //! What the board plans for an offer.
 
-ghost use Rattle.std.specs.Prelude.{◌≡◌, ◌≢◌, ℕ, [], List, length, nat_lt, nat_le, Option, Some, None, Ok, Err, IfOk, OnOk, not, map, position, unwrap_or, slice_index_or, ◌<◌};
+ghost use Rattle.std.specs.Prelude.{◌≡◌, ◌≢◌, ℕ, [], List, length, nat_lt, nat_le, Option, Some, None, Ok, Err, IfOk, IfSome, OnOk, not, map, position, unwrap_or, slice_index_or, ◌<◌};
+ghost use Rattle.std.specs.Str.{bytes_eq};
 ghost use Rattle.relay_outside.specs.declared.settings.Config.{Config};
 ghost use Rattle.offer_answer.specs.Rounds.{Round, OfferAsk};
 ghost use Rattle.offer_answer.specs.Offering.{AsksOffer, pair_count};
 ghost use Rattle.call_board.specs.Calls.{lowest_but};
 ghost use Rattle.call_board.specs.Views.{View, CallView};
-ghost use Rattle.call_board.specs.Boards.{Shows, CallFor};
-ghost use Rattle.call_board.specs.declared.live_call.LiveCall.{LiveCall};
+ghost use Rattle.call_board.specs.Boards.{Shows};
 ghost use Rattle.call_board.specs.Planned.{RoomFor, PlansOffer, PlansFor, HasRoom, NewFor, target_by, board_fault};
 
 use crate::board_plan::{BoardPlan, NewCall};
@@ -97,6 +97,14 @@ impl Board {
         place.saturating_add(1)
     }
 
+    /// The place of the live call with this call-id.
+    fn place_of_call(&self, id: &Text) -> Option<usize>
+        ensures place { result ≡ position (λ call. bytes_eq call.id.list id.now.list) self.now.calls.items }
+        ensures within { IfSome result (λ at. at < length self.now.calls.items) }
+    {
+        place_of_id(self.calls.as_slice(), id.as_slice())
+    }
+
     /// The plan of an offer of the live call in this place.
     fn plan_later(
         &self,
@@ -105,10 +113,10 @@ impl Board {
         input: &OfferIn,
         sdp: &Sdp,
     ) -> Result<BoardPlan, BoardFault>
-        requires { place < length self.now.calls.items }
-        ensures plans { (config : Config) (v : View) (c : CallView) (ask : OfferAsk) → Shows config self.now v → (call : LiveCall) →
-            CallFor config (slice_index_or self.now.calls.items place call) c → AsksOffer input.now sdp.now ask →
-            PlansFor config v (target_by v input.now.call_id.list (Some c)) ask result }
+        requires within { place < length self.now.calls.items }
+        requires found { position (λ call. bytes_eq call.id.list input.now.call_id.list) self.now.calls.items ≡ Some place }
+        ensures plans { (config : Config) (v : View) (ask : OfferAsk) → Shows config self.now v → AsksOffer input.now sdp.now ask →
+            PlansOffer config v input.now.call_id.list ask result }
         ensures room { IfOk result (HasRoom self.now) }
     {
         let call = &self.calls[place];
@@ -187,7 +195,7 @@ impl Board {
             PlansOffer config v input.now.call_id.list ask result }
         ensures room { IfOk result (HasRoom self.new) }
     {
-        match place_of_id(self.calls.as_slice(), input.call_id.as_slice()) {
+        match self.place_of_call(&input.call_id) {
             Some(place) => self.plan_later(alloc, place, input, sdp),
             None => self.plan_first(alloc, input, sdp),
         }

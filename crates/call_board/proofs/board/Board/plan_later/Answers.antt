@@ -1,0 +1,49 @@
+use Rattle.std.proofs.Common.{inl, false, refl, sym, subst, ap, ◌∙◌, Option, Ok, Err, None}
+use Rattle.std.specs.Str.{bytes_eq}
+use Rattle.relay_outside.specs.declared.settings.Config.{Config}
+use Rattle.offer_answer.specs.Dialogs.{DialogFor}
+use Rattle.call_board.specs.declared.fault.BoardFault.TheVariants.{NoPair}
+use Rattle.call_board.specs.declared.live_call.LiveCall.{LiveCall}
+use Rattle.call_board.specs.Views.{CallView, is_of_id}
+use Rattle.call_board.specs.Planned.{PlansFor, target_by, code_of}
+use Rattle.call_board.proofs.Shown.{IsFirst, call_at_place, asks_id}
+use Rattle.call_board.proofs.Plans.{refused_by, answers_short, answers_none}
+use Rattle.call_board.proofs.board.Board.plan_later.Goals as goal
+
+pub returns-in-Err-clause-plans : goal.returns-in-Err-clause-plans
+returns-in-Err-clause-plans c = λ config v ask s asks.
+    let id = c.args.input.now.call_id.list in
+    let call = c.index-call.result.now in
+    let f = subst (λ (call : LiveCall). IsFirst config (is_of_id id) v.calls call) (sym c.index-call.ensures)
+    (call_at_place config (λ (call : LiveCall). bytes_eq call.id.list id) (is_of_id id) c.args.self.now.calls.items v.calls c.args.place call (asks_id config id) s.calls_for c.requires.found) in
+    let dialog = subst (λ (k : Config). DialogFor k call.dialog f.of.rounds) (sym s.config_is) f.call_for.dialog_for in
+    subst (λ (o : Option CallView). PlansFor config v (target_by v id o) ask (Err c.fault_by.result)) (sym f.found)
+    (λ n. refused_by config v false f.of.rounds ask c.in-Err.fault (c.in-Err.ensures f.of.rounds ask dialog asks) (λ e. n (c.fault_by.ensures ∙ e)) ∙ ap code_of (sym c.fault_by.ensures))
+
+pub returns-then-lacks_pairs-clause-plans : goal.returns-then-lacks_pairs-clause-plans
+returns-then-lacks_pairs-clause-plans c = λ config v ask s asks.
+    let id = c.args.input.now.call_id.list in
+    let call = c.index-call.result.now in
+    let f = subst (λ (call : LiveCall). IsFirst config (is_of_id id) v.calls call) (sym c.index-call.ensures)
+    (call_at_place config (λ (call : LiveCall). bytes_eq call.id.list id) (is_of_id id) c.args.self.now.calls.items v.calls c.args.place call (asks_id config id) s.calls_for c.requires.found) in
+    let dialog = subst (λ (k : Config). DialogFor k call.dialog f.of.rounds) (sym s.config_is) f.call_for.dialog_for in
+    subst (λ (o : Option CallView). PlansFor config v (target_by v id o) ask (Err NoPair)) (sym f.found)
+    (λ n. answers_short config c.args.self.now v false f.of.rounds ask c.in-Ok.plan s (c.in-Ok.ensures f.of.rounds ask dialog asks)
+    (inl refl) (sym c.lacks_pairs.ensures ∙ c.if-lacks_pairs.true))
+
+pub returns-clause-plans : goal.returns-clause-plans
+returns-clause-plans c = λ config v ask s asks.
+    let id = c.args.input.now.call_id.list in
+    let call = c.index-call.result.now in
+    let f = subst (λ (call : LiveCall). IsFirst config (is_of_id id) v.calls call) (sym c.index-call.ensures)
+    (call_at_place config (λ (call : LiveCall). bytes_eq call.id.list id) (is_of_id id) c.args.self.now.calls.items v.calls c.args.place call (asks_id config id) s.calls_for c.requires.found) in
+    let dialog = subst (λ (k : Config). DialogFor k call.dialog f.of.rounds) (sym s.config_is) f.call_for.dialog_for in
+    let made = c.in-Ok.ensures f.of.rounds ask dialog asks in
+    subst (λ (o : Option CallView). PlansFor config v (target_by v id o) ask
+    (Ok (record { plan = c.in-Ok.plan; call = call.number; cell = call.cell; begun = None; leases = c.in-Ok-room_for.leases }))) (sym f.found)
+    (answers_none config c.args.self.now v false f.of.rounds ask c.in-Ok.plan s made (inl refl) (sym c.lacks_pairs.ensures ∙ c.if-lacks_pairs.false), record {
+      call_is = f.call_for.number_is;
+      cell_is = f.call_for.cell_is;
+      plan_for = made.1;
+      begins = refl;
+    })
