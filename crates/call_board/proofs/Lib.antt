@@ -23,3 +23,4 @@ pub mod Placed
 pub mod Shown
 pub mod Fresh
 pub mod Plans
+pub mod Leased

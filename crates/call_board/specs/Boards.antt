@@ -1,9 +1,11 @@
 -- What a board stands for.
-use Rattle.std.specs.Prelude.{◌≡◌, ◌<◌, ◌+◌, ◌==◌, ℕ, Bool, true, List, [], ◌∷◌, length, map, Some, slice_index_or}
+use Rattle.std.specs.Prelude.{◌≡◌, ◌<◌, ◌+◌, ◌==◌, ℕ, Bool, true, List, [], ◌∷◌, length, map, take, Some, slice_index_or}
 use Rattle.std.specs.List.{list_any}
 use Rattle.relay_outside.specs.declared.settings.Config.{Config}
 use Rattle.histories.specs.Words.{has}
+use Rattle.port_pool.specs.Ports.{pair_port}
 use Rattle.port_pool.specs.Pools as pools
+use Rattle.port_pool.specs.declared.pairs.Lease.{Lease}
 use Rattle.cookie_cache.specs.Caches as caches
 use Rattle.offer_answer.specs.Dialogs.{DialogFor}
 use Rattle.call_board.specs.declared.live_call.LiveCall.{LiveCall}
@@ -55,3 +57,11 @@ pub record ShowsCall (config : Config) (v : View) (number : ℕ) (call : LiveCal
   pub of : CallView
   pub found : call_numbered v number ≡ Some of
   pub call_for : CallFor config call of
+
+-- the next lease of a pair that was leased so often
+abbrev pub lease_at : Config → (ℕ → ℕ) → ℕ → Lease
+lease_at config leases pair = record { pair = pair; rtp_port = pair_port config pair; generation = leases pair + 1 }
+
+-- the leases of that many pairs, from the front of the free ones
+abbrev pub leases_of : Config → View → ℕ → List Lease
+leases_of config v count = map (lease_at config v.leases) (take count v.free)

@@ -110,3 +110,7 @@ pub record HasRoom (board : Board) (p : BoardPlan) : Type 0 where
   pub leases : RoomFor (pair_count p.plan) p.leases
   pub call : CallRoom board p.begun
   pub pairs : pair_count p.plan ≤ length board.pool.free
+
+-- the plan once its leases were handed out
+abbrev pub leased : BoardPlan → BoardPlan
+leased p = record { plan = p.plan; call = p.call; cell = p.cell; begun = p.begun; leases = None }

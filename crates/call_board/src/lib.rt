@@ -8,6 +8,7 @@
 mod board;
 mod board_plan;
 mod fault;
+mod leasing;
 mod live_call;
 mod planning;
 

@@ -1,0 +1,54 @@
+//! Leasing the pairs of an offer, and giving them back.
+
+ghost use Rattle.std.specs.Prelude.{◌≡◌, ◌<◌, ◌≤◌, ◌+◌, ◌^◌, ◌∷◌, ◌++◌, [], ℕ, List, map, length};
+ghost use Rattle.relay_outside.specs.declared.settings.Config.{Config};
+ghost use Rattle.port_pool.specs.Ports as ports;
+ghost use Rattle.port_pool.specs.Pools.{generation, AreFree};
+ghost use Rattle.port_pool.specs.LeaseLists.{with_lease};
+ghost use Rattle.offer_answer.specs.Offering.{pair_count};
+ghost use Rattle.call_board.specs.Views.{View, with_leases};
+ghost use Rattle.call_board.specs.Boards.{Shows, lease_at, leases_of};
+ghost use Rattle.call_board.specs.Planned.{HasRoom, leased};
+
+use crate::board::Board;
+use crate::board_plan::BoardPlan;
+use port_pool::Leases;
+
+impl Board {
+    /// Leases the pair that has been free for longest.
+    fn lease_one(&mut self, leases: &mut Leases)
+        requires some { 0 < length self.old.pool.free }
+        requires room { length leases.old.list < leases.old.room }
+        requires generations { (pair : ℕ) → generation self.old.pool pair < 2 ^ 63 }
+        ensures shows { (config : Config) (v : View) → Shows config self.old v → Shows config self.new (with_leases v 1) }
+        ensures leases { (config : Config) (v : View) (pair : ℕ) (rest : List ℕ) → Shows config self.old v → v.free ≡ pair ∷ rest →
+            leases.new ≡ with_lease leases.old (lease_at config v.leases pair) }
+        ensures count { length self.new.pool.free + 1 ≡ length self.old.pool.free }
+        ensures longer { length leases.new.list ≡ length leases.old.list + 1 }
+        ensures room { leases.new.room ≡ leases.old.room }
+        ensures rises { (pair : ℕ) → generation self.new.pool pair ≤ generation self.old.pool pair + 1 }
+    {
+        if let Some(lease) = self.pool.lease() {
+            leases.push(lease);
+        }
+    }
+
+    /// Leases the pairs that a plan demands, in the order of its legs, from the front of the free ones. It takes no memory.
+    ///
+    /// The plan is that of the last call on this board which planned or changed anything, so enough pairs are free. No pair
+    /// reaches 2^63 leases.
+    pub fn lease(&mut self, plan: &mut BoardPlan) -> Leases
+        requires room { HasRoom self.old plan.old }
+        requires generations { (pair : ℕ) → generation self.old.pool pair + pair_count plan.old.plan ≤ 2 ^ 63 }
+        ensures shows { (config : Config) (v : View) → Shows config self.old v → Shows config self.new (with_leases v (pair_count plan.old.plan)) }
+        ensures leases { (config : Config) (v : View) → Shows config self.old v → AreFree (ports.pair_count config) v.free →
+            result.list ≡ leases_of config v (pair_count plan.old.plan) }
+        ensures plan { plan.new ≡ leased plan.old }
+    {
+        let mut leases = plan.leases.take().unwrap();
+        for _made in 0..plan.plan.pairs() {
+            self.lease_one(&mut leases);
+        }
+        leases
+    }
+}
