@@ -24,3 +24,5 @@ pub mod Shown
 pub mod Fresh
 pub mod Plans
 pub mod Leased
+pub mod Given
+pub mod Ended

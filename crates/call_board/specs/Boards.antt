@@ -1,10 +1,11 @@
 -- What a board stands for.
-use Rattle.std.specs.Prelude.{◌≡◌, ◌<◌, ◌+◌, ◌==◌, ℕ, Bool, true, List, [], ◌∷◌, length, map, take, Some, slice_index_or}
+use Rattle.std.specs.Prelude.{◌≡◌, ◌<◌, ◌≤◌, ◌+◌, ◌==◌, ℕ, Bool, true, false, List, [], ◌∷◌, length, map, take, Some, slice_index_or}
 use Rattle.std.specs.List.{list_any}
 use Rattle.relay_outside.specs.declared.settings.Config.{Config}
 use Rattle.histories.specs.Words.{has}
 use Rattle.port_pool.specs.Ports.{pair_port}
 use Rattle.port_pool.specs.Pools as pools
+use Rattle.port_pool.specs.Pools.{Pairs, generation}
 use Rattle.port_pool.specs.declared.pairs.Lease.{Lease}
 use Rattle.cookie_cache.specs.Caches as caches
 use Rattle.offer_answer.specs.Dialogs.{DialogFor}
@@ -65,3 +66,22 @@ lease_at config leases pair = record { pair = pair; rtp_port = pair_port config 
 -- the leases of that many pairs, from the front of the free ones
 abbrev pub leases_of : Config → View → ℕ → List Lease
 leases_of config v count = map (lease_at config v.leases) (take count v.free)
+
+-- the lease is the last one of a pair of the pool's, which isn't free
+pub record IsOut (pool : Pairs) (lease : Lease) : Type 0 where
+  pub of_pool : lease.pair < length pool.generations
+  pub not_free : has pool.free lease.pair ≡ false
+  pub last : generation pool lease.pair ≡ lease.generation
+
+abbrev pub pairs_in : List Lease → List ℕ
+pairs_in leases = map (λ (lease : Lease). lease.pair) leases
+
+-- these leases are, and of different pairs
+abbrev pub AreOut : Pairs → List Lease → Type 0
+AreOut pool [] = Unit {0}
+AreOut pool (lease ∷ leases) = IsOut pool lease × (has (pairs_in leases) lease.pair ≡ false) × AreOut pool leases
+
+-- no two live calls have one cell
+abbrev pub CellsApart : List CallView → Type 0
+CellsApart [] = Unit {0}
+CellsApart (c ∷ cs) = (has (map (λ (d : CallView). d.of.cell) cs) c.of.cell ≡ false) × (1 ≤ c.of.cell) × CellsApart cs

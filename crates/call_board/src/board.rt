@@ -159,7 +159,7 @@ impl Board {
     }
 
     /// The place of a live call.
-    fn place(&self, call: u64) -> usize
+    pub(crate) fn place(&self, call: u64) -> usize
         requires { IsLive self.now call }
         ensures place { position (λ live. live.number == call) self.now.calls.items ≡ Some result }
         ensures within { result < length self.now.calls.items }

@@ -6,8 +6,8 @@ ghost use Rattle.port_pool.specs.Ports as ports;
 ghost use Rattle.port_pool.specs.Pools.{generation, AreFree};
 ghost use Rattle.port_pool.specs.LeaseLists.{with_lease};
 ghost use Rattle.offer_answer.specs.Offering.{pair_count};
-ghost use Rattle.call_board.specs.Views.{View, with_leases};
-ghost use Rattle.call_board.specs.Boards.{Shows, lease_at, leases_of};
+ghost use Rattle.call_board.specs.Views.{View, with_leases, with_returned};
+ghost use Rattle.call_board.specs.Boards.{Shows, AreOut, pairs_in, lease_at, leases_of};
 ghost use Rattle.call_board.specs.Planned.{HasRoom, leased};
 
 use crate::board::Board;
@@ -50,5 +50,33 @@ impl Board {
             self.lease_one(&mut leases);
         }
         leases
+    }
+
+    /// Takes the first of these leases back.
+    fn take_back(&mut self, leases: &mut Leases)
+        requires some { 0 < length leases.old.list }
+        requires out { AreOut self.old.pool leases.old.list }
+        ensures out { AreOut self.new.pool leases.new.list }
+        ensures shows { (config : Config) (v : View) → Shows config self.old v →
+            (pair : ℕ) × (pair ∷ pairs_in leases.new.list ≡ pairs_in leases.old.list) × Shows config self.new (with_returned v (pair ∷ [])) }
+        ensures count { length leases.new.list + 1 ≡ length leases.old.list }
+    {
+        let Some(lease) = leases.pop() else {
+            return;
+        };
+        self.pool.give_back(lease);
+    }
+
+    /// Takes back the leases of an offer that was not applied, in their order. It takes no memory. They are those that `lease`
+    /// gave for the plan, and none of them was given back.
+    pub fn undo_offer(&mut self, plan: BoardPlan, leases: Leases)
+        requires { AreOut self.old.pool leases.list }
+        ensures { (config : Config) (v : View) → Shows config self.old v → Shows config self.new (with_returned v (pairs_in leases.list)) }
+    {
+        let _ = plan;
+        let mut left = leases;
+        for _back in 0..left.len() {
+            self.take_back(&mut left);
+        }
     }
 }

@@ -7,6 +7,7 @@
 
 mod board;
 mod board_plan;
+mod ending;
 mod fault;
 mod leasing;
 mod live_call;

@@ -1,0 +1,62 @@
+-- Leases that are given back one after the other.
+use Rattle.std.proofs.Common.{◌≡◌, ◌∙◌, refl, ap, sym, subst, ℕ, suc, ◌+◌, ◌<◌, Bool, true, false, cond, List, [], ◌∷◌, ◌++◌, length, append_assoc, append-nil, arith}
+use Rattle.std.specs.Prelude.{◌==◌}
+use Rattle.relay_outside.specs.declared.settings.Config.{Config}
+use Rattle.histories.specs.Words.{has}
+use Rattle.histories.proofs.Lists.{equal, equal_if}
+use Rattle.port_pool.specs.Pools.{Pairs, generation, after_return}
+use Rattle.port_pool.specs.declared.pairs.Lease.{Lease}
+use Rattle.call_board.specs.declared.board.Board.{Board}
+use Rattle.call_board.specs.Views.{View, with_returned}
+use Rattle.call_board.specs.Boards.{Shows, IsOut, AreOut, pairs_in}
+
+has-behind : (xs : List ℕ) (p q : ℕ) → has xs q ≡ false → (p == q) ≡ false → has (xs ++ p ∷ []) q ≡ false
+has-behind [] p q e n = ap (λ (b : Bool). cond b true false) n
+has-behind (x ∷ xs) p q e n = go (x == q) refl e (has-behind xs p q)
+  where
+    go : (b : Bool) → (x == q) ≡ b → cond (x == q) true (has xs q) ≡ false → (has xs q ≡ false → (p == q) ≡ false → has (xs ++ p ∷ []) q ≡ false) →
+        cond (x == q) true (has (xs ++ p ∷ []) q) ≡ false
+    go true is e more = absurd (let f : true ≡ false = sym (ap (λ (b : Bool). cond b true (has xs q)) is) ∙ e in cc)
+    go false is e more = ap (λ (b : Bool). cond b true (has (xs ++ p ∷ []) q)) is ∙ more (sym (ap (λ (b : Bool). cond b true (has xs q)) is) ∙ e) n
+
+differs : (p q : ℕ) (qs : List ℕ) → has (q ∷ qs) p ≡ false → (p == q) ≡ false
+differs p q qs e = go (p == q) refl
+  where
+    go : (b : Bool) → (p == q) ≡ b → (p == q) ≡ false
+    go true is =
+        let same = equal_if p q is in
+        absurd (let f : true ≡ false = sym (ap (λ (b : Bool). cond b true (has qs p)) (equal q p (sym same))) ∙ e in cc)
+    go false is = is
+
+later : (p q : ℕ) (qs : List ℕ) → has (q ∷ qs) p ≡ false → has qs p ≡ false
+later p q qs e = go (q == p) refl
+  where
+    go : (b : Bool) → (q == p) ≡ b → has qs p ≡ false
+    go true is = absurd (let f : true ≡ false = sym (ap (λ (b : Bool). cond b true (has qs p)) is) ∙ e in cc)
+    go false is = sym (ap (λ (b : Bool). cond b true (has qs p)) is) ∙ e
+
+-- the other leases are out as before when a pair was given back
+pub out_after : (pool : Pairs) (pair : ℕ) (leases : List Lease) → AreOut pool leases → has (pairs_in leases) pair ≡ false → AreOut (after_return pool pair) leases
+out_after pool pair [] out new = _
+out_after pool pair (lease ∷ leases) out new =
+    (record {
+      of_pool = out.0.of_pool;
+      not_free = has-behind pool.free pair lease.pair out.0.not_free (differs pair lease.pair (pairs_in leases) new);
+      last = out.0.last;
+    }, out.1, out_after pool pair leases out.2 (later pair lease.pair (pairs_in leases) new))
+
+-- one pair more was given back
+pub one_more_returned : (config : Config) (board : Board) (v : View) (given : List ℕ) (pair : ℕ) → Shows config board (with_returned (with_returned v given) (pair ∷ [])) →
+    Shows config board (with_returned v (given ++ pair ∷ []))
+one_more_returned config board v given pair s =
+    subst (λ (pairs : List ℕ). Shows config board (record { moment = v.moment; begun = v.begun; drawn = v.drawn; calls = v.calls; free = pairs; leases = v.leases; keepings = v.keepings }))
+    (append_assoc v.free given (pair ∷ [])) s
+
+pub none_returned : (config : Config) (board : Board) (v : View) → Shows config board v → Shows config board (with_returned v [])
+none_returned config board v s =
+    subst (λ (pairs : List ℕ). Shows config board (record { moment = v.moment; begun = v.begun; drawn = v.drawn; calls = v.calls; free = pairs; leases = v.leases; keepings = v.keepings }))
+    (sym (append-nil v.free)) s
+
+pub none_left : (leases : List Lease) → length leases ≡ 0 → leases ≡ []
+none_left [] e = refl
+none_left (lease ∷ leases) e = absurd (omega (arith, e))

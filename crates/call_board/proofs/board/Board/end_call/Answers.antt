@@ -1,0 +1,38 @@
+use Rattle.std.proofs.Common.{ap, sym, subst, ◌∙◌, ◌≡◌, ◌-◌, Some, List, Bool, false, set, arith}
+use Rattle.std.proofs.lemmas.List.{with_items_is}
+use Rattle.call_board.specs.declared.live_call.LiveCall.{LiveCall}
+use Rattle.call_board.specs.Boards.{CallsFor, CellsFor, ShowsCall}
+use Rattle.call_board.specs.Views.{CallView, without}
+use Rattle.std.specs.Option.{option_map}
+use Rattle.call_board.proofs.Shown.{shown_call}
+use Rattle.call_board.proofs.Ended.{removed, cells_after}
+use Rattle.call_board.proofs.board.Board.end_call.Goals as goal
+
+pub returns-clause-shows : goal.returns-clause-shows
+returns-clause-shows c = λ config v s apart.
+    let shown = subst (λ (call : LiveCall). ShowsCall config v c.args.call call) (sym c.remove-ended.ensures.value)
+    (shown_call config v c.args.self.now.calls.items c.args.call c.place-place.result c.remove-ended.result s.calls_for c.place-place.ensures.place) in
+    record {
+      config_is = s.config_is;
+      moment_is = s.moment_is;
+      begun_is = s.begun_is;
+      drawn_is = s.drawn_is;
+      calls_for = subst (λ (calls : List LiveCall). CallsFor config calls (without c.args.call v.calls)) (sym c.remove-ended.ensures.items)
+          (removed config c.args.call c.args.self.now.calls.items v.calls c.place-place.result c.remove-ended.result s.calls_for c.place-place.ensures.place);
+      cells_for =
+          let whole = with_items_is c.args.self.now.taken c.free_cell.new.taken (omega (arith, c.free_cell.auto.taken, c.as_mut_slice.ensures.len)) in
+          let free : c.free_cell.new.taken ≡ set c.args.self.now.taken.items (c.remove-ended.result.cell - 1) false =
+              c.free_cell.ensures ∙ ap (λ (taken : List Bool). set taken (c.remove-ended.result.cell - 1) false) c.as_mut_slice.ensures.value in
+          let cell : c.remove-ended.result.cell ≡ shown.of.of.cell = shown.call_for.cell_is in
+          subst (λ (taken : List Bool). CellsFor config taken (without c.args.call v.calls))
+          (sym (whole ∙ free ∙ ap (λ n. set c.args.self.now.taken.items (n - 1) false) cell))
+          (cells_after config c.args.call c.args.self.now.taken.items v.calls shown.of s.cells_for shown.found apart);
+      pool_for = s.pool_for;
+      replies_for = s.replies_for;
+    }
+
+pub returns-clause-cell : goal.returns-clause-cell
+returns-clause-cell c = λ config v s.
+    let shown = subst (λ (call : LiveCall). ShowsCall config v c.args.call call) (sym c.remove-ended.ensures.value)
+    (shown_call config v c.args.self.now.calls.items c.args.call c.place-place.result c.remove-ended.result s.calls_for c.place-place.ensures.place) in
+    ap (option_map (λ (of : CallView). of.of.cell)) shown.found ∙ ap Some (sym shown.call_for.cell_is)

@@ -1,0 +1,32 @@
+//! Ending a call.
+
+ghost use Rattle.std.specs.Prelude.{◌≡◌, ℕ, List, Some, option_map, slice_set, ◌-◌, false};
+ghost use Rattle.relay_outside.specs.declared.settings.Config.{Config};
+ghost use Rattle.call_board.specs.Views.{View, CallView, without_call, call_numbered};
+ghost use Rattle.call_board.specs.Boards.{Shows, IsLive, CellsApart};
+
+use crate::board::Board;
+
+/// Marks a cell, from 1, as free.
+fn free_cell(taken: &mut [bool], cell: u32)
+    ensures { taken.new ≡ slice_set taken.old (cell - 1) false }
+{
+    let place = cell.saturating_sub(1) as usize;
+    if place < taken.len() {
+        taken[place] = false;
+    }
+}
+
+impl Board {
+    /// Ends a live call, and answers its cell, from 1. Its pairs stay leased until they are given back. It takes no memory.
+    pub fn end_call(&mut self, call: u64) -> u32
+        requires { IsLive self.old call }
+        ensures shows { (config : Config) (v : View) → Shows config self.old v → CellsApart v.calls → Shows config self.new (without_call v call) }
+        ensures cell { (config : Config) (v : View) → Shows config self.old v → option_map (λ (c : CallView). c.of.cell) (call_numbered v call) ≡ Some result }
+    {
+        let place = self.place(call);
+        let ended = self.calls.remove(place);
+        free_cell(self.taken.as_mut_slice(), ended.cell);
+        ended.cell
+    }
+}
