@@ -118,7 +118,7 @@ section_keys-apart rounds ask section =
     let others = in-missing_keys rounds section (other_side (offerer rounds ask)) (others_suites rounds ask section) l j in
     other-side_differs (offerer rounds ask) (sym others.of_side ∙ sym f ∙ own.of_side))
 
-in-section_keys : (rounds : List Round) (ask : OfferAsk) (section : ℕ) (k : KeyPlace) → In k (section_keys rounds ask section) → k.section ≡ section
+pub in-section_keys : (rounds : List Round) (ask : OfferAsk) (section : ℕ) (k : KeyPlace) → In k (section_keys rounds ask section) → k.section ≡ section
 in-section_keys rounds ask section k i =
     elim (in-append (missing_keys rounds section (offerer rounds ask) (offerers_suites ask section))
     (missing_keys rounds section (other_side (offerer rounds ask)) (others_suites rounds ask section)) i) [

@@ -13,3 +13,6 @@ mod rows
 pub mod Dialogs
 pub mod Offering
 pub mod Steps
+pub mod Arrays
+pub mod Nexts
+pub mod NextLegs

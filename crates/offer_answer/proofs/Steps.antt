@@ -76,7 +76,7 @@ committed-answered ask rounds section = go (life-step (Answered ask) rounds sect
 -- The legs and keys of a section, while it goes on.
 
 -- none is found where there is none for the section
-not-among : (section : ℕ) (side : Side) (legs more : List Holder) → list_any (λ leg. leg.section == section) legs ≡ false →
+pub not-among : (section : ℕ) (side : Side) (legs more : List Holder) → list_any (λ leg. leg.section == section) legs ≡ false →
     find (λ leg. leg.section == section && side_eq leg.side side) (legs ++ more) ≡ find (λ leg. leg.section == section && side_eq leg.side side) more
 not-among section side [] more e = refl
 not-among section side (leg ∷ legs) more e = go (leg.section == section) refl e (not-among section side legs more)
@@ -123,7 +123,7 @@ leg-answered ask rounds section side = go (life-step (Answered ask) rounds secti
     go (is_over e) = rw e refl
 
 -- the first of two lists that has one
-find-append : (p : NewKey → Bool) (xs ys : List NewKey) → find p (xs ++ ys) ≡ or_else (find p xs) (find p ys)
+pub find-append : (p : NewKey → Bool) (xs ys : List NewKey) → find p (xs ++ ys) ≡ or_else (find p xs) (find p ys)
 find-append p [] ys = refl
 find-append p (x ∷ xs) ys = go (p x) refl (find-append p xs ys)
   where

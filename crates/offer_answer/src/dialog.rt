@@ -1,12 +1,15 @@
 //! The dialog of a call.
 
-ghost use Rattle.std.specs.Prelude.{◌≡◌, ◌<◌, ℕ, List, [], length, replicate, IfOk, MatchOption, None, Some, slice_index_or};
+ghost use Rattle.std.specs.Prelude.{◌≡◌, ◌<◌, ℕ, List, [], ◌∷◌, length, replicate, IfOk, MatchOption, None, Some, slice_index_or};
 ghost use Rattle.relay_outside.specs.declared.settings.Config.{Config};
-ghost use Rattle.offer_answer.specs.Rounds.{Round};
+ghost use Rattle.port_pool.specs.declared.holder.Holder.{Holder};
+ghost use Rattle.port_pool.specs.Signals.{NewKey};
+ghost use Rattle.offer_answer.specs.Rounds.{Round, Offered, OfferAsk};
 ghost use Rattle.offer_answer.specs.Plan as plan;
 ghost use Rattle.offer_answer.specs.Dialogs.{DialogFor, Awaits, no_state};
+ghost use Rattle.offer_answer.specs.Filled.{AreLeased, FilledFor};
 
-use crate::last_offer::LastOffer;
+use crate::last_offer::{LastOffer, OfferedNext};
 use crate::leg::DialogSection;
 use ng_bencode::Text;
 use port_pool::Side;
@@ -128,5 +131,18 @@ impl Dialog {
         ensures { result ≡ self.now.committed_count }
     {
         self.committed_count
+    }
+
+    /// Takes an offer in. Before its first offer the dialog awaits one from the side with the first tag.
+    pub(crate) fn apply_offer(&mut self, next: OfferedNext)
+        ensures { (config : Config) (rounds : List Round) (ask : OfferAsk) (ports : List ℕ) (keys : List NewKey) (legs : List Holder) →
+            DialogFor config self.old rounds → Awaits self.old ask.from_tag → FilledFor config rounds ask ports keys next →
+            AreLeased config rounds ask ports legs → DialogFor config self.new (Offered ask legs keys ∷ rounds) }
+    {
+        let OfferedNext { last, sections } = next;
+        self.is_begun = true;
+        self.is_settled = self.has_answer;
+        self.last_offer = Some(last);
+        self.sections = sections;
     }
 }

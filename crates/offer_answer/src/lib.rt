@@ -11,9 +11,11 @@
 
 mod dialog;
 mod fault;
+mod filling;
 mod last_offer;
 mod law;
 mod leg;
+mod next_offer;
 mod offered;
 mod plan;
 mod planning;

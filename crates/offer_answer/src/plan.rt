@@ -1,13 +1,24 @@
 //! What an offer or an answer demands.
 
-ghost use Rattle.std.specs.Prelude.{◌≡◌, ◌<◌, length, Some, slice_get};
+ghost use Rattle.std.specs.Prelude.{◌≡◌, ◌<◌, ◌≤◌, ◌^◌, ℕ, List, length, Some, slice_get};
 ghost use Rattle.histories.specs.Words.{has};
-ghost use Rattle.offer_answer.specs.Rounds.{Demand};
-ghost use Rattle.offer_answer.specs.Offering.{PlanFor, leg_asked, key_asked, pair_count, key_count};
+ghost use Rattle.relay_outside.specs.declared.settings.Config.{Config};
+ghost use Rattle.offer_answer.specs.Rounds.{Round, OfferAsk, Demand};
+ghost use Rattle.offer_answer.specs.Plan.{demand};
+ghost use Rattle.offer_answer.specs.Offering.{PlanFor, leg_asked, key_asked, pair_count, key_count, OfferNext, OfferFilled};
+ghost use Rattle.offer_answer.specs.Nexts.{numbered_keys};
 
 use crate::dialog::MOST_SECTIONS;
+use crate::last_offer::OfferedNext;
 use port_pool::Side;
 use sdes_lines::Suite;
+
+/// What the dialog becomes by what was planned.
+#[derive(Drop)]
+pub(crate) enum Next {
+    /// By an offer.
+    Offer(OfferedNext),
+}
 
 /// What an accepted offer demands before it is taken into the dialog.
 #[derive(Drop)]
@@ -18,6 +29,8 @@ pub struct Plan {
     pub(crate) key_places: Vec<(u8, Side, Suite)>,
     /// Which sections' legs the offer drops.
     pub(crate) dropped: [bool; 8],
+    /// What the dialog becomes by it.
+    pub(crate) next: Next,
 }
 
 impl Plan {
@@ -59,5 +72,23 @@ impl Plan {
         ensures { (asked : Demand) → PlanFor self.now asked → result ≡ has asked.dropped section }
     {
         section < MOST_SECTIONS && self.dropped[section]
+    }
+
+    /// Puts in the RTP ports of the leased pairs and the drawn keys, each as many and in the order as they are demanded. The keys
+    /// have the numbers from `first_key` on.
+    pub(crate) fn put(&mut self, ports: &[u16], first_key: u64, keys: &[[u8; 30]])
+        requires ports { length ports.now ≡ pair_count self.old }
+        requires keys { length keys.now ≡ key_count self.old }
+        requires first { first_key ≤ 2 ^ 63 }
+        ensures { (config : Config) (rounds : List Round) (ask : OfferAsk) → PlanFor self.old (demand rounds ask) →
+            OfferNext config rounds ask self.old.next →
+            OfferFilled config rounds ask ports.now (numbered_keys first_key keys.now (demand rounds ask).keys) self.new.next }
+    {
+        match &mut self.next {
+            Next::Offer(next) => {
+                next.put_ports(self.legs.as_slice(), ports);
+                next.put_keys(self.key_places.as_slice(), first_key, keys);
+            }
+        }
     }
 }

@@ -17,8 +17,9 @@ ghost use Rattle.offer_answer.specs.Offering.{HearsOffer, AsksOffer, leg_asked, 
 
 use crate::dialog::Dialog;
 use crate::fault::OaFault;
+use crate::next_offer::next_of_offer;
 use crate::offered::{offered_section, other_side};
-use crate::plan::Plan;
+use crate::plan::{Next, Plan};
 use ng_command::OfferIn;
 use port_pool::Side;
 use relay_outside::{Config, OutOfMemory};
@@ -180,7 +181,7 @@ pub fn offer(
     sdp: &Sdp,
 ) -> Result<Plan, OaFault>
     ensures { (rounds : List Round) (ask : OfferAsk) → DialogFor config.now dialog.now rounds → AsksOffer input.now sdp.now ask →
-        OfferAnswered rounds ask result }
+        OfferAnswered config.now rounds ask result }
 {
     if let Some(fault) = fault_of(dialog, input, sdp) {
         return Err(fault);
@@ -192,9 +193,13 @@ pub fn offer(
     let Ok(key_places) = demanded_keys(alloc, dialog, sdp, input.options.transport, side) else {
         return Err(OaFault::OutOfMemory);
     };
+    let Ok(next) = next_of_offer(alloc, dialog, input, sdp, side) else {
+        return Err(OaFault::OutOfMemory);
+    };
     Ok(Plan {
         legs,
         key_places,
         dropped: dropped(dialog, sdp),
+        next: Next::Offer(next),
     })
 }

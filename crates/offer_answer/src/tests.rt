@@ -1,11 +1,12 @@
-//! What first offers demand.
+//! What first offers demand, and what a second one then does.
 
+use crate::plan::Next;
 use crate::*;
 use ng_bencode::Text;
 use ng_command::{OfferIn, Options};
 use port_pool::Side;
 use relay_outside::{Config, Flags, Ip};
-use sdes_lines::Suite;
+use sdes_lines::{CryptoLine, Suite};
 use sdp_text::{Proto, read};
 use std::alloc::Global;
 use std::process::Abort;
@@ -157,5 +158,44 @@ fn a_new_dialog_has_no_tag_and_no_profile(rt: HostRuntime) -> Result<(), Fail> {
     let dialog = Dialog::new(alloc, &text(alloc, b"alice")?)?;
     assert!(rt; dialog.tag(Side::A).is_none() && dialog.tag(Side::B).is_none());
     assert!(rt; dialog.protocol(0, Side::A).is_none() && dialog.protocol(9, Side::B).is_none());
+    Ok(())
+}
+
+const KEYS: [[u8; 30]; 3] = [[1; 30], [2; 30], [3; 30]];
+
+#[test]
+fn a_second_offer_leases_and_draws_nothing_again(rt: HostRuntime) -> Result<(), Fail> {
+    let alloc = rt.alloc();
+    let sdp = read(alloc, SECURE)?;
+    let input = asked(alloc, None)?;
+    let mut dialog = Dialog::new(alloc, &input.from_tag)?;
+    let mut plan = offer(alloc, &CONFIG, &dialog, &input, &sdp)?;
+    assert_eq!(rt; plan.pairs(), 2);
+    assert_eq!(rt; plan.keys(), 3);
+    plan.put(&[30_000, 30_002], 5, &KEYS);
+    let Plan {
+        next: Next::Offer(next),
+        legs: _,
+        key_places: _,
+        dropped: _,
+    } = plan;
+    let lines = next.last.sections[1].lines;
+    let first = CryptoLine {
+        tag: 1,
+        suite: Suite::Tag80,
+        key: [2; 30],
+    };
+    let second = CryptoLine {
+        tag: 2,
+        suite: Suite::Tag32,
+        key: [3; 30],
+    };
+    assert_eq!(rt; lines, [Some(first), Some(second)]);
+    dialog.apply_offer(next);
+    assert_eq!(rt; dialog.tag(Side::A), Some(b"alice".as_slice()));
+    assert_eq!(rt; dialog.section(1).leg(Side::B).port, 30_000);
+    assert_eq!(rt; dialog.section(1).leg(Side::A).port, 30_002);
+    let again = offer(alloc, &CONFIG, &dialog, &input, &sdp)?;
+    assert!(rt; again.pairs() == 0 && again.keys() == 0 && !again.drops(1));
     Ok(())
 }

@@ -12,4 +12,5 @@ returns c = λ rounds ask s a.
         keys_are = c.in-Ok-demanded_keys.ensures c.args.config.now rounds ask s a.hears (ap (λ o. o.transport) (sym a.options_are)) side;
         drops_are = c.dropped.ensures c.args.config.now rounds ask s a.hears;
       },
+      c.in-Ok-next_of_offer.ensures c.args.config.now rounds ask s a side,
     )

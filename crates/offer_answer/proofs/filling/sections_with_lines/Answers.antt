@@ -1,0 +1,28 @@
+use Rattle.std.proofs.Common.{◌≡◌, sym, ap, ◌∙◌, subst, slice_index_or, arith}
+use Rattle.std.proofs.lemmas.List.{length-set, get_or_default}
+use Rattle.port_pool.specs.Signals.{other_side}
+use Rattle.offer_answer.specs.Sides.{offerer}
+use Rattle.offer_answer.specs.Dialogs.{leg_at, no_state}
+use Rattle.offer_answer.specs.LastOffers.{MadeFor, no_made}
+use Rattle.offer_answer.specs.Nexts.{LegNext, MadeNext}
+use Rattle.offer_answer.proofs.Arrays.{one-more}
+use Rattle.offer_answer.proofs.filling.sections_with_lines.Goals as goal
+
+pub loop-index-preserved : goal.loop-index-preserved
+loop-index-preserved c = record {
+  full = length-set c.loop-index.made c.loop-index.index c.with_lines.result ∙ c.loop-index.invariant.full;
+  done = λ config rounds ask ports keys s made each.
+      let index = c.loop-index.index in
+      let below = c.loop-index-test.true in
+      one-more (MadeFor (record { ask = ask; keys = keys; before = rounds })) c.loop-index.made index c.with_lines.result no_made
+      (omega (arith, below, c.loop-index.invariant.full))
+      (c.loop-index.invariant.done config rounds ask ports keys s made each)
+      (c.with_lines.ensures config rounds ask ports keys index
+      (subst (MadeNext rounds ask index) (get_or_default c.args.offered.now index no_made _ (omega (arith, below, c.told-offered))) (made index below))
+      (subst (LegNext config rounds ask ports keys index (other_side (offerer rounds ask)))
+      (sym (c.leg.ensures ∙ ap (leg_at (slice_index_or c.args.sections.now index no_state)) s)) ((each index below).legs_are (other_side (offerer rounds ask)))));
+}
+
+pub returns : goal.returns
+returns c = λ config rounds ask ports keys s made each section below.
+    c.loop-index.invariant.done config rounds ask ports keys s made each section (omega (arith, below, c.loop-index-test.false))

@@ -1,0 +1,167 @@
+//! What a dialog becomes by an offer, before its pairs are leased and its keys drawn.
+
+ghost use Rattle.std.specs.Prelude.{◌≡◌, ◌<◌, ◌||◌, ◌∷◌, ℕ, List, [], IfOk, Some, slice_index_or};
+ghost use Rattle.relay_outside.specs.declared.settings.Config.{Config};
+ghost use Rattle.offer_answer.specs.Rounds.{Round, Offered, OfferAsk};
+ghost use Rattle.offer_answer.specs.Sides.{offerer};
+ghost use Rattle.offer_answer.specs.Sections.{is_active};
+ghost use Rattle.offer_answer.specs.Profiles.{profile_offered};
+ghost use Rattle.offer_answer.specs.Dialogs.{DialogFor, no_state};
+ghost use Rattle.offer_answer.specs.LastOffers.{no_made};
+ghost use Rattle.offer_answer.specs.Offering.{HearsOffer, AsksOffer, OfferedFor};
+ghost use Rattle.offer_answer.specs.Nexts.{LegNext, SectionNext, MadeNext, NextFor};
+
+use crate::dialog::{Dialog, MOST_SECTIONS};
+use crate::last_offer::{LastOffer, MadeSection, OfferedNext};
+use crate::leg::{DialogSection, Leg};
+use crate::offered::{OfferedSection, is_active, offered_section, other_side, written_over};
+use ng_bencode::Text;
+use ng_command::OfferIn;
+use port_pool::Side;
+use relay_outside::OutOfMemory;
+use sdp_text::{Proto, Sdp};
+use std::alloc::Global;
+
+impl OfferedSection {
+    /// The profile that a leg has by an offer that comes from `maker` and asks for the protocol `transport`: the offerer's its
+    /// own, the other side's the one that is written to it.
+    pub(crate) fn profile(&self, side: Side, transport: Option<Proto>, maker: Side) -> Proto
+        ensures { (config : Config) (rounds : List Round) (ask : OfferAsk) (section : ℕ) → OfferedFor config rounds ask section self.now →
+            transport ≡ ask.options.transport → maker ≡ offerer rounds ask →
+            Some result ≡ profile_offered (Offered ask [] [] ∷ rounds) section side }
+    {
+        if side == maker {
+            self.section.proto
+        } else {
+            written_over(transport, self.kept.leg(side).in_force, self.section.proto)
+        }
+    }
+
+    /// A leg after the offer: where the offer drops the section, only its profile is left.
+    fn leg_after(&self, side: Side, transport: Option<Proto>, maker: Side) -> Leg
+        ensures { (config : Config) (rounds : List Round) (ask : OfferAsk) (section : ℕ) → OfferedFor config rounds ask section self.now →
+            transport ≡ ask.options.transport → maker ≡ offerer rounds ask → LegNext config rounds ask [] [] section side result }
+    {
+        let offered = Some(self.profile(side, transport, maker));
+        if self.is_dropped() {
+            Leg {
+                offered,
+                ..Leg::NONE
+            }
+        } else {
+            Leg {
+                offered,
+                ..self.kept.leg(side)
+            }
+        }
+    }
+
+    /// Whether the section has pairs after the offer.
+    fn has_pairs_after(&self) -> bool
+        ensures { result ≡ (is_active self.now.section || self.now.kept.is_committed) }
+    {
+        is_active(&self.section) || self.kept.is_committed
+    }
+
+    /// The section after the offer, without its new ports and keys.
+    fn after(&self, transport: Option<Proto>, maker: Side) -> DialogSection
+        ensures { (config : Config) (rounds : List Round) (ask : OfferAsk) (section : ℕ) → OfferedFor config rounds ask section self.now →
+            transport ≡ ask.options.transport → maker ≡ offerer rounds ask → SectionNext config rounds ask [] [] section result }
+    {
+        DialogSection {
+            has_pairs: self.has_pairs_after(),
+            is_committed: self.kept.is_committed,
+            a: self.leg_after(Side::A, transport, maker),
+            b: self.leg_after(Side::B, transport, maker),
+        }
+    }
+
+    /// What is kept of the section as one of the last offer, without the lines that the other side is offered.
+    fn made(&self, transport: Option<Proto>, maker: Side) -> MadeSection
+        ensures { (config : Config) (rounds : List Round) (ask : OfferAsk) (section : ℕ) → OfferedFor config rounds ask section self.now →
+            transport ≡ ask.options.transport → maker ≡ offerer rounds ask → MadeNext rounds ask section result }
+    {
+        MadeSection {
+            section: self.section,
+            line: self.line,
+            written: self.profile(other_side(maker), transport, maker),
+            lines: [None, None],
+        }
+    }
+}
+
+/// The sections after an offer that comes from `maker`.
+fn sections_after(
+    dialog: &Dialog,
+    sdp: &Sdp,
+    transport: Option<Proto>,
+    maker: Side,
+) -> [DialogSection; 8]
+    ensures { (config : Config) (rounds : List Round) (ask : OfferAsk) → DialogFor config dialog.now rounds → HearsOffer sdp.now ask →
+        transport ≡ ask.options.transport → maker ≡ offerer rounds ask →
+        (section : ℕ) → section < 8 → SectionNext config rounds ask [] [] section (slice_index_or result section no_state) }
+{
+    let mut sections = [DialogSection::NONE; 8];
+    for index in 0..MOST_SECTIONS {
+        sections[index] = offered_section(dialog, sdp, index).after(transport, maker);
+    }
+    sections
+}
+
+/// The sections of an offer that comes from `maker`, as they are kept.
+fn made_sections(
+    dialog: &Dialog,
+    sdp: &Sdp,
+    transport: Option<Proto>,
+    maker: Side,
+) -> [MadeSection; 8]
+    ensures { (config : Config) (rounds : List Round) (ask : OfferAsk) → DialogFor config dialog.now rounds → HearsOffer sdp.now ask →
+        transport ≡ ask.options.transport → maker ≡ offerer rounds ask →
+        (section : ℕ) → section < 8 → MadeNext rounds ask section (slice_index_or result section no_made) }
+{
+    let mut sections = [MadeSection::NONE; 8];
+    for index in 0..MOST_SECTIONS {
+        sections[index] = offered_section(dialog, sdp, index).made(transport, maker);
+    }
+    sections
+}
+
+/// A tag of its own, the same.
+pub(crate) fn copied(alloc: Global, tag: &Text) -> Result<Text, OutOfMemory>
+    ensures { IfOk result (λ copy. copy.list ≡ tag.now.list) }
+{
+    let bytes = tag.as_slice();
+    let mut copy = Text::new(alloc);
+    if copy.reserve(bytes.len()).is_err() {
+        return Err(OutOfMemory);
+    }
+    copy.extend(bytes);
+    Ok(copy)
+}
+
+/// What the dialog becomes by an offer that comes from `side`, without the offer's new ports and keys.
+pub(crate) fn next_of_offer(
+    alloc: Global,
+    dialog: &Dialog,
+    input: &OfferIn,
+    sdp: &Sdp,
+    side: Side,
+) -> Result<OfferedNext, OutOfMemory>
+    ensures { (config : Config) (rounds : List Round) (ask : OfferAsk) → DialogFor config dialog.now rounds → AsksOffer input.now sdp.now ask →
+        side ≡ offerer rounds ask → IfOk result (λ next. NextFor config rounds ask [] [] next) }
+{
+    let from_tag = copied(alloc, &input.from_tag)?;
+    let transport = input.options.transport;
+    let made = made_sections(dialog, sdp, transport, side);
+    let sections = sections_after(dialog, sdp, transport, side);
+    Ok(OfferedNext {
+        last: LastOffer {
+            from_tag,
+            maker: side,
+            options: input.options,
+            count: sdp.section_count(),
+            sections: made,
+        },
+        sections,
+    })
+}
