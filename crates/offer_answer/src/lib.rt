@@ -9,14 +9,19 @@
 //! first fault (`specs/Offering.antt`).
 #![tactic(auto)]
 
+mod answered;
+mod answering;
 mod dialog;
 mod fault;
 mod last_offer;
 mod law;
 mod leg;
+mod next_answer;
 mod offered;
 mod plan;
 mod planning;
+mod rejecting;
+mod signalling;
 #[cfg(test)]
 mod tests;
 
