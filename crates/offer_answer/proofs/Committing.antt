@@ -156,12 +156,12 @@ has-keys rounds offer ask section side l rs r offered active has secure = go (si
         )
 
 -- the line that is committed, by the profile
-line-by : (rounds : List Round) (offer : MadeOffer) (ask : AnswerAsk) (section : ℕ) (side : Side) → last_offer rounds ≡ Some offer →
+pub line-by : (rounds : List Round) (offer : MadeOffer) (ask : AnswerAsk) (section : ℕ) (side : Side) → last_offer rounds ≡ Some offer →
     committed_line rounds ask section side ≡ (if is_srtp_leg (profile_offered rounds section side) then chosen_by offer ask section side else None)
 line-by rounds offer ask section side l =
     ap (λ (o : Option MadeOffer). elim o [ None ↦ None | Some made ↦ if is_srtp_leg (profile_offered rounds section side) then chosen_by made ask section side else None ]) l
 
-key-by : (rounds : List Round) (ask : AnswerAsk) (section : ℕ) (side : Side) (line : Option CryptoLine) → committed_line rounds ask section side ≡ line →
+pub key-by : (rounds : List Round) (ask : AnswerAsk) (section : ℕ) (side : Side) (line : Option CryptoLine) → committed_line rounds ask section side ≡ line →
     committed_key rounds ask section side ≡ elim line [ None ↦ None | Some made ↦ leg_key rounds section side made.suite ]
 key-by rounds ask section side line e = ap (λ (o : Option CryptoLine). elim o [ None ↦ None | Some made ↦ leg_key rounds section side made.suite ]) e
 

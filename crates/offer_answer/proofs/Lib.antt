@@ -16,3 +16,5 @@ pub mod Steps
 pub mod Arrays
 pub mod Nexts
 pub mod NextLegs
+pub mod AnswerParts
+pub mod AnswerSteps

@@ -39,7 +39,7 @@ section-heard lines ask section s h e =
     sym (subst (λ (ls : List (List ℕ)). unwrap_or (slice_get (sections_in ls) section) no_section ≡ s) (sym h.lines_are) (ap (λ o. unwrap_or o no_section) e))
 
 -- past the end nothing is read
-past-end : {X : Type 0} (xs : List X) (i : ℕ) → length xs ≤ i → slice_get xs i ≡ None
+pub past-end : {X : Type 0} (xs : List X) (i : ℕ) → length xs ≤ i → slice_get xs i ≡ None
 past-end xs i l = elim (slice_get_cases xs i).1 [
   | inl here ↦ absurd (omega (arith, here.1, l))
   | inr past ↦ past.1

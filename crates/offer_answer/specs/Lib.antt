@@ -14,3 +14,4 @@ pub mod Offering
 pub mod LastOffers
 pub mod Filled
 pub mod Nexts
+pub mod Answering

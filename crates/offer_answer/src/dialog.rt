@@ -1,16 +1,19 @@
 //! The dialog of a call.
 
-ghost use Rattle.std.specs.Prelude.{◌≡◌, ◌<◌, ℕ, List, [], ◌∷◌, length, replicate, IfOk, MatchOption, None, Some, slice_index_or};
+ghost use Rattle.std.specs.Prelude.{◌≡◌, ◌<◌, ℕ, List, [], ◌∷◌, length, replicate, IfOk, MatchOption, None, Some, if◌then◌else◌, slice_index_or};
 ghost use Rattle.relay_outside.specs.declared.settings.Config.{Config};
 ghost use Rattle.port_pool.specs.declared.holder.Holder.{Holder};
 ghost use Rattle.port_pool.specs.Signals.{NewKey};
-ghost use Rattle.offer_answer.specs.Rounds.{Round, Offered, OfferAsk};
+ghost use Rattle.offer_answer.specs.Rounds.{Round, Offered, Answered, OfferAsk, AnswerAsk};
+ghost use Rattle.offer_answer.specs.Sides.{MadeOffer, last_offer};
 ghost use Rattle.offer_answer.specs.Plan as plan;
 ghost use Rattle.offer_answer.specs.Dialogs.{DialogFor, Awaits, no_state};
 ghost use Rattle.offer_answer.specs.Filled.{AreLeased, FilledFor};
+ghost use Rattle.offer_answer.specs.Answering.{IsLast, AnsweredFor};
 
 use crate::last_offer::{LastOffer, OfferedNext};
 use crate::leg::DialogSection;
+use crate::next_answer::AnsweredNext;
 use ng_bencode::Text;
 use port_pool::Side;
 use relay_outside::OutOfMemory;
@@ -143,6 +146,49 @@ impl Dialog {
         self.is_begun = true;
         self.is_settled = self.has_answer;
         self.last_offer = Some(last);
+        self.sections = sections;
+    }
+
+    /// Whether an offer followed the first answer.
+    pub(crate) fn is_settled(&self) -> bool
+        ensures { result ≡ self.now.is_settled }
+    {
+        self.is_settled
+    }
+
+    /// The last offer, where there is one.
+    pub(crate) fn last_offer(&self) -> Option<&LastOffer>
+        ensures { (config : Config) (rounds : List Round) → DialogFor config self.now rounds →
+            MatchOption result (last_offer rounds ≡ None) (λ last. (offer : MadeOffer) × IsLast rounds offer last.now) }
+    {
+        match &self.last_offer {
+            Some(last) => Some(last),
+            None => None,
+        }
+    }
+
+    /// Gives the answering side this tag, unless both sides are settled.
+    fn name_answerer(&mut self, tag: Text)
+        ensures { self.new ≡ record self.old { answering_tag = if self.old.is_settled then self.old.answering_tag else Some tag } }
+    {
+        if !self.is_settled {
+            self.answering_tag = Some(tag);
+        }
+    }
+
+    /// Takes an answer in. It takes no memory.
+    pub(crate) fn apply_answer(&mut self, next: AnsweredNext)
+        ensures { (config : Config) (rounds : List Round) (ask : AnswerAsk) → DialogFor config self.old rounds → AnsweredFor config rounds ask next →
+            DialogFor config self.new (Answered ask ∷ rounds) }
+    {
+        let AnsweredNext {
+            to_tag,
+            count,
+            sections,
+        } = next;
+        self.name_answerer(to_tag);
+        self.has_answer = true;
+        self.committed_count = count;
         self.sections = sections;
     }
 }

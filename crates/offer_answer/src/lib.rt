@@ -9,6 +9,8 @@
 //! first fault (`specs/Offering.antt`).
 #![tactic(auto)]
 
+mod answered;
+mod answering;
 mod dialog;
 mod fault;
 mod filling;
@@ -16,9 +18,12 @@ mod last_offer;
 mod law;
 mod leg;
 mod next_offer;
+mod next_answer;
 mod offered;
 mod plan;
 mod planning;
+mod rejecting;
+mod signalling;
 #[cfg(test)]
 mod tests;
 

@@ -36,7 +36,7 @@ fn is_tag_of(dialog: &Dialog, side: Side, tag: &[u8]) -> bool
     }
 }
 
-fn is_some_sides(dialog: &Dialog, tag: &[u8]) -> bool
+pub(crate) fn is_some_sides(dialog: &Dialog, tag: &[u8]) -> bool
     ensures { (config : Config) (rounds : List Round) → DialogFor config dialog.now rounds → result ≡ is_some_sides rounds tag.now }
 {
     is_tag_of(dialog, Side::A, tag) || is_tag_of(dialog, Side::B, tag)

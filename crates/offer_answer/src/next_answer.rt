@@ -1,0 +1,146 @@
+//! What a dialog becomes by an answer.
+
+ghost use Rattle.std.specs.Prelude.{◌≡◌, ◌<◌, ℕ, List, ◌∷◌, true, false, IfOk, option_map, slice_index_or};
+ghost use Rattle.relay_outside.specs.declared.settings.Config.{Config};
+ghost use Rattle.offer_answer.specs.Rounds.{Round, Answered, AnswerAsk};
+ghost use Rattle.offer_answer.specs.Sides.{MadeOffer};
+ghost use Rattle.offer_answer.specs.Sections.{most_sections};
+ghost use Rattle.offer_answer.specs.Keys.{committed_key};
+ghost use Rattle.offer_answer.specs.Signals.{is_rejected_by};
+ghost use Rattle.offer_answer.specs.Dialogs.{DialogFor, SectionFor, LegFor, drawn_as, no_state};
+ghost use Rattle.offer_answer.specs.Answering.{IsLast, HearsAnswer, AsksAnswer, AnsweredAt, AnsweredFor};
+
+use crate::answered::{AnsweredSection, answered_section};
+use crate::dialog::Dialog;
+use crate::last_offer::LastOffer;
+use crate::leg::{DialogSection, DrawnKey, Leg};
+use crate::rejecting::is_rejected;
+use ng_bencode::Text;
+use ng_command::AnswerIn;
+use port_pool::Side;
+use relay_outside::OutOfMemory;
+use sdp_text::Sdp;
+use std::alloc::Global;
+
+/// What a dialog becomes by an answer.
+#[derive(Drop)]
+pub(crate) struct AnsweredNext {
+    /// The tag of the side that answers.
+    pub to_tag: Text,
+    /// How many sections the committed offer has.
+    pub count: usize,
+    /// The sections.
+    pub sections: [DialogSection; 8],
+}
+
+/// A leg whose section was rejected: of it only the profile stays that the last offer gave it.
+fn rejected_leg(leg: &Leg) -> Leg
+    ensures { (config : Config) (rounds : List Round) (ask : AnswerAsk) (section : ℕ) (side : Side) → LegFor config rounds section side leg.now →
+        is_rejected_by rounds ask section ≡ true → LegFor config (Answered ask ∷ rounds) section side result }
+{
+    Leg {
+        offered: leg.offered,
+        ..Leg::NONE
+    }
+}
+
+/// A leg that was committed with this key: the profile that the last offer gave it is in force.
+fn committed_leg(leg: &Leg, key: Option<DrawnKey>) -> Leg
+    ensures { (config : Config) (rounds : List Round) (ask : AnswerAsk) (section : ℕ) (side : Side) → LegFor config rounds section side leg.now →
+        is_rejected_by rounds ask section ≡ false → option_map (drawn_as section side) key ≡ committed_key rounds ask section side →
+        LegFor config (Answered ask ∷ rounds) section side result }
+{
+    Leg {
+        in_force: leg.offered,
+        key_in_force: key,
+        ..*leg
+    }
+}
+
+/// A section that was rejected.
+fn rejected_section(kept: &DialogSection) -> DialogSection
+    ensures { (config : Config) (rounds : List Round) (ask : AnswerAsk) (section : ℕ) → SectionFor config rounds section kept.now →
+        is_rejected_by rounds ask section ≡ true → SectionFor config (Answered ask ∷ rounds) section result }
+{
+    DialogSection {
+        a: rejected_leg(&kept.a),
+        b: rejected_leg(&kept.b),
+        ..DialogSection::NONE
+    }
+}
+
+/// A section that was committed.
+fn committed_section(answered: &AnsweredSection, last: &LastOffer) -> DialogSection
+    ensures { (config : Config) (rounds : List Round) (offer : MadeOffer) (ask : AnswerAsk) (section : ℕ) →
+        AnsweredAt config rounds offer ask section answered.now → IsLast rounds offer last.now → is_rejected_by rounds ask section ≡ false →
+        SectionFor config (Answered ask ∷ rounds) section result }
+{
+    let kept = &answered.kept;
+    let key_a = answered.committed_key(last.maker, Side::A);
+    let key_b = answered.committed_key(last.maker, Side::B);
+    DialogSection {
+        has_pairs: true,
+        is_committed: true,
+        a: committed_leg(&kept.a, key_a),
+        b: committed_leg(&kept.b, key_b),
+    }
+}
+
+fn next_section(dialog: &Dialog, last: &LastOffer, sdp: &Sdp, section: usize) -> DialogSection
+    requires { section < 8 }
+    ensures { (config : Config) (rounds : List Round) (offer : MadeOffer) (ask : AnswerAsk) → DialogFor config dialog.now rounds →
+        IsLast rounds offer last.now → HearsAnswer sdp.now rounds ask → SectionFor config (Answered ask ∷ rounds) section result }
+{
+    if is_rejected(dialog, last, sdp, section) {
+        return rejected_section(&dialog.section(section));
+    }
+    let answered = answered_section(dialog, last, sdp, section);
+    committed_section(&answered, last)
+}
+
+fn next_sections(dialog: &Dialog, last: &LastOffer, sdp: &Sdp) -> [DialogSection; 8]
+    ensures { (config : Config) (rounds : List Round) (offer : MadeOffer) (ask : AnswerAsk) → DialogFor config dialog.now rounds →
+        IsLast rounds offer last.now → HearsAnswer sdp.now rounds ask →
+        (section : ℕ) → section < most_sections → SectionFor config (Answered ask ∷ rounds) section (slice_index_or result section no_state) }
+{
+    [
+        next_section(dialog, last, sdp, 0),
+        next_section(dialog, last, sdp, 1),
+        next_section(dialog, last, sdp, 2),
+        next_section(dialog, last, sdp, 3),
+        next_section(dialog, last, sdp, 4),
+        next_section(dialog, last, sdp, 5),
+        next_section(dialog, last, sdp, 6),
+        next_section(dialog, last, sdp, 7),
+    ]
+}
+
+fn copy_of(alloc: Global, tag: &[u8]) -> Result<Text, OutOfMemory>
+    ensures { IfOk result (λ copy. copy.list ≡ tag.now) }
+{
+    let mut copy = Text::new(alloc);
+    if copy.reserve(tag.len()).is_err() {
+        return Err(OutOfMemory);
+    }
+    copy.extend(tag);
+    Ok(copy)
+}
+
+/// What the dialog becomes by an answer to its last offer.
+pub(crate) fn next_of_answer(
+    alloc: Global,
+    dialog: &Dialog,
+    last: &LastOffer,
+    input: &AnswerIn,
+    sdp: &Sdp,
+) -> Result<AnsweredNext, OutOfMemory>
+    ensures { (config : Config) (rounds : List Round) (offer : MadeOffer) (ask : AnswerAsk) → DialogFor config dialog.now rounds →
+        IsLast rounds offer last.now → AsksAnswer input.now sdp.now rounds ask → IfOk result (AnsweredFor config rounds ask) }
+{
+    let to_tag = copy_of(alloc, input.to_tag.as_slice())?;
+    Ok(AnsweredNext {
+        to_tag,
+        count: last.count,
+        sections: next_sections(dialog, last, sdp),
+    })
+}
