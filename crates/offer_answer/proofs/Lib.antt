@@ -13,3 +13,5 @@ mod rows
 pub mod Dialogs
 pub mod Offering
 pub mod Steps
+pub mod Written
+pub mod Answered

@@ -13,3 +13,4 @@ pub mod Dialogs
 pub mod Offering
 pub mod LastOffers
 pub mod Filled
+pub mod Writing

@@ -9,6 +9,7 @@
 //! first fault (`specs/Offering.antt`).
 #![tactic(auto)]
 
+mod answering;
 mod dialog;
 mod fault;
 mod last_offer;
@@ -17,8 +18,10 @@ mod leg;
 mod offered;
 mod plan;
 mod planning;
+mod rejecting;
 #[cfg(test)]
 mod tests;
+mod writing;
 
 pub use dialog::Dialog;
 pub use fault::OaFault;
