@@ -18,3 +18,6 @@ pub mod Nexts
 pub mod NextLegs
 pub mod AnswerParts
 pub mod AnswerSteps
+pub mod Written
+pub mod Replied
+pub mod Kept

@@ -5,6 +5,7 @@ use Rattle.offer_answer.specs.Sides.{MadeOffer, maker}
 use Rattle.offer_answer.specs.Sections.{most_sections, no_section, section_in, section_count}
 use Rattle.offer_answer.specs.Profiles.{written}
 use Rattle.offer_answer.specs.Keys.{chosen_in, no_lines, offered_lines}
+use Rattle.offer_answer.specs.Plan.{OfferHeard}
 use Rattle.offer_answer.specs.declared.last_offer.MadeSection.{MadeSection}
 use Rattle.offer_answer.specs.declared.last_offer.LastOffer.{LastOffer}
 
@@ -26,6 +27,7 @@ pub record LastFor (offer : MadeOffer) (last : LastOffer) : Type 0 where
   pub options_are : last.options ≡ offer.ask.options
   pub count_is : last.count ≡ section_count offer.ask.sdp
   pub few : section_count offer.ask.sdp ≤ most_sections
+  pub heard : OfferHeard offer.ask
   pub sections_are : (section : ℕ) → section < most_sections → MadeFor offer section (slice_index_or last.sections section no_made)
 
 -- an offer is kept exactly where there is one

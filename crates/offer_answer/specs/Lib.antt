@@ -15,3 +15,6 @@ pub mod LastOffers
 pub mod Filled
 pub mod Nexts
 pub mod Answering
+pub mod Writing
+pub mod Widths
+pub mod Plans

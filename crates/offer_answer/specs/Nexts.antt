@@ -12,6 +12,7 @@ use Rattle.offer_answer.specs.Sections.{most_sections, section_in, section_count
 use Rattle.offer_answer.specs.Profiles.{profile_offered, profile_in_force, written}
 use Rattle.offer_answer.specs.Keys.{chosen_in, is_for, key_among, leg_key, key_in_force}
 use Rattle.offer_answer.specs.Demands.{new_legs}
+use Rattle.offer_answer.specs.Plan.{OfferHeard}
 use Rattle.offer_answer.specs.Texts.{new_port, standing_port}
 use Rattle.offer_answer.specs.Dialogs.{drawn_as, key_for, leg_at, no_state}
 use Rattle.offer_answer.specs.LastOffers.{no_made}
@@ -72,6 +73,7 @@ pub record LastNext (rounds : List Round) (ask : OfferAsk) (last : LastOffer) : 
   pub options_are : last.options ≡ ask.options
   pub count_is : last.count ≡ section_count ask.sdp
   pub few : section_count ask.sdp ≤ most_sections
+  pub heard : OfferHeard ask
   pub sections_are : (section : ℕ) → section < most_sections → MadeNext rounds ask section (slice_index_or last.sections section no_made)
 
 -- The offer after these rounds is kept, and the sections are as after it, as far as these ports and keys have come.

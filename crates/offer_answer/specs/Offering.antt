@@ -1,5 +1,5 @@
 -- What an offer asks of a section, by what the dialog keeps of it.
-use Rattle.std.specs.Prelude.{◌≡◌, ◌≢◌, ℕ, List, [], ◌∷◌, ◌++◌, length, false, ◌&&◌, Option, Some, None, Result, Ok, Err, is_none, if◌then◌else◌, filter, map, unwrap_or, slice_index_or}
+use Rattle.std.specs.Prelude.{◌≡◌, ℕ, List, [], ◌∷◌, ◌++◌, length, false, ◌&&◌, Option, Some, None, is_none, if◌then◌else◌, filter, map, unwrap_or, slice_index_or}
 use Rattle.histories.specs.Words.{or_else, has}
 use Rattle.relay_outside.specs.declared.settings.Config.{Config}
 use Rattle.sdes_lines.specs.declared.crypto_line.Suite.{Suite}
@@ -11,21 +11,17 @@ use Rattle.ng_command.specs.declared.command.OfferIn.{OfferIn}
 use Rattle.ng_reply.specs.declared.code.ErrorCode.{ErrorCode}
 use Rattle.ng_reply.specs.declared.code.ErrorCode.TheVariants.{E8, E10, E11, E12}
 use Rattle.port_pool.specs.declared.holder.Side.{Side}
-use Rattle.port_pool.specs.Signals.{NewKey, other_side}
+use Rattle.port_pool.specs.Signals.{other_side}
 use Rattle.offer_answer.specs.Rounds.{Round, OfferAsk, Demand, NewLeg, KeyPlace}
 use Rattle.offer_answer.specs.Sections.{section_in, is_active}
 use Rattle.offer_answer.specs.Profiles.{is_srtp}
 use Rattle.offer_answer.specs.Keys.{chosen_in, suite_of, place_of}
 use Rattle.offer_answer.specs.Demands.{new_leg}
-use Rattle.offer_answer.specs.Plan.{OfferHeard, offer_fault, demand}
+use Rattle.offer_answer.specs.Plan.{OfferHeard}
 use Rattle.offer_answer.specs.Dialogs.{SectionFor, key_for, leg_at}
-use Rattle.offer_answer.specs.Filled.{FilledFor}
-use Rattle.offer_answer.specs.Nexts.{NextFor}
 use Rattle.offer_answer.specs.declared.leg.Leg.{Leg}
 use Rattle.offer_answer.specs.declared.offered.OfferedSection.{OfferedSection}
 use Rattle.offer_answer.specs.declared.plan.Plan.{Plan}
-use Rattle.offer_answer.specs.declared.plan.Next.{Next}
-use Rattle.offer_answer.specs.declared.plan.Next.TheVariants.{Offer}
 use Rattle.offer_answer.specs.declared.fault.OaFault.{OaFault}
 use Rattle.offer_answer.specs.declared.fault.OaFault.TheVariants as faults
 
@@ -93,20 +89,6 @@ code_of faults.OutOfMemory = None
 abbrev pub fault_code : Option OaFault → Option ErrorCode
 fault_code None = None
 fault_code (Some fault) = code_of fault
-
--- what the dialog becomes is by this offer after these rounds, without the offer's new ports and keys
-abbrev pub OfferNext : Config → List Round → OfferAsk → Next → Type 0
-OfferNext config rounds ask (Offer next) = NextFor config rounds ask [] [] next
-
--- and with these ports and keys
-abbrev pub OfferFilled : Config → List Round → OfferAsk → List ℕ → List NewKey → Next → Type 0
-OfferFilled config rounds ask ports keys (Offer next) = FilledFor config rounds ask ports keys next
-
--- what an offer is answered: its first fault, or a plan of what it demands and of what the dialog becomes by it, or that memory
--- was refused
-abbrev pub OfferAnswered : Config → List Round → OfferAsk → Result Plan OaFault → Type 0
-OfferAnswered config rounds ask (Err fault) = fault ≢ faults.OutOfMemory → offer_fault rounds ask ≡ code_of fault
-OfferAnswered config rounds ask (Ok plan) = (offer_fault rounds ask ≡ None) × PlanFor plan (demand rounds ask) × OfferNext config rounds ask plan.next
 
 -- how many pairs and keys the plan demands
 abbrev pub pair_count : Plan → ℕ

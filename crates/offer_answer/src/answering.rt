@@ -1,6 +1,6 @@
 //! What an answer is answered, and what it commits.
 
-ghost use Rattle.std.specs.Prelude.{◌≡◌, ◌&&◌, ◌==◌, List, Some};
+ghost use Rattle.std.specs.Prelude.{◌≡◌, ◌&&◌, ◌==◌, List, Some, IfOk};
 ghost use Rattle.std.specs.List.{list_any};
 ghost use Rattle.std.specs.Str.{bytes_eq};
 ghost use Rattle.relay_outside.specs.declared.settings.Config.{Config};
@@ -12,18 +12,23 @@ ghost use Rattle.offer_answer.specs.Plan.{answer_fault};
 ghost use Rattle.offer_answer.specs.Dialogs.{DialogFor};
 ghost use Rattle.offer_answer.specs.LastOffers.{LastFor};
 ghost use Rattle.offer_answer.specs.Offering.{fault_code};
+ghost use Rattle.offer_answer.specs.Plans.{AnswerAnswered};
+ghost use Rattle.offer_answer.specs.Widths.{WritesFrom};
 ghost use Rattle.offer_answer.specs.Answering.{IsLast, HearsAnswer, AsksAnswer, AnswerPlanned};
 
+use crate::answer_text::answer_sections;
 use crate::answered::answered_section;
 use crate::dialog::Dialog;
 use crate::fault::OaFault;
 use crate::last_offer::LastOffer;
 use crate::next_answer::{AnsweredNext, next_of_answer};
+use crate::plan::{Next, Plan};
 use crate::planning::is_some_sides;
 use crate::signalling::answer_signal;
 use ng_command::AnswerIn;
 use port_pool::Signal;
 use relay_outside::Config;
+use sdp_edit::edit_len;
 use sdp_text::Sdp;
 use std::alloc::Global;
 
@@ -142,4 +147,40 @@ pub(crate) fn planned_answer(
         return Err(OaFault::OutOfMemory);
     };
     Ok((next, signal))
+}
+
+/// The plan of an answer, or its first fault (RFC 3264 section 6, RFC 4568). It demands no pair and no key. The dialog stays as
+/// it is.
+pub fn answer(
+    alloc: Global,
+    config: &Config,
+    dialog: &Dialog,
+    input: &AnswerIn,
+    sdp: &Sdp,
+) -> Result<Plan, OaFault>
+    ensures answered { (rounds : List Round) (ask : AnswerAsk) → DialogFor config.now dialog.now rounds → AsksAnswer input.now sdp.now rounds ask →
+        AnswerAnswered config.now rounds ask sdp.now result }
+    ensures writes { IfOk result (λ plan. WritesFrom plan sdp.now) }
+{
+    let (next, signal) = match planned_answer(alloc, config, dialog, input, sdp) {
+        Ok(planned) => planned,
+        Err(fault) => return Err(fault),
+    };
+    let Some(last) = dialog.last_offer() else {
+        return Err(OaFault::UnknownTag);
+    };
+    let Ok(edit) = answer_sections(alloc, config, dialog, last, &input.options, sdp) else {
+        return Err(OaFault::OutOfMemory);
+    };
+    let reply_len = edit_len(sdp, &edit);
+    Ok(Plan {
+        legs: Vec::new(alloc),
+        key_places: Vec::new(alloc),
+        dropped: [false; 8],
+        interface: config.interface,
+        edit,
+        reply_len,
+        signal,
+        next: Next::Answer(next),
+    })
 }

@@ -10,10 +10,12 @@ ghost use Rattle.offer_answer.specs.Plan as plan;
 ghost use Rattle.offer_answer.specs.Dialogs.{DialogFor, Awaits, no_state};
 ghost use Rattle.offer_answer.specs.Filled.{AreLeased, FilledFor};
 ghost use Rattle.offer_answer.specs.Answering.{IsLast, AnsweredFor};
+ghost use Rattle.offer_answer.specs.Plans.{OfferFilled, AnswerNext};
 
 use crate::last_offer::{LastOffer, OfferedNext};
 use crate::leg::DialogSection;
 use crate::next_answer::AnsweredNext;
+use crate::plan::{Next, Plan};
 use ng_bencode::Text;
 use port_pool::Side;
 use relay_outside::OutOfMemory;
@@ -190,5 +192,19 @@ impl Dialog {
         self.has_answer = true;
         self.committed_count = count;
         self.sections = sections;
+    }
+
+    /// Takes in the plan that was made from this dialog: that of an offer once it is filled, that of an answer. It takes no memory.
+    pub fn apply(&mut self, plan: Plan)
+        ensures offered { (config : Config) (rounds : List Round) (ask : OfferAsk) (ports : List ℕ) (keys : List NewKey) (legs : List Holder) →
+            DialogFor config self.old rounds → Awaits self.old ask.from_tag → OfferFilled config rounds ask ports keys plan.next →
+            AreLeased config rounds ask ports legs → DialogFor config self.new (Offered ask legs keys ∷ rounds) }
+        ensures answered { (config : Config) (rounds : List Round) (ask : AnswerAsk) → DialogFor config self.old rounds →
+            AnswerNext config rounds ask plan.next → DialogFor config self.new (Answered ask ∷ rounds) }
+    {
+        match plan.into_next() {
+            Next::Offer(next) => self.apply_offer(next),
+            Next::Answer(next) => self.apply_answer(next),
+        }
     }
 }

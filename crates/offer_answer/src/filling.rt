@@ -14,6 +14,7 @@ ghost use Rattle.offer_answer.specs.Dialogs.{drawn_as, no_state};
 ghost use Rattle.offer_answer.specs.LastOffers.{MadeFor, no_made};
 ghost use Rattle.offer_answer.specs.Offering.{leg_asked, key_asked};
 ghost use Rattle.offer_answer.specs.Filled.{FilledFor};
+ghost use Rattle.offer_answer.specs.Widths.{SameMade, SameOffer};
 ghost use Rattle.offer_answer.specs.Nexts.{LegNext, SectionNext, MadeNext, NextFor, numbered_keys, carrying};
 
 use crate::dialog::MOST_SECTIONS;
@@ -223,9 +224,10 @@ fn lines_for(made: &MadeSection, leg: &Leg) -> [Option<CryptoLine>; 2]
 }
 
 fn with_lines(made: MadeSection, leg: &Leg) -> MadeSection
-    ensures { (config : Config) (rounds : List Round) (ask : OfferAsk) (ports : List ℕ) (keys : List NewKey) (section : ℕ) →
+    ensures made { (config : Config) (rounds : List Round) (ask : OfferAsk) (ports : List ℕ) (keys : List NewKey) (section : ℕ) →
         MadeNext rounds ask section made → LegNext config rounds ask ports keys section (other_side (offerer rounds ask)) leg.now →
         MadeFor (record { ask = ask; keys = keys; before = rounds }) section result }
+    ensures same { SameMade made result }
 {
     let lines = lines_for(&made, leg);
     MadeSection { lines, ..made }
@@ -237,7 +239,8 @@ fn sections_with_lines(
     side: Side,
     sections: &[DialogSection; 8],
 ) -> [MadeSection; 8]
-    ensures { (config : Config) (rounds : List Round) (ask : OfferAsk) (ports : List ℕ) (keys : List NewKey) → side ≡ other_side (offerer rounds ask) →
+    ensures same { (section : ℕ) → section < 8 → SameMade (slice_index_or offered.now section no_made) (slice_index_or result section no_made) }
+    ensures made { (config : Config) (rounds : List Round) (ask : OfferAsk) (ports : List ℕ) (keys : List NewKey) → side ≡ other_side (offerer rounds ask) →
         ((section : ℕ) → section < 8 → MadeNext rounds ask section (slice_index_or offered.now section no_made)) →
         ((section : ℕ) → section < 8 → SectionNext config rounds ask ports keys section (slice_index_or sections.now section no_state)) →
         (section : ℕ) → section < 8 →
@@ -254,7 +257,8 @@ impl OfferedNext {
     /// Puts in the RTP ports of the pairs that were leased for these legs, which are the demanded ones, in the order of leases.
     pub(crate) fn put_ports(&mut self, legs: &[(u8, Side)], ports: &[u16])
         requires { length legs.now ≡ length ports.now }
-        ensures { (config : Config) (rounds : List Round) (ask : OfferAsk) (keys : List NewKey) → NextFor config rounds ask [] keys self.old →
+        ensures last { self.new.last ≡ self.old.last }
+        ensures next { (config : Config) (rounds : List Round) (ask : OfferAsk) (keys : List NewKey) → NextFor config rounds ask [] keys self.old →
             map leg_asked legs.now ≡ new_legs rounds ask → NextFor config rounds ask ports.now keys self.new }
     {
         let sections = sections_with_ports(&self.sections, legs, ports);
@@ -264,7 +268,8 @@ impl OfferedNext {
     fn put_drawn(&mut self, places: &[(u8, Side, Suite)], first_key: u64, keys: &[[u8; 30]])
         requires same { length places.now ≡ length keys.now }
         requires first { first_key ≤ 2 ^ 63 }
-        ensures { (config : Config) (rounds : List Round) (ask : OfferAsk) (ports : List ℕ) → NextFor config rounds ask ports [] self.old →
+        ensures last { self.new.last ≡ self.old.last }
+        ensures next { (config : Config) (rounds : List Round) (ask : OfferAsk) (ports : List ℕ) → NextFor config rounds ask ports [] self.old →
             NextFor config rounds ask ports (numbered_keys first_key keys.now (map key_asked places.now)) self.new }
     {
         let sections = sections_with_keys(&self.sections, places, first_key, keys);
@@ -273,7 +278,8 @@ impl OfferedNext {
 
     /// Puts in the lines that the other side is offered, once the keys have been put in.
     fn put_lines(&mut self)
-        ensures { (config : Config) (rounds : List Round) (ask : OfferAsk) (ports : List ℕ) (keys : List NewKey) →
+        ensures same { SameOffer self.old.last self.new.last }
+        ensures filled { (config : Config) (rounds : List Round) (ask : OfferAsk) (ports : List ℕ) (keys : List NewKey) →
             NextFor config rounds ask ports keys self.old → map key_place keys ≡ new_keys rounds ask → FilledFor config rounds ask ports keys self.new }
     {
         let side = other_side(self.last.maker);
@@ -291,7 +297,8 @@ impl OfferedNext {
     )
         requires same { length places.now ≡ length keys.now }
         requires first { first_key ≤ 2 ^ 63 }
-        ensures { (config : Config) (rounds : List Round) (ask : OfferAsk) (ports : List ℕ) → NextFor config rounds ask ports [] self.old →
+        ensures same { SameOffer self.old.last self.new.last }
+        ensures filled { (config : Config) (rounds : List Round) (ask : OfferAsk) (ports : List ℕ) → NextFor config rounds ask ports [] self.old →
             map key_asked places.now ≡ new_keys rounds ask →
             FilledFor config rounds ask ports (numbered_keys first_key keys.now (new_keys rounds ask)) self.new }
     {

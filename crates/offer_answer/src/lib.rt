@@ -9,6 +9,7 @@
 //! first fault (`specs/Offering.antt`).
 #![tactic(auto)]
 
+mod answer_text;
 mod answered;
 mod answering;
 mod dialog;
@@ -17,8 +18,8 @@ mod filling;
 mod last_offer;
 mod law;
 mod leg;
-mod next_offer;
 mod next_answer;
+mod next_offer;
 mod offered;
 mod plan;
 mod planning;
@@ -26,7 +27,9 @@ mod rejecting;
 mod signalling;
 #[cfg(test)]
 mod tests;
+mod writing;
 
+pub use answering::answer;
 pub use dialog::Dialog;
 pub use fault::OaFault;
 pub use law::{

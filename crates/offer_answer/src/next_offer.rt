@@ -1,6 +1,6 @@
 //! What a dialog becomes by an offer, before its pairs are leased and its keys drawn.
 
-ghost use Rattle.std.specs.Prelude.{◌≡◌, ◌<◌, ◌||◌, ◌∷◌, ℕ, List, [], IfOk, Some, slice_index_or};
+ghost use Rattle.std.specs.Prelude.{◌≡◌, ◌≤◌, ◌<◌, ◌||◌, ◌∷◌, ℕ, List, [], IfOk, Some, slice_index_or};
 ghost use Rattle.relay_outside.specs.declared.settings.Config.{Config};
 ghost use Rattle.offer_answer.specs.Rounds.{Round, Offered, OfferAsk};
 ghost use Rattle.offer_answer.specs.Sides.{offerer};
@@ -147,7 +147,8 @@ pub(crate) fn next_of_offer(
     sdp: &Sdp,
     side: Side,
 ) -> Result<OfferedNext, OutOfMemory>
-    ensures { (config : Config) (rounds : List Round) (ask : OfferAsk) → DialogFor config dialog.now rounds → AsksOffer input.now sdp.now ask →
+    ensures few { IfOk result (λ next. next.last.count ≤ 8) }
+    ensures next { (config : Config) (rounds : List Round) (ask : OfferAsk) → DialogFor config dialog.now rounds → AsksOffer input.now sdp.now ask →
         side ≡ offerer rounds ask → IfOk result (λ next. NextFor config rounds ask [] [] next) }
 {
     let from_tag = copied(alloc, &input.from_tag)?;

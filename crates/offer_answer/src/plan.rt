@@ -1,26 +1,37 @@
-//! What an offer or an answer demands.
+//! What an offer or an answer demands, writes and commits.
 
-ghost use Rattle.std.specs.Prelude.{◌≡◌, ◌<◌, ◌≤◌, ◌^◌, ℕ, List, length, Some, slice_get};
+ghost use Rattle.std.specs.Prelude.{◌≡◌, ◌<◌, ◌≤◌, ◌+◌, ◌^◌, ◌++◌, ℕ, List, length, Some, slice_get};
 ghost use Rattle.histories.specs.Words.{has};
 ghost use Rattle.relay_outside.specs.declared.settings.Config.{Config};
-ghost use Rattle.offer_answer.specs.Rounds.{Round, OfferAsk, Demand};
-ghost use Rattle.offer_answer.specs.Plan.{demand};
-ghost use Rattle.offer_answer.specs.Offering.{PlanFor, leg_asked, key_asked, pair_count, key_count, OfferNext, OfferFilled};
+ghost use Rattle.sdp_text.specs.Lines.{lines_of};
+ghost use Rattle.port_pool.specs.Signals.{NewKey};
+ghost use Rattle.offer_answer.specs.Rounds.{Round, OfferAsk, AnswerAsk, Demand};
+ghost use Rattle.offer_answer.specs.Plan.{demand, offer_text, answer_text};
+ghost use Rattle.offer_answer.specs.Offering.{PlanFor, leg_asked, key_asked, pair_count, key_count};
+ghost use Rattle.offer_answer.specs.Plans.{OfferNext, OfferFilled, OfferPlan, AnswerNext, AnswerPlan};
 ghost use Rattle.offer_answer.specs.Nexts.{numbered_keys};
+ghost use Rattle.offer_answer.specs.Widths.{KeepsOffer, WritesNext, WritesFrom};
 
 use crate::dialog::MOST_SECTIONS;
 use crate::last_offer::OfferedNext;
-use port_pool::Side;
+use crate::next_answer::AnsweredNext;
+use crate::writing::write_offer;
+use port_pool::{Side, Signal};
+use relay_outside::Ip;
 use sdes_lines::Suite;
+use sdp_edit::{Edit, edit_into};
+use sdp_text::{Bytes, Sdp};
 
 /// What the dialog becomes by what was planned.
 #[derive(Drop)]
 pub(crate) enum Next {
     /// By an offer.
     Offer(OfferedNext),
+    /// By an answer.
+    Answer(AnsweredNext),
 }
 
-/// What an accepted offer demands before it is taken into the dialog.
+/// What an offer or an answer demands, and what it makes of the dialog and of its description.
 #[derive(Drop)]
 pub struct Plan {
     /// The legs that pairs are demanded for, in the order of leases.
@@ -29,6 +40,14 @@ pub struct Plan {
     pub(crate) key_places: Vec<(u8, Side, Suite)>,
     /// Which sections' legs the offer drops.
     pub(crate) dropped: [bool; 8],
+    /// The address that is written into the description.
+    pub(crate) interface: Ip,
+    /// What becomes of the description: of an offer its sections are written when it is filled, of an answer it is whole.
+    pub(crate) edit: Edit,
+    /// How long the written description can be.
+    pub(crate) reply_len: usize,
+    /// What an answer commits; of an offer nothing.
+    pub(crate) signal: Signal,
     /// What the dialog becomes by it.
     pub(crate) next: Next,
 }
@@ -74,13 +93,46 @@ impl Plan {
         section < MOST_SECTIONS && self.dropped[section]
     }
 
+    /// What the dialog becomes by it.
+    pub(crate) fn into_next(self) -> Next
+        ensures { result ≡ self.next }
+    {
+        let Plan {
+            legs: _,
+            key_places: _,
+            dropped: _,
+            interface: _,
+            edit: _,
+            reply_len: _,
+            signal: _,
+            next,
+        } = self;
+        next
+    }
+
+    /// How many bytes the description that is written can have.
+    pub fn reply_len(&self) -> usize
+        ensures { result ≡ self.now.reply_len }
+    {
+        self.reply_len
+    }
+
+    /// What an answer commits, section by section.
+    pub fn signal(&self) -> &Signal
+        ensures { result.now ≡ self.now.signal }
+    {
+        &self.signal
+    }
+
     /// Puts in the RTP ports of the leased pairs and the drawn keys, each as many and in the order as they are demanded. The keys
     /// have the numbers from `first_key` on.
-    pub(crate) fn put(&mut self, ports: &[u16], first_key: u64, keys: &[[u8; 30]])
+    fn put(&mut self, ports: &[u16], first_key: u64, keys: &[[u8; 30]])
         requires ports { length ports.now ≡ pair_count self.old }
         requires keys { length keys.now ≡ key_count self.old }
         requires first { first_key ≤ 2 ^ 63 }
-        ensures { (config : Config) (rounds : List Round) (ask : OfferAsk) → PlanFor self.old (demand rounds ask) →
+        ensures rest { self.new ≡ record self.old { next = self.new.next } }
+        ensures kept { KeepsOffer self.old.next self.new.next }
+        ensures filled { (config : Config) (rounds : List Round) (ask : OfferAsk) → PlanFor self.old (demand rounds ask) →
             OfferNext config rounds ask self.old.next →
             OfferFilled config rounds ask ports.now (numbered_keys first_key keys.now (demand rounds ask).keys) self.new.next }
     {
@@ -89,6 +141,57 @@ impl Plan {
                 next.put_ports(self.legs.as_slice(), ports);
                 next.put_keys(self.key_places.as_slice(), first_key, keys);
             }
+            Next::Answer(_) => {}
         }
+    }
+
+    /// Writes the description behind what `out` holds.
+    fn write(&mut self, sdp: &Sdp, out: &mut Bytes)
+        requires made { WritesFrom self.old sdp.now }
+        requires room { self.old.reply_len ≤ out.old.spare }
+        ensures next { self.new.next ≡ self.old.next }
+        ensures signal { self.new.signal ≡ self.old.signal }
+        ensures offered { (config : Config) (rounds : List Round) (ask : OfferAsk) (ports : List ℕ) (keys : List NewKey) →
+            OfferFilled config rounds ask ports keys self.old.next → self.old.interface ≡ config.interface → lines_of ask.sdp ≡ sdp.now →
+            out.new.list ≡ out.old.list ++ offer_text config rounds ask ports keys }
+        ensures answered { (config : Config) (rounds : List Round) (ask : AnswerAsk) → AnswerPlan config rounds ask sdp.now self.old →
+            out.new.list ≡ out.old.list ++ answer_text config rounds ask }
+        ensures within { length out.new.list ≤ length out.old.list + self.old.reply_len }
+        ensures spare { length out.old.list + out.old.spare ≤ length out.new.list + out.new.spare }
+    {
+        match &self.next {
+            Next::Offer(next) => write_offer(next, self.interface, &mut self.edit, sdp, out),
+            Next::Answer(_) => edit_into(sdp, &self.edit, out),
+        }
+    }
+
+    /// Writes the description for the other side behind what `out` holds, with these RTP ports and keys, each as many and in the
+    /// order as they are demanded; the keys have the numbers from `first_key` on. It needs the description from which the plan
+    /// was made, and spare room of `reply_len`. It takes no memory.
+    pub fn fill(
+        &mut self,
+        sdp: &Sdp,
+        ports: &[u16],
+        first_key: u64,
+        keys: &[[u8; 30]],
+        out: &mut Bytes,
+    )
+        requires ports { length ports.now ≡ pair_count self.old }
+        requires keys { length keys.now ≡ key_count self.old }
+        requires first { first_key ≤ 2 ^ 63 }
+        requires made { WritesFrom self.old sdp.now }
+        requires room { self.old.reply_len ≤ out.old.spare }
+        ensures signal { self.new.signal ≡ self.old.signal }
+        ensures filled { (config : Config) (rounds : List Round) (ask : OfferAsk) → OfferPlan config rounds ask self.old →
+            OfferFilled config rounds ask ports.now (numbered_keys first_key keys.now (demand rounds ask).keys) self.new.next }
+        ensures offered { (config : Config) (rounds : List Round) (ask : OfferAsk) → OfferPlan config rounds ask self.old → lines_of ask.sdp ≡ sdp.now →
+            out.new.list ≡ out.old.list ++ offer_text config rounds ask ports.now (numbered_keys first_key keys.now (demand rounds ask).keys) }
+        ensures answered { (config : Config) (rounds : List Round) (ask : AnswerAsk) → AnswerPlan config rounds ask sdp.now self.old →
+            AnswerNext config rounds ask self.new.next × (out.new.list ≡ out.old.list ++ answer_text config rounds ask) }
+        ensures within { length out.new.list ≤ length out.old.list + self.old.reply_len }
+        ensures spare { length out.old.list + out.old.spare ≤ length out.new.list + out.new.spare }
+    {
+        self.put(ports, first_key, keys);
+        self.write(sdp, out);
     }
 }

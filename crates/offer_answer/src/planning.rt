@@ -1,6 +1,6 @@
 //! What an offer is answered, and what it demands.
 
-ghost use Rattle.std.specs.Prelude.{◌≡◌, ◌<◌, ◌&&◌, ◌++◌, ◌∷◌, [], ℕ, List, Bool, Option, Some, None, length, map, filter, OnOk, IfOk, if◌then◌else◌, slice_index_or, false};
+ghost use Rattle.std.specs.Prelude.{◌≡◌, ◌<◌, ◌&&◌, ◌++◌, ◌∷◌, [], ◌≤◌, ℕ, List, Bool, Option, Some, None, length, map, filter, OnOk, IfOk, if◌then◌else◌, slice_index_or, false};
 ghost use Rattle.std.specs.List.{list_any};
 ghost use Rattle.histories.specs.Words.{has};
 ghost use Rattle.relay_outside.specs.declared.settings.Config.{Config};
@@ -13,17 +13,23 @@ ghost use Rattle.offer_answer.specs.Demands.{new_legs, new_keys, is_dropped, dro
 ghost use Rattle.offer_answer.specs.Faults.{is_strangers, lacks_line};
 ghost use Rattle.offer_answer.specs.Plan.{offer_fault};
 ghost use Rattle.offer_answer.specs.Dialogs.{DialogFor};
-ghost use Rattle.offer_answer.specs.Offering.{HearsOffer, AsksOffer, leg_asked, key_asked, fault_code, OfferAnswered};
+ghost use Rattle.offer_answer.specs.Plans.{OfferAnswered};
+ghost use Rattle.offer_answer.specs.Writing.{IsReserved, widest_len};
+ghost use Rattle.offer_answer.specs.Widths.{WritesFrom};
+ghost use Rattle.offer_answer.specs.Offering.{HearsOffer, AsksOffer, leg_asked, key_asked, fault_code};
 
 use crate::dialog::Dialog;
 use crate::fault::OaFault;
+use crate::last_offer::LastOffer;
 use crate::next_offer::next_of_offer;
 use crate::offered::{offered_section, other_side};
 use crate::plan::{Next, Plan};
+use crate::writing::{reserved_edit, widest_len};
 use ng_command::OfferIn;
-use port_pool::Side;
-use relay_outside::{Config, OutOfMemory};
+use port_pool::{Side, Signal};
+use relay_outside::{Config, Ip, OutOfMemory};
 use sdes_lines::Suite;
+use sdp_edit::Edit;
 use sdp_text::{Proto, Sdp};
 use std::alloc::Global;
 
@@ -172,6 +178,21 @@ fn dropped(dialog: &Dialog, sdp: &Sdp) -> [bool; 8]
     ]
 }
 
+/// What becomes of an offer's description before its ports and keys are known, and how long it can be.
+fn offer_writing(
+    alloc: Global,
+    interface: Ip,
+    last: &LastOffer,
+    sdp: &Sdp,
+) -> Result<(Edit, usize), OutOfMemory>
+    requires { last.now.count ≤ 8 }
+    ensures { IfOk result (λ writing. IsReserved interface last.now.options last.now.count writing.0 × (writing.1 ≡ widest_len interface last.now sdp.now)) }
+{
+    let edit = reserved_edit(alloc, interface, &last.options, last.count)?;
+    let len = widest_len(alloc, interface, last, sdp)?;
+    Ok((edit, len))
+}
+
 /// The plan of an offer, or its first fault (RFC 3264 section 5, RFC 4568). The dialog stays as it is.
 pub fn offer(
     alloc: Global,
@@ -180,8 +201,9 @@ pub fn offer(
     input: &OfferIn,
     sdp: &Sdp,
 ) -> Result<Plan, OaFault>
-    ensures { (rounds : List Round) (ask : OfferAsk) → DialogFor config.now dialog.now rounds → AsksOffer input.now sdp.now ask →
+    ensures answered { (rounds : List Round) (ask : OfferAsk) → DialogFor config.now dialog.now rounds → AsksOffer input.now sdp.now ask →
         OfferAnswered config.now rounds ask result }
+    ensures writes { IfOk result (λ plan. WritesFrom plan sdp.now) }
 {
     if let Some(fault) = fault_of(dialog, input, sdp) {
         return Err(fault);
@@ -196,10 +218,20 @@ pub fn offer(
     let Ok(next) = next_of_offer(alloc, dialog, input, sdp, side) else {
         return Err(OaFault::OutOfMemory);
     };
+    let Ok((edit, reply_len)) = offer_writing(alloc, config.interface, &next.last, sdp) else {
+        return Err(OaFault::OutOfMemory);
+    };
+    let Ok(signal) = Signal::new(alloc) else {
+        return Err(OaFault::OutOfMemory);
+    };
     Ok(Plan {
         legs,
         key_places,
         dropped: dropped(dialog, sdp),
+        interface: config.interface,
+        edit,
+        reply_len,
+        signal,
         next: Next::Offer(next),
     })
 }

@@ -5,3 +5,4 @@ pub mod TextLemmas
 pub mod KeyLemmas
 pub mod Behind
 pub mod Chosen
+pub mod Widths

@@ -5,3 +5,4 @@ pub mod Images
 pub mod Editing
 pub mod Steps
 pub mod Choosing
+pub mod Widths

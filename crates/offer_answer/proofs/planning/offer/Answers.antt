@@ -1,16 +1,19 @@
-use Rattle.std.proofs.Common.{ap, sym, ◌∙◌}
+use Rattle.std.proofs.Common.{ap, sym, ◌∙◌, refl}
 use Rattle.offer_answer.specs.Plan.{demand}
 use Rattle.offer_answer.proofs.planning.offer.Goals as goal
 
-pub returns : goal.returns
+pub returns-clause-answered : goal.returns-clause-answered
 unfolding demand
-returns c = λ rounds ask s a.
+returns-clause-answered c = λ rounds ask s a.
     let side = c.offerer-side.ensures c.args.config.now rounds ask s (a.from_tag_is ∙ sym c.as_slice.ensures) in (
       c.in_default.ensures c.args.config.now rounds ask s a,
       record {
-        pairs_are = c.in-Ok.ensures c.args.config.now rounds ask s a.hears side;
-        keys_are = c.in-Ok-demanded_keys.ensures c.args.config.now rounds ask s a.hears (ap (λ o. o.transport) (sym a.options_are)) side;
-        drops_are = c.dropped.ensures c.args.config.now rounds ask s a.hears;
+        demands = record {
+          pairs_are = c.in-Ok.ensures c.args.config.now rounds ask s a.hears side;
+          keys_are = c.in-Ok-demanded_keys.ensures c.args.config.now rounds ask s a.hears (ap (λ o. o.transport) (sym a.options_are)) side;
+          drops_are = c.dropped.ensures c.args.config.now rounds ask s a.hears;
+        };
+        next_for = c.in-Ok-next_of_offer.ensures.next c.args.config.now rounds ask s a side;
+        interface_is = refl;
       },
-      c.in-Ok-next_of_offer.ensures c.args.config.now rounds ask s a side,
     )

@@ -1,0 +1,23 @@
+use Rattle.std.proofs.Common.{ap, sym, subst, ◌∙◌}
+use Rattle.offer_answer.specs.Plan.{demand, offer_text}
+use Rattle.offer_answer.specs.Nexts.{numbered_keys}
+use Rattle.offer_answer.specs.Plans.{OfferFilled}
+use Rattle.offer_answer.specs.Widths.{WritesNext}
+use Rattle.offer_answer.specs.declared.plan.Plan.{Plan}
+use Rattle.offer_answer.proofs.Kept.{kept-writes}
+use Rattle.offer_answer.proofs.plan.Plan.fill.Goals as goal
+
+pub write-requires-clause-made : goal.write-requires-clause-made
+write-requires-clause-made c =
+    subst (λ (plan : Plan). WritesNext plan c.args.sdp.now c.put.new.self.next) (sym c.put.ensures.rest)
+    (kept-writes c.args.self.now c.args.sdp.now c.args.self.now.next c.put.new.self.next c.put.ensures.kept c.requires.made)
+
+pub returns-clause-filled : goal.returns-clause-filled
+returns-clause-filled c = λ config rounds ask p.
+    subst (OfferFilled config rounds ask c.args.ports.now (numbered_keys c.args.first_key c.args.keys.now (demand rounds ask).keys)) (sym c.write.ensures.next)
+    (c.put.ensures.filled config rounds ask p.demands p.next_for)
+
+pub returns-clause-offered : goal.returns-clause-offered
+returns-clause-offered c = λ config rounds ask p l.
+    c.write.ensures.offered config rounds ask c.args.ports.now (numbered_keys c.args.first_key c.args.keys.now (demand rounds ask).keys)
+    (c.put.ensures.filled config rounds ask p.demands p.next_for) (ap (λ (plan : Plan). plan.interface) c.put.ensures.rest ∙ p.interface_is) l
