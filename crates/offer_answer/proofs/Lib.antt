@@ -19,5 +19,5 @@ pub mod NextLegs
 pub mod AnswerParts
 pub mod AnswerSteps
 pub mod Written
-pub mod Replied
+pub mod WrittenBack
 pub mod Kept

@@ -1,6 +1,5 @@
 -- What is written, from what a dialog keeps.
-use Rattle.std.proofs.Common.{◌≡◌, ℕ, zero, suc, ◌+◌, ◌-◌, ◌<◌, ◌≤◌, min, Bool, true, false, not, ◌&&◌, List, [], ◌∷◌, ◌++◌, length, decimal, Option, Some, None, refl, sym, ap, ◌∙◌, subst, if◌then◌else◌, map, option_map, option_and_then, unwrap_or, filter, slice_index_or, append_assoc, append-nil, arith}
-use Rattle.std.specs.List.{All}
+use Rattle.std.proofs.Common.{◌≡◌, ℕ, zero, suc, ◌+◌, ◌-◌, ◌<◌, ◌≤◌, Bool, true, false, ◌&&◌, List, [], ◌∷◌, ◌++◌, length, decimal, Option, Some, None, refl, sym, ap, ◌∙◌, subst, if◌then◌else◌, map, option_map, filter, slice_index_or, append_assoc, append-nil, arith}
 use Rattle.std.proofs.lemmas.List.Elements.{All-nil, All-cons}
 use Rattle.std.proofs.lemmas.Fmt.{length-decimal-le}
 use Rattle.std.specs.Fmt.{digits}
@@ -21,8 +20,8 @@ use Rattle.ng_command.specs.declared.command.Options.{Options}
 use Rattle.port_pool.specs.declared.holder.Side.{Side}
 use Rattle.port_pool.specs.Signals.{NewKey, other_side}
 use Rattle.offer_answer.specs.Rounds.{Round, OfferAsk}
-use Rattle.offer_answer.specs.Sides.{MadeOffer, offerer}
-use Rattle.offer_answer.specs.Sections.{most_sections, section_in, section_count, is_active, is_active_in, all_sections}
+use Rattle.offer_answer.specs.Sides.{offerer}
+use Rattle.offer_answer.specs.Sections.{most_sections, section_count, is_active, is_active_in, all_sections}
 use Rattle.offer_answer.specs.Profiles.{is_srtp, written}
 use Rattle.offer_answer.specs.Keys.{no_lines, line_with, lines_of_keys, key_among, key_in_force, is_for, leg_keys, offered_lines}
 use Rattle.offer_answer.specs.Texts.{host_of_ip, interface_host, edit_with, offered_port, offer_section, offer_edit}
@@ -30,7 +29,7 @@ use Rattle.offer_answer.specs.Plan.{offer_text}
 use Rattle.offer_answer.specs.Dialogs.{leg_at, no_state}
 use Rattle.offer_answer.specs.LastOffers.{MadeFor}
 use Rattle.offer_answer.specs.Filled.{FilledFor, port_after}
-use Rattle.offer_answer.specs.Writing.{numbered, has_lines, made_at, port_written, section_written, sections_written, widest_at, widest_sections, widest_edit, widest_len}
+use Rattle.offer_answer.specs.Writing.{IsReserved, KeepsWidth, numbered, has_lines, made_at, port_written, section_written, sections_written, any_line, widest_section, widest_at, widest_sections, widest_edit, widest_len}
 use Rattle.offer_answer.specs.declared.last_offer.MadeSection.{MadeSection}
 use Rattle.offer_answer.specs.declared.last_offer.LastOffer.{LastOffer}
 use Rattle.offer_answer.specs.declared.last_offer.OfferedNext.{OfferedNext}
@@ -122,6 +121,34 @@ pub widest-is : (lines : List (List ℕ)) (edit : Edit) (interface : Ip) (last :
     edit.sections.list ≡ widest_sections interface last → length (edited lines edit) ≡ widest_len interface last lines
 widest-is lines edit interface last a o s e =
     ap length (text-of-parts lines edit (host_of_ip interface) last.options.replace_origin last.options.replace_session (widest_sections interface last) a o s e)
+
+-- The room stays enough where what it depends on stays.
+
+pub reserved-kept : (interface : Ip) (old new : LastOffer) (edit : Edit) → KeepsWidth old new → IsReserved interface old.options old.count edit →
+    IsReserved interface new.options new.count edit
+reserved-kept interface old new edit k r = record {
+  address_is = r.address_is;
+  origin_is = r.origin_is ∙ ap (λ (x : Options). x.replace_origin) (sym k.options_are);
+  session_is = r.session_is ∙ ap (λ (x : Options). x.replace_session) (sym k.options_are);
+  none_yet = r.none_yet;
+  room = omega (arith, r.room, k.count_is);
+}
+
+pub widest-kept : (interface : Ip) (old new : LastOffer) (lines : List (List ℕ)) → old.count ≤ most_sections → KeepsWidth old new →
+    widest_len interface new lines ≡ widest_len interface old lines
+widest-kept interface old new lines few keeps =
+    ap (λ (x : Options). length (edited lines (edit-of (host_of_ip interface) x.replace_origin x.replace_session (widest_sections interface new)))) keeps.options_are
+    ∙ ap (λ xs. length (edited lines (edit-of (host_of_ip interface) old.options.replace_origin old.options.replace_session xs)))
+    (ap (λ k. map (widest_at interface new) (numbers 0 k)) keeps.count_is
+    ∙ map-alike (widest_at interface new) (widest_at interface old) old.count
+    (λ k below. same-widest (made_at new k) (made_at old k) (keeps.sections_are k (omega (arith, below, few))) (keeps.written_are k (omega (arith, below, few)))))
+  where
+    widest : Section → Proto → SectionEdit
+    widest section profile =
+        section-of 65535 profile (host_of_ip interface) (if is_active section && is_srtp profile then Some (any_line 1) ∷ Some (any_line 2) ∷ [] else no_lines)
+
+    same-widest : (m k : MadeSection) → m.section ≡ k.section → m.written ≡ k.written → widest_section interface m ≡ widest_section interface k
+    same-widest m k e f = ap (λ s. widest s m.written) e ∙ ap (widest k.section) f
 
 -- a port has at most five digits
 pub port-digits : (port : ℕ) → port < 65536 → length (decimal port) ≤ length (decimal 65535)

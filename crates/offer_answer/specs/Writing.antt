@@ -1,5 +1,5 @@
 -- The edits by which an offer and an answer are written, from what a dialog keeps.
-use Rattle.std.specs.Prelude.{◌≡◌, ◌≤◌, ℕ, List, [], ◌∷◌, Bool, ◌&&◌, length, Option, Some, None, map, min, option_map, replicate, slice_index_or, if◌then◌else◌}
+use Rattle.std.specs.Prelude.{◌≡◌, ◌<◌, ◌≤◌, ℕ, List, [], ◌∷◌, Bool, ◌&&◌, length, Option, Some, None, map, min, option_map, replicate, slice_index_or, if◌then◌else◌}
 use Rattle.histories.specs.Words.{numbers}
 use Rattle.relay_outside.specs.declared.address.Ip.{Ip}
 use Rattle.sdes_lines.specs.declared.crypto_line.CryptoLine.{CryptoLine}
@@ -9,7 +9,7 @@ use Rattle.sdp_edit.specs.declared.edits.Edit.{Edit}
 use Rattle.sdp_edit.specs.Editing.{edited}
 use Rattle.ng_command.specs.declared.command.Options.{Options}
 use Rattle.port_pool.specs.Signals.{other_side}
-use Rattle.offer_answer.specs.Sections.{is_active}
+use Rattle.offer_answer.specs.Sections.{most_sections, is_active}
 use Rattle.offer_answer.specs.Profiles.{is_srtp}
 use Rattle.offer_answer.specs.Keys.{no_lines}
 use Rattle.offer_answer.specs.Texts.{host_of_ip}
@@ -99,6 +99,13 @@ widest_edit interface last = record {
 -- the length of that text of a description with these lines
 abbrev pub widest_len : Ip → LastOffer → List (List ℕ) → ℕ
 widest_len interface last lines = length (edited lines (widest_edit interface last))
+
+-- what this depends on stays as it was
+pub record KeepsWidth (old new : LastOffer) : Type 0 where
+  pub options_are : new.options ≡ old.options
+  pub count_is : new.count ≡ old.count
+  pub sections_are : (section : ℕ) → section < most_sections → (made_at new section).section ≡ (made_at old section).section
+  pub written_are : (section : ℕ) → section < most_sections → (made_at new section).written ≡ (made_at old section).written
 
 -- The answer.
 

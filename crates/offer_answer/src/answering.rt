@@ -16,7 +16,6 @@ ghost use Rattle.offer_answer.specs.Plans.{AnswerAnswered};
 ghost use Rattle.offer_answer.specs.Widths.{WritesFrom};
 ghost use Rattle.offer_answer.specs.Answering.{IsLast, HearsAnswer, AsksAnswer, AnswerPlanned};
 
-use crate::answer_text::answer_sections;
 use crate::answered::answered_section;
 use crate::dialog::Dialog;
 use crate::fault::OaFault;
@@ -25,6 +24,7 @@ use crate::next_answer::{AnsweredNext, next_of_answer};
 use crate::plan::{Next, Plan};
 use crate::planning::is_some_sides;
 use crate::signalling::answer_signal;
+use crate::writing_back::answer_sections;
 use ng_command::AnswerIn;
 use port_pool::Signal;
 use relay_outside::Config;

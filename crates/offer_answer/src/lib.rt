@@ -9,7 +9,6 @@
 //! first fault (`specs/Offering.antt`).
 #![tactic(auto)]
 
-mod answer_text;
 mod answered;
 mod answering;
 mod dialog;
@@ -28,6 +27,7 @@ mod signalling;
 #[cfg(test)]
 mod tests;
 mod writing;
+mod writing_back;
 
 pub use answering::answer;
 pub use dialog::Dialog;

@@ -210,7 +210,8 @@ pub(crate) fn widest_len(
     sdp: &Sdp,
 ) -> Result<usize, OutOfMemory>
     requires { last.now.count ≤ 8 }
-    ensures { IfOk result (λ len. len ≡ widest_len interface last.now sdp.now) }
+    ensures len { IfOk result (λ len. len ≡ widest_len interface last.now sdp.now) }
+    ensures small { IfOk result (λ len. len < 2 ^ 40) }
 {
     let mut edit = reserved_edit(alloc, interface, &last.options, last.count)?;
     push_widest(&mut edit.sections, interface, last);

@@ -1,4 +1,4 @@
-use Rattle.std.proofs.Common.{◌≡◌, ◌<◌, refl, subst, arith}
+use Rattle.std.proofs.Common.{refl, subst, arith}
 use Rattle.sdp_edit.specs.Widths.{IsSectionWithin}
 use Rattle.offer_answer.specs.Writing.{widest_section}
 use Rattle.offer_answer.specs.declared.last_offer.MadeSection.{MadeSection}

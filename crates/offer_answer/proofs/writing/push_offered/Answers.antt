@@ -1,9 +1,9 @@
-use Rattle.std.proofs.Common.{◌≡◌, ◌<◌, ◌≤◌, ℕ, List, ◌∙◌, subst, below_more, arith}
+use Rattle.std.proofs.Common.{ℕ, ◌∙◌, subst, below_more, arith}
 use Rattle.sdp_edit.specs.Editing.{KeysHaveTags}
 use Rattle.sdp_edit.specs.Widths.{IsSectionWithin}
 use Rattle.sdp_edit.specs.declared.edits.SectionEdit.{SectionEdit}
 use Rattle.offer_answer.specs.Writing.{section_written, widest_at}
-use Rattle.offer_answer.proofs.Written.{map-pushed, map-end, tags-all, within-all}
+use Rattle.offer_answer.proofs.Written.{map-pushed, tags-all, within-all}
 use Rattle.offer_answer.proofs.writing.push_offered.Goals as goal
 
 pub loop-index-preserved : goal.loop-index-preserved

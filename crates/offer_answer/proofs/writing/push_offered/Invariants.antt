@@ -12,5 +12,5 @@ invariant-loop-index l = record {
       ≡ l.initial.sections.list ++ sections_written l.interface l.next;
   room : l.next.last.count ≤ l.sections.spare + l.index;
   within : (k : ℕ) → k < l.index → IsSectionWithin (section_written l.interface l.next k) (widest_at l.interface l.next.last k);
-  tags : (k : ℕ) → k < l.index → KeysHaveTags (section_written l.interface l.next k).crypto
+  tags : (k : ℕ) → k < l.index → KeysHaveTags (section_written l.interface l.next k).crypto;
 }

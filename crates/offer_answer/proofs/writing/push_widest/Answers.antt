@@ -1,8 +1,8 @@
-use Rattle.std.proofs.Common.{◌≡◌, ◌<◌, ◌≤◌, ℕ, List, ◌∙◌, subst, below_more, arith}
+use Rattle.std.proofs.Common.{ℕ, ◌∙◌, subst, below_more, arith}
 use Rattle.sdp_edit.specs.Editing.{KeysHaveTags}
 use Rattle.sdp_edit.specs.declared.edits.SectionEdit.{SectionEdit}
 use Rattle.offer_answer.specs.Writing.{widest_at}
-use Rattle.offer_answer.proofs.Written.{map-pushed, map-end, tags-all}
+use Rattle.offer_answer.proofs.Written.{map-pushed, tags-all}
 use Rattle.offer_answer.proofs.writing.push_widest.Goals as goal
 
 pub loop-index-preserved : goal.loop-index-preserved

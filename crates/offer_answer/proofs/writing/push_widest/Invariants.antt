@@ -10,5 +10,5 @@ invariant-loop-index l = record {
   list : l.sections.list ++ map (widest_at l.interface l.last) (numbers l.index (l.last.count - l.index))
       ≡ l.initial.sections.list ++ widest_sections l.interface l.last;
   room : l.last.count ≤ l.sections.spare + l.index;
-  tags : (k : ℕ) → k < l.index → KeysHaveTags (widest_at l.interface l.last k).crypto
+  tags : (k : ℕ) → k < l.index → KeysHaveTags (widest_at l.interface l.last k).crypto;
 }

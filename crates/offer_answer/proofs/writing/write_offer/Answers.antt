@@ -25,7 +25,7 @@ fits lines edit sections interface next r e within =
 pub edit_into-requires-clause-room : goal.edit_into-requires-clause-room
 edit_into-requires-clause-room c =
     let short = fits c.args.sdp.now c.args.edit.now c.push_offered.new.sections c.args.interface c.args.next.now c.requires.reserved
-        c.push_offered.ensures.sections c.push_offered.ensures.within in
+    c.push_offered.ensures.sections c.push_offered.ensures.within in
     omega (arith, short, c.requires.room)
 
 pub returns-clause-text : goal.returns-clause-text
@@ -39,5 +39,5 @@ returns-clause-text c = λ config rounds ask ports keys f i l.
 pub returns-clause-within : goal.returns-clause-within
 returns-clause-within c =
     let short = fits c.args.sdp.now c.args.edit.now c.push_offered.new.sections c.args.interface c.args.next.now c.requires.reserved
-        c.push_offered.ensures.sections c.push_offered.ensures.within in
+    c.push_offered.ensures.sections c.push_offered.ensures.within in
     omega (arith, short, ap length c.edit_into.ensures.list, length-append c.args.out.now.list (edited c.args.sdp.now (filled c.args.edit.now c.push_offered.new.sections)))

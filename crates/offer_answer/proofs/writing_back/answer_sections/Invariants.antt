@@ -1,4 +1,4 @@
-use Rattle.std.proofs.Common.{◌≡◌, ℕ, ◌+◌, ◌-◌, ◌≤◌, ◌++◌, List, length, Some, map}
+use Rattle.std.proofs.Common.{◌≡◌, ◌+◌, ◌-◌, ◌≤◌, ◌++◌, List, length, Some, map}
 use Rattle.histories.specs.Words.{numbers}
 use Rattle.sdp_text.specs.Lines.{lines_of}
 use Rattle.sdp_text.specs.Reading.{sections_in}
@@ -10,7 +10,7 @@ use Rattle.offer_answer.specs.Texts.{host_of_ip, answer_section}
 use Rattle.offer_answer.specs.Plan.{OfferHeard}
 use Rattle.offer_answer.specs.Dialogs.{DialogFor}
 use Rattle.offer_answer.specs.LastOffers.{LastFor}
-use Rattle.offer_answer.proofs.answer_text.answer_sections.Given as goal
+use Rattle.offer_answer.proofs.writing_back.answer_sections.Given as goal
 
 -- the sections, with those that are left, are all
 abbrev pub invariant-loop-index : goal.invariant-loop-index
@@ -23,5 +23,5 @@ invariant-loop-index l = record {
       l.edit.sections.list ++ map (answer_section l.fn.config rounds offer ask) (numbers l.index (section_count ask.sdp - l.index))
       ≡ map (answer_section l.fn.config rounds offer ask) (all_sections ask.sdp);
   room : length (sections_in l.fn.sdp) ≤ l.edit.sections.spare + l.index;
-  tags : HaveTags l.edit.sections.list
+  tags : HaveTags l.edit.sections.list;
 }

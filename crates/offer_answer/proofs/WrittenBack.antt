@@ -1,29 +1,27 @@
 -- What an answer writes, from what a dialog keeps.
-use Rattle.std.proofs.Common.{◌≡◌, ℕ, zero, suc, ◌<◌, ◌≤◌, min, Bool, true, false, not, ◌&&◌, ◌⊎◌, inl, inr, List, [], ◌∷◌, length, Option, Some, None, refl, sym, ap, ◌∙◌, subst, if◌then◌else◌, map, option_map, option_and_then, unwrap_or, slice_get, slice_index_or, arith}
+use Rattle.std.proofs.Common.{◌≡◌, ℕ, ◌≤◌, min, Bool, not, ◌&&◌, inl, inr, List, [], ◌∷◌, length, Option, Some, None, refl, sym, ap, ◌∙◌, subst, if◌then◌else◌, map, option_map, option_and_then, unwrap_or, slice_get, arith}
 use Rattle.std.proofs.lemmas.Option.{slice_get_cases}
 use Rattle.relay_outside.specs.declared.settings.Config.{Config}
-use Rattle.relay_outside.specs.declared.address.Ip.{Ip}
 use Rattle.sdes_lines.specs.CryptoLine.{IsTag}
 use Rattle.sdes_lines.specs.declared.crypto_line.CryptoLine.{CryptoLine}
 use Rattle.sdp_text.specs.Lines.{lines_of}
 use Rattle.sdp_text.specs.Reading.{sections_in}
 use Rattle.sdp_text.specs.declared.section.Section.{Section}
 use Rattle.sdp_edit.specs.Choosing.{section_lines, IsFirstOf, IsAny}
-use Rattle.sdp_edit.specs.declared.edits.SectionEdit.{SectionEdit}
 use Rattle.sdp_edit.specs.declared.edits.Edit.{Edit}
 use Rattle.sdp_edit.specs.Editing.{edited}
 use Rattle.ng_command.specs.declared.command.Options.{Options}
 use Rattle.port_pool.specs.declared.holder.Side.{Side}
 use Rattle.offer_answer.specs.Rounds.{Round, OfferAsk, AnswerAsk}
 use Rattle.offer_answer.specs.Sides.{MadeOffer, last_offer, maker, offered_sdp}
-use Rattle.offer_answer.specs.Sections.{no_section, section_in, section_count, is_active, is_active_in, has_pairs, all_sections}
+use Rattle.offer_answer.specs.Sections.{no_section, section_in, section_count, is_active, is_active_in, all_sections}
 use Rattle.offer_answer.specs.Profiles.{is_srtp}
-use Rattle.offer_answer.specs.Keys.{no_lines, chosen_in, leg_key, line_with}
+use Rattle.offer_answer.specs.Keys.{no_lines, chosen_in, line_with}
 use Rattle.offer_answer.specs.Signals.{is_rejected_by}
 use Rattle.offer_answer.specs.Texts.{host_of_ip, answering_line, answered_port, answered_lines, answer_section, answer_edit}
 use Rattle.offer_answer.specs.Plan.{OfferHeard, answer_text}
 use Rattle.offer_answer.specs.Dialogs.{LegFor, SectionFor, key_for, leg_at, drawn_as}
-use Rattle.offer_answer.specs.LastOffers.{MadeFor, LastFor}
+use Rattle.offer_answer.specs.LastOffers.{MadeFor}
 use Rattle.offer_answer.specs.Writing.{greatest_tag, line_back}
 use Rattle.offer_answer.specs.declared.leg.DrawnKey.{DrawnKey}
 use Rattle.offer_answer.specs.declared.leg.Leg.{Leg}
@@ -122,7 +120,7 @@ port-back config rounds offer ask section leg r l e =
 pub section-back : (config : Config) (rounds : List Round) (offer : MadeOffer) (ask : AnswerAsk) (section : ℕ) (made : MadeSection) (kept : DialogSection) (side : Side) (r : Bool) →
     MadeFor offer section made → SectionFor config rounds section kept → side ≡ maker offer → OfferHeard offer.ask → r ≡ is_rejected_by rounds ask section →
     section-of (if r then 0 else (leg_at kept side).port) made.section.proto (host_of_ip config.interface)
-        (if not r && is_srtp made.section.proto then option_and_then (line_back (leg_at kept side)) made.line ∷ None ∷ [] else no_lines)
+    (if not r && is_srtp made.section.proto then option_and_then (line_back (leg_at kept side)) made.line ∷ None ∷ [] else no_lines)
     ≡ answer_section config rounds offer ask section
 section-back config rounds offer ask section made kept side r m s e heard rejected =
     let leg : LegFor config rounds section (maker offer) (leg_at kept side) = subst (λ x. LegFor config rounds section (maker offer) (leg_at kept x)) (sym e) (s.legs_are (maker offer)) in

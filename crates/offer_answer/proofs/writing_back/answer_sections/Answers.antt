@@ -1,12 +1,12 @@
-use Rattle.std.proofs.Common.{◌≡◌, ◌<◌, ◌≤◌, ℕ, List, sym, ◌∙◌, subst, map, arith}
+use Rattle.std.proofs.Common.{◌<◌, ◌≤◌, ℕ, List, sym, ◌∙◌, subst, arith}
 use Rattle.std.proofs.lemmas.List.Elements.{All-push}
 use Rattle.sdp_edit.specs.declared.edits.SectionEdit.{SectionEdit}
 use Rattle.sdp_edit.specs.Editing.{KeysHaveTags, HaveTags}
-use Rattle.offer_answer.specs.Sections.{section_count, all_sections}
+use Rattle.offer_answer.specs.Sections.{section_count}
 use Rattle.offer_answer.specs.Texts.{answer_section}
 use Rattle.offer_answer.proofs.Written.{map-pushed, map-end}
-use Rattle.offer_answer.proofs.Replied.{count-is, answer-written}
-use Rattle.offer_answer.proofs.answer_text.answer_sections.Goals as goal
+use Rattle.offer_answer.proofs.WrittenBack.{count-is, answer-written}
+use Rattle.offer_answer.proofs.writing_back.answer_sections.Goals as goal
 
 pub loop-index-preserved : goal.loop-index-preserved
 loop-index-preserved c =
