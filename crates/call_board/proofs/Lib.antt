@@ -26,3 +26,4 @@ pub mod Plans
 pub mod Leased
 pub mod Given
 pub mod Ended
+pub mod Applies

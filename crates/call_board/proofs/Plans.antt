@@ -10,9 +10,10 @@ use Rattle.ng_reply.specs.declared.code.ErrorCode.{ErrorCode}
 use Rattle.ng_reply.specs.declared.code.ErrorCode.TheVariants.{E8, E10, E11, E12, E13, E14}
 use Rattle.histories.specs.Words.{In, has}
 use Rattle.histories.proofs.Lists.{it_has, has_it}
-use Rattle.offer_answer.specs.Rounds.{Round, OfferAsk, Demand}
+use Rattle.offer_answer.specs.Rounds.{Round, OfferAsk, AnswerAsk, Demand}
 use Rattle.offer_answer.specs.Plan as plan
-use Rattle.offer_answer.specs.Offering.{PlanFor, pair_count, leg_asked, OfferAnswered}
+use Rattle.offer_answer.specs.Offering.{PlanFor, pair_count, leg_asked}
+use Rattle.offer_answer.specs.Plans.{OfferAnswered, AnswerAnswered}
 use Rattle.offer_answer.specs.declared.plan.Plan.{Plan}
 use Rattle.offer_answer.specs.declared.fault.OaFault.{OaFault}
 use Rattle.offer_answer.specs.declared.fault.OaFault.TheVariants as oa
@@ -26,7 +27,7 @@ use Rattle.call_board.proofs.Lowest.{lowest_is, lowest_bound}
 use Rattle.call_board.proofs.Shown.{calls_count}
 
 -- a fault of the plan is the answer
-pub refused_by : (config : Config) (v : View) (begins : Bool) (rounds : List Round) (ask : OfferAsk) (fault : OaFault) → OfferAnswered rounds ask (Err fault) →
+pub refused_by : (config : Config) (v : View) (begins : Bool) (rounds : List Round) (ask : OfferAsk) (fault : OaFault) → OfferAnswered config rounds ask (Err fault) →
     board_fault fault ≢ faults.OutOfMemory → refusal config v begins rounds ask ≡ code_of (board_fault fault)
 refused_by config v begins rounds ask oa.UnknownTag answered n =
     ap (λ (o : Option ErrorCode). fault_or o (shortage config v begins rounds ask)) (answered (λ e. let f : oa.UnknownTag ≡ oa.OutOfMemory = e in cc))
@@ -147,3 +148,12 @@ lowest_result taken cells max n most result count are room is_n is_most is_resul
     let there = unwrapped (nat_lt (position_or_len not taken) (length taken)) (position_or_len not taken) (is_below (position_or_len not taken) (length taken) inside) in
     let same : n ≡ position_or_len not taken = is_n ∙ there in
     omega (arith, at, bound, count, room, same, is_most, is_result, small)
+
+-- a fault of an answer's plan is the answer
+pub answer_refused_by : (rounds : List Round) (ask : AnswerAsk) (lines : List (List ℕ)) (config : Config) (fault : OaFault) → AnswerAnswered config rounds ask lines (Err fault) →
+    board_fault fault ≢ faults.OutOfMemory → plan.answer_fault rounds ask ≡ code_of (board_fault fault)
+answer_refused_by rounds ask lines config oa.UnknownTag answered n = answered (λ e. let f : oa.UnknownTag ≡ oa.OutOfMemory = e in cc)
+answer_refused_by rounds ask lines config oa.OtherSide answered n = answered (λ e. let f : oa.OtherSide ≡ oa.OutOfMemory = e in cc)
+answer_refused_by rounds ask lines config oa.MediaCount answered n = answered (λ e. let f : oa.MediaCount ≡ oa.OutOfMemory = e in cc)
+answer_refused_by rounds ask lines config oa.NoCrypto answered n = answered (λ e. let f : oa.NoCrypto ≡ oa.OutOfMemory = e in cc)
+answer_refused_by rounds ask lines config oa.OutOfMemory answered n = absurd (n refl)

@@ -10,3 +10,4 @@ pub mod Fits
 pub mod Views
 pub mod Boards
 pub mod Planned
+pub mod Applied

@@ -5,10 +5,13 @@ use Rattle.relay_outside.specs.declared.settings.Config.{Config}
 use Rattle.ng_reply.specs.declared.code.ErrorCode.{ErrorCode}
 use Rattle.ng_reply.specs.declared.code.ErrorCode.TheVariants.{E8, E9, E10, E11, E12, E13, E14}
 use Rattle.port_pool.specs.LeaseLists.{LeaseList}
-use Rattle.offer_answer.specs.Rounds.{Round, OfferAsk}
+use Rattle.offer_answer.specs.Rounds.{Round, OfferAsk, AnswerAsk}
 use Rattle.offer_answer.specs.Plan as plan
 use Rattle.offer_answer.specs.Dialogs.{DialogFor, Awaits}
-use Rattle.offer_answer.specs.Offering.{PlanFor, pair_count}
+use Rattle.offer_answer.specs.Offering.{pair_count}
+use Rattle.offer_answer.specs.Plans.{OfferPlan, AnswerPlan}
+use Rattle.offer_answer.specs.Answering.{AsksAnswer}
+use Rattle.ng_command.specs.declared.command.AnswerIn.{AnswerIn}
 use Rattle.offer_answer.specs.declared.fault.OaFault.{OaFault}
 use Rattle.offer_answer.specs.declared.fault.OaFault.TheVariants as oa
 use Rattle.call_board.specs.declared.fault.BoardFault.{BoardFault}
@@ -90,7 +93,7 @@ RoomFor count (Some leases) = (leases.list ≡ []) × (leases.room ≡ count)
 pub record OfferPlanFor (config : Config) (t : Target) (ask : OfferAsk) (p : BoardPlan) : Type 0 where
   pub call_is : p.call ≡ t.of.number
   pub cell_is : p.cell ≡ t.of.cell
-  pub plan_for : PlanFor p.plan (plan.demand t.rounds ask)
+  pub plan_for : OfferPlan config t.rounds ask p.plan
   pub begins : BeginsFor config t ask.from_tag p.begun
 
 -- what an offer is answered: its first fault or shortage, or a plan, or that memory was refused
@@ -114,3 +117,18 @@ pub record HasRoom (board : Board) (p : BoardPlan) : Type 0 where
 -- the plan once its leases were handed out
 abbrev pub leased : BoardPlan → BoardPlan
 leased p = record { plan = p.plan; call = p.call; cell = p.cell; begun = p.begun; leases = None }
+
+-- the plan of an answer to a live call's last offer
+pub record AnswerPlanFor (config : Config) (c : CallView) (ask : AnswerAsk) (lines : List (List ℕ)) (p : BoardPlan) : Type 0 where
+  pub call_is : p.call ≡ c.of.number
+  pub cell_is : p.cell ≡ c.of.cell
+  pub plan_for : AnswerPlan config c.rounds ask lines p.plan
+  pub begins_none : p.begun ≡ None
+
+-- what an answer is answered: that no live call has its call-id; or its first fault or a plan, or that memory was refused
+abbrev pub PlansAnswer : Config → AnswerIn → List (List ℕ) → Option CallView → Result BoardPlan BoardFault → Type 0
+PlansAnswer config input lines None result = result ≡ Err faults.UnknownCall
+PlansAnswer config input lines (Some c) (Err fault) =
+    (ask : AnswerAsk) → AsksAnswer input lines c.rounds ask → fault ≢ faults.OutOfMemory → plan.answer_fault c.rounds ask ≡ code_of fault
+PlansAnswer config input lines (Some c) (Ok p) =
+    (ask : AnswerAsk) → AsksAnswer input lines c.rounds ask → (plan.answer_fault c.rounds ask ≡ None) × AnswerPlanFor config c ask lines p

@@ -5,6 +5,8 @@
 //! datagram is answered and does.
 #![tactic(auto)]
 
+mod answering;
+mod applying;
 mod board;
 mod board_plan;
 mod ending;

@@ -4,6 +4,7 @@ ghost use Rattle.std.specs.Prelude.{◌≡◌, ◌≢◌, ℕ, [], List, length,
 ghost use Rattle.std.specs.Str.{bytes_eq};
 ghost use Rattle.relay_outside.specs.declared.settings.Config.{Config};
 ghost use Rattle.offer_answer.specs.Rounds.{Round, OfferAsk};
+ghost use Rattle.offer_answer.specs.Widths.{WritesFrom};
 ghost use Rattle.offer_answer.specs.Offering.{AsksOffer, pair_count};
 ghost use Rattle.call_board.specs.Calls.{lowest_but};
 ghost use Rattle.call_board.specs.Views.{View, CallView};
@@ -98,7 +99,7 @@ impl Board {
     }
 
     /// The place of the live call with this call-id.
-    fn place_of_call(&self, id: &Text) -> Option<usize>
+    pub(crate) fn place_of_call(&self, id: &Text) -> Option<usize>
         ensures place { result ≡ position (λ call. bytes_eq call.id.list id.now.list) self.now.calls.items }
         ensures within { IfSome result (λ at. at < length self.now.calls.items) }
     {
@@ -118,6 +119,7 @@ impl Board {
         ensures plans { (config : Config) (v : View) (ask : OfferAsk) → Shows config self.now v → AsksOffer input.now sdp.now ask →
             PlansOffer config v input.now.call_id.list ask result }
         ensures room { IfOk result (HasRoom self.now) }
+        ensures writes { IfOk result (λ p. WritesFrom p.plan sdp.now) }
     {
         let call = &self.calls[place];
         let plan = match offer(alloc, &self.config, &call.dialog, input, sdp) {
@@ -150,6 +152,7 @@ impl Board {
         ensures plans { (config : Config) (v : View) (ask : OfferAsk) → Shows config self.old v → AsksOffer input.now sdp.now ask →
             PlansFor config v (target_by v input.now.call_id.list None) ask result }
         ensures room { IfOk result (HasRoom self.new) }
+        ensures writes { IfOk result (λ p. WritesFrom p.plan sdp.now) }
     {
         let Ok(begun) = new_call(alloc, &input.call_id, &input.from_tag) else {
             return Err(BoardFault::OutOfMemory);
@@ -194,6 +197,7 @@ impl Board {
         ensures plans { (config : Config) (v : View) (ask : OfferAsk) → Shows config self.old v → AsksOffer input.now sdp.now ask →
             PlansOffer config v input.now.call_id.list ask result }
         ensures room { IfOk result (HasRoom self.new) }
+        ensures writes { IfOk result (λ p. WritesFrom p.plan sdp.now) }
     {
         match self.place_of_call(&input.call_id) {
             Some(place) => self.plan_later(alloc, place, input, sdp),

@@ -57,11 +57,12 @@ same-len interface old new lines s few =
 -- the plan writes the description as before
 pub kept-writes : (plan : Plan) (lines : List (List ℕ)) (old new : Next) → KeepsOffer old new → WritesNext plan lines old → WritesNext plan lines new
 kept-writes plan lines (Offer o) (Offer n) k w =
-    let few = w.0 in
-    (subst (λ count. count ≤ 8) (sym k.count_is) few,
-    subst (λ (options : Options). IsReserved plan.interface options n.last.count plan.edit) (sym k.options_are)
-    (subst (λ count. IsReserved plan.interface o.last.options count plan.edit) (sym k.count_is) w.1),
-    subst (λ len. len ≤ plan.reply_len) (sym (same-len plan.interface o.last n.last lines k few)) w.2)
+    let few = w.0 in (
+      subst (λ count. count ≤ 8) (sym k.count_is) few,
+      subst (λ (options : Options). IsReserved plan.interface options n.last.count plan.edit) (sym k.options_are)
+          (subst (λ count. IsReserved plan.interface o.last.options count plan.edit) (sym k.count_is) w.1),
+      subst (λ len. len ≤ plan.reply_len) (sym (same-len plan.interface o.last n.last lines k few)) w.2,
+    )
 kept-writes plan lines (Answer o) (Answer n) k w = w
 kept-writes plan lines (Offer o) (Answer n) k w = elim k [ ]
 kept-writes plan lines (Answer o) (Offer n) k w = elim k [ ]

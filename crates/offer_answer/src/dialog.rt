@@ -16,6 +16,7 @@ use crate::last_offer::{LastOffer, OfferedNext};
 use crate::leg::DialogSection;
 use crate::next_answer::AnsweredNext;
 use crate::plan::{Next, Plan};
+use crate::tag::copied;
 use ng_bencode::Text;
 use port_pool::Side;
 use relay_outside::OutOfMemory;
@@ -54,12 +55,7 @@ impl Dialog {
         ensures stands { IfOk result (λ dialog. (config : Config) → DialogFor config dialog []) }
         ensures awaits { IfOk result (λ dialog. Awaits dialog from_tag.now.list) }
     {
-        let tag = from_tag.as_slice();
-        let mut first_tag = Text::new(alloc);
-        if first_tag.reserve(tag.len()).is_err() {
-            return Err(OutOfMemory);
-        }
-        first_tag.extend(tag);
+        let first_tag = copied(alloc, from_tag)?;
         Ok(Dialog {
             first_tag,
             is_begun: false,

@@ -24,6 +24,7 @@ mod plan;
 mod planning;
 mod rejecting;
 mod signalling;
+mod tag;
 #[cfg(test)]
 mod tests;
 mod writing;

@@ -15,6 +15,7 @@ use crate::dialog::Dialog;
 use crate::last_offer::LastOffer;
 use crate::leg::{DialogSection, DrawnKey, Leg};
 use crate::rejecting::is_rejected;
+use crate::tag::copied;
 use ng_bencode::Text;
 use ng_command::AnswerIn;
 use port_pool::Side;
@@ -115,17 +116,6 @@ fn next_sections(dialog: &Dialog, last: &LastOffer, sdp: &Sdp) -> [DialogSection
     ]
 }
 
-fn copy_of(alloc: Global, tag: &[u8]) -> Result<Text, OutOfMemory>
-    ensures { IfOk result (λ copy. copy.list ≡ tag.now) }
-{
-    let mut copy = Text::new(alloc);
-    if copy.reserve(tag.len()).is_err() {
-        return Err(OutOfMemory);
-    }
-    copy.extend(tag);
-    Ok(copy)
-}
-
 /// What the dialog becomes by an answer to its last offer.
 pub(crate) fn next_of_answer(
     alloc: Global,
@@ -137,7 +127,7 @@ pub(crate) fn next_of_answer(
     ensures { (config : Config) (rounds : List Round) (offer : MadeOffer) (ask : AnswerAsk) → DialogFor config dialog.now rounds →
         IsLast rounds offer last.now → AsksAnswer input.now sdp.now rounds ask → IfOk result (AnsweredFor config rounds ask) }
 {
-    let to_tag = copy_of(alloc, input.to_tag.as_slice())?;
+    let to_tag = copied(alloc, &input.to_tag)?;
     Ok(AnsweredNext {
         to_tag,
         count: last.count,

@@ -15,7 +15,7 @@ use crate::dialog::{Dialog, MOST_SECTIONS};
 use crate::last_offer::{LastOffer, MadeSection, OfferedNext};
 use crate::leg::{DialogSection, Leg};
 use crate::offered::{OfferedSection, is_active, offered_section, other_side, written_over};
-use ng_bencode::Text;
+use crate::tag::copied;
 use ng_command::OfferIn;
 use port_pool::Side;
 use relay_outside::OutOfMemory;
@@ -124,19 +124,6 @@ fn made_sections(
         sections[index] = offered_section(dialog, sdp, index).made(transport, maker);
     }
     sections
-}
-
-/// A tag of its own, the same.
-pub(crate) fn copied(alloc: Global, tag: &Text) -> Result<Text, OutOfMemory>
-    ensures { IfOk result (λ copy. copy.list ≡ tag.now.list) }
-{
-    let bytes = tag.as_slice();
-    let mut copy = Text::new(alloc);
-    if copy.reserve(bytes.len()).is_err() {
-        return Err(OutOfMemory);
-    }
-    copy.extend(bytes);
-    Ok(copy)
 }
 
 /// What the dialog becomes by an offer that comes from `side`, without the offer's new ports and keys.

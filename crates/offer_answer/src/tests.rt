@@ -1,13 +1,14 @@
-//! What first offers demand, and what a second one then does.
+//! What first offers demand, and what becomes of descriptions.
 
-use crate::plan::Next;
+ghost use Rattle.offer_answer.specs.Widths.{WritesFrom};
+
 use crate::*;
 use ng_bencode::Text;
-use ng_command::{OfferIn, Options};
+use ng_command::{AnswerIn, OfferIn, Options};
 use port_pool::Side;
 use relay_outside::{Config, Flags, Ip};
-use sdes_lines::{CryptoLine, Suite};
-use sdp_text::{Proto, read};
+use sdes_lines::Suite;
+use sdp_text::{Bytes, Proto, Sdp, read};
 use std::alloc::Global;
 use std::process::Abort;
 use std::test::Fail;
@@ -161,41 +162,122 @@ fn a_new_dialog_has_no_tag_and_no_profile(rt: HostRuntime) -> Result<(), Fail> {
     Ok(())
 }
 
-const KEYS: [[u8; 30]; 3] = [[1; 30], [2; 30], [3; 30]];
+const KEYS: [[u8; 30]; 2] = [[1; 30], [2; 30]];
 
-#[test]
-fn a_second_offer_leases_and_draws_nothing_again(rt: HostRuntime) -> Result<(), Fail> {
-    let alloc = rt.alloc();
-    let sdp = read(alloc, SECURE)?;
-    let input = asked(alloc, None)?;
+/// The offer of the worked examples: alice's, at 192.0.2.10.
+const ALICE: &[u8] =
+    b"v=0\r\no=alice 1 1 IN IP4 192.0.2.10\r\ns=-\r\nc=IN IP4 192.0.2.10\r\nt=0 0\r\nm=audio 6000 RTP/AVP 0 8\r\na=rtpmap:0 PCMU/8000\r\na=sendrecv\r\n";
+
+/// What bob gets of it, with the origin and the session's address replaced.
+const ALICE_OFFERED: &[u8] =
+    b"v=0\r\no=alice 1 1 IN IP4 203.0.113.1\r\ns=-\r\nc=IN IP4 203.0.113.1\r\nt=0 0\r\nm=audio 30000 RTP/AVP 0 8\r\nc=IN IP4 203.0.113.1\r\na=rtpmap:0 PCMU/8000\r\na=sendrecv\r\n";
+
+/// What bob gets of it where SRTP is asked for.
+const ALICE_SECURED: &[u8] =
+    b"v=0\r\no=alice 1 1 IN IP4 203.0.113.1\r\ns=-\r\nc=IN IP4 203.0.113.1\r\nt=0 0\r\nm=audio 30000 RTP/SAVP 0 8\r\nc=IN IP4 203.0.113.1\r\na=rtpmap:0 PCMU/8000\r\na=sendrecv\r\na=crypto:1 AES_CM_128_HMAC_SHA1_80 inline:AQEBAQEBAQEBAQEBAQEBAQEBAQEBAQEBAQEBAQEB\r\na=crypto:2 AES_CM_128_HMAC_SHA1_32 inline:AgICAgICAgICAgICAgICAgICAgICAgICAgICAgIC\r\n";
+
+/// What bob gets of it when it is offered again: the key in force alone.
+const ALICE_AGAIN: &[u8] =
+    b"v=0\r\no=alice 1 1 IN IP4 203.0.113.1\r\ns=-\r\nc=IN IP4 203.0.113.1\r\nt=0 0\r\nm=audio 30000 RTP/SAVP 0 8\r\nc=IN IP4 203.0.113.1\r\na=rtpmap:0 PCMU/8000\r\na=sendrecv\r\na=crypto:1 AES_CM_128_HMAC_SHA1_80 inline:AQEBAQEBAQEBAQEBAQEBAQEBAQEBAQEBAQEBAQEB\r\n";
+
+const BOB: &[u8] =
+    b"v=0\r\no=bob 2 2 IN IP4 198.51.100.20\r\ns=-\r\nc=IN IP4 198.51.100.20\r\nt=0 0\r\nm=audio 7000 RTP/AVP 0\r\n";
+
+const BOB_SECURED: &[u8] =
+    b"v=0\r\no=bob 2 2 IN IP4 198.51.100.20\r\ns=-\r\nc=IN IP4 198.51.100.20\r\nt=0 0\r\nm=audio 7000 RTP/SAVP 0\r\na=crypto:1 AES_CM_128_HMAC_SHA1_80 inline:4fl6DT4Bi+DWT6MsBt5BOQ7Gda1Jiv7rtpYLOqvm\r\n";
+
+/// What alice gets of bob's answers, plain or not: she offered no SRTP.
+const BOB_ANSWERED: &[u8] =
+    b"v=0\r\no=bob 2 2 IN IP4 203.0.113.1\r\ns=-\r\nc=IN IP4 203.0.113.1\r\nt=0 0\r\nm=audio 30002 RTP/AVP 0\r\nc=IN IP4 203.0.113.1\r\n";
+
+fn replied(alloc: Global) -> Result<AnswerIn, Fail> {
+    let OfferIn {
+        call_id,
+        from_tag,
+        sdp,
+        options,
+    } = asked(alloc, None)?;
+    Ok(AnswerIn {
+        call_id,
+        from_tag,
+        to_tag: text(alloc, b"bob")?,
+        sdp,
+        options,
+    })
+}
+
+/// What the plan writes, with these ports and keys.
+fn written(
+    rt: &impl Abort,
+    alloc: Global,
+    plan: &mut Plan,
+    sdp: &Sdp,
+    ports: &[u16],
+    keys: &[[u8; 30]],
+) -> Result<Bytes, Fail>
+    requires { WritesFrom plan.old sdp.now }
+{
+    assert!(rt; plan.pairs() == ports.len() && plan.keys() == keys.len());
+    let mut out = Bytes::new(alloc);
+    out.reserve(plan.reply_len())?;
+    plan.fill(sdp, ports, 0, keys, &mut out);
+    Ok(out)
+}
+
+/// An offer by alice that asks for this protocol, what bob gets of it, his answer, and what alice gets.
+fn check_call(
+    rt: &impl Abort,
+    alloc: Global,
+    transport: Option<Proto>,
+    keys: &[[u8; 30]],
+    texts: [&[u8]; 3],
+) -> Result<Dialog, Fail> {
+    let input = asked(alloc, transport)?;
+    let sdp = read(alloc, ALICE)?;
     let mut dialog = Dialog::new(alloc, &input.from_tag)?;
     let mut plan = offer(alloc, &CONFIG, &dialog, &input, &sdp)?;
-    assert_eq!(rt; plan.pairs(), 2);
-    assert_eq!(rt; plan.keys(), 3);
-    plan.put(&[30_000, 30_002], 5, &KEYS);
-    let Plan {
-        next: Next::Offer(next),
-        legs: _,
-        key_places: _,
-        dropped: _,
-    } = plan;
-    let lines = next.last.sections[1].lines;
-    let first = CryptoLine {
-        tag: 1,
-        suite: Suite::Tag80,
-        key: [2; 30],
-    };
-    let second = CryptoLine {
-        tag: 2,
-        suite: Suite::Tag32,
-        key: [3; 30],
-    };
-    assert_eq!(rt; lines, [Some(first), Some(second)]);
-    dialog.apply_offer(next);
-    assert_eq!(rt; dialog.tag(Side::A), Some(b"alice".as_slice()));
-    assert_eq!(rt; dialog.section(1).leg(Side::B).port, 30_000);
-    assert_eq!(rt; dialog.section(1).leg(Side::A).port, 30_002);
-    let again = offer(alloc, &CONFIG, &dialog, &input, &sdp)?;
-    assert!(rt; again.pairs() == 0 && again.keys() == 0 && !again.drops(1));
+    let offered = written(rt, alloc, &mut plan, &sdp, &[30_000, 30_002], keys)?;
+    assert_eq!(rt; offered.as_slice(), texts[0]);
+    dialog.apply(plan);
+    let sdp = read(alloc, texts[1])?;
+    let mut plan = answer(alloc, &CONFIG, &dialog, &replied(alloc)?, &sdp)?;
+    let answered = written(rt, alloc, &mut plan, &sdp, &[], &[])?;
+    assert_eq!(rt; answered.as_slice(), texts[2]);
+    assert_eq!(rt; plan.signal().len(), 1);
+    dialog.apply(plan);
+    assert_eq!(rt; dialog.tag(Side::B), Some(b"bob".as_slice()));
+    Ok(dialog)
+}
+
+#[test]
+fn a_call_is_offered_and_answered(rt: HostRuntime) -> Result<(), Fail> {
+    let dialog = check_call(
+        &rt,
+        rt.alloc(),
+        None,
+        &[],
+        [ALICE_OFFERED, BOB, BOB_ANSWERED],
+    )?;
+    assert_eq!(rt; dialog.protocol(0, Side::B), Some(Proto::Avp));
+    Ok(())
+}
+
+#[test]
+fn a_later_offer_carries_the_key_in_force_alone(rt: HostRuntime) -> Result<(), Fail> {
+    let alloc = rt.alloc();
+    let dialog = check_call(
+        &rt,
+        alloc,
+        Some(Proto::Savp),
+        &KEYS,
+        [ALICE_SECURED, BOB_SECURED, BOB_ANSWERED],
+    )?;
+    assert_eq!(rt; dialog.protocol(0, Side::A), Some(Proto::Avp));
+    assert_eq!(rt; dialog.protocol(0, Side::B), Some(Proto::Savp));
+    let sdp = read(alloc, ALICE)?;
+    let mut plan = offer(alloc, &CONFIG, &dialog, &asked(alloc, None)?, &sdp)?;
+    assert!(rt; plan.pairs() == 0 && plan.keys() == 0 && !plan.drops(0));
+    let again = written(&rt, alloc, &mut plan, &sdp, &[], &[])?;
+    assert_eq!(rt; again.as_slice(), ALICE_AGAIN);
     Ok(())
 }

@@ -2,6 +2,7 @@ use Rattle.std.proofs.Common.{inl, false, refl, sym, subst, ap, ◌∙◌, Optio
 use Rattle.std.specs.Str.{bytes_eq}
 use Rattle.relay_outside.specs.declared.settings.Config.{Config}
 use Rattle.offer_answer.specs.Dialogs.{DialogFor}
+use Rattle.offer_answer.specs.Plans.{OfferPlan}
 use Rattle.call_board.specs.declared.fault.BoardFault.TheVariants.{NoPair}
 use Rattle.call_board.specs.declared.live_call.LiveCall.{LiveCall}
 use Rattle.call_board.specs.Views.{CallView, is_of_id}
@@ -18,7 +19,7 @@ returns-in-Err-clause-plans c = λ config v ask s asks.
     (call_at_place config (λ (call : LiveCall). bytes_eq call.id.list id) (is_of_id id) c.args.self.now.calls.items v.calls c.args.place call (asks_id config id) s.calls_for c.requires.found) in
     let dialog = subst (λ (k : Config). DialogFor k call.dialog f.of.rounds) (sym s.config_is) f.call_for.dialog_for in
     subst (λ (o : Option CallView). PlansFor config v (target_by v id o) ask (Err c.fault_by.result)) (sym f.found)
-    (λ n. refused_by config v false f.of.rounds ask c.in-Err.fault (c.in-Err.ensures f.of.rounds ask dialog asks) (λ e. n (c.fault_by.ensures ∙ e)) ∙ ap code_of (sym c.fault_by.ensures))
+    (λ n. refused_by config v false f.of.rounds ask c.in-Err.fault (c.in-Err.ensures.answered f.of.rounds ask dialog asks) (λ e. n (c.fault_by.ensures ∙ e)) ∙ ap code_of (sym c.fault_by.ensures))
 
 pub returns-then-lacks_pairs-clause-plans : goal.returns-then-lacks_pairs-clause-plans
 returns-then-lacks_pairs-clause-plans c = λ config v ask s asks.
@@ -28,7 +29,8 @@ returns-then-lacks_pairs-clause-plans c = λ config v ask s asks.
     (call_at_place config (λ (call : LiveCall). bytes_eq call.id.list id) (is_of_id id) c.args.self.now.calls.items v.calls c.args.place call (asks_id config id) s.calls_for c.requires.found) in
     let dialog = subst (λ (k : Config). DialogFor k call.dialog f.of.rounds) (sym s.config_is) f.call_for.dialog_for in
     subst (λ (o : Option CallView). PlansFor config v (target_by v id o) ask (Err NoPair)) (sym f.found)
-    (λ n. answers_short config c.args.self.now v false f.of.rounds ask c.in-Ok.plan s (c.in-Ok.ensures f.of.rounds ask dialog asks)
+    (λ n. let made = c.in-Ok.ensures.answered f.of.rounds ask dialog asks in
+    answers_short config c.args.self.now v false f.of.rounds ask c.in-Ok.plan s (made.0, made.1.demands)
     (inl refl) (sym c.lacks_pairs.ensures ∙ c.if-lacks_pairs.true))
 
 pub returns-clause-plans : goal.returns-clause-plans
@@ -38,12 +40,12 @@ returns-clause-plans c = λ config v ask s asks.
     let f = subst (λ (call : LiveCall). IsFirst config (is_of_id id) v.calls call) (sym c.index-call.ensures)
     (call_at_place config (λ (call : LiveCall). bytes_eq call.id.list id) (is_of_id id) c.args.self.now.calls.items v.calls c.args.place call (asks_id config id) s.calls_for c.requires.found) in
     let dialog = subst (λ (k : Config). DialogFor k call.dialog f.of.rounds) (sym s.config_is) f.call_for.dialog_for in
-    let made = c.in-Ok.ensures f.of.rounds ask dialog asks in
+    let made = c.in-Ok.ensures.answered f.of.rounds ask dialog asks in
     subst (λ (o : Option CallView). PlansFor config v (target_by v id o) ask
     (Ok (record { plan = c.in-Ok.plan; call = call.number; cell = call.cell; begun = None; leases = c.in-Ok-room_for.leases }))) (sym f.found)
-    (answers_none config c.args.self.now v false f.of.rounds ask c.in-Ok.plan s made (inl refl) (sym c.lacks_pairs.ensures ∙ c.if-lacks_pairs.false), record {
+    (answers_none config c.args.self.now v false f.of.rounds ask c.in-Ok.plan s (made.0, made.1.demands) (inl refl) (sym c.lacks_pairs.ensures ∙ c.if-lacks_pairs.false), record {
       call_is = f.call_for.number_is;
       cell_is = f.call_for.cell_is;
-      plan_for = made.1;
+      plan_for = subst (λ (k : Config). OfferPlan k f.of.rounds ask c.in-Ok.plan) s.config_is made.1;
       begins = refl;
     })

@@ -1,0 +1,68 @@
+//! What the board plans for an answer.
+
+ghost use Rattle.std.specs.Prelude.{◌≡◌, ◌<◌, List, Some, IfOk, position, length};
+ghost use Rattle.std.specs.Str.{bytes_eq};
+ghost use Rattle.relay_outside.specs.declared.settings.Config.{Config};
+ghost use Rattle.offer_answer.specs.Widths.{WritesFrom};
+ghost use Rattle.call_board.specs.Views.{View, call_of_id};
+ghost use Rattle.call_board.specs.Boards.{Shows};
+ghost use Rattle.call_board.specs.Planned.{PlansAnswer};
+
+use crate::board::Board;
+use crate::board_plan::BoardPlan;
+use crate::fault::BoardFault;
+use crate::planning::fault_by;
+use ng_command::AnswerIn;
+use offer_answer::answer;
+use sdp_text::Sdp;
+use std::alloc::Global;
+
+impl Board {
+    /// The plan of an answer to the last offer of the live call in this place.
+    fn plan_reply(
+        &self,
+        alloc: Global,
+        place: usize,
+        input: &AnswerIn,
+        sdp: &Sdp,
+    ) -> Result<BoardPlan, BoardFault>
+        requires within { place < length self.now.calls.items }
+        requires found { position (λ call. bytes_eq call.id.list input.now.call_id.list) self.now.calls.items ≡ Some place }
+        ensures plans { (config : Config) (v : View) → Shows config self.now v →
+            PlansAnswer config input.now sdp.now (call_of_id v input.now.call_id.list) result }
+        ensures writes { IfOk result (λ p. WritesFrom p.plan sdp.now) }
+    {
+        let call = &self.calls[place];
+        match answer(alloc, &self.config, &call.dialog, input, sdp) {
+            Ok(plan) => Ok(BoardPlan {
+                plan,
+                call: call.number,
+                cell: call.cell,
+                begun: None,
+                leases: None,
+            }),
+            Err(fault) => Err(fault_by(fault)),
+        }
+    }
+
+    /// The plan of an answer, or its first fault. It takes all memory that the answer needs of the board, and demands no pair and
+    /// no key.
+    ///
+    /// `UnknownCall`: no live call has its call-id. A plan may be let go: the board is as before.
+    pub fn plan_answer(
+        &mut self,
+        alloc: Global,
+        input: &AnswerIn,
+        sdp: &Sdp,
+    ) -> Result<BoardPlan, BoardFault>
+        ensures same { self.new ≡ self.old }
+        ensures plans { (config : Config) (v : View) → Shows config self.old v →
+            PlansAnswer config input.now sdp.now (call_of_id v input.now.call_id.list) result }
+        ensures writes { IfOk result (λ p. WritesFrom p.plan sdp.now) }
+    {
+        match self.place_of_call(&input.call_id) {
+            Some(place) => self.plan_reply(alloc, place, input, sdp),
+            None => Err(BoardFault::UnknownCall),
+        }
+    }
+}

@@ -1,0 +1,92 @@
+//! Taking in a plan.
+
+ghost use Rattle.std.specs.Prelude.{◌≡◌, ◌<◌, ◌^◌, ◌-◌, ℕ, [], ◌∷◌, true, Some, slice_set};
+ghost use Rattle.std.specs.Vec.{vec_len, vec_capacity};
+ghost use Rattle.relay_outside.specs.declared.settings.Config.{Config};
+ghost use Rattle.offer_answer.specs.Rounds.{Round};
+ghost use Rattle.offer_answer.specs.Sides.{is_begun};
+ghost use Rattle.call_board.specs.Acts.{Call};
+ghost use Rattle.call_board.specs.Views.{View, CallView, with_round, with_calls, with_new_call, goes_on, call_numbered};
+ghost use Rattle.call_board.specs.Boards.{Shows, CallFor, IsLive};
+ghost use Rattle.call_board.specs.Applied.{IsPlanOf, BeginsBy, IsNext, TakesIn, taken_in, MayApply};
+
+use crate::board::Board;
+use crate::board_plan::{BoardPlan, NewCall};
+use crate::live_call::LiveCall;
+use offer_answer::Plan;
+
+/// Marks a cell, from 1, as taken.
+fn take_cell(taken: &mut [bool], cell: u32)
+    ensures { taken.new ≡ slice_set taken.old (cell - 1) true }
+{
+    let place = cell.saturating_sub(1) as usize;
+    if place < taken.len() {
+        taken[place] = true;
+    }
+}
+
+impl LiveCall {
+    /// Takes in one more offer or answer, at the moment `now`.
+    fn go_on(&mut self, plan: Plan, now: u64)
+        ensures { (config : Config) (c : CallView) (round : Round) → CallFor config self.old c → is_begun c.rounds ≡ true → IsPlanOf config c.rounds round plan →
+            CallFor config self.new (with_round round now c) }
+    {
+        self.dialog.apply(plan);
+        self.last_moment = now;
+    }
+}
+
+impl Board {
+    /// Takes in one more offer or answer of a live call.
+    fn go_on(&mut self, plan: Plan, call: u64, now: u64)
+        requires { IsLive self.old call }
+        ensures { (config : Config) (v : View) (c : CallView) (round : Round) → Shows config self.old v → call_numbered v call ≡ Some c → is_begun c.rounds ≡ true →
+            IsPlanOf config c.rounds round plan → Shows config self.new (with_calls v (goes_on call round now v.calls)) }
+    {
+        let place = self.place(call);
+        self.calls[place].go_on(plan, now);
+    }
+
+    /// Takes in the first offer of a call.
+    fn begin(&mut self, new: NewCall, plan: Plan, call: u64, cell: u32, now: u64)
+        requires room { vec_len self.old.calls < vec_capacity self.old.calls }
+        requires few { self.old.begun < 2 ^ 63 }
+        ensures { (config : Config) (v : View) (of : Call) (round : Round) → Shows config self.old v → IsNext config v of → call ≡ of.number → cell ≡ of.cell →
+            BeginsBy config of.id round new → IsPlanOf config [] round plan →
+            Shows config self.new (with_new_call v (record { of = of; rounds = round ∷ []; first = now; last = now })) }
+    {
+        let NewCall { id, mut dialog } = new;
+        dialog.apply(plan);
+        self.calls.push_reserved(LiveCall {
+            number: call,
+            cell,
+            id,
+            dialog,
+            first_moment: now,
+            last_moment: now,
+        });
+        take_cell(self.taken.as_mut_slice(), cell);
+        self.begun += 1;
+    }
+
+    /// Takes in a plan at the moment `now`, in milliseconds: that of an offer once its pairs are leased and it is filled, that of
+    /// an answer. It takes no memory. Since the plan was made nothing changed the board but its leases, draws and kept replies,
+    /// and fewer than 2^63 calls were begun.
+    pub fn apply(&mut self, plan: BoardPlan, now: u64)
+        requires { MayApply self.old plan plan.begun }
+        ensures { (config : Config) (v : View) (of : Call) (round : Round) → Shows config self.old v → TakesIn config v of round plan plan.begun →
+            Shows config self.new (taken_in v of round now plan plan.begun) }
+    {
+        let BoardPlan {
+            plan,
+            call,
+            cell,
+            begun,
+            leases: _,
+        } = plan;
+        match begun {
+            Some(new) => self.begin(new, plan, call, cell, now),
+            None => self.go_on(plan, call, now),
+        }
+    }
+}
