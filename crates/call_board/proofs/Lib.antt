@@ -18,4 +18,5 @@ pub mod Idle
 pub mod Keeps
 pub mod Draws
 pub mod Demands
+pub mod Fixed
 mod rows
