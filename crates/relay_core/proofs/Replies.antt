@@ -8,7 +8,8 @@ use Rattle.call_board.specs.Acts.{Act, Control, Turn, BoardEntry}
 use Rattle.call_board.specs.Calls.{live, rounds}
 use Rattle.call_board.specs.Pairs.{held, free, drawn}
 use Rattle.call_board.specs.Kept.{kept}
-use Rattle.call_board.specs.Fits.{FitsControl}
+use Rattle.call_board.specs.Answers.{answering_unless}
+use Rattle.call_board.specs.Fits.{FitsControl, answer_of}
 use Rattle.relay_core.specs.Entries.{Event, Board, Entry, is_nested, board_at, board_entry, board_history}
 use Rattle.relay_core.specs.Scripts.{owed_by, script, script_of_act}
 use Rattle.relay_core.specs.Legal.{Orderly}
@@ -30,6 +31,11 @@ is_turn e c q = ap (board_at e.moment) q
 fits_turn : (config : Config) (l : List Entry) → Orderly config l → (e : Entry) (c : Control) → In e l → e.event ≡ Board (Turn c)
     → FitsControl config (board_history l e.number) e.moment c
 fits_turn config l o e c i q = (o.board_fits e (turn e c) i (is_turn e c q)).1
+
+-- each reply is the one that is due
+pub replies_are : (config : Config) (l : List Entry) → Orderly config l → (e : Entry) (c : Control) → In e l → e.event ≡ Board (Turn c)
+    → answer_of c ≡ answering_unless config (board_history l e.number) c (kept (board_history l e.number) c.source c.cookie e.moment)
+replies_are config l o e c i q = (fits_turn config l o e c i q).answers
 
 -- a repeat owes nothing
 owes_nothing : (config : Config) (l : List Entry) → Orderly config l → (e : Entry) (c : Control) → In e l → e.event ≡ Board (Turn c) → c.act ≡ act.Repeated
@@ -71,7 +77,7 @@ offer_reply config h c id ask (ends.key_fault leases a t) = key_fault leases a t
 offer_reply config h c id ask (ends.no_memory a) = no_memory a
 
 pub offers_answered : (config : Config) (l : List Entry) → Orderly config l → (e : Entry) (c : Control) (id : List ℕ) (ask : OfferAsk) → In e l → e.event ≡ Board (Turn c)
-    → IsValidOffer (board_history l e.number) c e.moment id ask → IsOfferReply config (board_history l e.number) c id ask
+    → IsValidOffer config (board_history l e.number) c e.moment id ask → IsOfferReply config (board_history l e.number) c id ask
 offers_answered config l o e c id ask i q v =
     let h = board_history l e.number in
     offer_reply config h c id ask

@@ -79,7 +79,7 @@ signals e of a q i = in_left (signalled_by (act.act e)) (ended_by e) (subst (λ 
 owed_act : (config : Config) (h : List BoardEntry) (moment : ℕ) (c : Control) (w : Owed) (a : Act) → c.act ≡ a
     → In w (script_of_act config h (turn moment c) c a) → IsOwed config h (turn moment c) w
 owed_act config h moment c w act.Repeated q i = elim i [ ]
-owed_act config h moment c w act.Starved q i = owed_starved config h (turn moment c) c (asked c.too_long c.pairs) w i
+owed_act config h moment c w act.Starved q i = owed_starved config h (turn moment c) c (asked config c.too_long c.pairs) w i
 owed_act config h moment c w (act.Failed code) q i = elim i [ ]
 owed_act config h moment c w (act.Undone code leases draws) q i = elim i [ ]
 owed_act config h moment c w (act.Offered o) q i =

@@ -11,7 +11,7 @@ use Rattle.call_cell.specs.Deeds.{transform}
 use Rattle.relay_core.specs.Entries.{Event, Cell, Entry, cell_before}
 use Rattle.relay_core.specs.Legal.{Legal, IsReceived}
 use Rattle.relay_core.specs.Safe.{IsSentRight, IsProtectedBy}
-use Rattle.relay_core.proofs.Generations.{taking_in, held_at_take, holder_is_leg}
+use Rattle.relay_core.proofs.Generations.{held_at_take, holder_is_leg}
 use Rattle.relay_core.proofs.Relays.{call_of_leg}
 use Rattle.relay_core.proofs.Keyed.{has_key}
 use Rattle.relay_core.proofs.Shields.{deed_is, protecting}
@@ -28,7 +28,7 @@ sent_right config l g e x w i q t =
     let is_leg : In p.holder (legs h) = subst (λ (a : Holder). In a (legs h)) leg s.is_leg in
     record {
       taking = r.taking;
-      taken = taking_in config l e p r;
+      taken = r.is_there;
       at_box = r.at_box;
       with_number = r.with_number;
       held_by = held_at_take config l g e p r;

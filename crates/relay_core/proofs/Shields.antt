@@ -5,7 +5,7 @@ use Rattle.histories.specs.Words.{In}
 use Rattle.port_pool.specs.Signals.{NewKey}
 use Rattle.call_cell.specs.Cells.{CellEvent, CellEntry, Prepare, Commit, Relay, Expire, Read, End, Relayed, Shield, is_end, since_end}
 use Rattle.call_cell.specs.Deeds.{deed}
-use Rattle.call_cell.specs.Asked.{FitsCell}
+use Rattle.call_cell.specs.Asked.{FitsCell, FitsRelay}
 use Rattle.call_cell.specs.Good.{FittingCell, empty, longer, GoodCell}
 use Rattle.call_board.specs.Acts as act
 use Rattle.call_board.specs.Acts.{Call, BoardEntry}
@@ -48,7 +48,10 @@ fitting_cell config l g place (suc n) = fitting_case config l g place n (fitting
 
 pub deed_is : (config : Config) (l : List Entry) → Legal config l → (e : Entry) (x : Relayed) → In e l → e.event ≡ Cell (Relay x)
     → x.deed ≡ deed config (cell_before l e) x.packet x.sent_ok
-deed_is config l g e x i q = fits_cell config l e.place e.number e.moment e.event (record { moment = e.moment; event = Relay x }) (g.fits e i) (entry_of e.moment e.event (Relay x) q)
+deed_is config l g e x i q =
+    let fits : FitsRelay config (cell_before l e) x =
+    fits_cell config l e.place e.number e.moment e.event (record { moment = e.moment; event = Relay x }) (g.fits e i) (entry_of e.moment e.event (Relay x) q) in
+    fits.does
 
 pub record IsShielding (v : Event) (s : Shield) : Type 0 where
   pub relayed : Relayed

@@ -59,7 +59,7 @@ reading_starved h c _ = []
 
 abbrev pub script_of_act : Config → List BoardEntry → BoardEntry → Control → Act → List Owed
 script_of_act config h e c act.Repeated = []
-script_of_act config h e c act.Starved = reading_starved h c (asked c.too_long c.pairs)
+script_of_act config h e c act.Starved = reading_starved h c (asked config c.too_long c.pairs)
 script_of_act config h e c (act.Failed code) = []
 script_of_act config h e c (act.Undone code leases draws) = []
 script_of_act config h e c (act.Offered o) =
