@@ -25,7 +25,7 @@ use Rattle.call_cell.specs.Cells as cells
 use Rattle.call_board.specs.Acts as act
 use Rattle.call_board.specs.Acts.{Control, Turn, BoardEntry}
 use Rattle.call_board.specs.Calls.{live, rounds, find_call, rounds_of_call}
-use Rattle.call_board.specs.Pairs.{held, free, free_in, is_short, drawn}
+use Rattle.call_board.specs.Pairs.{Once, held, free, free_in, is_short, drawn}
 use Rattle.call_board.specs.Kept.{kept}
 use Rattle.call_board.specs.Asked.{asked}
 use Rattle.call_board.specs.Answers.{answering_unless, offering, spelled}
@@ -88,11 +88,6 @@ abbrev pub keys_at : Entry → List NewKey
 keys_at e = keys_by e.event
 
 -- Port pairs.
-
--- no number stands twice
-abbrev pub Once : List ℕ → Type 0
-Once [] = Unit {0}
-Once (n ∷ ns) = (In n ns → ⊥) × Once ns
 
 -- the openings and closings of a box that belong to board entries below n
 abbrev pub box_before : List Entry → ℕ → ℕ → List BoxEvent
