@@ -18,6 +18,7 @@ pub mod Elsewhere
 pub mod Turns
 pub mod Gains
 pub mod Shut
+pub mod Shutting
 pub mod Plans
 pub mod Counts
 pub mod Laid

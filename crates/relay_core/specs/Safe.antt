@@ -1,5 +1,5 @@
 -- What a safe list promises.
-use Rattle.std.specs.Prelude.{◌≡◌, ℕ, suc, ◌<◌, ◌≤◌, ◌&&◌, nat_lt, Bool, true, false, List, [], ◌∷◌, map, length, Option, Some, None, filter, filter_map, Result, Ok, IsTrue}
+use Rattle.std.specs.Prelude.{◌≡◌, ℕ, suc, ◌<◌, ◌≤◌, ◌&&◌, nat_lt, Bool, true, false, List, [], ◌∷◌, map, length, Option, Some, None, filter, filter_map, Result, Ok, IsTrue, IsSome}
 use Rattle.std.specs.List.{list_any}
 use Rattle.relay_outside.specs.declared.address.Addr.{Addr}
 use Rattle.relay_outside.specs.declared.settings.Config.{Config}
@@ -11,7 +11,7 @@ use Rattle.histories.specs.Words.{In, Before}
 use Rattle.port_pool.specs.declared.holder.Holder.{Holder}
 use Rattle.port_pool.specs.declared.signal.LegSignal.{LegSignal}
 use Rattle.port_pool.specs.Signals.{NewKey}
-use Rattle.port_pool.specs.Boxes.{BoxEvent, Take, Datagram, holder}
+use Rattle.port_pool.specs.Boxes.{BoxEvent, Open, Close, Take, Datagram, holder}
 use Rattle.port_pool.specs.Ports.{half_port}
 use Rattle.offer_answer.specs.Plan as plan
 use Rattle.offer_answer.specs.Rounds.{OfferAsk}
@@ -133,6 +133,9 @@ pub record BoardSafe (config : Config) (l : List Entry) : Type 0 where
   pub pairs_apart : (n : ℕ) (a b : Holder) → In a (held (board_history l n)) → In b (held (board_history l n)) → a.pair ≡ b.pair → a ≡ b
   pub box_is_held : (n : ℕ) (a : Holder) → In a (held (board_history l n)) → holder (box_before l (box_of config a.pair) n) ≡ Some a
   pub held_is_box : (n pair : ℕ) (a : Holder) → holder (box_before l (box_of config pair) n) ≡ Some a → (a.pair ≡ pair) × In a (held (board_history l n))
+  -- a box is opened only where it has no holder, and closed only where it has one
+  pub opens_shut : (e : Entry) (leg : Holder) → In e l → e.event ≡ Box (Open leg) → holder (box_history l e.place e.number) ≡ None
+  pub closes_open : (e : Entry) → In e l → e.event ≡ Box Close → IsSome (holder (box_history l e.place e.number))
   -- each key number enters one leg, once
   pub keys_apart : (e f : Entry) (k j : NewKey) → In e l → In f l → In k (keys_at e) → In j (keys_at f) → k.number ≡ j.number → (e ≡ f) × (k ≡ j)
   -- each reply, and what is done, are what the board's history demands
