@@ -23,3 +23,4 @@ pub mod Plans
 pub mod Counts
 pub mod Laid
 mod Example
+mod rows

@@ -9,7 +9,8 @@ use Rattle.call_board.specs.Calls.{live, rounds}
 use Rattle.call_board.specs.Pairs.{held, free, drawn}
 use Rattle.call_board.specs.Kept.{kept}
 use Rattle.call_board.specs.Answers.{answering_unless}
-use Rattle.call_board.specs.Fits.{FitsControl, answer_of}
+use Rattle.call_board.specs.Asked.{Reads, asked}
+use Rattle.call_board.specs.Fits.{FitsControl, is_read, is_heard, Hears, answer_of}
 use Rattle.relay_core.specs.Entries.{Event, Board, Entry, is_nested, board_at, board_entry, board_history}
 use Rattle.relay_core.specs.Scripts.{owed_by, script, script_of_act}
 use Rattle.relay_core.specs.Legal.{Orderly}
@@ -31,6 +32,15 @@ is_turn e c q = ap (board_at e.moment) q
 fits_turn : (config : Config) (l : List Entry) → Orderly config l → (e : Entry) (c : Control) → In e l → e.event ≡ Board (Turn c)
     → FitsControl config (board_history l e.number) e.moment c
 fits_turn config l o e c i q = (o.board_fits e (turn e c) i (is_turn e c q)).1
+
+-- what is recorded of a body and of its crypto lines is what it spells and says
+pub bodies_are : (config : Config) (l : List Entry) → Orderly config l → (e : Entry) (c : Control) → In e l → e.event ≡ Board (Turn c)
+    → is_read c ≡ true → Reads c.body c.pairs
+bodies_are config l o e c i q read = (fits_turn config l o e c i q).reads read
+
+pub lines_are : (config : Config) (l : List Entry) → Orderly config l → (e : Entry) (c : Control) → In e l → e.event ≡ Board (Turn c)
+    → is_heard c.act ≡ true → Hears (board_history l e.number) c (asked config c.too_long c.pairs)
+lines_are config l o e c i q heard = (fits_turn config l o e c i q).hears heard
 
 -- each reply is the one that is due
 pub replies_are : (config : Config) (l : List Entry) → Orderly config l → (e : Entry) (c : Control) → In e l → e.event ≡ Board (Turn c)

@@ -16,7 +16,7 @@ use Rattle.relay_core.proofs.Keys.{keys_apart}
 use Rattle.relay_core.proofs.Keyed.{has_key}
 use Rattle.relay_core.proofs.Shields.{deed_is, shields_apart}
 use Rattle.relay_core.proofs.Sends.{sent_right, sent_sends, protected_by}
-use Rattle.relay_core.proofs.Replies.{replies_are, repeated, offers_answered}
+use Rattle.relay_core.proofs.Replies.{bodies_are, lines_are, replies_are, repeated, offers_answered}
 
 pub board_is_safe : (config : Config) (l : List Entry) → Orderly config l → BoardSafe config l
 board_is_safe config l o = record {
@@ -27,6 +27,8 @@ board_is_safe config l o = record {
   opens_shut = opens_shut config l o;
   closes_open = λ e i q. let h = closes_open config l o e i q in subst (λ (x : Option Holder). IsSome x) (sym h.1) refl;
   keys_apart = keys_apart config l o;
+  bodies_are = bodies_are config l o;
+  lines_are = lines_are config l o;
   replies_are = replies_are config l o;
   repeated = repeated config l o;
   offers_answered = offers_answered config l o;

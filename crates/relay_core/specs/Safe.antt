@@ -27,9 +27,9 @@ use Rattle.call_board.specs.Acts.{Control, Turn, BoardEntry}
 use Rattle.call_board.specs.Calls.{live, rounds, find_call, rounds_of_call}
 use Rattle.call_board.specs.Pairs.{Once, held, free, free_in, is_short, drawn}
 use Rattle.call_board.specs.Kept.{kept}
-use Rattle.call_board.specs.Asked.{asked}
+use Rattle.call_board.specs.Asked.{Reads, asked}
 use Rattle.call_board.specs.Answers.{answering_unless, offering, spelled}
-use Rattle.call_board.specs.Fits.{answer_of}
+use Rattle.call_board.specs.Fits.{is_read, is_heard, Hears, answer_of}
 use Rattle.relay_core.specs.Entries.{Event, Board, Cell, Box, Entry, is_nested, history, front, box_event, board_history, cell_before, box_history, box_of}
 use Rattle.relay_core.specs.Legal.{Legal}
 
@@ -138,6 +138,10 @@ pub record BoardSafe (config : Config) (l : List Entry) : Type 0 where
   pub closes_open : (e : Entry) → In e l → e.event ≡ Box Close → IsSome (holder (box_history l e.place e.number))
   -- each key number enters one leg, once
   pub keys_apart : (e f : Entry) (k j : NewKey) → In e l → In f l → In k (keys_at e) → In j (keys_at f) → k.number ≡ j.number → (e ≡ f) × (k ≡ j)
+  -- what is read of a datagram is what its body spells, and the lines that are chosen are those of its description
+  pub bodies_are : (e : Entry) (c : Control) → In e l → e.event ≡ Board (Turn c) → is_read c ≡ true → Reads c.body c.pairs
+  pub lines_are : (e : Entry) (c : Control) → In e l → e.event ≡ Board (Turn c) → is_heard c.act ≡ true
+      → Hears (board_history l e.number) c (asked config c.too_long c.pairs)
   -- each reply, and what is done, are what the board's history demands
   pub replies_are : (e : Entry) (c : Control) → In e l → e.event ≡ Board (Turn c)
       → answer_of c ≡ answering_unless config (board_history l e.number) c (kept (board_history l e.number) c.source c.cookie e.moment)

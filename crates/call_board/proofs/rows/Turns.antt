@@ -223,6 +223,12 @@ unread_starved_fits = record {
   answers = refl;
 }
 
+-- It has no report, since it asks after no call.
+
+starved_report : FitsControl config [] 0 (record ping { given = record given { starved = true; report = Some [] }; reply = codes "d12:error-reason13:out of memory6:result5:errore"; act = act.Starved }) → ⊥
+unfolding turns
+starved_report fits = let e = fits.reports refl refl in cc
+
 -- A millisecond later it is an offer again, which begins another call in the same cell, with the pairs that were never leased.
 
 abbrev alice_anew : List ℕ
