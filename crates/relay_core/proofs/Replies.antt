@@ -1,5 +1,5 @@
 -- A kept cookie gives its first reply and changes nothing; a valid offer fails only for a named shortage.
-use Rattle.std.proofs.Common.{◌≡◌, ◌∙◌, sym, ap, subst, refl, ℕ, suc, List, [], ◌∷◌, Bool, true, false, Option, Some, None}
+use Rattle.std.proofs.Common.{◌≡◌, ◌∙◌, sym, ap, subst, refl, ℕ, suc, List, [], ◌∷◌, true, Some}
 use Rattle.relay_outside.specs.declared.settings.Config.{Config}
 use Rattle.histories.specs.Words.{In}
 use Rattle.offer_answer.specs.Rounds.{OfferAsk}
@@ -11,14 +11,14 @@ use Rattle.call_board.specs.Kept.{kept}
 use Rattle.call_board.specs.Answers.{answering_unless}
 use Rattle.call_board.specs.Asked.{Reads, asked}
 use Rattle.call_board.specs.Fits.{FitsControl, is_read, is_heard, Hears, answer_of}
-use Rattle.relay_core.specs.Entries.{Event, Board, Entry, is_nested, board_at, board_entry, board_history}
+use Rattle.relay_core.specs.Entries.{Board, Entry, is_nested, board_at, board_entry, board_history}
 use Rattle.relay_core.specs.Scripts.{owed_by, script, script_of_act}
 use Rattle.relay_core.specs.Legal.{Orderly}
 use Rattle.relay_core.specs.Safe.{IsRepeat, IsValidOffer, IsOfferReply, well, no_pair, session_limit, port_fault, key_fault, no_memory}
 use Rattle.relay_core.proofs.Histories.{good_history, same_at}
-use Rattle.relay_core.proofs.Scripts.{IsNestedIn, nested_in}
+use Rattle.relay_core.proofs.Scripts.{nested_in}
 use Rattle.relay_core.proofs.Boards.{moment}
-use Rattle.call_board.proofs.Repeats.{kept_repeats, ChangesNothing, repeat_changes_nothing}
+use Rattle.call_board.proofs.Repeats.{kept_repeats, repeat_changes_nothing}
 use Rattle.call_board.proofs.Offers.{OfferEnds, offer_ends}
 use Rattle.call_board.proofs.Offers as ends
 

@@ -1,12 +1,11 @@
 -- A legal list is safe.
-use Rattle.std.proofs.Common.{◌≡◌, ◌∙◌, sym, ap, subst, refl, List, Option}
+use Rattle.std.proofs.Common.{sym, subst, refl, List, Option}
 use Rattle.std.specs.Prelude.{IsSome}
 use Rattle.relay_outside.specs.declared.settings.Config.{Config}
-use Rattle.histories.specs.Words.{In}
 use Rattle.port_pool.specs.declared.holder.Holder.{Holder}
 use Rattle.call_cell.proofs.Since.{same_deed}
 use Rattle.call_board.proofs.Free.{held_once}
-use Rattle.relay_core.specs.Entries.{Entry, board_history, cell_before}
+use Rattle.relay_core.specs.Entries.{Entry, board_history}
 use Rattle.relay_core.specs.Legal.{Orderly, Legal}
 use Rattle.relay_core.specs.Safe.{BoardSafe, Safe, IsIsolated}
 use Rattle.relay_core.proofs.Histories.{good_history}

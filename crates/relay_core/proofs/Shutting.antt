@@ -1,14 +1,14 @@
 -- A box is opened only where it has no holder, and closed only where it has one.
-use Rattle.std.proofs.Common.{◌≡◌, ◌∙◌, sym, ap, subst, refl, ℕ, ◌<◌, ◌≤◌, ◌⊎◌, inl, inr, List, [], ◌∷◌, ◌++◌, Bool, true, false, cond, Option, Some, None, map, filter, ◌==◌, arith}
+use Rattle.std.proofs.Common.{◌≡◌, ◌∙◌, sym, ap, subst, refl, ℕ, ◌<◌, ◌⊎◌, inl, inr, List, [], ◌∷◌, ◌++◌, Bool, true, false, cond, Option, Some, None, map, filter, ◌==◌, arith}
 use Rattle.std.specs.Prelude.{◌&&◌, nat_lt}
 use Rattle.std.specs.List.{flat_map, filter_map}
 use Rattle.std.proofs.lemmas.List.{map-append}
 use Rattle.relay_outside.specs.declared.settings.Config.{Config}
 use Rattle.histories.specs.Words.{In, here, there, Before, has}
-use Rattle.histories.proofs.Lists.{in_append, filtered, keeps, mapped, maps, equal}
+use Rattle.histories.proofs.Lists.{in_append, keeps, mapped, maps, equal}
 use Rattle.port_pool.specs.declared.holder.Holder.{Holder}
 use Rattle.port_pool.specs.Boxes.{BoxEvent, Open, Close, holder}
-use Rattle.call_cell.specs.Cells.{Prepare, Commit, Expire, Read, End}
+use Rattle.call_cell.specs.Cells.{Prepare}
 use Rattle.port_pool.specs.Reports.{LegReport}
 use Rattle.ng_command.specs.Said.{Said, Ping, Offer, Answer, Delete, Query, Listing}
 use Rattle.ng_reply.specs.declared.code.ErrorCode.{ErrorCode}
@@ -24,7 +24,7 @@ use Rattle.call_board.proofs.Calls.{live_numbers}
 use Rattle.call_board.proofs.Cells.{live_cells_once}
 use Rattle.call_board.proofs.Held.{closed_of_held}
 use Rattle.call_board.proofs.Free.{free_not_held, new_leg_free, new_legs_once, held_once, held_apart}
-use Rattle.relay_core.specs.Entries.{Event, Board, Cell, Box, Entry, is_nested, belongs_to, front, board_entry, board_history, history, box_in, box_event, box_history, box_of}
+use Rattle.relay_core.specs.Entries.{Event, Board, Cell, Box, Entry, is_nested, belongs_to, front, board_history, history, box_in, box_event, box_history, box_of}
 use Rattle.relay_core.specs.Scripts.{Owed, owed_by, opening, closing, in_cell, closings, ending, expiring, reading, reading_starved, script_of_act, script}
 use Rattle.relay_core.specs.Legal.{Orderly}
 use Rattle.relay_core.specs.Safe.{box_before}
@@ -32,7 +32,6 @@ use Rattle.relay_core.proofs.Histories.{and_true, both, same_at, good_history}
 use Rattle.relay_core.proofs.Boards.{lt_or_eq, less_or}
 use Rattle.relay_core.proofs.Lives.{not_after}
 use Rattle.relay_core.proofs.Scripts.{IsNestedIn, nested_in}
-use Rattle.relay_core.proofs.Leases.{Leasing, same_entry}
 use Rattle.relay_core.proofs.Boxes.{below_front, Leaves, Opened, holder_opened, opened_holder}
 use Rattle.relay_core.proofs.Holders.{OwedBox, opened, closed, box_owed, passes_below, less, is_less, same_box, box_is_held, held_is_box, opened_lease}
 use Rattle.relay_core.proofs.Generations.{filter_all, open_nested}
@@ -124,14 +123,14 @@ spread_once config h e f good by (c ∷ cs) alive once =
     (once_append (box_places (f c)) (box_places (flat_map f cs)) (by.each c)
     (spread_once config h e f good by cs (λ d i. alive d (there i)) once.1)
     (λ p i j. (
-        let a = by.from c p i in
-        let b = spread_from config h e f by cs p j in
-        let x = closed_of_held h e c a.0 a.1 in
-        let y = closed_of_held h e b.0 b.2.0 b.2.1 in
-        let one : a.0 ≡ b.2.0 = held_apart config h a.0 b.2.0 good x.0 y.0 (same_box config a.0.pair b.2.0.pair (a.2 ∙ sym b.2.2)) in
-        let number : b.0.number ≡ c.number = sym y.1 ∙ ap (λ (leg : Holder). leg.call) (sym one) ∙ x.1 in
-        let call : b.0 ≡ c = live_numbers config h b.0 c good (alive b.0 (there b.1)) (alive c (here refl)) number in
-        once.0 (subst (λ (d : Call). In d.cell (map cell_of cs)) call (maps cell_of cs b.1)))))
+    let a = by.from c p i in
+    let b = spread_from config h e f by cs p j in
+    let x = closed_of_held h e c a.0 a.1 in
+    let y = closed_of_held h e b.0 b.2.0 b.2.1 in
+    let one : a.0 ≡ b.2.0 = held_apart config h a.0 b.2.0 good x.0 y.0 (same_box config a.0.pair b.2.0.pair (a.2 ∙ sym b.2.2)) in
+    let number : b.0.number ≡ c.number = sym y.1 ∙ ap (λ (leg : Holder). leg.call) (sym one) ∙ x.1 in
+    let call : b.0 ≡ c = live_numbers config h b.0 c good (alive b.0 (there b.1)) (alive c (here refl)) number in
+    once.0 (subst (λ (d : Call). In d.cell (map cell_of cs)) call (maps cell_of cs b.1)))))
 
 ending_by : (config : Config) (h : List BoardEntry) (e : BoardEntry) → IsFitting config h → CallByCall config h e (ending config h e)
 ending_by config h e good = record { each = λ c. closed_once config h e c good; from = λ c p i. closed_place config h e c p i }
@@ -181,10 +180,10 @@ act_once config h moment c good fits (act.Offered o) q =
     (subst Once (sym (opening_places config o.legs)) (boxes_once config o.legs (new_legs_once config h e o fits q)))
     (closed_once config h e o.of good)
     (λ p i j. (
-        let m = mapped (box_of_leg config) o.legs (subst (λ ps. In p ps) (opening_places config o.legs) i) in
-        let b = closed_place config h e o.of p j in
-        free_not_held config h m.from.pair b.0 (new_leg_free config h e o m.from fits q m.is_in) (closed_of_held h e o.of b.0 b.1).0
-        (same_box config b.0.pair m.from.pair (b.2 ∙ sym m.makes)))))
+    let m = mapped (box_of_leg config) o.legs (subst (λ ps. In p ps) (opening_places config o.legs) i) in
+    let b = closed_place config h e o.of p j in
+    free_not_held config h m.from.pair b.0 (new_leg_free config h e o m.from fits q m.is_in) (closed_of_held h e o.of b.0 b.1).0
+    (same_box config b.0.pair m.from.pair (b.2 ∙ sym m.makes)))))
 act_once config h moment c good fits (act.Answered a) q = closed_once config h (turn moment c) a.of good
 act_once config h moment c good fits (act.Deleted of) q = closed_once config h (turn moment c) of good
 act_once config h moment c good fits (act.Queried of) q = read_once (Some of) c.given.report

@@ -1,11 +1,11 @@
 -- When a list of entries is legal.
-use Rattle.std.specs.Prelude.{◌≡◌, ℕ, zero, suc, ◌+◌, ◌<◌, ◌≤◌, ◌⊎◌, Bool, true, false, ◌==◌, List, [], ◌∷◌, map, length, Option, Some, None, filter, count_by, max}
+use Rattle.std.specs.Prelude.{◌≡◌, ℕ, ◌<◌, ◌≤◌, ◌⊎◌, Bool, true, false, ◌==◌, List, map, length, Some, filter, count_by, max}
 use Rattle.relay_outside.specs.declared.settings.Config.{Config}
 use Rattle.histories.specs.Words.{In, Before, greatest}
-use Rattle.port_pool.specs.Boxes.{BoxEvent, Open, Take, Close, Datagram, FitsBox}
-use Rattle.call_cell.specs.Cells.{CellEvent, CellEntry, Prepare, Commit, Relay, Expire, Read, End, Relayed, Receipt}
+use Rattle.port_pool.specs.Boxes.{Take, Datagram, FitsBox}
+use Rattle.call_cell.specs.Cells.{Prepare, Commit, Relay, Expire, Relayed, Receipt}
 use Rattle.call_cell.specs.Asked.{FitsCell}
-use Rattle.call_board.specs.Acts.{BoardEvent, BoardEntry, Turn, Tick, Stop}
+use Rattle.call_board.specs.Acts.{BoardEntry, Turn, Tick}
 use Rattle.call_board.specs.Fits.{FitsBoard}
 use Rattle.relay_core.specs.Entries.{Event, Board, Cell, Box, Entry, is_nested, is_at, belongs_to, history, board_entry, board_history, cell_history, box_history, box_of}
 use Rattle.relay_core.specs.Scripts.{owed_by, script}

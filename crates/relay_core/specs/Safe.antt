@@ -1,10 +1,7 @@
 -- What a safe list promises.
-use Rattle.std.specs.Prelude.{◌≡◌, ℕ, suc, ◌<◌, ◌≤◌, ◌&&◌, nat_lt, Bool, true, false, List, [], ◌∷◌, map, length, Option, Some, None, filter, filter_map, Result, Ok, IsTrue, IsSome}
-use Rattle.std.specs.List.{list_any}
+use Rattle.std.specs.Prelude.{◌≡◌, ℕ, suc, ◌&&◌, nat_lt, true, false, List, [], map, length, Option, Some, None, filter, filter_map, Ok, IsSome}
 use Rattle.relay_outside.specs.declared.address.Addr.{Addr}
 use Rattle.relay_outside.specs.declared.settings.Config.{Config}
-use Rattle.relay_outside.specs.declared.address.Family.{Family}
-use Rattle.ng_command.specs.declared.command.Options.{Options}
 use Rattle.ng_command.specs.Said as said
 use Rattle.ng_reply.specs.declared.code.ErrorCode.TheVariants.{E13, E14, E15, E16}
 use Rattle.histories.specs.Words.{In, Before}
@@ -15,7 +12,6 @@ use Rattle.port_pool.specs.Boxes.{BoxEvent, Open, Close, Take, Datagram, holder}
 use Rattle.port_pool.specs.Ports.{half_port}
 use Rattle.offer_answer.specs.Plan as plan
 use Rattle.offer_answer.specs.Rounds.{OfferAsk}
-use Rattle.call_cell.specs.declared.outcome.Outcome.{Outcome}
 use Rattle.call_cell.specs.declared.outcome.Outcome.TheVariants.{Sent}
 use Rattle.call_cell.specs.Cells.{CellEvent, CellEntry, Relay, Relayed, Sending, Shield, call, legs, opposite, in_force, keys_of, key_numbered}
 use Rattle.call_cell.specs.Keyed.{shield_of_relay}

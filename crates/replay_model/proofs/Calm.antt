@@ -1,19 +1,15 @@
 -- A turn of a replay is never short of memory, and a call that it asks after is read as it is.
-use Rattle.std.proofs.Common.{◌≡◌, sym, subst, refl, ℕ, List, [], ◌∷◌, ◌++◌, map, length, Bool, true, false, cond, not, Option, Some, None, Result, Ok, Err}
+use Rattle.std.proofs.Common.{◌≡◌, refl, ℕ, List, [], length, Bool, true, false, cond, not, Option, Some, None, Result, Ok, Err}
 use Rattle.std.specs.Prelude.{◌&&◌, nat_le}
-use Rattle.std.specs.List.{list_any, flat_map}
+use Rattle.std.specs.List.{list_any}
 use Rattle.relay_outside.specs.declared.settings.Config.{Config}
 use Rattle.relay_outside.specs.declared.address.Addr.{Addr}
 use Rattle.ng_command.specs.Said.{Said, Ping, Offer, Answer, Delete, Query, Listing}
 use Rattle.ng_reply.specs.declared.code.ErrorCode.{ErrorCode}
 use Rattle.ng_reply.specs.declared.code.ErrorCode.TheVariants.{E9, E10, E13, E14, E17}
-use Rattle.histories.specs.Words.{In, here, there}
-use Rattle.histories.proofs.Lists.{mapped}
-use Rattle.port_pool.specs.declared.holder.Holder.{Holder}
 use Rattle.port_pool.specs.Reports.{LegReport}
 use Rattle.offer_answer.specs.Rounds.{Round, OfferAsk, AnswerAsk, Demand}
 use Rattle.offer_answer.specs.Plan as plan
-use Rattle.call_cell.specs.Cells.{Prepare, Commit}
 use Rattle.call_board.specs.Acts as act
 use Rattle.call_board.specs.Acts.{Call, Act, Given, Control, Turn, Tick, BoardEntry}
 use Rattle.call_board.specs.Calls.{live, find_call, new_call, rounds, rounds_of_call}
@@ -25,13 +21,9 @@ use Rattle.call_board.specs.Replies.{Fault, reply_text}
 use Rattle.call_board.specs.Answers.{Answered, Answering, failing, leased_pairs, offer_ask, answer_ask, offer_leased, offer_unless, offer_to, answer_unless, answer_to, delete_of, missing, names_side, query_of, answering_asked, answering_unless, spelled}
 use Rattle.call_board.specs.Fits.{demanded, demanded_by}
 use Rattle.call_board.proofs.Tells.{leased_case}
-use Rattle.call_board.proofs.Cells.{live_cell, live_cells_once}
-use Rattle.relay_core.specs.Entries.{Entry, front}
-use Rattle.relay_core.specs.Scripts.{Owed, opening, in_cell, closings, ending, script_of_act, reading, expiring}
-use Rattle.relay_core.specs.Legal.{Orderly}
-use Rattle.relay_core.proofs.Histories.{good_history}
+use Rattle.relay_core.specs.Entries.{Entry}
 use Rattle.replay_model.specs.Devices.{Happening, Opens, opens, draws}
-use Rattle.replay_model.specs.Turns.{Heard, nothing_given, asking, with_draws, ends_of, outside_of, reports_now, turned, board_now, due_calls, call_is_due, nested_entries}
+use Rattle.replay_model.specs.Turns.{Heard, nothing_given, asking, with_draws, ends_of, outside_of, reports_now, turned, board_now}
 
 -- the answer, where memory may be short
 abbrev pub unless_starved : Config → Bool → Answering → Answered

@@ -8,7 +8,7 @@ use Rattle.ng_frame.specs.Frame.{frame}
 use Rattle.ng_frame.proofs.Framed.{frame_real}
 use Rattle.ng_command.specs.Said.{Said, Ping, Offer, Answer, Delete, Query, Listing}
 use Rattle.ng_reply.specs.declared.code.ErrorCode.{ErrorCode}
-use Rattle.ng_reply.specs.declared.code.ErrorCode.TheVariants.{E9, E10, E13, E14, E17}
+use Rattle.ng_reply.specs.declared.code.ErrorCode.TheVariants.{E9, E10, E13, E14}
 use Rattle.offer_answer.specs.Rounds.{Round, OfferAsk, AnswerAsk, Demand}
 use Rattle.offer_answer.specs.Plan as plan
 use Rattle.call_board.specs.Acts as act
@@ -20,7 +20,7 @@ use Rattle.call_board.specs.Asked.{asked}
 use Rattle.call_board.specs.Replies as replies
 use Rattle.call_board.specs.Replies.{Fault, reply_text}
 use Rattle.call_board.specs.Answers.{Answering, Answered, failing, leased_pairs, offer_ask, answer_ask, offer_leased, offer_unless, offer_to, answer_unless, answer_to, delete_of, missing, names_side, query_of, answering_asked, answering_unless, spelled}
-use Rattle.call_board.specs.Fits.{FitsControl, GivesFor, GivesUndone, Hears, demanded, demanded_by}
+use Rattle.call_board.specs.Fits.{FitsControl, GivesFor, GivesUndone, demanded, demanded_by}
 use Rattle.call_board.proofs.Tells.{leased_case}
 use Rattle.call_board.proofs.Demands.{legs_count}
 use Rattle.relay_core.specs.Entries.{Entry}

@@ -1,8 +1,7 @@
 -- Whether a relay makes a send, and which, is the same whatever that send answers; so a relay of a replay without a send
 -- records none that failed.
-use Rattle.std.proofs.Common.{◌≡◌, ap, subst, sym, refl, ℕ, List, Bool, true, false, not, Option, Some, None}
+use Rattle.std.proofs.Common.{◌≡◌, subst, refl, ℕ, List, Bool, true, Option, Some, None}
 use Rattle.relay_outside.specs.declared.settings.Config.{Config}
-use Rattle.rtp_packet.specs.declared.head.Half.{Half}
 use Rattle.srtp_sources.specs.Notes.{Note}
 use Rattle.port_pool.specs.declared.holder.Holder.{Holder}
 use Rattle.port_pool.specs.declared.signal.LegSignal.{LegSignal}
@@ -10,7 +9,7 @@ use Rattle.call_cell.specs.Cells.{CellEntry, Receipt, Sending, opposite, in_forc
 use Rattle.call_cell.specs.Keyed.{Judged, Stopped, Passed, Wrapped, Held, Leaves}
 use Rattle.call_cell.specs.Deeds.{kind, found, judged, wrapped_towards, deed_wrapped, deed_towards, deed_opposite, deed_judged, deed_found, deed}
 use Rattle.call_cell.specs.Asked.{IsAnswered}
-use Rattle.replay_model.specs.Devices.{Happening, send_fails}
+use Rattle.replay_model.specs.Devices.{Happening}
 use Rattle.replay_model.specs.Replay.{send_answers}
 
 wrapped_alike : (config : Config) (h : List CellEntry) (p : Receipt) (noted : Option Note) (other : Holder) (s : LegSignal) (a b : Bool) (w : Wrapped)
