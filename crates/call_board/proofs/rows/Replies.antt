@@ -1,17 +1,17 @@
 -- Worked turns of other commands and of errors, whole.
-use Rattle.std.proofs.Common.{◌≡◌, ℕ, List, [], ◌∷◌, ◌++◌, true, false, Some, None, Ok, Err, codes, refl, arith}
+use Rattle.std.proofs.Common.{◌≡◌, ℕ, List, [], ◌∷◌, ◌++◌, map, true, false, Some, None, Ok, Err, codes, refl, arith}
 use Rattle.relay_outside.specs.declared.address.Ip.TheVariants as ips
 use Rattle.ng_bencode.specs.Tree.{Bytes, Entries, no_entries, entry}
 use Rattle.ng_command.specs.Said.{Offer}
 use Rattle.ng_command.specs.declared.fault.KeyName.TheVariants.{CallId}
-use Rattle.ng_reply.specs.declared.code.ErrorCode.TheVariants.{E1, E3, E4, E6, E7, E13, E14, E18}
+use Rattle.ng_reply.specs.declared.code.ErrorCode.TheVariants.{E1, E3, E4, E6, E7, E8, E9, E10, E11, E12, E13, E14, E15, E18}
 use Rattle.ng_reply.specs.declared.code.SdpPart.TheVariants as part
 use Rattle.offer_answer.specs.Plan.{tag, protocol}
 use Rattle.call_board.specs.Acts as act
 use Rattle.call_board.specs.Acts.{Act, Control, BoardEntry}
 use Rattle.call_board.specs.Asked.{asked}
 use Rattle.call_board.specs.Reports.{report_tree, listing_tree}
-use Rattle.call_board.specs.Fits.{FitsControl}
+use Rattle.call_board.specs.Fits.{FitsControl, is_read, is_heard}
 use Rattle.call_board.proofs.rows.Histories.{config, from_port, given, options, c1, c2, begins}
 use Rattle.call_board.proofs.rows.Turns.{turns, at, ping, ping_fits, offered, offered_fits}
 
@@ -95,6 +95,31 @@ queried = record {
   answers = refl;
 }
 
+-- a query that is short of memory may have read its call, and no other
+
+abbrev starved_query : Control
+starved_query = record query {
+  given = record given { starved = true; report = Some [] };
+  reply = codes "d12:error-reason13:out of memory6:result5:errore";
+  act = act.Starved;
+}
+
+starved_query_fits : FitsControl config one_call 0 starved_query
+unfolding replies
+starved_query_fits = record {
+  framed = refl;
+  length_is = refl;
+  reads = λ read. record { ints = (tt, (tt, tt)); deep = omega arith; spelled = refl };
+  hears = λ heard. absurd (let e : false ≡ true = heard in cc);
+  gives = record { no_opens = refl; no_draws = refl; none_failed = refl };
+  reports = λ starves other. absurd (let e : true ≡ false = other in cc);
+  answers = refl;
+}
+
+reads_no_stranger : FitsControl config [] 0 starved_query → ⊥
+unfolding replies
+reads_no_stranger fits = let e = fits.reports refl refl in cc
+
 -- a delete of an unknown call-id warns and changes nothing
 unknown_is_warned : FitsControl config one_call 0 (plain (codes "9") (codes "d7:call-id1:z7:command6:deletee") (pair (codes "call-id") (codes "z") (pair (codes "command") (codes "delete") no_entries))
     (codes "d6:result2:ok7:warning15:unknown call-ide") act.Told)
@@ -175,6 +200,12 @@ version_6_too : asked (record config { interface6 = Some (ips.V6 (1 ∷ [])) }) 
 unfolding replies
 version_6_too = refl
 
+-- a faulty line comes first, wherever it stands
+
+fault_before_version_6 : asked config false (Some (describes (by_version_6 ++ codes "foo"))) ≡ Err (E6 4)
+unfolding replies
+fault_before_version_6 = refl
+
 version_6_refused : FitsControl config [] 0 (plain (codes "6") (codes "d7:call-id2:c17:command5:offer8:from-tag1:a3:sdp51:" ++ by_version_6 ++ codes "e") (describes by_version_6)
     (codes "d12:error-reason23:unsupported SDP: line 26:result5:errore") (act.Failed (E7 (part.Line 2))))
 unfolding replies
@@ -187,6 +218,23 @@ version_6_refused = record {
   reports = λ starves. absurd (let e = starves in cc);
   answers = refl;
 }
+
+-- What is read of a datagram, and when lines are chosen.
+
+long_is_unread : is_read (record ping { too_long = true; act = act.Failed E18 }) ≡ false
+long_is_unread = refl
+
+starved_is_unread : is_read (record ping { given = record given { starved = true }; act = act.Starved }) ≡ false
+starved_is_unread = refl
+
+others_are_read : is_read ping ≡ true
+others_are_read = refl
+
+heard_acts : map is_heard (act.Failed E8 ∷ act.Failed E13 ∷ act.Failed E14 ∷ act.Undone E15 [] [] ∷ []) ≡ true ∷ true ∷ true ∷ true ∷ []
+heard_acts = refl
+
+unheard_acts : map is_heard (act.Failed E9 ∷ act.Failed E10 ∷ act.Failed E11 ∷ act.Failed E12 ∷ act.Told ∷ act.Starved ∷ act.Repeated ∷ []) ≡ false ∷ false ∷ false ∷ false ∷ false ∷ false ∷ false ∷ []
+unheard_acts = refl
 
 -- What no turn is.
 

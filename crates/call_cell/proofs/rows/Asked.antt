@@ -143,6 +143,12 @@ sections_in_order = refl
 
 -- Answers of sends.
 
+-- a send may fail
+
+failed_one : FitsRelay config (answered side_a side_b) (record { packet = from_a at_a 1; sent_ok = false; deed = deed config (answered side_a side_b) (from_a at_a 1) false })
+unfolding deed rtp_head
+failed_one = record { does = refl; answered = tt }
+
 -- a packet that is refused makes no send, so none that failed
 abbrev refused_one : Bool → Relayed
 refused_one ok = record { packet = received leg_a Rtp at_a []; sent_ok = ok; deed = refused_deed Rtp refused.Malformed }
