@@ -37,13 +37,13 @@ draws_case config h now c (act.Offered o) fits is =
 draws_case config h now c (act.Undone code leases draws) fits is =
     let told : IsUndone config h (entry now c) code leases draws = tells_of config h (entry now c) (act.Undone code leases draws) fits is in
     failed_draws c told.turn.control code draws (same_control now c (act.Undone code leases draws) told.turn) told.failure
-draws_case config h now c act.Repeated fits is = sym ((subst (GivesFor (demanded h c) c.given) is fits.gives).0.no_draws)
-draws_case config h now c act.Starved fits is = sym ((subst (GivesFor (demanded h c) c.given) is fits.gives).no_draws)
-draws_case config h now c (act.Failed code) fits is = sym ((subst (GivesFor (demanded h c) c.given) is fits.gives).0.no_draws)
-draws_case config h now c (act.Answered x) fits is = sym ((subst (GivesFor (demanded h c) c.given) is fits.gives).0.no_draws)
-draws_case config h now c (act.Deleted of) fits is = sym ((subst (GivesFor (demanded h c) c.given) is fits.gives).0.no_draws)
-draws_case config h now c (act.Queried of) fits is = sym ((subst (GivesFor (demanded h c) c.given) is fits.gives).0.no_draws)
-draws_case config h now c act.Told fits is = sym ((subst (GivesFor (demanded h c) c.given) is fits.gives).0.no_draws)
+draws_case config h now c act.Repeated fits is = sym ((subst (GivesFor (demanded config h c) c.given) is fits.gives).0.no_draws)
+draws_case config h now c act.Starved fits is = sym ((subst (GivesFor (demanded config h c) c.given) is fits.gives).no_draws)
+draws_case config h now c (act.Failed code) fits is = sym ((subst (GivesFor (demanded config h c) c.given) is fits.gives).0.no_draws)
+draws_case config h now c (act.Answered x) fits is = sym ((subst (GivesFor (demanded config h c) c.given) is fits.gives).0.no_draws)
+draws_case config h now c (act.Deleted of) fits is = sym ((subst (GivesFor (demanded config h c) c.given) is fits.gives).0.no_draws)
+draws_case config h now c (act.Queried of) fits is = sym ((subst (GivesFor (demanded config h c) c.given) is fits.gives).0.no_draws)
+draws_case config h now c act.Told fits is = sym ((subst (GivesFor (demanded config h c) c.given) is fits.gives).0.no_draws)
 
 -- the keys that a turn draws are those that it was given
 pub entry_draws : (config : Config) (h : List BoardEntry) (now : ℕ) (c : Control) → FitsControl config h now c → draws_of_act c.act ≡ c.given.draws

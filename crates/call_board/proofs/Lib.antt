@@ -18,6 +18,7 @@ pub mod Idle
 pub mod Keeps
 pub mod Draws
 pub mod Demands
+pub mod Fixed
 mod rows
 pub mod Placed
 pub mod Shown

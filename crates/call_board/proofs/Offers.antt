@@ -96,7 +96,7 @@ starved_ends config h c id ask bound no_fault true is = no_memory (ap act_of is)
 starved_ends config h c id ask bound no_fault false is = found_ends config h c id ask bound (find_call h id) refl no_fault is
 
 pub offer_ends : (config : Config) (h : List BoardEntry) (now : ℕ) (c : Control) (id : List ℕ) (ask : OfferAsk) → IsFitting config h → FitsControl config h now c
-    → kept h c.source c.cookie now ≡ None → asked c.too_long c.pairs ≡ Ok (said.Offer id ask.from_tag ask.sdp ask.options) → ask.chosen ≡ c.chosen
+    → kept h c.source c.cookie now ≡ None → asked config c.too_long c.pairs ≡ Ok (said.Offer id ask.from_tag ask.sdp ask.options) → ask.chosen ≡ c.chosen
     → plan.offer_fault (rounds_of_call h (find_call h id)) ask ≡ None → OfferEnds config h c id ask
 offer_ends config h now c id ask old fits none is_asked heard no_fault =
     let due = λ (ch : List (Option CryptoLine)). spelled config (offer_to config h c.given id (offer_ask ask.from_tag ask.sdp ask.options ch) (find_call h id)) in

@@ -2,12 +2,8 @@
 use Rattle.std.proofs.Common.{◌≡◌, ◌∙◌, sym, ap, subst, ℕ, zero, suc, ◌+◌, ◌≤◌, ◌<◌, ◌⊎◌, inl, inr, List, [], ◌∷◌, ◌++◌, map, length, filter, Bool, true, false, cond, not, ◌==◌, refl, arith}
 use Rattle.std.proofs.lemmas.Bool.Decides.{nat_tests}
 use Rattle.histories.specs.Words.{In, here, there, has, last_once, numbers}
+pub use Rattle.call_board.specs.Pairs.{Once}
 use Rattle.histories.proofs.Lists.{in_append, filtered, keeps, maps, mapped, it_has, equal, equal_if}
-
--- each number stands once
-abbrev pub Once : List ℕ → Type 0
-Once [] = Unit {0}
-Once (x ∷ xs) = (In x xs → ⊥) × Once xs
 
 -- elements of a list whose numbers stand once are equal where their numbers are
 pub once_equal : {A : Type 0} (f : A → ℕ) {x y : A} (xs : List A) → Once (map f xs) → In x xs → In y xs → f x ≡ f y → x ≡ y

@@ -36,10 +36,10 @@ found_is_live h id c found = (filtered _ (live h) (first_is_in _ found)).0
 -- Offers.
 
 -- what is known of the turn of an offer
-record Offers (h : List BoardEntry) (c : Control) (id : List ℕ) (ask : OfferAsk) (before : List Round) : Type 0 where
+record Offers (config : Config) (h : List BoardEntry) (c : Control) (id : List ℕ) (ask : OfferAsk) (before : List Round) : Type 0 where
   before_is : before ≡ rounds_of_call h (find_call h id)
-  demands : demanded h c ≡ plan.demand before ask
-  gives : GivesFor (demanded h c) c.given c.act
+  demands : demanded config h c ≡ plan.demand before ask
+  gives : GivesFor (demanded config h c) c.given c.act
 
 abbrev pub leased_case : Config → List BoardEntry → Given → OfferAsk → Call → Bool → List Round → List ℕ → (failed drew : Bool) → Answering
 leased_case config h given ask of new before pairs failed drew =
@@ -65,7 +65,7 @@ no_draws h c code leases draws d gives is failed =
     u.1
 
 leased_told : (config : Config) (h : List BoardEntry) (now : ℕ) (c : Control) (id : List ℕ) (ask : OfferAsk) (of : Call) (new : Bool) (before : List Round)
-    → Offers h c id ask before → is_short (free_in config h) (plan.demand before ask).pairs ≡ false
+    → Offers config h c id ask before → is_short (free_in config h) (plan.demand before ask).pairs ≡ false
     → ((o : Offer) → o.of ≡ of → o.begins ≡ new → IsCallOf config h id o)
     → (failed drew : Bool) → list_any not c.given.opens ≡ failed → c.given.draw_failed ≡ drew
     → c.act ≡ (leased_case config h c.given ask of new before (leased_pairs config h (plan.demand before ask)) failed drew).act
@@ -76,7 +76,7 @@ leased_told config h now c id ask of new before offers enough call_is true drew 
   demand = plan.demand before ask;
   enough = enough;
   leases_are = refl;
-  failure = of_ports refl refl (no_draws h c _ _ _ (demanded h c) offers.gives is fails) (false_in c.given.opens fails);
+  failure = of_ports refl refl (no_draws h c _ _ _ (demanded config h c) offers.gives is fails) (false_in c.given.opens fails);
 }
 leased_told config h now c id ask of new before offers enough call_is false true fails draws is = record {
   turn = turn_is now c _ is;
@@ -96,13 +96,13 @@ leased_told config h now c id ask of new before offers enough call_is false fals
   legs_are = refl;
   draws = c.given.draws;
   drawn_are = refl;
-  as_many = (subst (λ a. GivesFor (demanded h c) c.given a) is offers.gives).1.all_drawn ∙ ap (λ (d : Demand). length d.keys) offers.demands;
+  as_many = (subst (λ a. GivesFor (demanded config h c) c.given a) is offers.gives).1.all_drawn ∙ ap (λ (d : Demand). length d.keys) offers.demands;
   keys_are = refl;
   dropped_are = refl;
 }
 
 planned_told : (config : Config) (h : List BoardEntry) (now : ℕ) (c : Control) (id : List ℕ) (ask : OfferAsk) (of : Call) (new : Bool) (before : List Round)
-    → Offers h c id ask before
+    → Offers config h c id ask before
     → ((new && nat_le config.max_sessions (length (live h))) ≡ false → (o : Offer) → o.of ≡ of → o.begins ≡ new → IsCallOf config h id o)
     → (over short : Bool) → (new && nat_le config.max_sessions (length (live h))) ≡ over → is_short (free_in config h) (plan.demand before ask).pairs ≡ short
     → c.act ≡ (cond over (failing E14) (cond short (failing E13) (offer_leased config h c.given ask of new before (leased_pairs config h (plan.demand before ask))))).act
@@ -113,7 +113,7 @@ planned_told config h now c id ask of new before offers call_is false false over
     leased_told config h now c id ask of new before offers shorts (call_is overs) (list_any not c.given.opens) c.given.draw_failed refl refl is
 
 unless_told : (config : Config) (h : List BoardEntry) (now : ℕ) (c : Control) (id : List ℕ) (ask : OfferAsk) (of : Call) (new : Bool) (before : List Round)
-    → Offers h c id ask before
+    → Offers config h c id ask before
     → ((new && nat_le config.max_sessions (length (live h))) ≡ false → (o : Offer) → o.of ≡ of → o.begins ≡ new → IsCallOf config h id o)
     → (fault : Option ErrorCode) → c.act ≡ (offer_unless config h c.given ask of new before fault).act
     → Tells config h (entry now c) (offer_unless config h c.given ask of new before fault).act
@@ -125,7 +125,7 @@ below_limit : (limit count : ℕ) → nat_le limit count ≡ false → count < l
 below_limit limit count h = grind (arith, nat_tests)
 
 offer_case : (config : Config) (h : List BoardEntry) (now : ℕ) (c : Control) (id : List ℕ) (ask : OfferAsk)
-    → demanded h c ≡ plan.demand (rounds_of_call h (find_call h id)) ask → GivesFor (demanded h c) c.given c.act
+    → demanded config h c ≡ plan.demand (rounds_of_call h (find_call h id)) ask → GivesFor (demanded config h c) c.given c.act
     → (found : Option Call) → find_call h id ≡ found → c.act ≡ (offer_to config h c.given id ask found).act
     → Tells config h (entry now c) (offer_to config h c.given id ask found).act
 offer_case config h now c id ask demands gives None found is =
@@ -177,17 +177,17 @@ delete_case config h now c id tag fatal None found is = missing_told config h no
 delete_case config h now c id tag fatal (Some of) found is =
     named_told config h now c of fatal (found_is_live h id of found) (names_side (rounds h of.number) tag) is
 
-query_case : (config : Config) (h : List BoardEntry) (now : ℕ) (c : Control) (id : List ℕ) → GivesFor (demanded h c) c.given c.act
+query_case : (config : Config) (h : List BoardEntry) (now : ℕ) (c : Control) (id : List ℕ) → GivesFor (demanded config h c) c.given c.act
     → (found : Option Call) → find_call h id ≡ found → c.act ≡ (query_of h c.given found).act
     → Tells config h (entry now c) (query_of h c.given found).act
 query_case config h now c id gives None found is = turn_is now c _ is
 query_case config h now c id gives (Some of) found is = record {
   turn = turn_is now c _ is;
   is_live = found_is_live h id of found;
-  report = (subst (λ a. GivesFor (demanded h c) c.given a) is gives).1;
+  report = (subst (λ a. GivesFor (demanded config h c) c.given a) is gives).1;
 }
 
-command_case : (config : Config) (h : List BoardEntry) (now : ℕ) (c : Control) (says : Said) → asked c.too_long c.pairs ≡ Ok says → GivesFor (demanded h c) c.given c.act
+command_case : (config : Config) (h : List BoardEntry) (now : ℕ) (c : Control) (says : Said) → asked config c.too_long c.pairs ≡ Ok says → GivesFor (demanded config h c) c.given c.act
     → c.act ≡ (answering_command config h c says).act → Tells config h (entry now c) (answering_command config h c says).act
 command_case config h now c said.Ping asks gives is = tt
 command_case config h now c (said.Offer id from_tag sdp options) asks gives is =
@@ -198,22 +198,22 @@ command_case config h now c (said.Delete id from_tag fatal) asks gives is = dele
 command_case config h now c (said.Query id) asks gives is = query_case config h now c id gives (find_call h id) refl is
 command_case config h now c (said.Listing limit) asks gives is = tt
 
-asked_case : (config : Config) (h : List BoardEntry) (now : ℕ) (c : Control) (r : Result Said ErrorCode) → asked c.too_long c.pairs ≡ r → GivesFor (demanded h c) c.given c.act
+asked_case : (config : Config) (h : List BoardEntry) (now : ℕ) (c : Control) (r : Result Said ErrorCode) → asked config c.too_long c.pairs ≡ r → GivesFor (demanded config h c) c.given c.act
     → c.act ≡ (answering_asked config h c r).act → Tells config h (entry now c) (answering_asked config h c r).act
 asked_case config h now c (Err code) asks gives is = turn_is now c _ is
 asked_case config h now c (Ok says) asks gives is = command_case config h now c says asks gives is
 
-starved_case : (config : Config) (h : List BoardEntry) (now : ℕ) (c : Control) → GivesFor (demanded h c) c.given c.act → (starved : Bool)
+starved_case : (config : Config) (h : List BoardEntry) (now : ℕ) (c : Control) → GivesFor (demanded config h c) c.given c.act → (starved : Bool)
     → c.act ≡ cond starved act.Starved (answering config h c).act → Tells config h (entry now c) (cond starved act.Starved (answering config h c).act)
 starved_case config h now c gives true is = turn_is now c _ is
-starved_case config h now c gives false is = asked_case config h now c (asked c.too_long c.pairs) refl gives is
+starved_case config h now c gives false is = asked_case config h now c (asked config c.too_long c.pairs) refl gives is
 
 starved_act : (config : Config) (h : List BoardEntry) (c : Control) (starved : Bool)
     → (cond starved (record { bytes = reply_text config (Fault E17); act = act.Starved }) (spelled config (answering config h c))).act ≡ cond starved act.Starved (answering config h c).act
 starved_act config h c true = refl
 starved_act config h c false = refl
 
-kept_case : (config : Config) (h : List BoardEntry) (now : ℕ) (c : Control) → GivesFor (demanded h c) c.given c.act
+kept_case : (config : Config) (h : List BoardEntry) (now : ℕ) (c : Control) → GivesFor (demanded config h c) c.given c.act
     → (o : Option (List ℕ)) → kept h c.source c.cookie now ≡ o → answer_of c ≡ answering_unless config h c o → Tells config h (entry now c) (answering_unless config h c o).act
 kept_case config h now c gives (Some bytes) is_kept is =
     record { turn = turn_is now c _ (ap (λ (a : Answered). a.act) is); is_kept = is_kept ∙ ap Some (sym (ap (λ (a : Answered). a.bytes) is)) }

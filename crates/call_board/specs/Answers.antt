@@ -1,27 +1,22 @@
 -- What a control datagram is answered and does, after the history of the board.
-use Rattle.std.specs.Prelude.{◌≡◌, ℕ, ◌+◌, ◌*◌, ◌<◌, Bool, true, false, not, ◌&&◌, ◌==◌, nat_lt, nat_le, List, [], ◌∷◌, ◌++◌, map, length, take, replicate, Option, Some, None, IsSome, Result, Ok, Err, filter, if◌then◌else◌}
+use Rattle.std.specs.Prelude.{ℕ, Bool, true, false, not, ◌&&◌, nat_le, List, [], map, length, take, Option, Some, None, Result, Ok, Err, if◌then◌else◌}
 use Rattle.std.specs.List.{list_any}
 use Rattle.relay_outside.specs.declared.settings.Config.{Config}
-use Rattle.relay_outside.specs.declared.address.Family.{Family}
 use Rattle.ng_command.specs.declared.command.Options.{Options}
 use Rattle.ng_command.specs.Said.{Said, Ping, Offer, Answer, Delete, Query, Listing}
 use Rattle.ng_reply.specs.declared.code.ErrorCode.{ErrorCode}
 use Rattle.ng_reply.specs.declared.code.ErrorCode.TheVariants.{E9, E10, E13, E14, E15, E16, E17}
 use Rattle.sdes_lines.specs.declared.crypto_line.CryptoLine.{CryptoLine}
-use Rattle.histories.specs.Words.{has}
 use Rattle.port_pool.specs.Ports.{pair_port}
-use Rattle.port_pool.specs.declared.holder.Holder.{Holder}
-use Rattle.port_pool.specs.Signals.{NewKey}
 use Rattle.port_pool.specs.Reports.{LegReport}
 use Rattle.offer_answer.specs.Rounds.{Round, OfferAsk, AnswerAsk, Demand}
 use Rattle.offer_answer.specs.Plan as plan
 use Rattle.call_board.specs.Acts as act
 use Rattle.call_board.specs.Acts.{Call, Act, Given, Control, BoardEvent, Turn, Tick, Stop, BoardEntry}
-use Rattle.call_board.specs.Calls.{live, find_call, new_call, begun, rounds, first_moment, latest_moment}
+use Rattle.call_board.specs.Calls.{live, find_call, new_call, rounds, first_moment, latest_moment}
 use Rattle.call_board.specs.Pairs.{free_in, fronts, is_short, lease_of, new_legs, new_keys, drawn}
-use Rattle.call_board.specs.Kept.{kept}
 use Rattle.call_board.specs.Replies.{Reply, Pong, Done, Warned, Described, Reported, Listed, Fault, reply_text}
-use Rattle.call_board.specs.Asked.{Reads, asked}
+use Rattle.call_board.specs.Asked.{asked}
 
 -- a reply, and what is done
 pub record Answering : Type 0 where
@@ -153,7 +148,7 @@ answering_asked config h c (Ok says) = answering_command config h c says
 
 -- the reply that is due where nothing is kept and memory is not short
 abbrev pub answering : Config → List BoardEntry → Control → Answering
-answering config h c = answering_asked config h c (asked c.too_long c.pairs)
+answering config h c = answering_asked config h c (asked config c.too_long c.pairs)
 
 -- the bytes of a reply, and what is done
 pub record Answered : Type 0 where

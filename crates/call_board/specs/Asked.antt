@@ -1,5 +1,7 @@
 -- What a control datagram asks: its command, or the first error that its bytes alone have.
-use Rattle.std.specs.Prelude.{◌≡◌, ℕ, Bool, true, false, List, [], Option, Some, None, Result, Ok, Err}
+use Rattle.std.specs.Prelude.{ℕ, Bool, true, false, List, Option, Some, None, Result, Ok, Err}
+use Rattle.relay_outside.specs.declared.address.Ip.{Ip}
+use Rattle.relay_outside.specs.declared.settings.Config.{Config}
 use Rattle.ng_bencode.specs.Tree.{Dict, Entries}
 use Rattle.ng_bencode.specs.Spells.{Spells}
 use Rattle.ng_command.specs.declared.fault.CommandFault.{CommandFault}
@@ -11,7 +13,7 @@ use Rattle.ng_reply.specs.declared.code.ErrorCode.{ErrorCode}
 use Rattle.ng_reply.specs.declared.code.ErrorCode.TheVariants.{E1, E2, E3, E4, E5, E6, E7, E17, E18}
 use Rattle.ng_reply.specs.declared.code.SdpPart.TheVariants as part
 use Rattle.sdp_text.specs.Lines.{lines_of}
-use Rattle.sdp_text.specs.Reading.{fault_in}
+use Rattle.sdp_text.specs.Reading.{fault_in, v6_line_in}
 use Rattle.sdp_text.specs.declared.fault.SdpFault.{SdpFault}
 use Rattle.sdp_text.specs.declared.fault.SdpFault.TheVariants as sdp
 use Rattle.histories.specs.Words.{or_else}
@@ -51,27 +53,34 @@ abbrev pub code_if : Option SdpFault → Option ErrorCode
 code_if None = None
 code_if (Some cause) = Some (sdp_code cause)
 
+-- the error of a description whose first line with an IPv6 address in effect is that one: it has none where there is an
+-- address of version 6 to relay at
+abbrev pub v6_error : Option Ip → Option ℕ → Option ErrorCode
+v6_error (Some address) line = None
+v6_error None None = None
+v6_error None (Some n) = Some (E7 (part.Line n))
+
 -- the error of a description
-unfoldable pub sdp_error : List ℕ → Option ErrorCode
-sdp_error text = code_if (fault_in (lines_of text))
+unfoldable pub sdp_error : Config → List ℕ → Option ErrorCode
+sdp_error config text = or_else (code_if (fault_in (lines_of text))) (v6_error config.interface6 (v6_line_in (lines_of text)))
 
 -- the error of a command's description, where it has one
-abbrev pub description_error : Said → Option ErrorCode
-description_error Ping = None
-description_error (Offer call_id from_tag sdp options) = sdp_error sdp
-description_error (Answer call_id from_tag to_tag sdp options) = sdp_error sdp
-description_error (Delete call_id from_tag fatal) = None
-description_error (Query call_id) = None
-description_error (Listing limit) = None
+abbrev pub description_error : Config → Said → Option ErrorCode
+description_error config Ping = None
+description_error config (Offer call_id from_tag sdp options) = sdp_error config sdp
+description_error config (Answer call_id from_tag to_tag sdp options) = sdp_error config sdp
+description_error config (Delete call_id from_tag fatal) = None
+description_error config (Query call_id) = None
+description_error config (Listing limit) = None
 
 abbrev pub unless : Option ErrorCode → Said → Result Said ErrorCode
 unless None says = Ok says
 unless (Some code) says = Err code
 
-abbrev pub asked_by : Result Said ErrorCode → Result Said ErrorCode
-asked_by (Err code) = Err code
-asked_by (Ok says) = unless (description_error says) says
+abbrev pub asked_by : Config → Result Said ErrorCode → Result Said ErrorCode
+asked_by config (Err code) = Err code
+asked_by config (Ok says) = unless (description_error config says) says
 
 -- the command of a datagram, or the first error of its bytes
-unfoldable pub asked : Bool → Option Entries → Result Said ErrorCode
-asked too_long pairs = asked_by (command_in too_long pairs)
+unfoldable pub asked : Config → Bool → Option Entries → Result Said ErrorCode
+asked config too_long pairs = asked_by config (command_in too_long pairs)

@@ -1,15 +1,16 @@
 -- Which entries a board's history demands: what a datagram says, what the outside gave in its turn, and what it is answered.
-use Rattle.std.specs.Prelude.{◌≡◌, ℕ, ◌*◌, ◌<◌, Bool, true, false, not, List, [], ◌∷◌, ◌++◌, map, length, nat_lt, replicate, Option, Some, None, IsSome, Result, Ok, Err, filter, if◌then◌else◌}
+use Rattle.std.specs.Prelude.{◌≡◌, ℕ, ◌*◌, ◌<◌, Bool, true, false, not, ◌&&◌, ◌||◌, List, [], ◌∷◌, ◌++◌, map, length, nat_lt, replicate, Option, Some, None, is_some, IsSome, Result, Ok, filter}
 use Rattle.std.specs.List.{list_any}
 use Rattle.relay_outside.specs.declared.settings.Config.{Config}
 use Rattle.ng_frame.specs.Frame.{frame}
-use Rattle.ng_command.specs.Said.{Said, Ping, Offer, Answer, Delete, Query, Listing}
+use Rattle.ng_command.specs.Said.{Said, Offer, Answer, Query}
 use Rattle.ng_reply.specs.declared.code.ErrorCode.{ErrorCode}
+use Rattle.ng_reply.specs.declared.code.ErrorCode.TheVariants.{E8, E13, E14}
 use Rattle.histories.specs.Words.{In, has}
 use Rattle.port_pool.specs.declared.holder.Side.{Side}
 use Rattle.port_pool.specs.declared.signal.LegSignal.{LegSignal}
 use Rattle.port_pool.specs.Signals.{NewKey, signal_at}
-use Rattle.offer_answer.specs.Rounds.{Round, AnswerAsk, Demand, drawn_for}
+use Rattle.offer_answer.specs.Rounds.{AnswerAsk, Demand, drawn_for}
 use Rattle.offer_answer.specs.Plan as plan
 use Rattle.call_board.specs.Acts as act
 use Rattle.call_board.specs.Acts.{Call, Act, Given, Control, BoardEvent, Turn, Tick, Stop, BoardEntry}
@@ -50,8 +51,8 @@ demanded_by h c (Ok (Offer id from_tag sdp options)) =
     plan.demand (rounds_of_call h (find_call h id)) (offer_ask from_tag sdp options c.chosen)
 demanded_by h c _ = record { pairs = []; keys = []; dropped = [] }
 
-abbrev pub demanded : List BoardEntry → Control → Demand
-demanded h c = demanded_by h c (asked c.too_long c.pairs)
+abbrev pub demanded : Config → List BoardEntry → Control → Demand
+demanded config h c = demanded_by h c (asked config c.too_long c.pairs)
 
 abbrev pub GivesUndone : Demand → Given → Bool → Type 0
 GivesUndone demand given true = OpenFails given (length demand.pairs) × (given.draws ≡ []) × (given.draw_failed ≡ false)
@@ -70,18 +71,45 @@ GivesFor demand given (act.Deleted of) = GivesNothing given × (given.report ≡
 GivesFor demand given act.Told = GivesNothing given × (given.report ≡ None)
 
 abbrev pub HearsAnswer : List BoardEntry → AnswerAsk → Option Call → Type 0
-HearsAnswer h ask None = ask.chosen ≡ []
+HearsAnswer h ask None = Unit {0}
 HearsAnswer h ask (Some of) = plan.AnswerHeard (rounds h of.number) ask
 
 -- the chosen keys of a datagram are those of its description
 abbrev pub Hears : List BoardEntry → Control → Result Said ErrorCode → Type 0
 Hears h c (Ok (Offer id from_tag sdp options)) = plan.OfferHeard (offer_ask from_tag sdp options c.chosen)
 Hears h c (Ok (Answer id from_tag to_tag sdp options)) = HearsAnswer h (answer_ask from_tag to_tag sdp options c.chosen) (find_call h id)
-Hears h c (Ok Ping) = c.chosen ≡ []
-Hears h c (Ok (Delete id from_tag fatal)) = c.chosen ≡ []
-Hears h c (Ok (Query id)) = c.chosen ≡ []
-Hears h c (Ok (Listing limit)) = c.chosen ≡ []
-Hears h c (Err code) = c.chosen ≡ []
+Hears h c _ = Unit {0}
+
+-- What is read of a datagram.
+
+abbrev pub is_repeat : Act → Bool
+is_repeat act.Repeated = true
+is_repeat _ = false
+
+-- the body is read, unless a kept reply is given again, the datagram is too long, or memory is short before it was read; a
+-- datagram that had a report for all its want of memory was read
+abbrev pub is_read : Control → Bool
+is_read c = not (is_repeat c.act) && not c.too_long && (not c.given.starved || is_some c.given.report)
+
+-- the errors that are found when crypto lines have been chosen
+abbrev pub is_found_late : ErrorCode → Bool
+is_found_late E8 = true
+is_found_late E13 = true
+is_found_late E14 = true
+is_found_late _ = false
+
+-- crypto lines are chosen for an offer or an answer that is accepted, and for one that fails at or behind the choice
+abbrev pub is_heard : Act → Bool
+is_heard (act.Offered offer) = true
+is_heard (act.Answered answer) = true
+is_heard (act.Undone code leases draws) = true
+is_heard (act.Failed code) = is_found_late code
+is_heard _ = false
+
+-- the command asks after a live call
+abbrev pub asks_after : List BoardEntry → Result Said ErrorCode → Bool
+asks_after h (Ok (Query id)) = is_some (find_call h id)
+asks_after h _ = false
 
 abbrev pub answer_of : Control → Answered
 answer_of c = record { bytes = c.reply; act = c.act }
@@ -90,9 +118,11 @@ answer_of c = record { bytes = c.reply; act = c.act }
 pub record FitsControl (config : Config) (h : List BoardEntry) (now : ℕ) (c : Control) : Type 0 where
   pub framed : frame (c.cookie ++ 32 ∷ c.body) ≡ Some (c.cookie, c.body)
   pub length_is : c.too_long ≡ nat_lt 16384 (length (c.cookie ++ 32 ∷ c.body))
-  pub reads : Reads c.body c.pairs
-  pub hears : Hears h c (asked c.too_long c.pairs)
-  pub gives : GivesFor (demanded h c) c.given c.act
+  pub reads : is_read c ≡ true → Reads c.body c.pairs
+  pub hears : is_heard c.act ≡ true → Hears h c (asked config c.too_long c.pairs)
+  pub gives : GivesFor (demanded config h c) c.given c.act
+  -- where memory is short, a report is had of no call but a live one that is asked after
+  pub reports : c.act ≡ act.Starved → asks_after h (asked config c.too_long c.pairs) ≡ false → c.given.report ≡ None
   pub answers : answer_of c ≡ answering_unless config h c (kept h c.source c.cookie now)
 
 -- of the live calls those that the entry names, in order

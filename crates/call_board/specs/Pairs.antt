@@ -1,15 +1,15 @@
 -- The port pairs: which leg holds one, and which pairs are free, in the order in which they are leased; and the drawn keys.
-use Rattle.std.specs.Prelude.{ℕ, ◌+◌, Bool, true, false, not, ◌&&◌, ◌==◌, List, [], ◌∷◌, ◌++◌, map, length, drop, Option, Some, None, filter, count_by, nat_lt, ◌||◌, if◌then◌else◌}
+use Rattle.std.specs.Prelude.{ℕ, ◌+◌, Bool, true, false, not, ◌&&◌, ◌==◌, List, [], ◌∷◌, ◌++◌, map, length, drop, filter, count_by, nat_lt, ◌||◌, if◌then◌else◌}
 use Rattle.std.specs.List.{flat_map}
 use Rattle.relay_outside.specs.declared.settings.Config.{Config}
 use Rattle.relay_outside.specs.declared.address.Family.{Family}
 use Rattle.relay_outside.specs.declared.address.Family.TheVariants.{V4, V6}
-use Rattle.histories.specs.Words.{has, last_once, numbers}
+use Rattle.histories.specs.Words.{In, has, last_once, numbers}
 use Rattle.port_pool.specs.Ports.{pair_count}
 use Rattle.port_pool.specs.declared.holder.Holder.{Holder}
 use Rattle.port_pool.specs.Signals.{NewKey, is_rejected}
 use Rattle.offer_answer.specs.Rounds.{NewLeg, KeyPlace}
-use Rattle.call_board.specs.Acts.{Call, Lease, Offer, Answer, Act, Repeated, Starved, Failed, Undone, Offered, Answered, Deleted, Queried, Told, BoardEvent, Turn, Tick, Stop, BoardEntry, act}
+use Rattle.call_board.specs.Acts.{Call, Lease, Act, Undone, Offered, Answered, BoardEntry, act}
 use Rattle.call_board.specs.Calls.{ended_by}
 
 -- Who holds a pair.
@@ -27,6 +27,11 @@ closes_leg_act _ leg = false
 -- the entry closes the leg: it ends its call, or drops or rejects its section
 abbrev pub closes_leg : BoardEntry → Holder → Bool
 closes_leg e leg = if has (map (λ c. c.number) (ended_by e)) leg.call then true else closes_leg_act (act e) leg
+
+-- each number stands once
+abbrev pub Once : List ℕ → Type 0
+Once [] = Unit {0}
+Once (n ∷ ns) = (In n ns → ⊥) × Once ns
 
 -- the legs that accepted offers leased pairs for, in lease order, without those that a later entry closed
 abbrev pub held : List BoardEntry → List Holder

@@ -1,5 +1,5 @@
 -- What follows the cookie in a reply.
-use Rattle.std.specs.Prelude.{ℕ, ◌∷◌, List, [], Option, Some, None, codes}
+use Rattle.std.specs.Prelude.{ℕ, List}
 use Rattle.relay_outside.specs.declared.settings.Config.{Config}
 use Rattle.ng_bencode.specs.Tree.{Tree}
 use Rattle.ng_bencode.specs.Spells.{spelling}

@@ -1,5 +1,5 @@
 -- The texts of reports, as bencoded values with their keys in byte order.
-use Rattle.std.specs.Prelude.{ℕ, ℤ, pos, ◌+◌, ◌-◌, ◌^◌, ◌&&◌, ◌==◌, Bool, true, false, List, [], ◌∷◌, map, min, nat_lt, Option, Some, None, filter, filter_map, codes, if◌then◌else◌}
+use Rattle.std.specs.Prelude.{ℕ, pos, ◌+◌, ◌-◌, ◌^◌, ◌&&◌, ◌==◌, Bool, true, false, List, [], ◌∷◌, map, min, nat_lt, Option, Some, None, filter, filter_map, codes, if◌then◌else◌}
 use Rattle.relay_outside.specs.declared.settings.Config.{Config}
 use Rattle.relay_outside.specs.declared.address.Addr.{Addr}
 use Rattle.ng_bencode.specs.Tree.{Tree, Int, Bytes, Items, Dict, Entries, no_entries, entry, items_of}

@@ -175,7 +175,7 @@ call_is h c e i q all =
 
 good_event : {config : Config} (h : List CellEntry) (moment : ℕ) (event : CellEvent) → FitsAt config h moment event
     → GoodCell config (since_end h) → GoodCell config (since_end (record { moment = moment; event = event } ∷ h))
-good_event h moment (Relay r) f g = goes_on f g
+good_event h moment (Relay r) f g = goes_on f.does g
 good_event h moment (Prepare call legs keys dropped) f g = goes_on tt g
 good_event h moment (Commit signal) f g = goes_on tt g
 good_event h moment (Expire due) f g = goes_on tt g

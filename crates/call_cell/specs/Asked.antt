@@ -1,17 +1,20 @@
 -- When a call is due to end, what is told of its legs, and which event a cell's history demands.
-use Rattle.std.specs.Prelude.{◌≡◌, ℕ, ◌+◌, Bool, true, false, ◌&&◌, ◌==◌, nat_le, List, Option, Some, None, is_some, filter, filter_map, count_by, if◌then◌else◌}
-use Rattle.std.specs.List.{list_any}
+use Rattle.std.specs.Prelude.{◌≡◌, ℕ, ◌+◌, Bool, true, false, ◌&&◌, ◌==◌, nat_le, List, [], ◌∷◌, Option, Some, None, is_some, filter, filter_map, count_by, if◌then◌else◌}
+use Rattle.std.specs.List.{list_any, flat_map}
 use Rattle.relay_outside.specs.declared.settings.Config.{Config}
 use Rattle.rtp_packet.specs.declared.head.Half.{Half}
 use Rattle.rtp_packet.specs.declared.head.Half.TheVariants.{Rtp, Rtcp}
 use Rattle.srtp_sources.specs.Notes.{is_half}
-use Rattle.histories.specs.Words.{first, final}
+use Rattle.histories.specs.Words.{first, final, numbers}
 use Rattle.port_pool.specs.declared.holder.Holder.{Holder}
+use Rattle.port_pool.specs.declared.holder.Side.{Side}
+use Rattle.port_pool.specs.declared.holder.Side.TheVariants.{A, B}
 use Rattle.port_pool.specs.declared.signal.LegSignal.{LegSignal}
+use Rattle.port_pool.specs.Signals.{side_eq}
 use Rattle.port_pool.specs.Reports.{LegReport}
 use Rattle.call_cell.specs.declared.outcome.Outcome.{Outcome}
 use Rattle.call_cell.specs.declared.outcome.Outcome.TheVariants as outcomes
-use Rattle.call_cell.specs.Cells.{CellEvent, CellEntry, Prepare, Commit, Relay, Expire, Read, End, Sending, legs, life, in_force, since_end, is_accepted, relayed, accepted_of, prepared_call}
+use Rattle.call_cell.specs.Cells.{CellEvent, CellEntry, Prepare, Commit, Relay, Expire, Read, End, Relayed, Sending, legs, life, in_force, since_end, is_accepted, relayed, accepted_of, prepared_call}
 use Rattle.call_cell.specs.Learning.{learned, endpoint_by}
 use Rattle.call_cell.specs.Deeds.{deed}
 
@@ -72,15 +75,36 @@ report_under h leg (Some s) = Some (record {
 abbrev pub report_of : List CellEntry → Holder → Option LegReport
 report_of h leg = report_under h leg (in_force h leg)
 
--- the reports of the committed legs
+abbrev pub report_in : List CellEntry → Option Holder → Option LegReport
+report_in h None = None
+report_in h (Some leg) = report_of h leg
+
+abbrev pub stands_at : ℕ → Side → Holder → Bool
+stands_at section side leg = (leg.section == section) && side_eq leg.side side
+
+-- the report of the leg of that section and side, where it is committed
+abbrev pub report_at : List CellEntry → ℕ → Side → Option LegReport
+report_at h section side = report_in h (first (filter (stands_at section side) (legs h)))
+
+-- the reports of the legs of committed sections, by section, that of side A first
 unfoldable pub reports : List CellEntry → List LegReport
-reports h = filter_map (report_of h) (legs h)
+reports h = flat_map (λ section. filter_map (report_at h section) (A ∷ B ∷ [])) (numbers 0 8)
 
 -- What a history demands.
 
+-- a relay that makes no send is told that none failed
+abbrev pub IsAnswered : Option Sending → Bool → Type 0
+IsAnswered None sent_ok = sent_ok ≡ true
+IsAnswered (Some sending) sent_ok = Unit {0}
+
+-- a relay does what the history demands, with that answer of its send
+pub record FitsRelay (config : Config) (h : List CellEntry) (r : Relayed) : Type 0 where
+  pub does : r.deed ≡ deed config h r.packet r.sent_ok
+  pub answered : IsAnswered r.deed.sending r.sent_ok
+
 -- the event is the one that the cell's history demands at that moment
 abbrev pub FitsAt : Config → List CellEntry → ℕ → CellEvent → Type 0
-FitsAt config h now (Relay r) = r.deed ≡ deed config (since_end h) r.packet r.sent_ok
+FitsAt config h now (Relay r) = FitsRelay config (since_end h) r
 FitsAt config h now (Expire due) = due ≡ is_due config (since_end h) now
 FitsAt config h now (Read told) = told ≡ reports (since_end h)
 FitsAt config h now (Prepare call legs keys dropped) = Unit {0}

@@ -1,9 +1,9 @@
 -- The board's entries of a list, as moments of the board's history.
-use Rattle.std.proofs.Common.{◌≡◌, ◌∙◌, sym, ap, subst, refl, ℕ, zero, suc, ◌<◌, ◌≤◌, ◌⊎◌, inl, inr, List, [], ◌∷◌, Bool, true, false, Option, Some, None, length, arith}
+use Rattle.std.proofs.Common.{◌≡◌, ◌∙◌, sym, ap, subst, refl, ℕ, zero, suc, ◌<◌, ◌≤◌, ◌⊎◌, inl, inr, List, [], ◌∷◌, Some, length, arith}
 use Rattle.relay_outside.specs.declared.settings.Config.{Config}
 use Rattle.histories.specs.Words.{In}
 use Rattle.call_board.specs.Acts.{BoardEntry}
-use Rattle.relay_core.specs.Entries.{Entry, is_at, board_entry, board_history}
+use Rattle.relay_core.specs.Entries.{Entry, board_entry, board_history}
 use Rattle.relay_core.specs.Legal.{Orderly}
 use Rattle.call_board.proofs.Moments.{Later, now, after, later_length}
 use Rattle.relay_core.proofs.Histories.{More, same, added, more, same_at}

@@ -1,5 +1,5 @@
 -- The Commits and the Ends of a list, and the board entries that they belong to.
-use Rattle.std.proofs.Common.{◌≡◌, ◌∙◌, sym, ap, subst, refl, ℕ, List, [], ◌∷◌, Bool, true, false, Option, Some, None}
+use Rattle.std.proofs.Common.{◌≡◌, ◌∙◌, ap, refl, ℕ, List, true, Some}
 use Rattle.relay_outside.specs.declared.settings.Config.{Config}
 use Rattle.histories.specs.Words.{In}
 use Rattle.port_pool.specs.declared.signal.SectionSignal.{SectionSignal}

@@ -1,36 +1,31 @@
 -- The key that is in force on a leg is there: its Prepare stands among the entries since the cell's last End.
-use Rattle.std.proofs.Common.{◌≡◌, ◌∙◌, sym, ap, subst, refl, ℕ, suc, ◌<◌, ◌≤◌, ◌⊎◌, inl, inr, List, [], ◌∷◌, Bool, true, false, Option, Some, None, max, arith}
+use Rattle.std.proofs.Common.{◌≡◌, ◌∙◌, sym, ap, subst, refl, ℕ, suc, ◌<◌, ◌≤◌, ◌⊎◌, inl, inr, List, Bool, true, false, Some, arith}
 use Rattle.relay_outside.specs.declared.settings.Config.{Config}
 use Rattle.histories.specs.Words.{In}
 use Rattle.port_pool.specs.declared.holder.Holder.{Holder}
-use Rattle.port_pool.specs.declared.holder.Side.{Side}
 use Rattle.port_pool.specs.declared.signal.LegSignal.{LegSignal}
-use Rattle.port_pool.specs.declared.signal.SectionSignal.{SectionSignal}
 use Rattle.port_pool.specs.Signals.{NewKey, signal_at}
-use Rattle.offer_answer.specs.Rounds.{drawn_for}
 use Rattle.offer_answer.specs.Plan as plan
 use Rattle.offer_answer.proofs.Drawn.{signal-names-drawn}
-use Rattle.call_cell.specs.Cells.{CellEvent, CellEntry, Prepare, Commit, End, is_end, since_end, in_force, keys_in, keys_of, key_numbered}
+use Rattle.call_cell.specs.Cells.{CellEntry, Prepare, Commit, End, is_end, since_end, in_force, keys_in, key_numbered}
 use Rattle.call_board.specs.Acts as act
 use Rattle.call_board.specs.Acts.{Call, BoardEntry}
-use Rattle.call_board.specs.Calls.{live, begun, rounds, ended_by}
-use Rattle.relay_core.specs.Entries.{Event, Board, Cell, Box, Entry, is_nested, board_entry, board_history, cell_entry, cell_history}
-use Rattle.relay_core.specs.Scripts.{Owed, owed_by, in_cell, script}
+use Rattle.call_board.specs.Calls.{live, rounds}
+use Rattle.relay_core.specs.Entries.{Event, Cell, Entry, is_nested, board_entry, board_history, cell_entry, cell_history}
+use Rattle.relay_core.specs.Scripts.{Owed, in_cell}
 use Rattle.relay_core.specs.Legal.{Orderly}
 use Rattle.relay_core.specs.Safe.{HasKey, keys_by}
-use Rattle.relay_core.proofs.Histories.{good_history, same_at, Since, since_entry, entry_since}
-use Rattle.relay_core.proofs.Scripts.{IsNestedIn, nested_in, has_prepare, IsMade, is_made}
-use Rattle.relay_core.proofs.Boards.{later_history, later_entry, IsMoment, is_moment, moment}
+use Rattle.relay_core.proofs.Histories.{good_history, same_at, since_entry, entry_since}
+use Rattle.relay_core.proofs.Scripts.{has_prepare, is_made}
+use Rattle.relay_core.proofs.Boards.{is_moment, moment}
 use Rattle.relay_core.proofs.Keys.{keys_apart}
-use Rattle.relay_core.proofs.Commits.{event_of, entry_of, end_event, IsCommitOf, commit_of}
-use Rattle.relay_core.proofs.Lives.{not_after, live_same, begun_grows, no_end_in, no_end_of}
-use Rattle.call_board.proofs.Moments.{Later}
-use Rattle.call_board.proofs.Told.{IsAnswer}
+use Rattle.relay_core.proofs.Commits.{event_of, entry_of, end_event, commit_of}
+use Rattle.relay_core.proofs.Lives.{not_after, live_same, no_end_in, no_end_of}
 use Rattle.call_board.proofs.Tells.{answer_told}
 use Rattle.call_board.proofs.Calls.{live_begun, offered_live}
-use Rattle.call_board.proofs.Keys.{Drew, drawn_for_drew}
-use Rattle.call_cell.proofs.Committed.{IsCommitted, in_force_committed, commit_is_in}
-use Rattle.call_cell.proofs.Keys.{key_brought, key_is_in, key_found, finds_key}
+use Rattle.call_board.proofs.Keys.{drawn_for_drew}
+use Rattle.call_cell.proofs.Committed.{in_force_committed, commit_is_in}
+use Rattle.call_cell.proofs.Keys.{key_brought, key_is_in, finds_key}
 
 -- What is in force on a leg was committed by an answer of a call that was live then.
 pub record IsInForce (config : Config) (l : List Entry) (place n : ℕ) (leg : Holder) (s : LegSignal) : Type 0 where

@@ -1,22 +1,19 @@
 -- Each key enters one leg, by one Prepare.
-use Rattle.std.proofs.Common.{◌≡◌, ◌∙◌, sym, ap, subst, refl, ℕ, suc, ◌<◌, ◌≤◌, List, [], ◌∷◌, ◌++◌, Bool, true, false, cond, Option, Some, None, map, length, filter, max, arith}
+use Rattle.std.proofs.Common.{◌≡◌, ◌∙◌, sym, ap, subst, refl, ℕ, suc, List, [], ◌∷◌, ◌++◌, Bool, true, false, cond, Some, map, length, filter, max, arith}
 use Rattle.std.proofs.lemmas.List.Elements.{filter-append}
 use Rattle.relay_outside.specs.declared.settings.Config.{Config}
-use Rattle.histories.specs.Words.{In, here, there}
-use Rattle.histories.proofs.Lists.{filtered, keeps, equal, only}
+use Rattle.histories.specs.Words.{In}
+use Rattle.histories.proofs.Lists.{keeps, equal, only}
 use Rattle.port_pool.specs.declared.holder.Holder.{Holder}
-use Rattle.port_pool.specs.declared.signal.SectionSignal.{SectionSignal}
-use Rattle.port_pool.specs.Reports.{LegReport}
 use Rattle.port_pool.specs.Signals.{NewKey}
-use Rattle.port_pool.specs.Boxes.{BoxEvent}
-use Rattle.call_cell.specs.Cells.{CellEvent, Prepare, Commit, Relay, Relayed, Expire, Read, End, keys_of}
+use Rattle.call_cell.specs.Cells.{CellEvent, Prepare, Commit, Relay, Expire, Read, End, keys_of}
 use Rattle.call_board.specs.Acts as act
 use Rattle.call_board.specs.Acts.{Call, Act, Control, BoardEvent, Turn, Tick, Stop, BoardEntry}
-use Rattle.relay_core.specs.Entries.{Event, Board, Cell, Box, Entry, is_nested, belongs_to, board_entry, board_history, box_of}
+use Rattle.relay_core.specs.Entries.{Event, Board, Cell, Box, Entry, is_nested, belongs_to, board_entry, board_history}
 use Rattle.relay_core.specs.Scripts.{Owed, owed_by, opening, closing, in_cell, closings, script}
 use Rattle.relay_core.specs.Legal.{Orderly}
 use Rattle.relay_core.specs.Safe.{keys_by, keys_at}
-use Rattle.relay_core.proofs.Histories.{good_history, and_true, same_at}
+use Rattle.relay_core.proofs.Histories.{good_history, and_true}
 use Rattle.relay_core.proofs.Scripts.{IsOwed, opens, prepares, commits, closes, ends, expires, reads, owed, IsNestedIn, nested_in}
 use Rattle.relay_core.proofs.Boards.{later_entry, same_moment}
 use Rattle.call_board.proofs.Keys.{drawn_once}

@@ -18,7 +18,9 @@ pub mod Elsewhere
 pub mod Turns
 pub mod Gains
 pub mod Shut
+pub mod Shutting
 pub mod Plans
 pub mod Counts
 pub mod Laid
 mod Example
+mod rows

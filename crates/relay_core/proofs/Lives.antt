@@ -1,18 +1,17 @@
 -- While a call is live, its cell has no End.
-use Rattle.std.proofs.Common.{◌≡◌, ◌∙◌, sym, ap, subst, refl, ℕ, suc, ◌<◌, ◌≤◌, ◌⊎◌, inl, inr, List, [], ◌∷◌, Bool, true, false, Option, Some, None, max, arith}
+use Rattle.std.proofs.Common.{◌≡◌, ◌∙◌, sym, ap, subst, ℕ, ◌<◌, ◌≤◌, ◌⊎◌, inl, inr, List, [], ◌∷◌, true, Some, max, arith}
 use Rattle.relay_outside.specs.declared.settings.Config.{Config}
-use Rattle.histories.specs.Words.{In, here, there, Before}
+use Rattle.histories.specs.Words.{In, Before}
 use Rattle.histories.proofs.Lists.{in_left}
 use Rattle.call_board.specs.Acts as act
 use Rattle.call_board.specs.Acts.{Call, Act, BoardEvent, Turn, Tick, Stop, BoardEntry}
 use Rattle.call_board.specs.Calls.{live, begun, begun_by_act, ended_by, ended_in, ended_by_act}
-use Rattle.relay_core.specs.Entries.{Event, Board, Cell, Box, Entry, is_nested, board_entry, board_history}
+use Rattle.relay_core.specs.Entries.{Cell, Entry, is_nested, board_entry, board_history}
 use Rattle.call_cell.specs.Cells.{End}
 use Rattle.relay_core.specs.Legal.{Orderly}
 use Rattle.relay_core.proofs.Histories.{good_history, same_at}
-use Rattle.relay_core.proofs.Scripts.{IsNestedIn, nested_in}
-use Rattle.relay_core.proofs.Boards.{later_history, later_entry, moment, same_moment}
-use Rattle.relay_core.proofs.Commits.{IsEndOf, end_of}
+use Rattle.relay_core.proofs.Boards.{later_history, later_entry, moment}
+use Rattle.relay_core.proofs.Commits.{end_of}
 use Rattle.call_board.proofs.Moments.{Later, now, after}
 use Rattle.call_board.proofs.Tells.{ended_live}
 use Rattle.call_board.proofs.Calls.{live_begun, live_between, ended_never, begun_once}

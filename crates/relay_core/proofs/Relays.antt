@@ -1,16 +1,16 @@
 -- The Prepares of a cell since its last End are of one call, which is that of each leg.
-use Rattle.std.proofs.Common.{◌≡◌, ◌∙◌, sym, ap, subst, refl, ℕ, zero, suc, ◌<◌, ◌≤◌, ◌⊎◌, inl, inr, List, [], ◌∷◌, ◌++◌, Bool, true, false, Option, Some, None, map, arith}
+use Rattle.std.proofs.Common.{◌≡◌, ◌∙◌, sym, ap, subst, refl, ℕ, zero, suc, ◌<◌, ◌≤◌, ◌⊎◌, inl, inr, List, ◌∷◌, Some, map, arith}
 use Rattle.relay_outside.specs.declared.settings.Config.{Config}
-use Rattle.histories.specs.Words.{In, here, there}
+use Rattle.histories.specs.Words.{In, here}
 use Rattle.histories.proofs.Lists.{in_right, mapped}
 use Rattle.port_pool.specs.declared.holder.Holder.{Holder}
 use Rattle.port_pool.specs.Signals.{NewKey}
-use Rattle.call_cell.specs.Cells.{CellEvent, CellEntry, Prepare, Commit, Relay, Expire, Read, End, since_end, call, legs, legs_of, call_prepared, prepared_call}
+use Rattle.call_cell.specs.Cells.{CellEvent, CellEntry, Prepare, Commit, Relay, Expire, Read, End, since_end, call, legs, call_prepared, prepared_call}
 use Rattle.call_board.specs.Acts as act
 use Rattle.call_board.specs.Acts.{Call, BoardEntry}
 use Rattle.call_board.specs.Calls.{live, ended_by}
 use Rattle.call_board.specs.Fits.{FitsBoard}
-use Rattle.relay_core.specs.Entries.{Event, Board, Cell, Box, Entry, is_nested, board_entry, board_history, cell_entry, cell_history, cell_before}
+use Rattle.relay_core.specs.Entries.{Cell, Entry, is_nested, board_entry, board_history, cell_history}
 use Rattle.relay_core.specs.Scripts.{Owed, in_cell}
 use Rattle.relay_core.specs.Legal.{Orderly}
 use Rattle.relay_core.proofs.Histories.{good_history, same_at, Since, since_entry, More, same, added, more}
@@ -18,13 +18,13 @@ use Rattle.relay_core.proofs.Scripts.{IsMade, is_made, has_end}
 use Rattle.relay_core.proofs.Boards.{moment, less_or, le_or_eq}
 use Rattle.relay_core.proofs.Keys.{IsPrepareOf, prepare_of}
 use Rattle.relay_core.proofs.Commits.{event_of, entry_of}
-use Rattle.relay_core.proofs.Lives.{not_after, live_same, no_end_of}
+use Rattle.relay_core.proofs.Lives.{not_after, no_end_of}
 use Rattle.call_board.proofs.Tells.{ended_live}
 use Rattle.call_board.proofs.Calls.{offered_live, ended_here, live_numbers}
 use Rattle.call_board.proofs.Cells.{live_cells}
 use Rattle.call_board.proofs.Held.{new_leg}
 use Rattle.call_cell.proofs.Since.{call_is}
-use Rattle.call_cell.proofs.Legs.{IsAdded, leg_added, adds_prepares}
+use Rattle.call_cell.proofs.Legs.{leg_added, adds_prepares}
 
 -- A live call stays live, or an entry ends it.
 

@@ -1,5 +1,5 @@
 -- A kept cookie gives its first reply and changes nothing; a valid offer fails only for a named shortage.
-use Rattle.std.proofs.Common.{◌≡◌, ◌∙◌, sym, ap, subst, refl, ℕ, suc, List, [], ◌∷◌, Bool, true, false, Option, Some, None}
+use Rattle.std.proofs.Common.{◌≡◌, ◌∙◌, sym, ap, subst, refl, ℕ, suc, List, [], ◌∷◌, true, Some}
 use Rattle.relay_outside.specs.declared.settings.Config.{Config}
 use Rattle.histories.specs.Words.{In}
 use Rattle.offer_answer.specs.Rounds.{OfferAsk}
@@ -8,15 +8,17 @@ use Rattle.call_board.specs.Acts.{Act, Control, Turn, BoardEntry}
 use Rattle.call_board.specs.Calls.{live, rounds}
 use Rattle.call_board.specs.Pairs.{held, free, drawn}
 use Rattle.call_board.specs.Kept.{kept}
-use Rattle.call_board.specs.Fits.{FitsControl}
-use Rattle.relay_core.specs.Entries.{Event, Board, Entry, is_nested, board_at, board_entry, board_history}
+use Rattle.call_board.specs.Answers.{answering_unless}
+use Rattle.call_board.specs.Asked.{Reads, asked}
+use Rattle.call_board.specs.Fits.{FitsControl, is_read, is_heard, Hears, answer_of}
+use Rattle.relay_core.specs.Entries.{Board, Entry, is_nested, board_at, board_entry, board_history}
 use Rattle.relay_core.specs.Scripts.{owed_by, script, script_of_act}
 use Rattle.relay_core.specs.Legal.{Orderly}
 use Rattle.relay_core.specs.Safe.{IsRepeat, IsValidOffer, IsOfferReply, well, no_pair, session_limit, port_fault, key_fault, no_memory}
 use Rattle.relay_core.proofs.Histories.{good_history, same_at}
-use Rattle.relay_core.proofs.Scripts.{IsNestedIn, nested_in}
+use Rattle.relay_core.proofs.Scripts.{nested_in}
 use Rattle.relay_core.proofs.Boards.{moment}
-use Rattle.call_board.proofs.Repeats.{kept_repeats, ChangesNothing, repeat_changes_nothing}
+use Rattle.call_board.proofs.Repeats.{kept_repeats, repeat_changes_nothing}
 use Rattle.call_board.proofs.Offers.{OfferEnds, offer_ends}
 use Rattle.call_board.proofs.Offers as ends
 
@@ -30,6 +32,20 @@ is_turn e c q = ap (board_at e.moment) q
 fits_turn : (config : Config) (l : List Entry) → Orderly config l → (e : Entry) (c : Control) → In e l → e.event ≡ Board (Turn c)
     → FitsControl config (board_history l e.number) e.moment c
 fits_turn config l o e c i q = (o.board_fits e (turn e c) i (is_turn e c q)).1
+
+-- what is recorded of a body and of its crypto lines is what it spells and says
+pub bodies_are : (config : Config) (l : List Entry) → Orderly config l → (e : Entry) (c : Control) → In e l → e.event ≡ Board (Turn c)
+    → is_read c ≡ true → Reads c.body c.pairs
+bodies_are config l o e c i q read = (fits_turn config l o e c i q).reads read
+
+pub lines_are : (config : Config) (l : List Entry) → Orderly config l → (e : Entry) (c : Control) → In e l → e.event ≡ Board (Turn c)
+    → is_heard c.act ≡ true → Hears (board_history l e.number) c (asked config c.too_long c.pairs)
+lines_are config l o e c i q heard = (fits_turn config l o e c i q).hears heard
+
+-- each reply is the one that is due
+pub replies_are : (config : Config) (l : List Entry) → Orderly config l → (e : Entry) (c : Control) → In e l → e.event ≡ Board (Turn c)
+    → answer_of c ≡ answering_unless config (board_history l e.number) c (kept (board_history l e.number) c.source c.cookie e.moment)
+replies_are config l o e c i q = (fits_turn config l o e c i q).answers
 
 -- a repeat owes nothing
 owes_nothing : (config : Config) (l : List Entry) → Orderly config l → (e : Entry) (c : Control) → In e l → e.event ≡ Board (Turn c) → c.act ≡ act.Repeated
@@ -71,7 +87,7 @@ offer_reply config h c id ask (ends.key_fault leases a t) = key_fault leases a t
 offer_reply config h c id ask (ends.no_memory a) = no_memory a
 
 pub offers_answered : (config : Config) (l : List Entry) → Orderly config l → (e : Entry) (c : Control) (id : List ℕ) (ask : OfferAsk) → In e l → e.event ≡ Board (Turn c)
-    → IsValidOffer (board_history l e.number) c e.moment id ask → IsOfferReply config (board_history l e.number) c id ask
+    → IsValidOffer config (board_history l e.number) c e.moment id ask → IsOfferReply config (board_history l e.number) c id ask
 offers_answered config l o e c id ask i q v =
     let h = board_history l e.number in
     offer_reply config h c id ask

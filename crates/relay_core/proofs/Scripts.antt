@@ -1,19 +1,18 @@
 -- What a board entry owes, by cases, and the nested entries that meet it.
-use Rattle.std.proofs.Common.{◌≡◌, ◌∙◌, sym, ap, subst, refl, ℕ, ◌⊎◌, inl, inr, List, [], ◌∷◌, ◌++◌, Bool, true, false, cond, Option, Some, None, map, filter, ◌==◌}
-use Rattle.std.specs.Prelude.{Result, Ok, Err, ◌&&◌}
-use Rattle.std.specs.List.{flat_map}
+use Rattle.std.proofs.Common.{◌≡◌, sym, subst, refl, ℕ, ◌⊎◌, inl, inr, List, [], ◌∷◌, Bool, true, false, cond, Option, Some, None, map, filter, ◌==◌}
+use Rattle.std.specs.Prelude.{Result, Ok, Err}
 use Rattle.relay_outside.specs.declared.settings.Config.{Config}
 use Rattle.ng_command.specs.Said.{Said, Ping, Offer, Answer, Delete, Query, Listing}
 use Rattle.ng_reply.specs.declared.code.ErrorCode.{ErrorCode}
 use Rattle.histories.specs.Words.{In, here, there, has}
-use Rattle.histories.proofs.Lists.{in_append, in_left, in_right, filtered, keeps, mapped, maps, Made, spread, spreads, equal, equal_if, has_it, it_has}
+use Rattle.histories.proofs.Lists.{in_append, in_left, in_right, filtered, keeps, mapped, maps, spread, spreads, equal, equal_if}
 use Rattle.port_pool.specs.declared.holder.Holder.{Holder}
 use Rattle.port_pool.specs.Reports.{LegReport}
 use Rattle.call_cell.specs.Cells.{Prepare, Commit, Expire, Read, End}
 use Rattle.call_board.specs.Acts as act
 use Rattle.call_board.specs.Acts.{Call, Act, Control, BoardEvent, Turn, Tick, Stop, BoardEntry}
 use Rattle.call_board.specs.Calls.{live, ended_by_act, ended_by, find_call}
-use Rattle.call_board.specs.Pairs.{signalled_by, calls_in, closed_of, closed}
+use Rattle.call_board.specs.Pairs.{signalled_by, calls_in, closed_of}
 use Rattle.call_board.specs.Asked.{asked}
 use Rattle.call_board.specs.Fits.{FitsBoard, named_live}
 use Rattle.relay_core.specs.Entries.{Entry, is_nested, belongs_to, board_entry, board_history}
@@ -79,7 +78,7 @@ signals e of a q i = in_left (signalled_by (act.act e)) (ended_by e) (subst (λ 
 owed_act : (config : Config) (h : List BoardEntry) (moment : ℕ) (c : Control) (w : Owed) (a : Act) → c.act ≡ a
     → In w (script_of_act config h (turn moment c) c a) → IsOwed config h (turn moment c) w
 owed_act config h moment c w act.Repeated q i = elim i [ ]
-owed_act config h moment c w act.Starved q i = owed_starved config h (turn moment c) c (asked c.too_long c.pairs) w i
+owed_act config h moment c w act.Starved q i = owed_starved config h (turn moment c) c (asked config c.too_long c.pairs) w i
 owed_act config h moment c w (act.Failed code) q i = elim i [ ]
 owed_act config h moment c w (act.Undone code leases draws) q i = elim i [ ]
 owed_act config h moment c w (act.Offered o) q i =

@@ -1,5 +1,5 @@
 -- Each packet that was sent is what one received packet is turned into, sent once, to the opposite endpoint.
-use Rattle.std.proofs.Common.{◌≡◌, ◌∙◌, sym, ap, subst, refl, ℕ, List, Bool, Option, Some, length}
+use Rattle.std.proofs.Common.{◌≡◌, ◌∙◌, sym, ap, subst, ℕ, List, Some, length}
 use Rattle.relay_outside.specs.declared.address.Addr.{Addr}
 use Rattle.relay_outside.specs.declared.settings.Config.{Config}
 use Rattle.histories.specs.Words.{In}
@@ -8,14 +8,14 @@ use Rattle.port_pool.specs.declared.holder.Holder.{Holder}
 use Rattle.call_cell.specs.declared.outcome.Outcome.TheVariants.{Sent}
 use Rattle.call_cell.specs.Cells.{Relay, Relayed, Sending, Shield, Deed, legs, opposite}
 use Rattle.call_cell.specs.Deeds.{transform}
-use Rattle.relay_core.specs.Entries.{Event, Cell, Entry, cell_before}
-use Rattle.relay_core.specs.Legal.{Legal, IsReceived}
+use Rattle.relay_core.specs.Entries.{Cell, Entry, cell_before}
+use Rattle.relay_core.specs.Legal.{Legal}
 use Rattle.relay_core.specs.Safe.{IsSentRight, IsProtectedBy}
-use Rattle.relay_core.proofs.Generations.{taking_in, held_at_take, holder_is_leg}
+use Rattle.relay_core.proofs.Generations.{held_at_take, holder_is_leg}
 use Rattle.relay_core.proofs.Relays.{call_of_leg}
 use Rattle.relay_core.proofs.Keyed.{has_key}
 use Rattle.relay_core.proofs.Shields.{deed_is, protecting}
-use Rattle.call_cell.proofs.Sends.{Sends, sends, IsSent, sent}
+use Rattle.call_cell.proofs.Sends.{sends, sent}
 
 pub sent_right : (config : Config) (l : List Entry) → Legal config l → (e : Entry) (x : Relayed) (w : Sending) → In e l → e.event ≡ Cell (Relay x)
     → x.deed.sending ≡ Some w → IsSentRight config l e x w
@@ -28,7 +28,7 @@ sent_right config l g e x w i q t =
     let is_leg : In p.holder (legs h) = subst (λ (a : Holder). In a (legs h)) leg s.is_leg in
     record {
       taking = r.taking;
-      taken = taking_in config l e p r;
+      taken = r.is_there;
       at_box = r.at_box;
       with_number = r.with_number;
       held_by = held_at_take config l g e p r;

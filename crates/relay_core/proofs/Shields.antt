@@ -1,22 +1,21 @@
 -- No key, source and index protects two packets.
-use Rattle.std.proofs.Common.{◌≡◌, ◌∙◌, sym, ap, subst, refl, ℕ, zero, suc, ◌<◌, ◌≤◌, ◌⊎◌, inl, inr, List, [], ◌∷◌, Bool, true, false, Option, Some, None, max, arith}
+use Rattle.std.proofs.Common.{◌≡◌, ◌∙◌, sym, ap, subst, refl, ℕ, zero, suc, ◌<◌, ◌≤◌, ◌⊎◌, inl, inr, List, Bool, true, false, Some, max, arith}
 use Rattle.relay_outside.specs.declared.settings.Config.{Config}
 use Rattle.histories.specs.Words.{In}
-use Rattle.port_pool.specs.Signals.{NewKey}
 use Rattle.call_cell.specs.Cells.{CellEvent, CellEntry, Prepare, Commit, Relay, Expire, Read, End, Relayed, Shield, is_end, since_end}
 use Rattle.call_cell.specs.Deeds.{deed}
-use Rattle.call_cell.specs.Asked.{FitsCell}
-use Rattle.call_cell.specs.Good.{FittingCell, empty, longer, GoodCell}
+use Rattle.call_cell.specs.Asked.{FitsCell, FitsRelay}
+use Rattle.call_cell.specs.Good.{FittingCell, empty, longer}
 use Rattle.call_board.specs.Acts as act
 use Rattle.call_board.specs.Acts.{Call, BoardEntry}
 use Rattle.relay_core.specs.Entries.{Event, Board, Cell, Box, Entry, is_nested, board_history, cell_at, cell_entry, cell_history, cell_before}
-use Rattle.relay_core.specs.Legal.{Orderly, Legal, Fits, FitsEvent}
-use Rattle.relay_core.specs.Safe.{shield_by, shield_at, HasKey, IsProtectedBy}
+use Rattle.relay_core.specs.Legal.{Orderly, Legal, FitsEvent}
+use Rattle.relay_core.specs.Safe.{shield_by, shield_at}
 use Rattle.relay_core.proofs.Histories.{good_history, same_at, More, same, added, more, entry_since}
 use Rattle.relay_core.proofs.Boards.{later_entry, same_moment, less_or}
-use Rattle.relay_core.proofs.Commits.{entry_of, event_of, end_event}
+use Rattle.relay_core.proofs.Commits.{entry_of, end_event}
 use Rattle.relay_core.proofs.Lives.{not_after, no_end_of}
-use Rattle.relay_core.proofs.Keyed.{IsInForce, is_in_force, IsDrawn, is_drawn, offered_call, no_end_of_boards, has_key, less}
+use Rattle.relay_core.proofs.Keyed.{IsInForce, is_in_force, IsDrawn, is_drawn, offered_call, no_end_of_boards, less}
 use Rattle.call_board.proofs.Keys.{drawn_once}
 use Rattle.call_cell.proofs.Since.{good_since}
 use Rattle.call_cell.proofs.Shields.{Shields, shields, shield_is_new}
@@ -48,7 +47,10 @@ fitting_cell config l g place (suc n) = fitting_case config l g place n (fitting
 
 pub deed_is : (config : Config) (l : List Entry) → Legal config l → (e : Entry) (x : Relayed) → In e l → e.event ≡ Cell (Relay x)
     → x.deed ≡ deed config (cell_before l e) x.packet x.sent_ok
-deed_is config l g e x i q = fits_cell config l e.place e.number e.moment e.event (record { moment = e.moment; event = Relay x }) (g.fits e i) (entry_of e.moment e.event (Relay x) q)
+deed_is config l g e x i q =
+    let fits : FitsRelay config (cell_before l e) x =
+    fits_cell config l e.place e.number e.moment e.event (record { moment = e.moment; event = Relay x }) (g.fits e i) (entry_of e.moment e.event (Relay x) q) in
+    fits.does
 
 pub record IsShielding (v : Event) (s : Shield) : Type 0 where
   pub relayed : Relayed

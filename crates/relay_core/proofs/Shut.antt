@@ -35,7 +35,7 @@ nested_below config l o n above e i nested =
 -- The whole history of a box.
 
 -- an entry that isn't nested leaves the box as it is
-not_nested_leaves : (leg : Holder) (v : Event) → is_nested v ≡ false → Leaves leg (box_in v)
+pub not_nested_leaves : (leg : Holder) (v : Event) → is_nested v ≡ false → Leaves leg (box_in v)
 not_nested_leaves leg (Board b) h = tt
 not_nested_leaves leg (Cell c) h = tt
 not_nested_leaves leg (Box (Open other)) h = absurd (let k = h in cc)
@@ -91,7 +91,7 @@ box_now config l o place n k above_board above =
     (λ x h. opened_holder l o.numbered place (λ e. true) k x
     (nested_to_whole config l o place n k above_board above x (holder_opened l o.numbered place (passes_below n) (front l place) x h)))
 
-none_if : (a : Option Holder) → ((x : Holder) → a ≡ Some x → ⊥) → a ≡ None
+pub none_if : (a : Option Holder) → ((x : Holder) → a ≡ Some x → ⊥) → a ≡ None
 none_if None fails = refl
 none_if (Some x) fails = absurd (fails x refl)
 

@@ -182,7 +182,7 @@ pub record IsTurn (config : Config) (l ns : List Entry) (b : Entry) : Type 0 whe
 
 -- so they are nested, and none is at the board's place
 pub turn_elsewhere : (config : Config) (l ns : List Entry) (b : Entry) → Orderly config l → IsTurn config l ns b → (e : Entry) → In e ns
-    → IsElsewhere (owed_by e)
+    → IsElsewhere config (owed_by e)
 turn_elsewhere config l ns b o t e i =
     owed_elsewhere config (board_history l b.number) t.entry (owed_by e) (good_history config l o b.number) t.fits
     (subst (λ ws. In (owed_by e) ws) t.owes (maps owed_by ns i))

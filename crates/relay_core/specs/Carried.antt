@@ -43,7 +43,7 @@ pub record CarriesCalls (config : Config) (l : List Entry) : Type 0 where
   pub begins : offer.begins ≡ true
   pub repeat_turn : Control
   pub is_repeated : Occurs l 0 (Board (Turn repeat_turn))
-  pub same_datagram : (repeat_turn.source ≡ offer_turn.source) × (repeat_turn.cookie ≡ offer_turn.cookie)
+  pub same_datagram : (repeat_turn.source ≡ offer_turn.source) × (repeat_turn.cookie ≡ offer_turn.cookie) × (repeat_turn.body ≡ offer_turn.body)
   pub repeats : repeat_turn.act ≡ act.Repeated
   pub answer_turn : Control
   pub is_answered : Occurs l 0 (Board (Turn answer_turn))

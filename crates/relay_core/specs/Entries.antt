@@ -1,9 +1,9 @@
 -- The entries of all places, in one list, and the history of each place.
-use Rattle.std.specs.Prelude.{ℕ, zero, suc, ◌+◌, Bool, true, false, ◌&&◌, ◌==◌, List, [], ◌∷◌, ◌++◌, length, Option, Some, None, filter, filter_map, map}
+use Rattle.std.specs.Prelude.{ℕ, zero, suc, ◌+◌, Bool, true, false, ◌&&◌, ◌==◌, List, [], ◌++◌, Option, Some, None, filter, filter_map, map}
 use Rattle.relay_outside.specs.declared.settings.Config.{Config}
 use Rattle.histories.specs.Words.{greatest}
-use Rattle.port_pool.specs.Boxes.{BoxEvent, Open, Take, Close}
-use Rattle.call_cell.specs.Cells.{CellEvent, CellEntry, Prepare, Commit, Relay, Expire, Read, End, since_end}
+use Rattle.port_pool.specs.Boxes.{BoxEvent, Take}
+use Rattle.call_cell.specs.Cells.{CellEvent, CellEntry, Relay, since_end}
 use Rattle.call_board.specs.Acts.{BoardEvent, BoardEntry}
 
 pub data Event : Type 0 where

@@ -1,11 +1,11 @@
 -- When a list of entries is legal.
-use Rattle.std.specs.Prelude.{◌≡◌, ℕ, zero, suc, ◌+◌, ◌<◌, ◌≤◌, ◌⊎◌, Bool, true, false, ◌==◌, List, [], ◌∷◌, map, length, Option, Some, None, filter, count_by, max}
+use Rattle.std.specs.Prelude.{◌≡◌, ℕ, ◌<◌, ◌≤◌, ◌⊎◌, Bool, true, false, ◌==◌, List, map, length, Some, filter, count_by, max}
 use Rattle.relay_outside.specs.declared.settings.Config.{Config}
 use Rattle.histories.specs.Words.{In, Before, greatest}
-use Rattle.port_pool.specs.Boxes.{BoxEvent, Open, Take, Close, Datagram, FitsBox}
-use Rattle.call_cell.specs.Cells.{CellEvent, CellEntry, Prepare, Commit, Relay, Expire, Read, End, Relayed, Receipt}
+use Rattle.port_pool.specs.Boxes.{Take, Datagram, FitsBox}
+use Rattle.call_cell.specs.Cells.{Prepare, Commit, Relay, Expire, Relayed, Receipt}
 use Rattle.call_cell.specs.Asked.{FitsCell}
-use Rattle.call_board.specs.Acts.{BoardEvent, BoardEntry, Turn, Tick, Stop}
+use Rattle.call_board.specs.Acts.{BoardEntry, Turn, Tick}
 use Rattle.call_board.specs.Fits.{FitsBoard}
 use Rattle.relay_core.specs.Entries.{Event, Board, Cell, Box, Entry, is_nested, is_at, belongs_to, history, board_entry, board_history, cell_history, box_history, box_of}
 use Rattle.relay_core.specs.Scripts.{owed_by, script}
@@ -20,6 +20,12 @@ FitsEvent config l place number moment (Box b) = FitsBox (box_history l place nu
 
 abbrev pub Fits : Config → List Entry → Entry → Type 0
 Fits config l e = FitsEvent config l e.place e.number e.moment e.event
+
+-- the board's events stand at its place, those of cells and of boxes at theirs
+abbrev pub StandsAt : Config → (place : ℕ) → Event → Type 0
+StandsAt config place (Board b) = place ≡ 0
+StandsAt config place (Cell c) = (1 ≤ place) × (place ≤ config.max_sessions)
+StandsAt config place (Box b) = config.max_sessions < place
 
 -- the relay's packet is what that take gave, to the leg that held the box at that take, and it is relayed in that leg's cell
 pub record IsReceived (config : Config) (l : List Entry) (e : Entry) (p : Receipt) : Type 0 where
@@ -78,6 +84,8 @@ pub record Legal (config : Config) (l : List Entry) : Type 0 where
   -- each entry is the one that the history of its place demands
   pub fits : (e : Entry) → In e l → Fits config l e
   pub timed : (e : Entry) → In e l → IsTimed l e
+  -- at a place of its kind
+  pub placed : (e : Entry) → In e l → StandsAt config e.place e.event
   -- each relay is of a receipt, and of no other relay's
   pub received : (e : Entry) (x : Relayed) → In e l → e.event ≡ Cell (Relay x) → IsReceived config l e x.packet
   pub once : (e f : Entry) (x y : Relayed) → In e l → In f l → e.event ≡ Cell (Relay x) → f.event ≡ Cell (Relay y) →

@@ -1,34 +1,31 @@
 -- What a safe list promises.
-use Rattle.std.specs.Prelude.{◌≡◌, ℕ, suc, ◌<◌, ◌≤◌, ◌&&◌, nat_lt, Bool, true, false, List, [], ◌∷◌, length, Option, Some, None, filter, filter_map, Result, Ok, IsTrue}
-use Rattle.std.specs.List.{list_any}
+use Rattle.std.specs.Prelude.{◌≡◌, ℕ, suc, ◌&&◌, nat_lt, true, false, List, [], map, length, Option, Some, None, filter, filter_map, Ok, IsSome}
 use Rattle.relay_outside.specs.declared.address.Addr.{Addr}
 use Rattle.relay_outside.specs.declared.settings.Config.{Config}
-use Rattle.relay_outside.specs.declared.address.Family.{Family}
-use Rattle.ng_command.specs.declared.command.Options.{Options}
 use Rattle.ng_command.specs.Said as said
 use Rattle.ng_reply.specs.declared.code.ErrorCode.TheVariants.{E13, E14, E15, E16}
-use Rattle.histories.specs.Words.{In}
+use Rattle.histories.specs.Words.{In, Before}
 use Rattle.port_pool.specs.declared.holder.Holder.{Holder}
 use Rattle.port_pool.specs.declared.signal.LegSignal.{LegSignal}
 use Rattle.port_pool.specs.Signals.{NewKey}
-use Rattle.port_pool.specs.Boxes.{BoxEvent, Take, Datagram, holder}
+use Rattle.port_pool.specs.Boxes.{BoxEvent, Open, Close, Take, Datagram, holder}
 use Rattle.port_pool.specs.Ports.{half_port}
 use Rattle.offer_answer.specs.Plan as plan
 use Rattle.offer_answer.specs.Rounds.{OfferAsk}
-use Rattle.call_cell.specs.declared.outcome.Outcome.{Outcome}
 use Rattle.call_cell.specs.declared.outcome.Outcome.TheVariants.{Sent}
 use Rattle.call_cell.specs.Cells.{CellEvent, CellEntry, Relay, Relayed, Sending, Shield, call, legs, opposite, in_force, keys_of, key_numbered}
 use Rattle.call_cell.specs.Keyed.{shield_of_relay}
 use Rattle.call_cell.specs.Learning.{endpoint}
-use Rattle.call_cell.specs.Deeds.{way, transform}
+use Rattle.call_cell.specs.Deeds.{deed, way, transform}
 use Rattle.call_cell.specs.Cells as cells
 use Rattle.call_board.specs.Acts as act
 use Rattle.call_board.specs.Acts.{Control, Turn, BoardEntry}
 use Rattle.call_board.specs.Calls.{live, rounds, find_call, rounds_of_call}
-use Rattle.call_board.specs.Pairs.{held, free, free_in, is_short, drawn}
+use Rattle.call_board.specs.Pairs.{Once, held, free, free_in, is_short, drawn}
 use Rattle.call_board.specs.Kept.{kept}
-use Rattle.call_board.specs.Asked.{asked}
-use Rattle.call_board.specs.Answers.{offering, spelled}
+use Rattle.call_board.specs.Asked.{Reads, asked}
+use Rattle.call_board.specs.Answers.{answering_unless, offering, spelled}
+use Rattle.call_board.specs.Fits.{is_read, is_heard, Hears, answer_of}
 use Rattle.relay_core.specs.Entries.{Event, Board, Cell, Box, Entry, is_nested, history, front, box_event, board_history, cell_before, box_history, box_of}
 use Rattle.relay_core.specs.Legal.{Legal}
 
@@ -38,7 +35,7 @@ use Rattle.relay_core.specs.Legal.{Legal}
 -- state of the call that held the receiving port when it was taken; and no other relay is of that take
 pub record IsSentRight (config : Config) (l : List Entry) (e : Entry) (x : Relayed) (w : Sending) : Type 0 where
   pub taking : Entry
-  pub taken : In taking l
+  pub taken : Before taking e l
   pub at_box : taking.place ≡ box_of config x.packet.holder.pair
   pub with_number : taking.number ≡ x.packet.take
   pub held_by : holder (box_history l taking.place taking.number) ≡ Some x.packet.holder
@@ -108,9 +105,9 @@ pub record IsRepeat (config : Config) (l : List Entry) (e : Entry) (c : Control)
 -- Offers.
 
 -- nothing is kept for the datagram, and it is an offer without a fault
-pub record IsValidOffer (h : List BoardEntry) (c : Control) (now : ℕ) (id : List ℕ) (ask : OfferAsk) : Type 0 where
+pub record IsValidOffer (config : Config) (h : List BoardEntry) (c : Control) (now : ℕ) (id : List ℕ) (ask : OfferAsk) : Type 0 where
   pub nothing_kept : kept h c.source c.cookie now ≡ None
-  pub is_asked : asked c.too_long c.pairs ≡ Ok (said.Offer id ask.from_tag ask.sdp ask.options)
+  pub is_asked : asked config c.too_long c.pairs ≡ Ok (said.Offer id ask.from_tag ask.sdp ask.options)
   pub is_heard : ask.chosen ≡ c.chosen
   pub no_fault : plan.offer_fault (rounds_of_call h (find_call h id)) ask ≡ None
 
@@ -128,20 +125,33 @@ pub data IsOfferReply (config : Config) (h : List BoardEntry) (c : Control) (id 
 -- What an orderly list has, whatever the lanes do
 pub record BoardSafe (config : Config) (l : List Entry) : Type 0 where
   -- no port has two holders
+  pub pairs_once : (n : ℕ) → Once (map (λ leg. leg.pair) (held (board_history l n)))
   pub pairs_apart : (n : ℕ) (a b : Holder) → In a (held (board_history l n)) → In b (held (board_history l n)) → a.pair ≡ b.pair → a ≡ b
   pub box_is_held : (n : ℕ) (a : Holder) → In a (held (board_history l n)) → holder (box_before l (box_of config a.pair) n) ≡ Some a
   pub held_is_box : (n pair : ℕ) (a : Holder) → holder (box_before l (box_of config pair) n) ≡ Some a → (a.pair ≡ pair) × In a (held (board_history l n))
+  -- a box is opened only where it has no holder, and closed only where it has one
+  pub opens_shut : (e : Entry) (leg : Holder) → In e l → e.event ≡ Box (Open leg) → holder (box_history l e.place e.number) ≡ None
+  pub closes_open : (e : Entry) → In e l → e.event ≡ Box Close → IsSome (holder (box_history l e.place e.number))
   -- each key number enters one leg, once
   pub keys_apart : (e f : Entry) (k j : NewKey) → In e l → In f l → In k (keys_at e) → In j (keys_at f) → k.number ≡ j.number → (e ≡ f) × (k ≡ j)
+  -- what is read of a datagram is what its body spells, and the lines that are chosen are those of its description
+  pub bodies_are : (e : Entry) (c : Control) → In e l → e.event ≡ Board (Turn c) → is_read c ≡ true → Reads c.body c.pairs
+  pub lines_are : (e : Entry) (c : Control) → In e l → e.event ≡ Board (Turn c) → is_heard c.act ≡ true
+      → Hears (board_history l e.number) c (asked config c.too_long c.pairs)
+  -- each reply, and what is done, are what the board's history demands
+  pub replies_are : (e : Entry) (c : Control) → In e l → e.event ≡ Board (Turn c)
+      → answer_of c ≡ answering_unless config (board_history l e.number) c (kept (board_history l e.number) c.source c.cookie e.moment)
   -- a kept cookie gives its first reply and changes nothing
   pub repeated : (e : Entry) (c : Control) (reply : List ℕ) → In e l → e.event ≡ Board (Turn c)
       → kept (board_history l e.number) c.source c.cookie e.moment ≡ Some reply → IsRepeat config l e c reply
   -- a valid offer fails only for a named shortage
   pub offers_answered : (e : Entry) (c : Control) (id : List ℕ) (ask : OfferAsk) → In e l → e.event ≡ Board (Turn c)
-      → IsValidOffer (board_history l e.number) c e.moment id ask → IsOfferReply config (board_history l e.number) c id ask
+      → IsValidOffer config (board_history l e.number) c e.moment id ask → IsOfferReply config (board_history l e.number) c id ask
 
 pub record Safe (config : Config) (l : List Entry) : Type 0 where
   pub board : BoardSafe config l
+  -- what each relay does is what its cell's history demands
+  pub deeds_are : (e : Entry) (x : Relayed) → In e l → e.event ≡ Cell (Relay x) → x.deed ≡ deed config (cell_before l e) x.packet x.sent_ok
   -- every packet sent is the transform of one received packet, sent once, to the opposite endpoint, by the leg that held the port
   pub sent_right : (e : Entry) (x : Relayed) (w : Sending) → In e l → e.event ≡ Cell (Relay x) → x.deed.sending ≡ Some w → IsSentRight config l e x w
   pub sent_sends : (e : Entry) (x : Relayed) (port : ℕ) (to : Addr) (len : ℕ) → In e l → e.event ≡ Cell (Relay x)

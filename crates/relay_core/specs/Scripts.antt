@@ -1,20 +1,20 @@
 -- The nested entries that an entry of the board owes, in order.
-use Rattle.std.specs.Prelude.{ℕ, ◌==◌, Bool, List, [], ◌∷◌, ◌++◌, map, Option, Some, None, Result, Ok, Err, if◌then◌else◌}
+use Rattle.std.specs.Prelude.{ℕ, List, [], ◌∷◌, ◌++◌, map, Option, Some, None, Result, Ok, if◌then◌else◌}
 use Rattle.std.specs.List.{flat_map}
 use Rattle.relay_outside.specs.declared.settings.Config.{Config}
-use Rattle.ng_command.specs.Said.{Said, Ping, Offer, Answer, Delete, Query, Listing}
+use Rattle.ng_command.specs.Said.{Said, Query}
 use Rattle.ng_reply.specs.declared.code.ErrorCode.{ErrorCode}
 use Rattle.histories.specs.Words.{has}
 use Rattle.port_pool.specs.declared.holder.Holder.{Holder}
 use Rattle.port_pool.specs.Reports.{LegReport}
-use Rattle.port_pool.specs.Boxes.{BoxEvent, Open, Close}
+use Rattle.port_pool.specs.Boxes.{Open, Close}
 use Rattle.call_cell.specs.Cells.{CellEvent, Prepare, Commit, Expire, Read, End}
 use Rattle.call_board.specs.Acts as act
 use Rattle.call_board.specs.Acts.{Call, Act, Control, BoardEvent, Turn, Tick, Stop, BoardEntry}
 use Rattle.call_board.specs.Calls.{live, find_call}
 use Rattle.call_board.specs.Pairs.{closed_of}
 use Rattle.call_board.specs.Asked.{asked}
-use Rattle.relay_core.specs.Entries.{Event, Board, Cell, Box, Entry, box_of}
+use Rattle.relay_core.specs.Entries.{Event, Cell, Box, Entry, box_of}
 
 -- an event that is owed at a place
 pub record Owed : Type 0 where
@@ -59,7 +59,7 @@ reading_starved h c _ = []
 
 abbrev pub script_of_act : Config → List BoardEntry → BoardEntry → Control → Act → List Owed
 script_of_act config h e c act.Repeated = []
-script_of_act config h e c act.Starved = reading_starved h c (asked c.too_long c.pairs)
+script_of_act config h e c act.Starved = reading_starved h c (asked config c.too_long c.pairs)
 script_of_act config h e c (act.Failed code) = []
 script_of_act config h e c (act.Undone code leases draws) = []
 script_of_act config h e c (act.Offered o) =

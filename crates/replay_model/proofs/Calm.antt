@@ -1,20 +1,15 @@
--- What the turns of a replay owe fits: a datagram's turn that reads a call tells what its cell's history has, and a tick
--- asks each live call.
-use Rattle.std.proofs.Common.{◌≡◌, sym, subst, refl, ℕ, List, [], ◌∷◌, ◌++◌, map, length, Bool, true, false, cond, not, Option, Some, None, Result, Ok, Err}
+-- A turn of a replay is never short of memory, and a call that it asks after is read as it is.
+use Rattle.std.proofs.Common.{◌≡◌, refl, ℕ, List, [], length, Bool, true, false, cond, not, Option, Some, None, Result, Ok, Err}
 use Rattle.std.specs.Prelude.{◌&&◌, nat_le}
-use Rattle.std.specs.List.{list_any, flat_map}
+use Rattle.std.specs.List.{list_any}
 use Rattle.relay_outside.specs.declared.settings.Config.{Config}
 use Rattle.relay_outside.specs.declared.address.Addr.{Addr}
 use Rattle.ng_command.specs.Said.{Said, Ping, Offer, Answer, Delete, Query, Listing}
 use Rattle.ng_reply.specs.declared.code.ErrorCode.{ErrorCode}
-use Rattle.ng_reply.specs.declared.code.ErrorCode.TheVariants.{E9, E10, E13, E14}
-use Rattle.histories.specs.Words.{In, here, there}
-use Rattle.histories.proofs.Lists.{mapped}
-use Rattle.port_pool.specs.declared.holder.Holder.{Holder}
+use Rattle.ng_reply.specs.declared.code.ErrorCode.TheVariants.{E9, E10, E13, E14, E17}
 use Rattle.port_pool.specs.Reports.{LegReport}
 use Rattle.offer_answer.specs.Rounds.{Round, OfferAsk, AnswerAsk, Demand}
 use Rattle.offer_answer.specs.Plan as plan
-use Rattle.call_cell.specs.Cells.{Prepare, Commit}
 use Rattle.call_board.specs.Acts as act
 use Rattle.call_board.specs.Acts.{Call, Act, Given, Control, Turn, Tick, BoardEntry}
 use Rattle.call_board.specs.Calls.{live, find_call, new_call, rounds, rounds_of_call}
@@ -22,19 +17,17 @@ use Rattle.call_board.specs.Pairs.{free_in, is_short, new_legs}
 use Rattle.call_board.specs.Kept.{kept}
 use Rattle.call_board.specs.Asked.{asked}
 use Rattle.call_board.specs.Replies as replies
-use Rattle.call_board.specs.Answers.{Answering, failing, leased_pairs, offer_ask, answer_ask, offer_leased, offer_unless, offer_to, answer_unless, answer_to, delete_of, missing, names_side, query_of, answering_asked, answering_unless, spelled}
+use Rattle.call_board.specs.Replies.{Fault, reply_text}
+use Rattle.call_board.specs.Answers.{Answered, Answering, failing, leased_pairs, offer_ask, answer_ask, offer_leased, offer_unless, offer_to, answer_unless, answer_to, delete_of, missing, names_side, query_of, answering_asked, answering_unless, spelled}
 use Rattle.call_board.specs.Fits.{demanded, demanded_by}
 use Rattle.call_board.proofs.Tells.{leased_case}
-use Rattle.call_board.proofs.Cells.{live_cell, live_cells_once}
-use Rattle.relay_core.specs.Entries.{Entry, front}
-use Rattle.relay_core.specs.Scripts.{Owed, opening, in_cell, closings, ending, script_of_act, reading, expiring}
-use Rattle.relay_core.specs.Legal.{Orderly}
-use Rattle.relay_core.proofs.Histories.{good_history}
+use Rattle.relay_core.specs.Entries.{Entry}
 use Rattle.replay_model.specs.Devices.{Happening, Opens, opens, draws}
-use Rattle.replay_model.specs.Turns.{Heard, nothing_given, asking, with_draws, ends_of, outside_of, reports_now, turned, board_now, due_calls, call_is_due, nested_entries}
-use Rattle.replay_model.proofs.Fitting.{unless_starved}
-use Rattle.replay_model.proofs.Orderly.{picked_is}
-use Rattle.replay_model.proofs.Nested.{AllFit, FitsAnywhere, all_anywhere, all_append, tick_fits, ending_anywhere, closings_box}
+use Rattle.replay_model.specs.Turns.{Heard, nothing_given, asking, with_draws, ends_of, outside_of, reports_now, turned, board_now}
+
+-- the answer, where memory may be short
+abbrev pub unless_starved : Config → Bool → Answering → Answered
+unless_starved config starved a = cond starved (record { bytes = reply_text config (Fault E17); act = act.Starved }) (spelled config a)
 
 -- the act is no want of memory, and a call that it asks after is read as it is
 abbrev pub IsCalm : List Entry → Act → Option (List LegReport) → Type 0
@@ -151,57 +144,13 @@ asked_calm config stream l past h source cookie body heard (Ok (Listing limit)) 
 kept_calm : (config : Config) (stream : ℕ → List ℕ) (l : List Entry) (past : List Happening) (h : List BoardEntry) (source : Addr) (cookie body : List ℕ) (heard : Heard)
     → (o : Option (List ℕ))
     → IsCalm l
-    (answering_unless config h (asking source cookie body heard (outside_of stream l past (length (demanded h (asking source cookie body heard nothing_given)).keys) (answering_unless config h (asking source cookie body heard nothing_given) o).act).given) o).act
-    (outside_of stream l past (length (demanded h (asking source cookie body heard nothing_given)).keys) (answering_unless config h (asking source cookie body heard nothing_given) o).act).given.report
+    (answering_unless config h (asking source cookie body heard (outside_of stream l past (length (demanded config h (asking source cookie body heard nothing_given)).keys) (answering_unless config h (asking source cookie body heard nothing_given) o).act).given) o).act
+    (outside_of stream l past (length (demanded config h (asking source cookie body heard nothing_given)).keys) (answering_unless config h (asking source cookie body heard nothing_given) o).act).given.report
 kept_calm config stream l past h source cookie body heard (Some bytes) = tt
 kept_calm config stream l past h source cookie body heard None =
-    asked_calm config stream l past h source cookie body heard (asked (asking source cookie body heard nothing_given).too_long heard.pairs)
+    asked_calm config stream l past h source cookie body heard (asked config (asking source cookie body heard nothing_given).too_long heard.pairs)
 
 pub turn_calm : (config : Config) (stream : ℕ → List ℕ) (l : List Entry) (past : List Happening) (moment : ℕ) (source : Addr) (cookie body : List ℕ) (heard : Heard)
     → IsCalm l (turned config stream l past moment source cookie body heard).act (turned config stream l past moment source cookie body heard).given.report
 turn_calm config stream l past moment source cookie body heard =
     kept_calm config stream l past (board_now l) source cookie body heard (kept (board_now l) source cookie moment)
-
--- So all that a turn owes fits.
-
-closings_anywhere : (config : Config) (h : List BoardEntry) (e : BoardEntry) (c : Call) (w : Owed) → In w (closings config h e c) → FitsAnywhere w.event
-closings_anywhere config h e c w i = let b = closings_box config h e c w i in subst (λ (v : Owed). FitsAnywhere v.event) (sym b.1) tt
-
-then_closings : (config : Config) (h : List BoardEntry) (e : BoardEntry) (c : Call) (first : Owed) → FitsAnywhere first.event → (w : Owed) → In w (first ∷ closings config h e c) → FitsAnywhere w.event
-then_closings config h e c first fits w (here q) = subst (λ (v : Owed). FitsAnywhere v.event) (sym q) fits
-then_closings config h e c first fits w (there i) = closings_anywhere config h e c w i
-
-openings_anywhere : (config : Config) (legs : List Holder) (w : Owed) → In w (map (opening config) legs) → FitsAnywhere w.event
-openings_anywhere config legs w i = let m = mapped (opening config) legs i in subst (λ (v : Owed). FitsAnywhere v.event) m.makes tt
-
-reading_fits : (config : Config) (l : List Entry) (board handed : ℕ) (of : Call) (report : Option (List LegReport)) → report ≡ Some (reports_now l of)
-    → AllFit config l board handed (reading (Some of) report)
-reading_fits config l board handed of report is = subst (λ r. AllFit config l board handed (reading (Some of) r)) (sym is) (refl, tt)
-
-pub act_fits : (config : Config) (l : List Entry) (board handed : ℕ) (h : List BoardEntry) (e : BoardEntry) (c : Control) (a : Act) → IsCalm l a c.given.report
-    → AllFit config l board handed (script_of_act config h e c a)
-act_fits config l board handed h e c act.Repeated calm = tt
-act_fits config l board handed h e c act.Starved calm = absurd calm
-act_fits config l board handed h e c (act.Failed code) calm = tt
-act_fits config l board handed h e c (act.Undone code leases draws) calm = tt
-act_fits config l board handed h e c (act.Offered o) calm =
-    all_append config l board handed (map (opening config) o.legs) (in_cell o.of (Prepare o.of.number o.legs o.keys o.dropped) ∷ closings config h e o.of)
-    (all_anywhere config l board handed (map (opening config) o.legs) (openings_anywhere config o.legs))
-    (all_anywhere config (l ++ nested_entries l board handed (map (opening config) o.legs)) board handed
-    (in_cell o.of (Prepare o.of.number o.legs o.keys o.dropped) ∷ closings config h e o.of)
-    (then_closings config h e o.of (in_cell o.of (Prepare o.of.number o.legs o.keys o.dropped)) tt))
-act_fits config l board handed h e c (act.Answered a) calm = all_anywhere config l board handed (in_cell a.of (Commit a.signal) ∷ closings config h e a.of)
-    (then_closings config h e a.of (in_cell a.of (Commit a.signal)) tt)
-act_fits config l board handed h e c (act.Deleted of) calm = all_anywhere config l board handed (ending config h e of) (ending_anywhere config h e of)
-act_fits config l board handed h e c (act.Queried of) calm = reading_fits config l board handed of c.given.report calm
-act_fits config l board handed h e c act.Told calm = tt
-
-pub due_fits : (config : Config) (l : List Entry) → Orderly config l → (moment : ℕ) (e : BoardEntry)
-    → AllFit config l (front l 0) moment (flat_map (expiring config (board_now l) e (due_calls config l moment)) (live (board_now l)))
-due_fits config l o moment e =
-    let good = good_history config l o (front l 0) in
-    tick_fits config l l (front l 0) moment (board_now l) e (due_calls config l moment) (live (board_now l))
-    (λ c i. sym (picked_is config (board_now l) (call_is_due config l moment) good c i))
-    (λ c i. (live_cell config (board_now l) c good i).1)
-    (live_cells_once config (board_now l) good)
-    (λ c i. record { front_is = refl; history_is = λ n. refl })

@@ -8,7 +8,7 @@ use Rattle.ng_frame.specs.Frame.{frame}
 use Rattle.ng_frame.proofs.Framed.{frame_real}
 use Rattle.ng_command.specs.Said.{Said, Ping, Offer, Answer, Delete, Query, Listing}
 use Rattle.ng_reply.specs.declared.code.ErrorCode.{ErrorCode}
-use Rattle.ng_reply.specs.declared.code.ErrorCode.TheVariants.{E9, E10, E13, E14, E17}
+use Rattle.ng_reply.specs.declared.code.ErrorCode.TheVariants.{E9, E10, E13, E14}
 use Rattle.offer_answer.specs.Rounds.{Round, OfferAsk, AnswerAsk, Demand}
 use Rattle.offer_answer.specs.Plan as plan
 use Rattle.call_board.specs.Acts as act
@@ -20,7 +20,7 @@ use Rattle.call_board.specs.Asked.{asked}
 use Rattle.call_board.specs.Replies as replies
 use Rattle.call_board.specs.Replies.{Fault, reply_text}
 use Rattle.call_board.specs.Answers.{Answering, Answered, failing, leased_pairs, offer_ask, answer_ask, offer_leased, offer_unless, offer_to, answer_unless, answer_to, delete_of, missing, names_side, query_of, answering_asked, answering_unless, spelled}
-use Rattle.call_board.specs.Fits.{FitsControl, GivesFor, GivesUndone, Hears, demanded, demanded_by}
+use Rattle.call_board.specs.Fits.{FitsControl, GivesFor, GivesUndone, demanded, demanded_by}
 use Rattle.call_board.proofs.Tells.{leased_case}
 use Rattle.call_board.proofs.Demands.{legs_count}
 use Rattle.relay_core.specs.Entries.{Entry}
@@ -29,10 +29,7 @@ use Rattle.replay_model.specs.Turns.{Heard, nothing_given, control, asking, with
 use Rattle.replay_model.specs.Replay.{HearsIt}
 use Rattle.replay_model.proofs.Given.{OpenedSo, all_open, one_fails, opened_so, DrawnSo, all_drawn, drawn_so, ends_count, none_failed, some_failed}
 use Rattle.replay_model.proofs.Given as given
-
--- the answer, where memory may be short
-abbrev pub unless_starved : Config → Bool → Answering → Answered
-unless_starved config starved a = cond starved (record { bytes = reply_text config (Fault E17); act = act.Starved }) (spelled config a)
+use Rattle.replay_model.proofs.Calm.{unless_starved, IsCalm, turn_calm}
 
 -- What is answered by what is given in this way fits what the devices give for it.
 abbrev Goes : Config → (ℕ → List ℕ) → List Entry → List Happening → Demand → (Given → Answering) → Type 0
@@ -166,7 +163,7 @@ asked_goes config stream l past h source cookie body heard (Ok (Delete id from_t
 asked_goes config stream l past h source cookie body heard (Ok (Query id)) = query_goes config stream l past h no_demand (find_call h id)
 asked_goes config stream l past h source cookie body heard (Ok (Listing limit)) = (record { no_opens = refl; no_draws = refl; none_failed = refl }, refl)
 
--- the demand, the answer and what is heard don't depend on what is recorded of the answer
+-- the demand and the answer don't depend on what is recorded of the answer
 
 same_demand : (h : List BoardEntry) (source : Addr) (cookie body : List ℕ) (heard : Heard) (g k : Given) (x y : Answered) (r : Result Said ErrorCode)
     → demanded_by h (control source cookie body heard g x) r ≡ demanded_by h (control source cookie body heard k y) r
@@ -193,21 +190,11 @@ same_answer : (config : Config) (h : List BoardEntry) (source : Addr) (cookie bo
 same_answer config h source cookie body heard g x y (Some bytes) = refl
 same_answer config h source cookie body heard g x y None =
     ap (unless_starved config g.starved)
-    (same_answering config h source cookie body heard g x y (asked (control source cookie body heard g x).too_long heard.pairs))
-
-same_hears : (h : List BoardEntry) (source : Addr) (cookie body : List ℕ) (heard : Heard) (g k : Given) (x y : Answered) (r : Result Said ErrorCode)
-    → Hears h (control source cookie body heard g x) r → Hears h (control source cookie body heard k y) r
-same_hears h source cookie body heard g k x y (Err code) hears = hears
-same_hears h source cookie body heard g k x y (Ok Ping) hears = hears
-same_hears h source cookie body heard g k x y (Ok (Offer id from_tag sdp options)) hears = hears
-same_hears h source cookie body heard g k x y (Ok (Answer id from_tag to_tag sdp options)) hears = hears
-same_hears h source cookie body heard g k x y (Ok (Delete id from_tag fatal)) hears = hears
-same_hears h source cookie body heard g k x y (Ok (Query id)) hears = hears
-same_hears h source cookie body heard g k x y (Ok (Listing limit)) hears = hears
+    (same_answering config h source cookie body heard g x y (asked config (control source cookie body heard g x).too_long heard.pairs))
 
 -- a kept reply asks nothing of the outside
 kept_goes : (config : Config) (stream : ℕ → List ℕ) (l : List Entry) (past : List Happening) (h : List BoardEntry) (source : Addr) (cookie body : List ℕ) (heard : Heard)
-    → (d : Demand) → d ≡ demanded_by h (asking source cookie body heard nothing_given) (asked (asking source cookie body heard nothing_given).too_long heard.pairs)
+    → (d : Demand) → d ≡ demanded_by h (asking source cookie body heard nothing_given) (asked config (asking source cookie body heard nothing_given).too_long heard.pairs)
     → (o : Option (List ℕ))
     → GivesFor d (outside_of stream l past (length d.keys) (answering_unless config h (asking source cookie body heard nothing_given) o).act).given
     (answering_unless config h (asking source cookie body heard (outside_of stream l past (length d.keys) (answering_unless config h (asking source cookie body heard nothing_given) o).act).given) o).act
@@ -216,11 +203,11 @@ kept_goes config stream l past h source cookie body heard d is None =
     subst (λ e. GivesFor e (outside_of stream l past (length e.keys) (answering_unless config h (asking source cookie body heard nothing_given) None).act).given
     (answering_unless config h (asking source cookie body heard (outside_of stream l past (length e.keys) (answering_unless config h (asking source cookie body heard nothing_given) None).act).given) None).act)
     (sym is)
-    (asked_goes config stream l past h source cookie body heard (asked (asking source cookie body heard nothing_given).too_long heard.pairs))
+    (asked_goes config stream l past h source cookie body heard (asked config (asking source cookie body heard nothing_given).too_long heard.pairs))
 
 -- the turn of a datagram with a frame fits
 pub turn_fits : (config : Config) (stream : ℕ → List ℕ) (l : List Entry) (past : List Happening) (moment : ℕ) (source : Addr) (bytes cookie body : List ℕ) (heard : Heard)
-    → frame bytes ≡ Some (cookie, body) → HearsIt l source cookie body heard
+    → frame bytes ≡ Some (cookie, body) → HearsIt config (board_now l) (turned config stream l past moment source cookie body heard)
     → FitsControl config (board_now l) moment (turned config stream l past moment source cookie body heard)
 turn_fits config stream l past moment source bytes cookie body heard framed hears =
     let h = board_now l in
@@ -228,13 +215,16 @@ turn_fits config stream l past moment source bytes cookie body heard framed hear
     let nothing = asking source cookie body heard nothing_given in
     let g = (outside config stream l past moment nothing).given in
     let x = answered_with config l moment (asking source cookie body heard g) in
-    let r = asked nothing.too_long heard.pairs in
+    let r = asked config nothing.too_long heard.pairs in
     record {
       framed = subst (λ bs. frame bs ≡ Some (cookie, body)) (frame_real bytes cookie body framed).bytes framed;
       length_is = refl;
       reads = hears.reads;
-      hears = same_hears h source cookie body heard nothing_given g (record { bytes = []; act = act.Told }) x r hears.hears;
+      hears = hears.hears;
       gives = subst (λ d. GivesFor d g x.act) (same_demand h source cookie body heard nothing_given g (record { bytes = []; act = act.Told }) x r)
-          (kept_goes config stream l past h source cookie body heard (demanded h nothing) refl o);
+          (kept_goes config stream l past h source cookie body heard (demanded config h nothing) refl o);
+      reports = λ starves queries. absurd (
+          subst (λ a. IsCalm l a (turned config stream l past moment source cookie body heard).given.report) starves
+          (turn_calm config stream l past moment source cookie body heard));
       answers = same_answer config h source cookie body heard g (record { bytes = []; act = act.Told }) x o;
     }

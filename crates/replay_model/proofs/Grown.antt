@@ -6,7 +6,7 @@ use Rattle.histories.proofs.Lists.{in_append}
 use Rattle.port_pool.specs.Boxes.{Open, Take, Close}
 use Rattle.call_cell.specs.Cells.{Prepare, Commit, Relay, Expire, Read, End, Relayed}
 use Rattle.relay_core.specs.Entries.{Event, Board, Cell, Box, Entry, history, front}
-use Rattle.relay_core.specs.Legal.{Orderly, Legal, Fits, FitsEvent, IsReceived, IsTimed, last_moment, is_handed_own, is_handed_boards}
+use Rattle.relay_core.specs.Legal.{Orderly, Legal, Fits, FitsEvent, StandsAt, IsReceived, IsTimed, last_moment, is_handed_own, is_handed_boards}
 use Rattle.relay_core.proofs.Boxes.{below_front}
 use Rattle.relay_core.proofs.Counts.{counted_if}
 use Rattle.relay_core.proofs.Turns.{IsAbove, IsOfLane, before_left}
@@ -20,6 +20,7 @@ pub record Grown (config : Config) (l : List Entry) : Type 0 where
   pub full : IsFull l
   pub fits : (e : Entry) → In e l → Fits config l e
   pub timed : (e : Entry) → In e l → IsTimed l e
+  pub placed : (e : Entry) → In e l → StandsAt config e.place e.event
   pub received : (e : Entry) (x : Relayed) → In e l → e.event ≡ Cell (Relay x) → IsReceived config l e x.packet
   pub once : (e f : Entry) (x y : Relayed) → In e l → In f l → e.event ≡ Cell (Relay x) → f.event ≡ Cell (Relay y) →
       x.packet.holder.pair ≡ y.packet.holder.pair → x.packet.take ≡ y.packet.take → e ≡ f
@@ -30,6 +31,7 @@ grown_legal config l g = record {
   counted = counted_if l g.full;
   fits = g.fits;
   timed = g.timed;
+  placed = g.placed;
   received = g.received;
   once = g.once;
 }
@@ -50,6 +52,7 @@ nothing_grown config o = record {
   full = λ e i. elim i [ ];
   fits = λ e i. elim i [ ];
   timed = λ e i. elim i [ ];
+  placed = λ e i. elim i [ ];
   received = λ e x i q. elim i [ ];
   once = λ e f x y i j q s a b. elim i [ ];
 }
@@ -93,15 +96,16 @@ lane_history l place handed v = same_history l (lane_step l place handed v ∷ [
     not_below f (here q) p = let k = ap (λ (x : Entry). x.number) q in omega (arith, k)
     not_below f (there i) p = elim i [ ]
 
-pub lane_grown : (config : Config) (l : List Entry) → Grown config l → (place handed : ℕ) (v : Event) → IsOfLane v
+pub lane_grown : (config : Config) (l : List Entry) → Grown config l → (place handed : ℕ) (v : Event) → IsOfLane v → StandsAt config place v
     → FitsEvent config l place (front l place) (moment_at handed (latest l place) (is_handed_own v)) v
     → Relays config l (lane_step l place handed v)
     → Grown config (l ++ lane_step l place handed v ∷ [])
-lane_grown config l g place handed v lane fits relays = record {
+lane_grown config l g place handed v lane stands fits relays = record {
   orderly = lane_orderly config l g.orderly place handed v lane;
   full = full_more l step g.full (λ i k. below_stands l g.full place i k);
   fits = λ e i. fits_case e (in_append l (step ∷ []) i);
   timed = λ e i. timed_case e (in_append l (step ∷ []) i);
+  placed = λ e i. placed_case e (in_append l (step ∷ []) i);
   received = λ e x i q. received_case e x q (in_append l (step ∷ []) i);
   once = λ e f x y i j q s a b. once_case e f x y q s a b (in_append l (step ∷ []) i) (in_append l (step ∷ []) j);
 }
@@ -118,6 +122,11 @@ lane_grown config l g place handed v lane fits relays = record {
         subst (Fits config (l ++ step ∷ [])) (sym q)
         (event_fits config l (l ++ step ∷ []) place (front l place) (moment_at handed (latest l place) (is_handed_own v)) v (sym same) fits)
     fits_case e (inr (there i)) = elim i [ ]
+
+    placed_case : (e : Entry) → In e l ⊎ In e (step ∷ []) → StandsAt config e.place e.event
+    placed_case e (inl i) = g.placed e i
+    placed_case e (inr (here q)) = subst (λ (d : Entry). StandsAt config d.place d.event) (sym q) stands
+    placed_case e (inr (there i)) = elim i [ ]
 
     last_same : last_moment (l ++ step ∷ []) step ≡ latest l place
     last_same = ap (λ xs. greatest (map (λ (f : Entry). f.moment) xs)) same

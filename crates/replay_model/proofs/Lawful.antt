@@ -26,7 +26,8 @@ use Rattle.replay_model.proofs.Fitting.{turn_fits}
 use Rattle.replay_model.proofs.Orderly.{nested_gains, tick_fits_board}
 use Rattle.replay_model.proofs.Grown.{grown_legal, nothing_grown}
 use Rattle.replay_model.proofs.Turned.{Turns, turn_grown}
-use Rattle.replay_model.proofs.Calm.{turn_calm, act_fits, due_fits}
+use Rattle.replay_model.proofs.Calm.{turn_calm}
+use Rattle.replay_model.proofs.Owing.{act_fits, due_fits}
 use Rattle.replay_model.proofs.Held.{Idle, outside_idle}
 use Rattle.replay_model.proofs.Receipts.{Holding, Lawful, HasNoMore, holding_longer, arrived_at, keeping_lawful, passing_lawful, held_lawful}
 
@@ -64,7 +65,7 @@ later_moment a b = grind (arith)
 
 framed_lawful : (config : Config) (stream : ℕ → List ℕ) (r : Replay) → Lawful config r → (s : Step) (source : Addr) (bytes : List ℕ) (heard : Heard)
     → ((past : List Happening) → Idle past (Made s ∷ past))
-    → (parts : Option (List ℕ × List ℕ)) → frame bytes ≡ parts → HearsFramed r source heard parts
+    → (parts : Option (List ℕ × List ℕ)) → frame bytes ≡ parts → HearsFramed config stream r source heard parts
     → Lawful config (after s (framed_turn config stream r source heard parts))
 framed_lawful config stream r w s source bytes heard idle None framed hears = record {
   grown = w.grown;
@@ -83,12 +84,12 @@ framed_lawful config stream r w s source bytes heard idle (Some parts) framed he
       is_handed = refl;
     })
     (λ n. idle (Replied (not (fails step.Replying past)) ∷ past) n
-    ∙ outside_idle stream r.entries r.past (length (demanded (board_now r.entries) (asking source parts.0 parts.1 heard nothing_given)).keys)
+    ∙ outside_idle stream r.entries r.past (length (demanded config (board_now r.entries) (asking source parts.0 parts.1 heard nothing_given)).keys)
     (answered_with config r.entries (turn_moment r) (asking source parts.0 parts.1 heard nothing_given)).act n)
 
 control_lawful : (config : Config) (stream : ℕ → List ℕ) (r : Replay) → Lawful config r → (s : Step) (source : Addr) (bytes : List ℕ) (heard : Heard)
     → ((past : List Happening) → Idle past (Made s ∷ past))
-    → (failing : Bool) → HearsUnless failing r source heard (frame (filled bytes))
+    → (failing : Bool) → HearsUnless failing config stream r source heard (frame (filled bytes))
     → Lawful config (after s (cond failing (only_printing r (printing.ReadFault ∷ [])) (framed_turn config stream r source heard (frame (filled bytes)))))
 control_lawful config stream r w s source bytes heard idle true hears = record {
   grown = w.grown;
@@ -118,7 +119,7 @@ idle_lawful config r w s idle = record {
   holding = holding_longer config r.entries r.entries r.past (Made s ∷ r.past) (λ f i. i) (λ f y i q. i) idle w.holding;
 }
 
-step_lawful : (config : Config) (stream : ℕ → List ℕ) (r : Replay) → Lawful config r → (heard : Heard) (s : Step) → HearsStep r heard s
+step_lawful : (config : Config) (stream : ℕ → List ℕ) (r : Replay) → Lawful config r → (heard : Heard) (s : Step) → HearsStep config stream r heard s
     → Lawful config (after s (doing config stream r heard s))
 step_lawful config stream r w heard (step.Ng source bytes) hears =
     control_lawful config stream r w (step.Ng source bytes) source bytes heard (λ past n. refl) (fails step.Reading r.past) hears

@@ -98,7 +98,7 @@ tick_orderly config l o moment =
 -- Steps of the script.
 
 framed_orderly : (config : Config) (stream : ℕ → List ℕ) (r : Replay) → Orderly config r.entries → (source : Addr) (bytes : List ℕ) (heard : Heard)
-    → (parts : Option (List ℕ × List ℕ)) → frame bytes ≡ parts → HearsFramed r source heard parts
+    → (parts : Option (List ℕ × List ℕ)) → frame bytes ≡ parts → HearsFramed config stream r source heard parts
     → Orderly config (framed_turn config stream r source heard parts).entries
 framed_orderly config stream r o source bytes heard None framed hears = o
 framed_orderly config stream r o source bytes heard (Some parts) framed hears =
@@ -106,7 +106,7 @@ framed_orderly config stream r o source bytes heard (Some parts) framed hears =
     (turn_fits config stream r.entries r.past (turn_moment r) source bytes parts.0 parts.1 heard framed hears)
 
 control_orderly : (config : Config) (stream : ℕ → List ℕ) (r : Replay) → Orderly config r.entries → (source : Addr) (bytes : List ℕ) (heard : Heard)
-    → (failing : Bool) → HearsUnless failing r source heard (frame (filled bytes))
+    → (failing : Bool) → HearsUnless failing config stream r source heard (frame (filled bytes))
     → Orderly config (cond failing (only_printing r (printing.ReadFault ∷ [])) (framed_turn config stream r source heard (frame (filled bytes)))).entries
 control_orderly config stream r o source bytes heard true hears = o
 control_orderly config stream r o source bytes heard false hears =
@@ -133,7 +133,7 @@ held_orderly : (config : Config) (r : Replay) → Orderly config r.entries → (
 held_orderly config r o None = o
 held_orderly config r o (Some packet) = relaying_orderly config r.entries r.past packet o
 
-pub step_orderly : (config : Config) (stream : ℕ → List ℕ) (r : Replay) → Orderly config r.entries → (heard : Heard) (s : Step) → HearsStep r heard s
+pub step_orderly : (config : Config) (stream : ℕ → List ℕ) (r : Replay) → Orderly config r.entries → (heard : Heard) (s : Step) → HearsStep config stream r heard s
     → Orderly config (doing config stream r heard s).entries
 step_orderly config stream r o heard (step.Ng source bytes) hears =
     control_orderly config stream r o source bytes heard (fails step.Reading r.past) hears

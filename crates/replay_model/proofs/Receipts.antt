@@ -7,16 +7,18 @@ use Rattle.histories.specs.Words.{In, here, there, Before, begins, goes_on}
 use Rattle.histories.proofs.Lists.{in_append, in_left, in_right}
 use Rattle.port_pool.specs.Boxes.{Taken, holder}
 use Rattle.port_pool.specs.Boxes as box
-use Rattle.call_cell.specs.Cells.{Receipt, Relayed, Relay}
-use Rattle.relay_core.specs.Entries.{Cell, Box, Entry, front, box_history, box_of}
+use Rattle.call_cell.specs.Cells.{Receipt, Relayed, Relay, since_end}
+use Rattle.relay_core.specs.Entries.{Cell, Box, Entry, front, cell_history, box_history, box_of}
 use Rattle.relay_core.specs.Legal.{IsReceived}
 use Rattle.relay_core.proofs.Boxes.{below_front}
+use Rattle.relay_core.proofs.Generations.{taken_cell}
 use Rattle.replay_model.specs.Steps.{Step, Ending}
 use Rattle.replay_model.specs.Steps as step
 use Rattle.replay_model.specs.Devices.{Happening, Made, Received, clock, fails, held, received_count}
 use Rattle.replay_model.specs.Turns.{lane_step}
 use Rattle.replay_model.specs.Replay.{Replay, after, arrival_at, taken_at, passing_on, relaying, relaying_held, relayed_with, send_answers, deed_now, keeping, Arrival}
 use Rattle.replay_model.proofs.Grown.{Grown, lane_grown}
+use Rattle.replay_model.proofs.Sendings.{send_answered}
 use Rattle.replay_model.proofs.Held.{Idle, send_idle, held_received, held_relayed, receipt_is, arriving_fits, holder_pair}
 
 -- the packet of the receipt was taken by an entry of the list
@@ -81,7 +83,7 @@ arrived_at config r w source bytes None = record {
   is_new = λ p q f i. absurd (let k = q in cc);
 }
 arrived_at config r w source bytes (Some e) = record {
-  grown = lane_grown config l w.grown place 0 (Box (box.Take e.1 taken)) tt (arriving_fits (holder h) (fails step.Taking r.past) source bytes)
+  grown = lane_grown config l w.grown place 0 (Box (box.Take e.1 taken)) tt (omega arith) (arriving_fits (holder h) (fails step.Taking r.past) source bytes)
       (record { is_received = λ x q. absurd (let k = q in cc); is_new = λ f x y i q s a b. absurd (let k = q in cc) });
   longer = λ f i. in_left l (one ∷ []) i;
   no_more = λ f y i q. no_more_case f y q (in_append l (one ∷ []) i);
@@ -185,7 +187,9 @@ relaying_grown : (config : Config) (l : List Entry) (past : List Happening) (p :
     → ((f : Entry) (y : Relayed) → In f l → f.event ≡ Cell (Relay y) → y.packet.holder.pair ≡ p.holder.pair → y.packet.take ≡ p.take → ⊥)
     → Grown config (relaying config l past p).entries
 relaying_grown config l past p g t unused =
-    lane_grown config l g p.holder.cell (clock past) (Cell (Relay x)) tt refl
+    lane_grown config l g p.holder.cell (clock past) (Cell (Relay x)) tt
+    (taken_cell config l g.orderly t.taking p.half p.holder p.source p.bytes (g.fits t.taking t.is_in) t.gave)
+    (record { does = refl; answered = send_answered config past (since_end (cell_history l p.holder.cell (front l p.holder.cell))) p })
     (record { is_received = λ y q. received_case y q; is_new = λ f y z i q s a b. new_case f y z i q s a b })
   where
     x : Relayed

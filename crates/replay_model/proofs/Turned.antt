@@ -8,7 +8,7 @@ use Rattle.call_board.specs.Acts.{BoardEntry}
 use Rattle.call_board.specs.Fits.{FitsBoard}
 use Rattle.relay_core.specs.Entries.{Event, Board, Cell, Entry, is_nested, history, front}
 use Rattle.relay_core.specs.Scripts.{Owed, script}
-use Rattle.relay_core.specs.Legal.{Fits, IsReceived, IsTimed, last_moment, is_handed_own, is_handed_boards}
+use Rattle.relay_core.specs.Legal.{Fits, StandsAt, IsReceived, IsTimed, last_moment, is_handed_own, is_handed_boards}
 use Rattle.relay_core.proofs.Boxes.{below_front}
 use Rattle.relay_core.proofs.Turns.{IsAbove, IsTurn, turn_elsewhere, before_left, nothing_more}
 use Rattle.relay_core.proofs.Gains.{Rising, rising_above, turn_made}
@@ -102,6 +102,7 @@ turn_grown config l g x t = record {
   full = full_more (l ++ ns) b (nested_full l (front l 0) x.moment ws g.full) (λ i k. stands_longer l ns 0 i (below_stands l g.full 0 i k));
   fits = λ e i. fits_case e (parted e i);
   timed = λ e i. timed_case e (parted e i);
+  placed = λ e i. placed_case e (parted e i);
   received = λ e y i q. received_case e y q (parted e i);
   once = λ e f y z i j q s a c. once_case e f y z q s a c (parted e i) (parted f j);
 }
@@ -136,6 +137,11 @@ turn_grown config l g x t = record {
         b_case e p (inl i) = below_front l e 0 i p
         b_case e p (inr i) = absurd ((turn_elsewhere config l ns b g.orderly made e i).1 p)
     b_above f (there i) = elim i [ ]
+
+    placed_case : (e : Entry) → (In e l ⊎ In e ns) ⊎ (e ≡ b) → StandsAt config e.place e.event
+    placed_case e (inl (inl i)) = g.placed e i
+    placed_case e (inl (inr i)) = (turn_elsewhere config l ns b g.orderly made e i).2
+    placed_case e (inr q) = subst (λ (d : Entry). StandsAt config d.place d.event) (sym q) refl
 
     fits_case : (e : Entry) → (In e l ⊎ In e ns) ⊎ (e ≡ b) → Fits config ((l ++ ns) ++ b ∷ []) e
     fits_case e (inl (inl i)) =

@@ -1,5 +1,5 @@
 -- What one step of a script does and prints.
-use Rattle.std.specs.Prelude.{ℕ, ◌+◌, Bool, true, false, not, ◌&&◌, ◌==◌, nat_le, List, [], ◌∷◌, ◌++◌, take, length, Option, Some, None, is_some, filter, if◌then◌else◌}
+use Rattle.std.specs.Prelude.{◌≡◌, ℕ, ◌+◌, Bool, true, false, not, ◌&&◌, ◌==◌, nat_le, List, [], ◌∷◌, ◌++◌, take, length, Option, Some, None, is_some, filter, if◌then◌else◌}
 use Rattle.std.specs.List.{flat_map}
 use Rattle.relay_outside.specs.declared.address.Addr.{Addr}
 use Rattle.relay_outside.specs.declared.address.Ip.{Ip}
@@ -22,7 +22,7 @@ use Rattle.call_cell.specs.Asked.{is_sent}
 use Rattle.call_board.specs.Acts.{Control, Turn, Tick, BoardEntry}
 use Rattle.call_board.specs.Pairs.{pair_family, family_eq}
 use Rattle.call_board.specs.Asked.{Reads, asked}
-use Rattle.call_board.specs.Fits.{Hears}
+use Rattle.call_board.specs.Fits.{is_read, is_heard, Hears}
 use Rattle.relay_core.specs.Entries.{Entry, Cell, Box, front, cell_history, box_history, box_of}
 use Rattle.replay_model.specs.Steps.{FailKind, Step}
 use Rattle.replay_model.specs.Steps as step
@@ -94,20 +94,21 @@ control_turn config stream r source bytes heard =
     if fails step.Reading r.past then only_printing r (printing.ReadFault ∷ [])
     else framed_turn config stream r source heard (frame (filled bytes))
 
--- What is heard in a datagram is what its body spells, and the chosen lines are those of its description.
-pub record HearsIt (l : List Entry) (source : Addr) (cookie body : List ℕ) (heard : Heard) : Type 0 where
-  pub reads : Reads body heard.pairs
-  pub hears : Hears (board_now l) (asking source cookie body heard nothing_given)
-      (asked (asking source cookie body heard nothing_given).too_long heard.pairs)
+-- What is heard in a datagram is what its body spells, where it is read, and the chosen lines are those of its description,
+-- where lines are chosen.
+pub record HearsIt (config : Config) (h : List BoardEntry) (c : Control) : Type 0 where
+  pub reads : is_read c ≡ true → Reads c.body c.pairs
+  pub hears : is_heard c.act ≡ true → Hears h c (asked config c.too_long c.pairs)
 
-abbrev pub HearsFramed : Replay → Addr → Heard → Option (List ℕ × List ℕ) → Type 0
-HearsFramed r source heard None = Unit {0}
-HearsFramed r source heard (Some parts) = HearsIt r.entries source parts.0 parts.1 heard
+abbrev pub HearsFramed : Config → (ℕ → List ℕ) → Replay → Addr → Heard → Option (List ℕ × List ℕ) → Type 0
+HearsFramed config stream r source heard None = Unit {0}
+HearsFramed config stream r source heard (Some parts) =
+    HearsIt config (board_now r.entries) (turn_of config stream r source parts.0 parts.1 heard)
 
 -- and nothing is heard where the take of the control link fails
-abbrev pub HearsUnless : (fails_now : Bool) → Replay → Addr → Heard → Option (List ℕ × List ℕ) → Type 0
-HearsUnless true r source heard parts = Unit {0}
-HearsUnless false r source heard parts = HearsFramed r source heard parts
+abbrev pub HearsUnless : (fails_now : Bool) → Config → (ℕ → List ℕ) → Replay → Addr → Heard → Option (List ℕ × List ℕ) → Type 0
+HearsUnless true config stream r source heard parts = Unit {0}
+HearsUnless false config stream r source heard parts = HearsFramed config stream r source heard parts
 
 -- Packets.
 
@@ -175,9 +176,9 @@ abbrev pub deed_now : Config → List Entry → Receipt → Bool → Deed
 deed_now config l packet sent_ok =
     deed config (since_end (cell_history l packet.holder.cell (front l packet.holder.cell))) packet sent_ok
 
--- a send is made where the deed has one, and answers Ok unless it fails
+-- a send is made where the deed has one, and answers Ok unless it fails; where none is made, none fails
 abbrev pub send_answers : Config → List Happening → Option Sending → Bool
-send_answers config past None = false
+send_answers config past None = true
 send_answers config past (Some sending) = not (send_fails config past sending.pair sending.half)
 
 abbrev pub after_send : List Happening → Bool → Option Sending → List Happening
@@ -241,9 +242,10 @@ doing config stream r heard step.Tick = ticked config r
 doing config stream r heard _ = only_printing r []
 
 -- what a step hears is heard in its datagram, where it makes a control turn
-abbrev pub HearsStep : Replay → Heard → Step → Type 0
-HearsStep r heard (step.Ng source bytes) = HearsUnless (fails step.Reading r.past) r source heard (frame (filled bytes))
-HearsStep r heard _ = Unit {0}
+abbrev pub HearsStep : Config → (ℕ → List ℕ) → Replay → Heard → Step → Type 0
+HearsStep config stream r heard (step.Ng source bytes) =
+    HearsUnless (fails step.Reading r.past) config stream r source heard (frame (filled bytes))
+HearsStep config stream r heard _ = Unit {0}
 
 -- the replay after a step
 abbrev pub after : Step → Gone → Replay

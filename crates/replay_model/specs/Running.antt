@@ -20,7 +20,7 @@ last_prints LineOutside line = ScriptFault line ∷ []
 pub data Runs (config : Config) (stream : ℕ → List ℕ) (ending : Ending) : Replay → (line : ℕ) → List Step → List Printed → Replay → Type 0 where
   ends : {r : Replay} {line : ℕ} → Runs config stream ending r line [] (last_prints ending line) r
   goes_on : {r left : Replay} {line : ℕ} {s : Step} {steps : List Step} {prints : List Printed} (heard : Heard)
-      → is_faulty r.past s ≡ false → HearsStep r heard s
+      → is_faulty r.past s ≡ false → HearsStep config stream r heard s
       → Runs config stream ending (after s (doing config stream r heard s)) (suc line) steps prints left
       → Runs config stream ending r line (s ∷ steps) ((doing config stream r heard s).prints ++ prints) left
   stops : {r : Replay} {line : ℕ} {s : Step} {steps : List Step} → is_faulty r.past s ≡ true

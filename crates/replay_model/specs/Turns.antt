@@ -149,7 +149,7 @@ answered_with config l moment c = answering_unless config (board_now l) c (kept 
 -- what the outside gives in the turn of a datagram
 abbrev pub outside : Config → (ℕ → List ℕ) → List Entry → List Happening → (moment : ℕ) → Control → Outside
 outside config stream l past moment c =
-    outside_of stream l past (length (demanded (board_now l) c).keys) (answered_with config l moment c).act
+    outside_of stream l past (length (demanded config (board_now l) c).keys) (answered_with config l moment c).act
 
 abbrev pub turn_given : Config → List Entry → (moment : ℕ) → Addr → (cookie body : List ℕ) → Heard → Given → Control
 turn_given config l moment source cookie body heard given =

@@ -3,13 +3,15 @@ use Rattle.std.proofs.Common.{◌≡◌, ℕ, List, [], ◌∷◌, false, true, 
 use Rattle.relay_outside.specs.declared.address.Family.{Family}
 use Rattle.relay_outside.specs.declared.address.Family.TheVariants.{V4, V6}
 use Rattle.ng_reply.specs.declared.code.ErrorCode.TheVariants.{E15, E16}
+use Rattle.histories.specs.Words.{here}
 use Rattle.port_pool.specs.Ports.{pair_count}
+use Rattle.port_pool.specs.declared.holder.Holder.{Holder}
 use Rattle.port_pool.specs.declared.holder.Side.TheVariants.{A, B}
 use Rattle.port_pool.specs.declared.signal.SectionSignal.TheVariants.{Reject}
 use Rattle.offer_answer.specs.Rounds.{NewLeg}
 use Rattle.call_board.specs.Acts as act
 use Rattle.call_board.specs.Acts.{BoardEntry}
-use Rattle.call_board.specs.Pairs.{held, closed, free, free_in, fronts, is_short, lease_of, new_legs, next_generation}
+use Rattle.call_board.specs.Pairs.{Once, held, closed, free, free_in, fronts, is_short, lease_of, new_legs, next_generation}
 use Rattle.call_board.proofs.rows.Histories.{config, did, tick, stop, history_of, c1, c2, c3, leg, begins, offers, answers, deletes, lease}
 
 -- Leases, from the lowest pair on.
@@ -36,6 +38,11 @@ none_left = refl
 
 held_in_order : held (history_of (first_two ∷ last_two ∷ [])) ≡ leg c1 0 B 0 1 ∷ leg c1 0 A 1 1 ∷ leg c2 0 B 2 1 ∷ leg c2 0 A 3 1 ∷ []
 held_in_order = refl
+
+-- no pair may be held twice, not even by one leg
+
+one_pair_twice : Once (map (λ (a : Holder). a.pair) (leg c1 0 B 0 1 ∷ leg c1 0 B 0 1 ∷ [])) → ⊥
+one_pair_twice once = once.0 (here refl)
 
 -- Returns: behind the pairs that were never leased, in the order of the last return.
 

@@ -1,15 +1,18 @@
 -- Worked turns of other commands and of errors, whole.
-use Rattle.std.proofs.Common.{◌≡◌, ℕ, List, [], ◌∷◌, true, false, Some, None, Err, codes, refl, arith}
+use Rattle.std.proofs.Common.{◌≡◌, ℕ, List, [], ◌∷◌, ◌++◌, map, true, false, Some, None, Ok, Err, codes, refl, arith}
+use Rattle.relay_outside.specs.declared.address.Ip.TheVariants as ips
 use Rattle.ng_bencode.specs.Tree.{Bytes, Entries, no_entries, entry}
+use Rattle.ng_command.specs.Said.{Offer}
 use Rattle.ng_command.specs.declared.fault.KeyName.TheVariants.{CallId}
-use Rattle.ng_reply.specs.declared.code.ErrorCode.TheVariants.{E1, E3, E4, E6, E13, E14, E18}
+use Rattle.ng_reply.specs.declared.code.ErrorCode.TheVariants.{E1, E3, E4, E6, E7, E8, E9, E10, E11, E12, E13, E14, E15, E18}
+use Rattle.ng_reply.specs.declared.code.SdpPart.TheVariants as part
 use Rattle.offer_answer.specs.Plan.{tag, protocol}
 use Rattle.call_board.specs.Acts as act
 use Rattle.call_board.specs.Acts.{Act, Control, BoardEntry}
 use Rattle.call_board.specs.Asked.{asked}
 use Rattle.call_board.specs.Reports.{report_tree, listing_tree}
-use Rattle.call_board.specs.Fits.{FitsControl}
-use Rattle.call_board.proofs.rows.Histories.{config, from_port, given, c1, c2, begins}
+use Rattle.call_board.specs.Fits.{FitsControl, is_read, is_heard}
+use Rattle.call_board.proofs.rows.Histories.{config, from_port, given, options, c1, c2, begins}
 use Rattle.call_board.proofs.rows.Turns.{turns, at, ping, ping_fits, offered, offered_fits}
 
 replies : Unit {0}
@@ -43,9 +46,10 @@ unfolding replies
 unrecognized = record {
   framed = refl;
   length_is = refl;
-  reads = record { ints = (tt, tt); deep = omega arith; spelled = refl };
-  hears = refl;
+  reads = λ read. record { ints = (tt, tt); deep = omega arith; spelled = refl };
+  hears = λ heard. absurd (let e : false ≡ true = heard in cc);
   gives = (record { no_opens = refl; no_draws = refl; none_failed = refl }, refl);
+  reports = λ starves. absurd (let e = starves in cc);
   answers = refl;
 }
 
@@ -55,9 +59,10 @@ unfolding replies
 call_id_is_missing = record {
   framed = refl;
   length_is = refl;
-  reads = record { ints = (tt, tt); deep = omega arith; spelled = refl };
-  hears = refl;
+  reads = λ read. record { ints = (tt, tt); deep = omega arith; spelled = refl };
+  hears = λ heard. absurd (let e : false ≡ true = heard in cc);
   gives = (record { no_opens = refl; no_draws = refl; none_failed = refl }, refl);
+  reports = λ starves. absurd (let e = starves in cc);
   answers = refl;
 }
 
@@ -67,9 +72,10 @@ unfolding replies
 listed = record {
   framed = refl;
   length_is = refl;
-  reads = record { ints = (tt, tt); deep = omega arith; spelled = refl };
-  hears = refl;
+  reads = λ read. record { ints = (tt, tt); deep = omega arith; spelled = refl };
+  hears = λ heard. absurd (let e : false ≡ true = heard in cc);
   gives = (record { no_opens = refl; no_draws = refl; none_failed = refl }, refl);
+  reports = λ starves. absurd (let e = starves in cc);
   answers = refl;
 }
 
@@ -82,11 +88,37 @@ unfolding replies
 queried = record {
   framed = refl;
   length_is = refl;
-  reads = record { ints = (tt, (tt, tt)); deep = omega arith; spelled = refl };
-  hears = refl;
+  reads = λ read. record { ints = (tt, (tt, tt)); deep = omega arith; spelled = refl };
+  hears = λ heard. absurd (let e : false ≡ true = heard in cc);
   gives = (record { no_opens = refl; no_draws = refl; none_failed = refl }, refl);
+  reports = λ starves. absurd (let e = starves in cc);
   answers = refl;
 }
+
+-- a query that is short of memory may have read its call, and no other
+
+abbrev starved_query : Control
+starved_query = record query {
+  given = record given { starved = true; report = Some [] };
+  reply = codes "d12:error-reason13:out of memory6:result5:errore";
+  act = act.Starved;
+}
+
+starved_query_fits : FitsControl config one_call 0 starved_query
+unfolding replies
+starved_query_fits = record {
+  framed = refl;
+  length_is = refl;
+  reads = λ read. record { ints = (tt, (tt, tt)); deep = omega arith; spelled = refl };
+  hears = λ heard. absurd (let e : false ≡ true = heard in cc);
+  gives = record { no_opens = refl; no_draws = refl; none_failed = refl };
+  reports = λ starves other. absurd (let e : true ≡ false = other in cc);
+  answers = refl;
+}
+
+reads_no_stranger : FitsControl config [] 0 starved_query → ⊥
+unfolding replies
+reads_no_stranger fits = let e = fits.reports refl refl in cc
 
 -- a delete of an unknown call-id warns and changes nothing
 unknown_is_warned : FitsControl config one_call 0 (plain (codes "9") (codes "d7:call-id1:z7:command6:deletee") (pair (codes "call-id") (codes "z") (pair (codes "command") (codes "delete") no_entries))
@@ -95,9 +127,10 @@ unfolding replies
 unknown_is_warned = record {
   framed = refl;
   length_is = refl;
-  reads = record { ints = (tt, (tt, tt)); deep = omega arith; spelled = refl };
-  hears = refl;
+  reads = λ read. record { ints = (tt, (tt, tt)); deep = omega arith; spelled = refl };
+  hears = λ heard. absurd (let e : false ≡ true = heard in cc);
   gives = (record { no_opens = refl; no_draws = refl; none_failed = refl }, refl);
+  reports = λ starves. absurd (let e = starves in cc);
   answers = refl;
 }
 
@@ -111,9 +144,10 @@ unfolding replies
 no_session = record {
   framed = refl;
   length_is = refl;
-  reads = offered_fits.reads;
-  hears = offered_fits.hears;
+  reads = λ read. offered_fits.reads refl;
+  hears = λ heard. offered_fits.hears refl;
   gives = (record { no_opens = refl; no_draws = refl; none_failed = refl }, refl);
+  reports = λ starves. absurd (let e = starves in cc);
   answers = refl;
 }
 
@@ -123,19 +157,20 @@ unfolding replies
 no_pair = record {
   framed = refl;
   length_is = refl;
-  reads = offered_fits.reads;
-  hears = offered_fits.hears;
+  reads = λ read. offered_fits.reads refl;
+  hears = λ heard. offered_fits.hears refl;
   gives = (record { no_opens = refl; no_draws = refl; none_failed = refl }, refl);
+  reports = λ starves. absurd (let e = starves in cc);
   answers = refl;
 }
 
 -- What comes first of a datagram's bytes.
 
-too_long_first : asked true None ≡ Err E18
+too_long_first : asked config true None ≡ Err E18
 unfolding asked
 too_long_first = refl
 
-no_dictionary : asked false None ≡ Err E1
+no_dictionary : asked config false None ≡ Err E1
 unfolding asked
 no_dictionary = refl
 
@@ -143,14 +178,63 @@ no_dictionary = refl
 abbrev describes : List ℕ → Entries
 describes sdp = pair (codes "call-id") (codes "c1") (pair (codes "command") (codes "offer") (pair (codes "from-tag") (codes "a") (pair (codes "sdp") sdp no_entries)))
 
-no_description : asked false (Some (describes (codes "foo"))) ≡ Err (E6 1)
+no_description : asked config false (Some (describes (codes "foo"))) ≡ Err (E6 1)
 unfolding replies
 no_description = refl
 
 -- a wrong key comes first
-key_first : asked false (Some (pair (codes "command") (codes "offer") (pair (codes "from-tag") (codes "a") (pair (codes "sdp") (codes "foo") no_entries)))) ≡ Err (E4 CallId)
+key_first : asked config false (Some (pair (codes "command") (codes "offer") (pair (codes "from-tag") (codes "a") (pair (codes "sdp") (codes "foo") no_entries)))) ≡ Err (E4 CallId)
 unfolding replies
 key_first = refl
+
+-- An address of version 6 is an error where the proxy has none to relay at.
+
+abbrev by_version_6 : List ℕ
+by_version_6 = codes "v=0\r\nc=IN IP6 2001:db8::1\r\nm=audio 6000 RTP/AVP 0\r\n"
+
+version_6_alone : asked config false (Some (describes by_version_6)) ≡ Err (E7 (part.Line 2))
+unfolding replies
+version_6_alone = refl
+
+version_6_too : asked (record config { interface6 = Some (ips.V6 (1 ∷ [])) }) false (Some (describes by_version_6)) ≡ Ok (Offer (codes "c1") (codes "a") by_version_6 options)
+unfolding replies
+version_6_too = refl
+
+-- a faulty line comes first, wherever it stands
+
+fault_before_version_6 : asked config false (Some (describes (by_version_6 ++ codes "foo"))) ≡ Err (E6 4)
+unfolding replies
+fault_before_version_6 = refl
+
+version_6_refused : FitsControl config [] 0 (plain (codes "6") (codes "d7:call-id2:c17:command5:offer8:from-tag1:a3:sdp51:" ++ by_version_6 ++ codes "e") (describes by_version_6)
+    (codes "d12:error-reason23:unsupported SDP: line 26:result5:errore") (act.Failed (E7 (part.Line 2))))
+unfolding replies
+version_6_refused = record {
+  framed = refl;
+  length_is = refl;
+  reads = λ read. record { ints = (tt, (tt, (tt, (tt, tt)))); deep = omega arith; spelled = refl };
+  hears = λ heard. absurd (let e : false ≡ true = heard in cc);
+  gives = (record { no_opens = refl; no_draws = refl; none_failed = refl }, refl);
+  reports = λ starves. absurd (let e = starves in cc);
+  answers = refl;
+}
+
+-- What is read of a datagram, and when lines are chosen.
+
+long_is_unread : is_read (record ping { too_long = true; act = act.Failed E18 }) ≡ false
+long_is_unread = refl
+
+starved_is_unread : is_read (record ping { given = record given { starved = true }; act = act.Starved }) ≡ false
+starved_is_unread = refl
+
+others_are_read : is_read ping ≡ true
+others_are_read = refl
+
+heard_acts : map is_heard (act.Failed E8 ∷ act.Failed E13 ∷ act.Failed E14 ∷ act.Undone E15 [] [] ∷ []) ≡ true ∷ true ∷ true ∷ true ∷ []
+heard_acts = refl
+
+unheard_acts : map is_heard (act.Failed E9 ∷ act.Failed E10 ∷ act.Failed E11 ∷ act.Failed E12 ∷ act.Told ∷ act.Starved ∷ act.Repeated ∷ []) ≡ false ∷ false ∷ false ∷ false ∷ false ∷ false ∷ false ∷ []
+unheard_acts = refl
 
 -- What no turn is.
 
@@ -161,8 +245,4 @@ without_a_cookie : FitsControl config [] 0 (record ping { cookie = [] }) → ⊥
 without_a_cookie fits = let e = fits.framed in cc
 
 misread : FitsControl config [] 0 (record ping { pairs = None }) → ⊥
-misread fits = fits.reads (entry (codes "command") (Bytes (codes "ping")) no_entries) ping_fits.reads
-
-misheard : FitsControl config [] 0 (record ping { chosen = None ∷ [] }) → ⊥
-unfolding replies
-misheard fits = let e = fits.hears in cc
+misread fits = fits.reads refl (entry (codes "command") (Bytes (codes "ping")) no_entries) (ping_fits.reads refl)

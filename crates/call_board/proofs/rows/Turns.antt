@@ -55,9 +55,10 @@ unfolding turns
 ping_fits = record {
   framed = refl;
   length_is = refl;
-  reads = record { ints = (tt, tt); deep = omega arith; spelled = refl };
-  hears = refl;
+  reads = λ read. record { ints = (tt, tt); deep = omega arith; spelled = refl };
+  hears = λ heard. absurd (let e : false ≡ true = heard in cc);
   gives = (record { no_opens = refl; no_draws = refl; none_failed = refl }, refl);
+  reports = λ starves. absurd (let e = starves in cc);
   answers = refl;
 }
 
@@ -115,9 +116,10 @@ unfolding turns
 offered_fits = record {
   framed = refl;
   length_is = refl;
-  reads = record { ints = (tt, (tt, (tt, ((tt, (tt, tt)), ((tt, tt), (tt, (tt, tt))))))); deep = omega arith; spelled = refl };
-  hears = record { count = refl; first = alice_heard };
+  reads = λ read. record { ints = (tt, (tt, (tt, ((tt, (tt, tt)), ((tt, tt), (tt, (tt, tt))))))); deep = omega arith; spelled = refl };
+  hears = λ heard. record { count = refl; first = alice_heard };
   gives = (record { all_opened = refl }, record { all_drawn = refl; none_failed = refl }, refl);
+  reports = λ starves. absurd (let e = starves in cc);
   answers = refl;
 }
 
@@ -138,9 +140,10 @@ unfolding turns
 again_fits = record {
   framed = refl;
   length_is = refl;
-  reads = offered_fits.reads;
-  hears = offered_fits.hears;
+  reads = λ read. offered_fits.reads refl;
+  hears = λ heard. offered_fits.hears refl;
   gives = (record { all_opened = refl }, record { all_drawn = refl; none_failed = refl }, refl);
+  reports = λ starves. absurd (let e = starves in cc);
   answers = refl;
 }
 
@@ -167,9 +170,10 @@ unfolding turns
 deleted_fits = record {
   framed = refl;
   length_is = refl;
-  reads = record { ints = (tt, (tt, tt)); deep = omega arith; spelled = refl };
-  hears = refl;
+  reads = λ read. record { ints = (tt, (tt, tt)); deep = omega arith; spelled = refl };
+  hears = λ heard. absurd (let e : false ≡ true = heard in cc);
   gives = (record { no_opens = refl; no_draws = refl; none_failed = refl }, refl);
+  reports = λ starves. absurd (let e = starves in cc);
   answers = refl;
 }
 
@@ -186,11 +190,44 @@ unfolding turns
 repeated_fits = record {
   framed = refl;
   length_is = refl;
-  reads = offered_fits.reads;
-  hears = offered_fits.hears;
+  reads = λ read. offered_fits.reads refl;
+  hears = λ heard. offered_fits.hears refl;
   gives = (record { no_opens = refl; no_draws = refl; none_failed = refl }, refl);
+  reports = λ starves. absurd (let e = starves in cc);
   answers = refl;
 }
+
+-- Nothing reads its body, so that what is recorded of that is free; the same where memory was short before the body was read.
+
+unread_repeat_fits : FitsControl config before_repeat 60000 (record repeated { pairs = None; chosen = [] })
+unfolding turns
+unread_repeat_fits = record {
+  framed = refl;
+  length_is = refl;
+  reads = λ read. absurd (let e : false ≡ true = read in cc);
+  hears = λ heard. absurd (let e : false ≡ true = heard in cc);
+  gives = (record { no_opens = refl; no_draws = refl; none_failed = refl }, refl);
+  reports = λ starves. absurd (let e = starves in cc);
+  answers = refl;
+}
+
+unread_starved_fits : FitsControl config [] 0 (record ping { pairs = None; given = record given { starved = true }; reply = codes "d12:error-reason13:out of memory6:result5:errore"; act = act.Starved })
+unfolding turns
+unread_starved_fits = record {
+  framed = refl;
+  length_is = refl;
+  reads = λ read. absurd (let e : false ≡ true = read in cc);
+  hears = λ heard. absurd (let e : false ≡ true = heard in cc);
+  gives = record { no_opens = refl; no_draws = refl; none_failed = refl };
+  reports = λ starves queries. refl;
+  answers = refl;
+}
+
+-- It has no report, since it asks after no call.
+
+starved_report : FitsControl config [] 0 (record ping { given = record given { starved = true; report = Some [] }; reply = codes "d12:error-reason13:out of memory6:result5:errore"; act = act.Starved }) → ⊥
+unfolding turns
+starved_report fits = let e = fits.reports refl refl in cc
 
 -- A millisecond later it is an offer again, which begins another call in the same cell, with the pairs that were never leased.
 
@@ -214,9 +251,10 @@ unfolding turns
 anew_fits = record {
   framed = refl;
   length_is = refl;
-  reads = offered_fits.reads;
-  hears = offered_fits.hears;
+  reads = λ read. offered_fits.reads refl;
+  hears = λ heard. offered_fits.hears refl;
   gives = (record { all_opened = refl }, record { all_drawn = refl; none_failed = refl }, refl);
+  reports = λ starves. absurd (let e = starves in cc);
   answers = refl;
 }
 

@@ -1,13 +1,15 @@
 -- Worked rows of timeouts and of reports.
-use Rattle.std.proofs.Common.{◌≡◌, ℕ, List, [], ◌∷◌, false, true, refl}
+use Rattle.std.proofs.Common.{◌≡◌, ℕ, Bool, List, [], ◌∷◌, map, false, true, refl}
 use Rattle.relay_outside.specs.declared.address.Addr.{Addr}
 use Rattle.rtp_packet.specs.declared.head.Half.TheVariants.{Rtp}
 use Rattle.rtp_packet.specs.Head.{rtp_head, rtcp_ssrc}
 use Rattle.port_pool.specs.declared.holder.Holder.{Holder}
+use Rattle.port_pool.specs.declared.signal.SectionSignal.TheVariants as section
 use Rattle.port_pool.specs.Reports.{LegReport}
-use Rattle.call_cell.specs.Cells.{CellEntry, Prepare, Expire, Read, End, since_end}
-use Rattle.call_cell.specs.Deeds.{deed}
-use Rattle.call_cell.specs.Asked.{is_due, reports}
+use Rattle.call_cell.specs.declared.outcome.Refused.TheVariants as refused
+use Rattle.call_cell.specs.Cells.{CellEntry, Relayed, Prepare, Commit, Expire, Read, End, since_end}
+use Rattle.call_cell.specs.Deeds.{deed, refused_deed}
+use Rattle.call_cell.specs.Asked.{is_due, reports, FitsRelay}
 use Rattle.call_cell.proofs.rows.Calls.{config, leg_a, leg_b, at_a, at_b, first_place, second_place, third_place, no_flags, plain, side_a, side_b, held, prepared, committed, rejected, received, from_a, from_b, control_a, control_b, answered, steps, makes, relays, now, packet, fails}
 
 -- Timeouts.
@@ -97,22 +99,22 @@ unanswered_has_none : reports (steps [] (now prepared ∷ [])) ≡ []
 unfolding reports
 unanswered_has_none = refl
 
-unused_report : reports (answered side_a side_b) ≡ report leg_b at_b 0 0 0 0 ∷ report leg_a at_a 0 0 0 0 ∷ []
+unused_report : reports (answered side_a side_b) ≡ report leg_a at_a 0 0 0 0 ∷ report leg_b at_b 0 0 0 0 ∷ []
 unfolding reports
 unused_report = refl
 
 -- side A sends two RTP packets, one of which fails, and one RTCP packet; side B one RTP packet and a malformed one
-used_report : reports (steps (answered side_a side_b) (packet (from_a first_place 1) ∷ fails (from_a first_place 2) ∷ packet (control_a second_place) ∷ packet (from_b at_b 1) ∷ packet (received leg_b Rtp at_b []) ∷ [])) ≡ report leg_b at_b 1 1 0 1 ∷ report leg_a first_place 2 1 1 0 ∷ []
+used_report : reports (steps (answered side_a side_b) (packet (from_a first_place 1) ∷ fails (from_a first_place 2) ∷ packet (control_a second_place) ∷ packet (from_b at_b 1) ∷ packet (received leg_b Rtp at_b []) ∷ [])) ≡ report leg_a first_place 2 1 1 0 ∷ report leg_b at_b 1 1 0 1 ∷ []
 unfolding reports deed rtp_head rtcp_ssrc
 used_report = refl
 
 -- what is held back is accepted and not sent
-held_report : reports (steps (answered side_a (held side_b)) (packet (from_a at_a 1) ∷ [])) ≡ report leg_b at_b 0 0 0 0 ∷ report leg_a at_a 1 0 0 0 ∷ []
+held_report : reports (steps (answered side_a (held side_b)) (packet (from_a at_a 1) ∷ [])) ≡ report leg_a at_a 1 0 0 0 ∷ report leg_b at_b 0 0 0 0 ∷ []
 unfolding reports deed rtp_head
 held_report = refl
 
 -- a new answer keeps the counts; a rejected section has no report
-answered_again_report : reports (steps (answered side_a side_b) (packet (from_a at_a 1) ∷ now (committed (plain third_place no_flags) side_b) ∷ [])) ≡ report leg_b at_b 0 1 0 0 ∷ report leg_a third_place 1 0 0 0 ∷ []
+answered_again_report : reports (steps (answered side_a side_b) (packet (from_a at_a 1) ∷ now (committed (plain third_place no_flags) side_b) ∷ [])) ≡ report leg_a third_place 1 0 0 0 ∷ report leg_b at_b 0 1 0 0 ∷ []
 unfolding reports deed rtp_head
 answered_again_report = refl
 
@@ -121,6 +123,39 @@ unfolding reports deed rtp_head
 rejected_has_none = refl
 
 -- a later lease of the pair begins at 0
-later_lease_report : reports (steps (answered side_a side_b) (packet (from_a at_a 1) ∷ now rejected ∷ now (Prepare 0 (record leg_b { generation = 2 } ∷ record leg_a { generation = 2 } ∷ []) [] []) ∷ now (committed side_a side_b) ∷ [])) ≡ report (record leg_b { generation = 2 }) at_b 0 0 0 0 ∷ report (record leg_a { generation = 2 }) at_a 0 0 0 0 ∷ []
+later_lease_report : reports (steps (answered side_a side_b) (packet (from_a at_a 1) ∷ now rejected ∷ now (Prepare 0 (record leg_b { generation = 2 } ∷ record leg_a { generation = 2 } ∷ []) [] []) ∷ now (committed side_a side_b) ∷ [])) ≡ report (record leg_a { generation = 2 }) at_a 0 0 0 0 ∷ report (record leg_b { generation = 2 }) at_b 0 0 0 0 ∷ []
 unfolding reports deed rtp_head
 later_lease_report = refl
+
+abbrev second_a : Holder
+second_a = record leg_a { section = 1; pair = 3 }
+
+abbrev second_b : Holder
+second_b = record leg_b { section = 1; pair = 2 }
+
+-- sections in their order, whatever the order in which their legs were added, and in each side A first
+abbrev two_sections : List CellEntry
+two_sections = steps [] (now (Prepare 0 (second_b ∷ second_a ∷ []) [] []) ∷ now (Prepare 0 (leg_b ∷ leg_a ∷ []) [] []) ∷ now (Commit (section.Commit side_a side_b ∷ section.Commit side_a side_b ∷ [])) ∷ [])
+
+sections_in_order : map (λ told. told.leg) (reports two_sections) ≡ leg_a ∷ leg_b ∷ second_a ∷ second_b ∷ []
+unfolding reports
+sections_in_order = refl
+
+-- Answers of sends.
+
+-- a send may fail
+
+failed_one : FitsRelay config (answered side_a side_b) (record { packet = from_a at_a 1; sent_ok = false; deed = deed config (answered side_a side_b) (from_a at_a 1) false })
+unfolding deed rtp_head
+failed_one = record { does = refl; answered = tt }
+
+-- a packet that is refused makes no send, so none that failed
+abbrev refused_one : Bool → Relayed
+refused_one ok = record { packet = received leg_a Rtp at_a []; sent_ok = ok; deed = refused_deed Rtp refused.Malformed }
+
+refused_fits : FitsRelay config (answered side_a side_b) (refused_one true)
+unfolding deed rtp_head
+refused_fits = record { does = refl; answered = refl }
+
+refused_failed_not : FitsRelay config (answered side_a side_b) (refused_one false) → ⊥
+refused_failed_not f = let q : false ≡ true = f.answered in absurd (let e = q in cc)

@@ -59,9 +59,10 @@ pub offer_fits : FitsControl config [] 1000 offer_turn
 offer_fits = record {
   framed = offer_is_framed;
   length_is = offer_is_short;
-  reads = offer_is_read;
-  hears = rw offer_is_asked offer_is_heard;
+  reads = λ read. offer_is_read;
+  hears = λ heard. rw offer_is_asked offer_is_heard;
   gives = rw (offer_is_asked, offer_demands) (record { all_opened = refl }, record { all_drawn = refl; none_failed = refl }, refl);
+  reports = λ starves. absurd (let e = starves in cc);
   answers = offer_is_answered;
 }
 
@@ -81,9 +82,10 @@ pub repeat_fits : FitsControl config after_offer 1100 repeat_turn
 repeat_fits = record {
   framed = offer_is_framed;
   length_is = offer_is_short;
-  reads = offer_is_read;
-  hears = rw offer_is_asked offer_is_heard;
+  reads = λ read. offer_is_read;
+  hears = λ heard. absurd (let e : false ≡ true = heard in cc);
   gives = (record { no_opens = refl; no_draws = refl; none_failed = refl }, refl);
+  reports = λ starves. absurd (let e = starves in cc);
   answers = repeat_is_answered;
 }
 
@@ -124,9 +126,10 @@ pub answer_fits : FitsControl config after_repeat 2000 answer_turn
 answer_fits = record {
   framed = answer_is_framed;
   length_is = answer_is_short;
-  reads = answer_is_read;
-  hears = rw answer_is_asked answer_is_heard;
+  reads = λ read. answer_is_read;
+  hears = λ heard. rw answer_is_asked answer_is_heard;
   gives = (record { no_opens = refl; no_draws = refl; none_failed = refl }, refl);
+  reports = λ starves. absurd (let e = starves in cc);
   answers = answer_is_answered;
 }
 
@@ -168,9 +171,10 @@ pub delete_fits : FitsControl config after_tick 5000 delete_turn
 delete_fits = record {
   framed = delete_is_framed;
   length_is = delete_is_short;
-  reads = delete_is_read;
-  hears = rw delete_is_asked refl;
+  reads = λ read. delete_is_read;
+  hears = λ heard. absurd (let e : false ≡ true = heard in cc);
   gives = (record { no_opens = refl; no_draws = refl; none_failed = refl }, refl);
+  reports = λ starves. absurd (let e = starves in cc);
   answers = delete_is_answered;
 }
 
@@ -214,8 +218,9 @@ pub next_fits : FitsControl config after_delete 6000 next_turn
 next_fits = record {
   framed = next_is_framed;
   length_is = next_is_short;
-  reads = next_is_read;
-  hears = rw next_is_asked next_is_heard;
+  reads = λ read. next_is_read;
+  hears = λ heard. rw next_is_asked next_is_heard;
   gives = rw (next_is_asked, next_demands) (record { all_opened = refl }, record { all_drawn = refl; none_failed = refl }, refl);
+  reports = λ starves. absurd (let e = starves in cc);
   answers = next_is_answered;
 }

@@ -21,7 +21,7 @@ use Rattle.call_cell.specs.declared.outcome.Refused.TheVariants as refused
 use Rattle.call_cell.specs.declared.outcome.Outcome.TheVariants.{Refused, Sent}
 use Rattle.call_cell.specs.Cells.{CellEntry, Prepare, Commit, Relay, Receipt, Relayed, Sending}
 use Rattle.call_cell.specs.Keyed.{Stopped, Passed, opened_rtp, opened_under, wrapped_under}
-use Rattle.call_cell.specs.Asked.{is_due}
+use Rattle.call_cell.specs.Asked.{is_due, FitsRelay}
 use Rattle.call_cell.specs.Deeds.{judged, deed_judged, deed}
 use Rattle.relay_core.proofs.Example.Datagrams.{config, leg_a, leg_b, legs, keys, first_draw, answerers_key, signal, signal_b, next_legs}
 use Rattle.relay_core.proofs.Example.Wire.{IsWire, protected_is_wire}
@@ -64,9 +64,9 @@ relayed = record {
   };
 }
 
-pub relay_fits : relayed.deed ≡ deed config answered receipt true
+pub relay_fits : FitsRelay config answered relayed
 unfolding packet deed rtp_head wrapped_under srtp_out.wrapping srtp_out.sent_index near nearest_lifted fresh indices sources has_room
-relay_fits = refl
+relay_fits = record { does = refl; answered = tt }
 
 -- From side B to side A.
 
@@ -145,9 +145,9 @@ relayed_back = record {
   };
 }
 
-pub relay_back_fits : relayed_back.deed ≡ deed config after_relay receipt_back true
+pub relay_back_fits : FitsRelay config after_relay relayed_back
 unfolding deed
-relay_back_fits = sym (ap (deed_judged config after_relay receipt_back true leg_b) is_judged)
+relay_back_fits = record { does = sym (ap (deed_judged config after_relay receipt_back true leg_b) is_judged); answered = tt }
 
 pub is_wire : receipt_back.bytes ≡ srtp.protect answerers_key Tag80 sending_back.bytes 200
 unfolding wire
@@ -161,16 +161,16 @@ late_receipt = record receipt { take = 2 }
 abbrev pub refused_late : Relayed
 refused_late = record {
   packet = late_receipt;
-  sent_ok = false;
+  sent_ok = true;
   deed = record { outcome = Refused refused.Stale; kind = Rtp; noted = None; shield = None; sending = None };
 }
 
 abbrev next_offered : List CellEntry
 next_offered = record { moment = 6000; event = Prepare 1 next_legs [] [] } ∷ []
 
-pub late_fits : refused_late.deed ≡ deed config next_offered late_receipt false
+pub late_fits : FitsRelay config next_offered refused_late
 unfolding deed
-late_fits = refl
+late_fits = record { does = refl; answered = refl }
 
 -- A tick doesn't find the first call due after its packets; it finds the next one due an hour after its offer.
 

@@ -70,7 +70,7 @@ pub offer_is_read : Spells offer_body (Dict offer_pairs)
 unfolding offer_body offer_pairs offer_sdp digits
 offer_is_read = record { ints = (tt, (tt, (tt, (tt, (tt, tt))))); deep = omega arith; spelled = refl }
 
-pub offer_is_asked : asked false (Some offer_pairs) ≡ Ok (said.Offer id tag_a offer_sdp towards_srtp)
+pub offer_is_asked : asked config false (Some offer_pairs) ≡ Ok (said.Offer id tag_a offer_sdp towards_srtp)
 unfolding asked sdp_error offer_pairs offer_sdp
 offer_is_asked = refl
 
@@ -150,7 +150,7 @@ pub answer_is_read : Spells answer_body (Dict answer_pairs)
 unfolding answer_body answer_pairs answer_sdp digits
 answer_is_read = record { ints = (tt, (tt, (tt, (tt, (tt, tt))))); deep = omega arith; spelled = refl }
 
-pub answer_is_asked : asked false (Some answer_pairs) ≡ Ok (said.Answer id tag_a tag_b answer_sdp plain)
+pub answer_is_asked : asked config false (Some answer_pairs) ≡ Ok (said.Answer id tag_a tag_b answer_sdp plain)
 unfolding asked sdp_error answer_pairs answer_sdp
 answer_is_asked = refl
 
@@ -222,7 +222,7 @@ pub delete_is_read : Spells delete_body (Dict delete_pairs)
 unfolding delete_body delete_pairs digits
 delete_is_read = record { ints = (tt, (tt, tt)); deep = omega arith; spelled = refl }
 
-pub delete_is_asked : asked false (Some delete_pairs) ≡ Ok (said.Delete id None false)
+pub delete_is_asked : asked config false (Some delete_pairs) ≡ Ok (said.Delete id None false)
 unfolding asked delete_pairs
 delete_is_asked = refl
 
@@ -243,7 +243,7 @@ pub next_is_read : Spells next_body (Dict next_pairs)
 unfolding next_body next_pairs offer_sdp digits
 next_is_read = record { ints = (tt, (tt, (tt, (tt, tt)))); deep = omega arith; spelled = refl }
 
-pub next_is_asked : asked false (Some next_pairs) ≡ Ok (said.Offer next_id tag_a offer_sdp plain)
+pub next_is_asked : asked config false (Some next_pairs) ≡ Ok (said.Offer next_id tag_a offer_sdp plain)
 unfolding asked sdp_error next_pairs offer_sdp
 next_is_asked = refl
 

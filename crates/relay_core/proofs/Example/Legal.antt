@@ -1,5 +1,5 @@
 -- The list of the worked calls is legal.
-use Rattle.std.proofs.Common.{◌≡◌, ◌∙◌, sym, ap, refl, ℕ, true, ◌==◌, Option, Some, None, map, filter, arith}
+use Rattle.std.proofs.Common.{◌≡◌, ◌∙◌, sym, ap, refl, ℕ, ◌<◌, ◌≤◌, true, ◌==◌, Option, Some, None, map, filter, arith}
 use Rattle.std.specs.Prelude.{if◌then◌else◌}
 use Rattle.histories.specs.Words.{In}
 use Rattle.call_cell.specs.Cells.{Relayed, relay_in}
@@ -7,7 +7,7 @@ use Rattle.call_board.specs.Acts.{BoardEntry}
 use Rattle.call_board.specs.Fits.{FitsBoard}
 use Rattle.relay_core.specs.Entries.{Event, Cell, Entry, is_nested, belongs_to, board_entry, board_history}
 use Rattle.relay_core.specs.Scripts.{owed_by, script}
-use Rattle.relay_core.specs.Legal.{Fits, IsReceived, Orderly, Legal}
+use Rattle.relay_core.specs.Legal.{Fits, StandsAt, IsReceived, Orderly, Legal}
 use Rattle.relay_core.proofs.Example.Datagrams.{config}
 use Rattle.relay_core.proofs.Example.Board.{offer_fits, repeat_fits, answer_fits, delete_fits, next_fits}
 use Rattle.relay_core.proofs.Example.Cell.{receipt, receipt_back, late_receipt, packet_is_short, wire_is_short, relay_fits, relay_back_fits, late_fits, is_not_due, is_due_now}
@@ -105,6 +105,29 @@ fits = of_each (Fits config entries) entries
     & late_fits
     & is_due_now & tt & tt & tt & (refl, refl) & none_left)
 
+-- Places.
+
+of_cell : (1 ≤ 1) × (1 ≤ 1)
+of_cell = (omega arith, omega arith)
+
+of_box_b : 1 < 2
+of_box_b = omega arith
+
+of_box_a : 1 < 3
+of_box_a = omega arith
+
+placed : (e : Entry) → In e entries → StandsAt config e.place e.event
+placed = of_each (λ (e : Entry). StandsAt config e.place e.event) entries
+    (of_box_b & of_box_a & of_cell & refl
+    & refl
+    & of_cell & refl
+    & of_box_a & of_cell & of_box_b & of_cell & of_box_a
+    & of_cell & refl
+    & of_cell & of_box_b & of_box_a & refl
+    & of_box_b & of_box_a & of_cell & refl
+    & of_cell
+    & of_cell & of_cell & of_box_b & of_box_a & refl & none_left)
+
 -- The relays.
 
 abbrev relay_by : Event → Option Relayed
@@ -177,6 +200,7 @@ legal = record {
   counted = counted;
   fits = fits;
   timed = timed;
+  placed = placed;
   received = λ e x i q. (by_relay e i x (ap relay_by q)).1;
   once = λ e f x y i j p q. once e f x y (by_relay e i x (ap relay_by p)).0 (by_relay f j y (ap relay_by q)).0;
 }

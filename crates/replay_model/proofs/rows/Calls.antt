@@ -1,5 +1,5 @@
 -- Worked scripts: an offer, its answer, and packets that are sent, refused and lost.
-use Rattle.std.proofs.Common.{◌≡◌, refl, ℕ, List, [], ◌∷◌, Some, None, codes, replicate, zero, suc, ◌<◌, arith}
+use Rattle.std.proofs.Common.{◌≡◌, refl, ℕ, List, [], ◌∷◌, true, false, Some, None, codes, replicate, zero, suc, ◌<◌, arith}
 use Rattle.std.specs.Fmt.{digits}
 use Rattle.relay_outside.specs.declared.address.Addr.{Addr}
 use Rattle.relay_outside.specs.declared.address.Ip.TheVariants as ips
@@ -24,7 +24,7 @@ use Rattle.replay_model.specs.Steps.{Step, At, Fail, FailSend, Ng, Take, Relay, 
 use Rattle.replay_model.specs.Printing as printing
 use Rattle.replay_model.specs.Printing.{Printed}
 use Rattle.replay_model.specs.Turns.{Heard}
-use Rattle.replay_model.specs.Replay.{Replay, doing, after, HearsStep}
+use Rattle.replay_model.specs.Replay.{Replay, doing, after, HearsStep, send_answers}
 use Rattle.replay_model.specs.Running.{at_first, Replays, goes_on, ends}
 use Rattle.replay_model.proofs.rows.Lines.{config, stream, source, silent}
 
@@ -78,11 +78,11 @@ offer_prints : (doing config stream at_first offer_heard (Ng controller offer_li
 unfolding computing
 offer_prints = refl
 
-offer_is_heard : HearsStep at_first offer_heard (Ng controller offer_line)
+offer_is_heard : HearsStep config stream at_first offer_heard (Ng controller offer_line)
 unfolding computing
 offer_is_heard = record {
-  reads = record { ints = (tt, (tt, (tt, (tt, tt)))); deep = omega arith; spelled = refl };
-  hears = record { count = refl; first = of_one_section _ refl };
+  reads = λ read. record { ints = (tt, (tt, (tt, (tt, tt)))); deep = omega arith; spelled = refl };
+  hears = λ heard. record { count = refl; first = of_one_section _ refl };
 }
 
 abbrev pub answered : Replay
@@ -105,11 +105,11 @@ packet_takes_nothing : (doing config stream answered silent (Packet 31000 source
 unfolding computing
 packet_takes_nothing = refl
 
-answer_is_heard : HearsStep offered answer_heard (Ng controller answer_line)
+answer_is_heard : HearsStep config stream offered answer_heard (Ng controller answer_line)
 unfolding computing
 answer_is_heard = record {
-  reads = record { ints = (tt, (tt, (tt, (tt, (tt, tt))))); deep = omega arith; spelled = refl };
-  hears = record { count = refl; first = of_one_section _ refl };
+  reads = λ read. record { ints = (tt, (tt, (tt, (tt, (tt, tt))))); deep = omega arith; spelled = refl };
+  hears = λ heard. record { count = refl; first = of_one_section _ refl };
 }
 
 -- The whole script, line by line.
@@ -207,6 +207,20 @@ reply_is_kept : (doing config stream unheard offer_heard (Ng controller offer_li
     ≡ printing.Reply controller (codes "1 d6:result2:ok3:sdp73:v=0\r\nc=IN IP4 192.0.2.10\r\nm=audio 30000 RTP/AVP 0\r\nc=IN IP4 203.0.113.1\r\ne") ∷ []
 unfolding computing
 reply_is_kept = refl
+
+-- Nothing is read of a datagram whose reply is kept, so that its reply is the same whatever its body is taken for.
+again_is_unread : HearsStep config stream offered silent (Ng controller offer_line)
+unfolding computing
+again_is_unread = record { reads = λ read. absurd (let e : false ≡ true = read in cc); hears = λ heard. absurd (let e : false ≡ true = heard in cc) }
+
+again_prints : prints_of offered (Ng controller offer_line)
+    ≡ printing.Reply controller (codes "1 d6:result2:ok3:sdp73:v=0\r\nc=IN IP4 192.0.2.10\r\nm=audio 30000 RTP/AVP 0\r\nc=IN IP4 203.0.113.1\r\ne") ∷ []
+unfolding computing
+again_prints = refl
+
+-- A relay that makes no send has none that failed.
+nothing_fails : send_answers config [] None ≡ true
+nothing_fails = refl
 
 -- The second send of the end of port 30000 fails, and its bytes are not printed; the third leaves.
 abbrev bound_to_fail : Replay
