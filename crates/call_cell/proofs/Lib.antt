@@ -23,4 +23,12 @@ pub mod Relaying
 pub mod Crossing
 pub mod Towards
 pub mod Handing
+pub mod Turning
+pub mod CommitSteps
+pub mod Answered
+pub mod Answering
+pub mod Ended
+pub mod Few
+pub mod Boxed
+pub mod KeysEqual
 pub mod Ends

@@ -1,14 +1,18 @@
-ghost use Rattle.std.specs.Prelude.{ℕ, ◌≡◌, ◌≤◌, [], List};
+ghost use Rattle.std.specs.Prelude.{ℕ, ◌≡◌, ◌≤◌, ◌<◌, ◌+◌, true, [], List, if◌then◌else◌};
 ghost use Rattle.relay_outside.specs.declared.settings.Config.{Config};
-ghost use Rattle.call_cell.specs.Cells.{CellEntry, since_end};
+ghost use Rattle.call_cell.specs.Cells.{CellEntry, since_end, is_accepted};
 ghost use Rattle.call_cell.specs.Standing.{LegsFor, LegsRelay, receipt_of};
+ghost use Rattle.call_cell.specs.Committing.{LegCommitsBy, LegsCommit, contexts_due, needs_contexts, said_of};
 
 use crate::gone::Gone;
+use crate::in_contexts::InContexts;
 use crate::leg::{Leg, place_of, place_of_opposite};
 use crate::outcome::{Incoming, Lost, Outcome, Refused};
+use crate::parting::part;
+use crate::signals::{rejected, said_of};
+use port_pool::Signal;
 use relay_outside::{Config, OutEnd};
 use std::alloc::Global;
-use std::mem;
 
 /// One call's media: its legs, and what they keep. Contracts see it by the histories that it stands for.
 #[derive(Drop)]
@@ -19,8 +23,46 @@ pub struct Cell<O> {
     moment: u64,
     /// The call's number, while it holds one.
     call: Option<u64>,
+    /// When its first offer was made, while it holds a call.
+    began: u64,
+    /// Whether an answer committed it.
+    is_committed: bool,
+    /// When the last answer was committed, or the last packet accepted since then.
+    active: u64,
     /// The call's legs, in lease order.
     legs: Vec<Leg<O>>,
+}
+
+/// Commits one leg.
+fn commit_leg<O>(leg: &mut Leg<O>, signal: &Signal, contexts: &mut InContexts)
+    requires room { needs_contexts signal.now leg.old ≡ true → 0 < contexts.old }
+    ensures commits { LegCommitsBy (said_of signal.now leg.old.holder) leg.old leg.new }
+    ensures room { contexts.new + (if needs_contexts signal.now leg.old then 1 else 0) ≡ contexts.old }
+{
+    if let Some(said) = said_of(signal, &leg.holder) {
+        leg.commit(&said, contexts);
+    }
+}
+
+/// Commits the legs.
+fn commit_legs<O>(legs: &mut [Leg<O>], signal: &Signal, contexts: &mut InContexts)
+    requires room { contexts_due signal.now legs.old ≤ contexts.old }
+    ensures { LegsCommit signal.now legs.old legs.new }
+{
+    for leg in legs.iter_mut() {
+        commit_leg(leg, signal, contexts);
+    }
+}
+
+/// The moment of the last activity after a packet: this one where the packet was accepted.
+fn active_after(outcome: Outcome, active: u64, now: u64) -> u64
+    ensures { result ≡ (if is_accepted outcome then now else active) }
+{
+    match outcome {
+        Outcome::Refused(_) => active,
+        Outcome::Lost(_) => now,
+        Outcome::Sent { .. } => now,
+    }
 }
 
 /// Relays a packet from the leg that received it to the one on the other side.
@@ -45,7 +87,8 @@ fn relay_legs<O: OutEnd>(legs: &mut [Leg<O>], packet: &Incoming, buf: &mut [u8; 
 
 impl<O: OutEnd> Cell<O> {
     ghost use Rattle.call_cell.specs.CellStanding.{CellFor, CellRelays};
-    ghost use Rattle.call_cell.specs.Ending.{CellEnds, parts_in};
+    ghost use Rattle.call_cell.specs.Ending.{CellEnds};
+    ghost use Rattle.call_cell.specs.Committing.{CellCommits, NamesKeys};
 
     /// An empty cell, which takes no memory.
     pub fn empty(alloc: Global, config: &Config) -> Cell<O>
@@ -55,6 +98,9 @@ impl<O: OutEnd> Cell<O> {
             config: *config,
             moment: 0,
             call: None,
+            began: 0,
+            is_committed: false,
+            active: 0,
             legs: Vec::new(alloc),
         }
     }
@@ -67,15 +113,41 @@ impl<O: OutEnd> Cell<O> {
             CellRelays O.told O.faults config self.old self.new h (receipt_of number packet.now buf.old) now buf.new result }
     {
         self.moment = self.moment.max(now);
-        relay_legs(self.legs.as_mut_slice(), packet, buf)
+        let outcome = relay_legs(self.legs.as_mut_slice(), packet, buf);
+        self.active = active_after(outcome, self.active, self.moment);
+        outcome
+    }
+
+    /// Commits what an answer says of the call's legs, at the moment `now` in milliseconds. The legs of the sections that it
+    /// rejects go to `gone`, which is empty. `contexts` has room for each inbound key or suite other than the one in force. It
+    /// takes no memory.
+    pub fn commit(
+        &mut self,
+        signal: &Signal,
+        contexts: InContexts,
+        gone: &mut Gone<O>,
+        now: u64,
+    )
+        requires empty { gone.old ≡ [] }
+        requires room { contexts_due signal.now self.old.legs.items ≤ contexts }
+        ensures { (config : Config) (h : List CellEntry) → CellFor config self.old h → NamesKeys (since_end h) signal.now →
+            CellCommits config self.old self.new h signal.now now gone.new }
+    {
+        let mut contexts = contexts;
+        self.moment = self.moment.max(now);
+        self.is_committed = true;
+        self.active = self.moment;
+        commit_legs(self.legs.as_mut_slice(), signal, &mut contexts);
+        part(&mut self.legs, &rejected(signal), gone);
     }
 
     /// Ends the call: all its legs go to `gone`, which is empty. It takes no memory.
     pub fn end(&mut self, gone: &mut Gone<O>)
-        requires empty { parts_in gone.old ≡ [] }
+        requires empty { gone.old ≡ [] }
         ensures { (config : Config) (h : List CellEntry) → CellFor config self.old h → CellEnds config self.old self.new h gone.new }
     {
         self.call = None;
-        mem::swap(&mut self.legs, &mut gone.legs);
+        self.is_committed = false;
+        part(&mut self.legs, &[true; 8], gone);
     }
 }

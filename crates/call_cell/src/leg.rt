@@ -1,17 +1,19 @@
-ghost use Rattle.std.specs.Prelude.{ℕ, ◌≡◌, ◌≤◌, ◌<◌, ◌+◌, List, take, Option, Some, IfOk, IfSome, length, position};
+ghost use Rattle.std.specs.Prelude.{ℕ, ◌≡◌, ◌≤◌, ◌<◌, ◌+◌, List, take, Option, Some, true, IfOk, IfSome, length, position, if◌then◌else◌};
 ghost use Rattle.relay_outside.specs.declared.address.Addr.{Addr};
 ghost use Rattle.rtp_packet.specs.declared.head.Half.{Half};
 ghost use Rattle.srtp_sources.specs.Notes.{Note};
 ghost use Rattle.port_pool.specs.Signals.{NewKey, same_leg, side_eq};
 ghost use Rattle.call_cell.specs.Cells.{is_opposite};
-ghost use Rattle.call_cell.specs.Learning.{address, endpoint_by};
+ghost use Rattle.call_cell.specs.Learning.{endpoint_by};
 ghost use Rattle.call_cell.specs.Deeds.{judged_leg};
 ghost use Rattle.call_cell.specs.Standing.{port_by, outcome_of};
 ghost use Rattle.call_cell.specs.Ending.{parts_of};
 
+use crate::in_contexts::InContexts;
 use crate::outcome::{Lost, Outcome, Refused};
 use crate::receiving::Receiving;
 use crate::sending::Sending;
+use crate::signals::address;
 use port_pool::{Holder, Lease, LegSignal, Side};
 use relay_outside::{Addr, OutEnd};
 use rtp_packet::Half;
@@ -52,16 +54,6 @@ fn endpoint_by(signal: &LegSignal, learned: Option<Addr>, half: Half) -> Addr
     match learned {
         Some(source) if !signal.flags.asymmetric => source,
         _ => address(signal, half),
-    }
-}
-
-/// The address of a half that a commit names.
-fn address(signal: &LegSignal, half: Half) -> Addr
-    ensures { result ≡ address half signal.now }
-{
-    match half {
-        Half::Rtp => signal.rtp,
-        Half::Rtcp => signal.rtcp,
     }
 }
 
@@ -115,6 +107,20 @@ impl<O> Leg<O> {
         } = self;
         let (rtp, rtcp) = sending.into_ends();
         (lease, rtp, rtcp)
+    }
+}
+
+impl<O> Leg<O> {
+    ghost use Rattle.call_cell.specs.Committing.{LegCommits, is_inbound_anew};
+
+    /// Commits what an answer says of the leg.
+    pub(crate) fn commit(&mut self, signal: &LegSignal, contexts: &mut InContexts)
+        requires room { is_inbound_anew self.old.signal signal.now ≡ true → 0 < contexts.old }
+        ensures commits { LegCommits signal.now self.old self.new }
+        ensures room { contexts.new + (if is_inbound_anew self.old.signal signal.now then 1 else 0) ≡ contexts.old }
+    {
+        self.receiving.commit(&self.signal, signal, contexts);
+        self.signal = Some(*signal);
     }
 }
 

@@ -15,15 +15,19 @@
 mod cell;
 mod contexts;
 mod gone;
+mod in_contexts;
 mod law;
 mod leg;
 mod outcome;
 mod receiving;
+mod parting;
 mod sending;
+mod signals;
 #[cfg(test)]
 mod tests;
 
 pub use cell::Cell;
 pub use gone::Gone;
+pub use in_contexts::InContexts;
 pub use law::notes_are_new;
 pub use outcome::{Incoming, Lost, Outcome, Refused};
