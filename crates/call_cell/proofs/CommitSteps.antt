@@ -20,8 +20,8 @@ use Rattle.call_cell.specs.declared.leg.Leg.{Leg}
 use Rattle.call_cell.specs.Cells.{CellEntry, Commit, differs, in_force, key_numbered}
 use Rattle.call_cell.specs.Keyed.{same_inbound, accepted, protected}
 use Rattle.call_cell.specs.Learning.{Lesson, same_address, lessons, learned, learned_from}
-use Rattle.call_cell.specs.LegKeys.{keys_for, key_of, number_of}
-use Rattle.call_cell.specs.Parts.{ReceivingFor, InboundIn, HasNamed, boxed_in, contexts_of, has_number, is_numbered, number_in}
+use Rattle.call_cell.specs.LegKeys.{keys_for, key_of, number_of, OnePerSuite}
+use Rattle.call_cell.specs.Parts.{ReceivingFor, InboundIn, HasIt, boxed_in, contexts_of, has_number, is_numbered, number_in}
 use Rattle.call_cell.specs.Standing.{LegFor, inbound_of, outbound_of}
 use Rattle.call_cell.specs.Committing.{LegCommits, LegCommitsBy, HasKey, relearned, renoted, said_of, outbound_in}
 use Rattle.call_cell.proofs.Steps.{commit_in_force, commit_accepted, commit_lessons}
@@ -53,21 +53,22 @@ has_so : {O : Type 0} (suite : Suite) (sending : Sending O) (n : ℕ) → number
 has_so Tag80 sending n q = ap (λ (b : Bool). b || is_numbered (boxed_in sending.tag32) n) (numbered_so (boxed_in sending.tag80) n q)
 has_so Tag32 sending n q = ap (λ (b : Bool). is_numbered (boxed_in sending.tag80) n || b) (numbered_so (boxed_in sending.tag32) n q) ∙ or_right (is_numbered (boxed_in sending.tag80) n)
 
-pub has_key : {O : Type 0} (config : Config) (h : List CellEntry) (leg : Leg O) (n : ℕ) → LegFor config h leg → HasKey h leg.holder n
-    → has_number leg.sending n ≡ true
-has_key config h leg n for key =
-    let k = key.key in
-    let keys = keys_for h leg.holder in
+-- a key of a leg has its contexts
+pub has_of : {O : Type 0} (keys : List NewKey) (sending : Sending O) (n : ℕ) → ((suite : Suite) → number_in (contexts_of suite sending) ≡ key_of suite keys)
+    → OnePerSuite keys → (k : NewKey) → In k keys → k.number ≡ n → has_number sending n ≡ true
+has_of keys sending n held one k stands is =
     let test : NewKey → Bool = λ (x : NewKey). suite_eq x.suite k.suite in
-    let f = first_there k (filter test keys) (keeps test keys key.is_there (suite_itself k.suite)) in
-    let there = filtered test keys (first_is_in (filter test keys) f.1) in
-    let same : f.0.number ≡ n = for.one_each f.0 k there.0 key.is_there (suite_is f.0.suite k.suite there.1) ∙ key.number_is in
-    has_so k.suite leg.sending n (for.held k.suite ∙ ap number_of f.1 ∙ ap Some same)
+    let f = first_there k (filter test keys) (keeps test keys stands (suite_itself k.suite)) in
+    let first_one = filtered test keys (first_is_in (filter test keys) f.1) in
+    let same : f.0.number ≡ n = one f.0 k first_one.0 stands (suite_is f.0.suite k.suite first_one.1) ∙ is in
+    has_so k.suite sending n (held k.suite ∙ ap number_of f.1 ∙ ap Some same)
 
 named_by : {O : Type 0} (config : Config) (h : List CellEntry) (leg : Leg O) (o : Option ℕ) → LegFor config h leg
-    → ((n : ℕ) → o ≡ Some n → HasKey h leg.holder n) → HasNamed o (key_numbered h) leg.sending
+    → ((n : ℕ) → o ≡ Some n → HasKey h leg.holder n) → HasIt o leg.sending
 named_by config h leg None for keys = tt
-named_by config h leg (Some n) for keys = λ q. absurd (let e = sym q ∙ has_key config h leg n for (keys n refl) in cc)
+named_by config h leg (Some n) for keys =
+    let key = keys n refl in
+    has_of (keys_for h leg.holder) leg.sending n for.held for.one_each key.key key.is_there key.number_is
 
 -- What a commit does to what is received.
 

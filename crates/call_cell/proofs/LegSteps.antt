@@ -18,7 +18,7 @@ use Rattle.call_cell.specs.Cells.{CellEntry, Relayed, Receipt, Shield, Deed, in_
 use Rattle.call_cell.specs.Keyed.{accepted, protected}
 use Rattle.call_cell.specs.Learning.{Lesson, lessons, lesson_of, learned, learned_from}
 use Rattle.call_cell.specs.Contexts.{OutboundFor}
-use Rattle.call_cell.specs.Parts.{boxed_in, ReceivingFor, InboundIn, SendingFor, OutboundIn, HasNamed, SameNumbers, contexts_of, has_number, is_numbered, number_in, noted_under, taught, taught_half}
+use Rattle.call_cell.specs.Parts.{boxed_in, ReceivingFor, InboundIn, SendingFor, OutboundIn, HasNamed, HasIt, SameNumbers, contexts_of, has_number, is_numbered, number_in, noted_under, taught, taught_half}
 use Rattle.call_cell.specs.Standing.{LegFor, inbound_of, outbound_of, relay_entry, with_receiving, with_sending}
 use Rattle.call_cell.proofs.Steps.{if_true, heard_is, relay_accepted, relay_protected, taught_by}
 use Rattle.call_cell.proofs.Protecting.{other_kept}
@@ -137,10 +137,13 @@ same_has old new n same =
     ap (λ (b : Bool). b || is_numbered (boxed_in new.tag32) n) (same_number (boxed_in new.tag80) (boxed_in old.tag80) n same.tag80)
     ∙ ap (λ (b : Bool). is_numbered (boxed_in old.tag80) n || b) (same_number (boxed_in new.tag32) (boxed_in old.tag32) n same.tag32)
 
-named_still : {O : Type 0} (number : Option ℕ) (keys : ℕ → Option NewKey) (old new : Sending O) → SameNumbers old new → HasNamed number keys old
-    → HasNamed number keys new
-named_still None keys old new same for = tt
-named_still (Some n) keys old new same for = λ q. for (sym (same_has old new n same) ∙ q)
+named_still : {O : Type 0} (number : Option ℕ) (old new : Sending O) → SameNumbers old new → HasIt number old → HasIt number new
+named_still None old new same for = tt
+named_still (Some n) old new same for = same_has old new n same ∙ for
+
+pub named_so : {O : Type 0} (number : Option ℕ) (keys : ℕ → Option NewKey) (sending : Sending O) → HasIt number sending → HasNamed number keys sending
+named_so None keys sending for = tt
+named_so (Some n) keys sending for = λ q. absurd (let e = sym for ∙ q in cc)
 
 held_still : {O : Type 0} (suite : Suite) (old new : Sending O) → SameNumbers old new
     → number_in (contexts_of suite new) ≡ number_in (contexts_of suite old)
@@ -198,7 +201,7 @@ leg_sends config m p ok d h leg sending is_not noted same for =
       port = for.port;
       receiving = receiving_keeps m p ok d h leg.holder (inbound_of leg.signal) leg.receiving is_not for.receiving;
       sending = sending_over m p ok d h leg.holder sending noted;
-      named = named_still (outbound_of leg.signal) (key_numbered h) leg.sending sending same for.named;
+      named = named_still (outbound_of leg.signal) leg.sending sending same for.named;
       section = for.section;
       held = λ suite. held_still suite leg.sending sending same ∙ for.held suite;
       one_each = for.one_each;

@@ -24,6 +24,10 @@ pub mod Crossing
 pub mod Towards
 pub mod Handing
 pub mod Turning
+pub mod Prepared
+pub mod Joined
+pub mod PrepareSteps
+pub mod Offered
 pub mod CommitSteps
 pub mod Answered
 pub mod Answering

@@ -12,3 +12,4 @@ pub mod CellStanding
 pub mod Ending
 pub mod Committing
 pub mod Parting
+pub mod Preparing

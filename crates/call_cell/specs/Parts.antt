@@ -157,6 +157,11 @@ abbrev pub HasNamed : {O : Type 0} → Option ℕ → (ℕ → Option NewKey) �
 HasNamed None keys sending = Unit {0}
 HasNamed (Some number) keys sending = has_number sending number ≡ false → keys number ≡ None
 
+-- the contexts of the key that is named are there
+abbrev pub HasIt : {O : Type 0} → Option ℕ → Sending O → Type 0
+HasIt None sending = Unit {0}
+HasIt (Some number) sending = has_number sending number ≡ true
+
 -- a packet was protected, and noted under its key
 pub record WrapsIn (leg : Holder) (suite : Suite) (keys : ℕ → Option NewKey) (notes : ℕ → List Note) (shield : Option Shield) (bytes : List ℕ)
     (new : Option Outbound) (buf : List ℕ) (result : Result ℕ Lost) : Type 0 where

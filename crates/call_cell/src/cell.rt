@@ -1,5 +1,6 @@
-ghost use Rattle.std.specs.Prelude.{ℕ, ◌≡◌, ◌≤◌, ◌<◌, ◌+◌, true, [], List, if◌then◌else◌};
+ghost use Rattle.std.specs.Prelude.{ℕ, ◌≡◌, ◌≤◌, ◌<◌, ◌+◌, true, [], List, Some, is_some, if◌then◌else◌};
 ghost use Rattle.relay_outside.specs.declared.settings.Config.{Config};
+ghost use Rattle.histories.specs.Words.{or_else};
 ghost use Rattle.call_cell.specs.Cells.{CellEntry, since_end, is_accepted};
 ghost use Rattle.call_cell.specs.Standing.{LegsFor, LegsRelay, receipt_of};
 ghost use Rattle.call_cell.specs.Committing.{LegCommitsBy, LegsCommit, contexts_due, needs_contexts, said_of};
@@ -8,7 +9,9 @@ use crate::gone::Gone;
 use crate::in_contexts::InContexts;
 use crate::leg::{Leg, place_of, place_of_opposite};
 use crate::outcome::{Incoming, Lost, Outcome, Refused};
+use crate::joining::{join, put_keys};
 use crate::parting::part;
+use crate::prepare::Prepare;
 use crate::signals::{rejected, said_of};
 use port_pool::Signal;
 use relay_outside::{Config, OutEnd};
@@ -54,6 +57,26 @@ fn commit_legs<O>(legs: &mut [Leg<O>], signal: &Signal, contexts: &mut InContext
     }
 }
 
+/// When the call that the cell then holds began: now, where it held none.
+fn began_by(held: Option<u64>, began: u64, now: u64) -> u64
+    ensures { result ≡ (if is_some held then began else now) }
+{
+    match held {
+        None => now,
+        Some(_) => began,
+    }
+}
+
+/// The call that the cell then holds: this one, where it held none.
+fn held_by(held: Option<u64>, call: u64) -> u64
+    ensures { Some result ≡ or_else held (Some call) }
+{
+    match held {
+        None => call,
+        Some(held) => held,
+    }
+}
+
 /// The moment of the last activity after a packet: this one where the packet was accepted.
 fn active_after(outcome: Outcome, active: u64, now: u64) -> u64
     ensures { result ≡ (if is_accepted outcome then now else active) }
@@ -88,7 +111,9 @@ fn relay_legs<O: OutEnd>(legs: &mut [Leg<O>], packet: &Incoming, buf: &mut [u8; 
 impl<O: OutEnd> Cell<O> {
     ghost use Rattle.call_cell.specs.CellStanding.{CellFor, CellRelays};
     ghost use Rattle.call_cell.specs.Ending.{CellEnds};
+    ghost use Rattle.port_pool.specs.Signals.{NewKey};
     ghost use Rattle.call_cell.specs.Committing.{CellCommits, NamesKeys};
+    ghost use Rattle.call_cell.specs.Preparing.{IsReady, FitsPlaces, PrepareFor, CanCome, CellPrepares};
 
     /// An empty cell, which takes no memory.
     pub fn empty(alloc: Global, config: &Config) -> Cell<O>
@@ -116,6 +141,30 @@ impl<O: OutEnd> Cell<O> {
         let outcome = relay_legs(self.legs.as_mut_slice(), packet, buf);
         self.active = active_after(outcome, self.active, self.moment);
         outcome
+    }
+
+    /// Takes what an offer brings to the call with this number, at the moment `now` in milliseconds; an empty cell begins the
+    /// call. The legs of the sections that it drops go to `gone`, which is empty. It takes no memory.
+    pub fn prepare(&mut self, call: u64, signal: Prepare<O>, gone: &mut Gone<O>, now: u64)
+        requires empty { gone.old ≡ [] }
+        requires ready { IsReady signal }
+        requires room { FitsPlaces self.old signal }
+        ensures { (config : Config) (h : List CellEntry) (keys : List NewKey) (dropped : List ℕ) → CellFor config self.old h → PrepareFor signal keys dropped →
+            CanCome config (since_end h) signal call keys dropped → CellPrepares config self.old self.new h signal call keys dropped now gone.new }
+    {
+        let Prepare {
+            legs,
+            places,
+            keys,
+            spare: _,
+            dropped,
+        } = signal;
+        self.moment = self.moment.max(now);
+        self.began = began_by(self.call, self.began, self.moment);
+        self.call = Some(held_by(self.call, call));
+        part(&mut self.legs, &dropped, gone);
+        join(&mut self.legs, legs, places);
+        put_keys(self.legs.as_mut_slice(), keys);
     }
 
     /// Commits what an answer says of the call's legs, at the moment `now` in milliseconds. The legs of the sections that it

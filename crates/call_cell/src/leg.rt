@@ -9,6 +9,7 @@ ghost use Rattle.call_cell.specs.Deeds.{judged_leg};
 ghost use Rattle.call_cell.specs.Standing.{port_by, outcome_of};
 ghost use Rattle.call_cell.specs.Ending.{parts_of};
 
+use crate::contexts::Outbound;
 use crate::in_contexts::InContexts;
 use crate::outcome::{Lost, Outcome, Refused};
 use crate::receiving::Receiving;
@@ -17,6 +18,7 @@ use crate::signals::address;
 use port_pool::{Holder, Lease, LegSignal, Side};
 use relay_outside::{Addr, OutEnd};
 use rtp_packet::Half;
+use sdes_lines::Suite;
 
 /// One leg of the cell's call.
 #[derive(Drop)]
@@ -94,6 +96,25 @@ fn outcome_of(port: u16, to: Addr, sent: Result<usize, Lost>) -> Outcome
 }
 
 impl<O> Leg<O> {
+    ghost use Rattle.call_cell.specs.Preparing.{IsFresh};
+
+    /// A leg that was answered by none, has received nothing and has no key.
+    pub(crate) fn new(holder: Holder, lease: Lease, rtp: O, rtcp: O) -> Leg<O>
+        requires pair { lease.pair ≡ holder.pair }
+        requires generation { lease.generation ≡ holder.generation }
+        ensures fresh { IsFresh result }
+        ensures holder { result.holder ≡ holder }
+        ensures parts { parts_of result ≡ (lease, rtp, rtcp) }
+    {
+        Leg {
+            holder,
+            lease,
+            signal: None,
+            receiving: Receiving::new(),
+            sending: Sending::new(rtp, rtcp),
+        }
+    }
+
     /// The leg's lease and its out ends.
     pub(crate) fn into_parts(self) -> (Lease, O, O)
         ensures { result ≡ parts_of self }
@@ -112,6 +133,15 @@ impl<O> Leg<O> {
 
 impl<O> Leg<O> {
     ghost use Rattle.call_cell.specs.Committing.{LegCommits, is_inbound_anew};
+    ghost use Rattle.call_cell.specs.Standing.{with_sending};
+    ghost use Rattle.call_cell.specs.Preparing.{with_contexts};
+
+    /// Takes the contexts of a key for a suite.
+    pub(crate) fn put(&mut self, suite: Suite, contexts: Box<Option<Outbound>>)
+        ensures { self.new ≡ with_sending self.old (with_contexts suite contexts self.old.sending) }
+    {
+        self.sending.put(suite, contexts);
+    }
 
     /// Commits what an answer says of the leg.
     pub(crate) fn commit(&mut self, signal: &LegSignal, contexts: &mut InContexts)

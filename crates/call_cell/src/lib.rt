@@ -16,11 +16,13 @@ mod cell;
 mod contexts;
 mod gone;
 mod in_contexts;
+mod joining;
 mod law;
 mod leg;
 mod outcome;
 mod receiving;
 mod parting;
+mod prepare;
 mod sending;
 mod signals;
 #[cfg(test)]
@@ -31,3 +33,4 @@ pub use gone::Gone;
 pub use in_contexts::InContexts;
 pub use law::notes_are_new;
 pub use outcome::{Incoming, Lost, Outcome, Refused};
+pub use prepare::Prepare;

@@ -1,4 +1,4 @@
-ghost use Rattle.std.specs.Prelude.{ℕ, ◌≡◌, ◌≤◌, ◌<◌, ◌+◌, true, List, [], take, Option, Some, is_some, IfOk, if◌then◌else◌};
+ghost use Rattle.std.specs.Prelude.{ℕ, ◌≡◌, ◌≤◌, ◌<◌, ◌+◌, true, List, [], take, Option, Some, None, is_some, IfOk, if◌then◌else◌};
 ghost use Rattle.relay_outside.specs.declared.address.Addr.{Addr};
 ghost use Rattle.rtp_packet.specs.declared.head.Half.{Half};
 ghost use Rattle.sdes_lines.specs.declared.crypto_line.Suite.{Suite};
@@ -148,7 +148,9 @@ impl Receiving {
     ghost use Rattle.call_cell.specs.Parts.{ReceivingFor, AcceptsTo, learned_in};
 
     /// Nothing received, and no key.
-    pub(crate) fn new() -> Receiving {
+    pub(crate) fn new() -> Receiving
+        ensures { ReceivingFor None result (λ half. None) [] }
+    {
         Receiving {
             rtp: None,
             rtcp: None,

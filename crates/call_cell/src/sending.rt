@@ -1,4 +1,4 @@
-ghost use Rattle.std.specs.Prelude.{ℕ, ◌≡◌, ◌≤◌, false, true, List, take, Option, Some, IfOk};
+ghost use Rattle.std.specs.Prelude.{ℕ, ◌≡◌, ◌≤◌, false, true, List, take, Option, Some, None, IfOk};
 ghost use Rattle.sdes_lines.specs.declared.crypto_line.Suite.{Suite};
 ghost use Rattle.srtp_sources.specs.Notes.{Note};
 ghost use Rattle.port_pool.specs.declared.holder.Holder.{Holder};
@@ -11,6 +11,7 @@ use crate::outcome::Lost;
 use port_pool::LegSignal;
 use relay_outside::{Addr, OutEnd};
 use rtp_packet::Half;
+use sdes_lines::Suite;
 
 /// By what a leg sends: the out ends of its ports, and the contexts of the keys that were drawn for it.
 #[derive(Drop)]
@@ -93,6 +94,32 @@ fn send_answer(size: usize, done: bool) -> Result<usize, Lost>
 }
 
 impl<O> Sending<O> {
+    ghost use Rattle.call_cell.specs.Parts.{contexts_of};
+    ghost use Rattle.call_cell.specs.Preparing.{with_contexts};
+
+    /// The out ends for RTP and for RTCP, and no key.
+    pub(crate) fn new(rtp: O, rtcp: O) -> Sending<O>
+        ensures ends { (result.rtp ≡ rtp) × (result.rtcp ≡ rtcp) }
+        ensures keyless { (suite : Suite) → contexts_of suite result ≡ None }
+    {
+        Sending {
+            rtp,
+            rtcp,
+            tag80: None,
+            tag32: None,
+        }
+    }
+
+    /// Takes the contexts of a key for a suite.
+    pub(crate) fn put(&mut self, suite: Suite, contexts: Box<Option<Outbound>>)
+        ensures { self.new ≡ with_contexts suite contexts self.old }
+    {
+        match suite {
+            Suite::Tag80 => self.tag80 = Some(contexts),
+            Suite::Tag32 => self.tag32 = Some(contexts),
+        }
+    }
+
     /// The out ends, for RTP and for RTCP.
     pub(crate) fn into_ends(self) -> (O, O)
         ensures { result ≡ (self.rtp, self.rtcp) }
