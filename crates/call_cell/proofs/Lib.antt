@@ -28,6 +28,7 @@ pub mod Prepared
 pub mod Joined
 pub mod PrepareSteps
 pub mod Offered
+pub mod Asking
 pub mod CommitSteps
 pub mod Answered
 pub mod Answering

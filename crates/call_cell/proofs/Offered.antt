@@ -200,7 +200,7 @@ both_case : {X Y : Type 0} (x : X) (xs : List X) (ys : List Y) (o : Option Y) �
 both_case x xs ys None rest = rest
 both_case x xs ys (Some y) rest = some_final y ys ∙ sym (some_final x xs)
 
-both_final : {X Y : Type 0} (f : X → Option Y) (xs : List X) → is_some (final (filter_map f xs)) ≡ is_some (final (filter (λ (x : X). is_some (f x)) xs))
+pub both_final : {X Y : Type 0} (f : X → Option Y) (xs : List X) → is_some (final (filter_map f xs)) ≡ is_some (final (filter (λ (x : X). is_some (f x)) xs))
 both_final f [] = refl
 both_final {X} f (x ∷ xs) = both_case x (filter (λ (y : X). is_some (f y)) xs) (filter_map f xs) (f x) (both_final f xs)
 

@@ -13,3 +13,4 @@ pub mod Ending
 pub mod Committing
 pub mod Parting
 pub mod Preparing
+pub mod Expiring

@@ -4,6 +4,7 @@ ghost use Rattle.histories.specs.Words.{or_else};
 ghost use Rattle.call_cell.specs.Cells.{CellEntry, since_end, is_accepted};
 ghost use Rattle.call_cell.specs.Standing.{LegsFor, LegsRelay, receipt_of};
 ghost use Rattle.call_cell.specs.Committing.{LegCommitsBy, LegsCommit, contexts_due, needs_contexts, said_of};
+ghost use Rattle.call_cell.specs.Expiring.{is_ago};
 
 use crate::gone::Gone;
 use crate::in_contexts::InContexts;
@@ -108,11 +109,36 @@ fn relay_legs<O: OutEnd>(legs: &mut [Leg<O>], packet: &Incoming, buf: &mut [u8; 
     legs[to].forward(packet.half, buf, len)
 }
 
+/// Whether that moment is at least so long ago.
+fn is_ago(now: u64, limit: u64, moment: u64) -> bool
+    ensures { result ≡ is_ago now limit moment }
+{
+    match moment.checked_add(limit) {
+        None => false,
+        Some(due) => due <= now,
+    }
+}
+
+impl<O> Cell<O> {
+    ghost use Rattle.call_cell.specs.Expiring.{due_by};
+
+    /// Whether the call is due to end at the cell's last moment.
+    fn is_due(&self) -> bool
+        ensures { result ≡ due_by self.now self.now.moment }
+    {
+        if self.is_committed {
+            return is_ago(self.moment, self.config.timeout_ms, self.active);
+        }
+        self.call.is_some() && is_ago(self.moment, self.config.offer_timeout_ms, self.began)
+    }
+}
+
 impl<O: OutEnd> Cell<O> {
     ghost use Rattle.call_cell.specs.CellStanding.{CellFor, CellRelays};
     ghost use Rattle.call_cell.specs.Ending.{CellEnds};
     ghost use Rattle.port_pool.specs.Signals.{NewKey};
     ghost use Rattle.call_cell.specs.Committing.{CellCommits, NamesKeys};
+    ghost use Rattle.call_cell.specs.Expiring.{CellExpires};
     ghost use Rattle.call_cell.specs.Preparing.{IsReady, FitsPlaces, PrepareFor, CanCome, CellPrepares};
 
     /// An empty cell, which takes no memory.
@@ -188,6 +214,15 @@ impl<O: OutEnd> Cell<O> {
         self.active = self.moment;
         commit_legs(self.legs.as_mut_slice(), signal, &mut contexts);
         part(&mut self.legs, &rejected(signal), gone);
+    }
+
+    /// Whether the call is due to end at the moment `now` in milliseconds: one that was committed, without a further answer or
+    /// an accepted packet for the timeout, or one that never was, begun the offer timeout ago.
+    pub fn expire(&mut self, now: u64) -> bool
+        ensures { (config : Config) (h : List CellEntry) → CellFor config self.old h → CellExpires config self.old self.new h now result }
+    {
+        self.moment = self.moment.max(now);
+        self.is_due()
     }
 
     /// Ends the call: all its legs go to `gone`, which is empty. It takes no memory.
