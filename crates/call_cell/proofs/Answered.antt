@@ -1,10 +1,9 @@
 -- The legs of a cell over one commit: each is committed, and those of rejected sections go.
 use Rattle.std.proofs.Common.{◌≡◌, refl, ap, subst, sym, ◌∙◌, ℕ, zero, suc, ◌+◌, ◌<◌, ◌≤◌, Bool, true, false, cond, not, List, [], ◌∷◌, ◌++◌, map, filter, length, Option, Some, None, get_or, max, arith}
 use Rattle.std.specs.Prelude.{is_some}
-use Rattle.std.specs.List.{AllPairs}
 use Rattle.std.proofs.lemmas.List.Kept.{AllPairs-filter}
 use Rattle.relay_outside.specs.declared.settings.Config.{Config}
-use Rattle.histories.specs.Words.{In, here, there, first, final}
+use Rattle.histories.specs.Words.{In, here, there, final}
 use Rattle.histories.proofs.Lists.{filtered}
 use Rattle.port_pool.specs.declared.pairs.Lease.{Lease}
 use Rattle.port_pool.specs.declared.holder.Holder.{Holder}
@@ -18,9 +17,8 @@ use Rattle.call_cell.specs.Standing.{LegFor, LegsFor, AreApart}
 use Rattle.call_cell.specs.CellStanding.{CellFor, WasAt, last_moment}
 use Rattle.call_cell.specs.Ending.{parts_of}
 use Rattle.call_cell.specs.Parting.{FlagsAre, goes, stays, Part}
-use Rattle.call_cell.specs.Committing.{LegCommits, LegCommitsBy, LegsCommit, NamesKeys, said_of, goes_by, stays_by, CellCommits, committed_at}
+use Rattle.call_cell.specs.Committing.{LegCommitsBy, LegsCommit, NamesKeys, said_of, goes_by, stays_by, CellCommits, committed_at}
 use Rattle.call_cell.proofs.Steps.{commit_legs}
-use Rattle.call_cell.proofs.Placing.{holders_of}
 use Rattle.call_cell.proofs.Few.{few, in_at, at_in, Apart, pairs_of, apart_of}
 use Rattle.call_cell.proofs.CommitSteps.{commit_entry, committed_leg}
 
@@ -134,9 +132,9 @@ answered {O} config m signal h flags old mid new before after for names long doe
     let in_old : (i : ℕ) (d : Leg O) → i < length old → In (get_or old i d).holder (legs h)
     = λ i d below. subst (λ (l : List Holder). In (get_or old i d).holder l) for.holders (maps_in old i d below) in
     let each_mid : (i : ℕ) (d : Leg O) → i < length mid → LegFor config (commit_entry m signal ∷ h) (get_or mid i d) = λ i d below.
-        let within : i < length old = omega (arith, below, long) in
-        committed_leg config m signal h (get_or old i d) (get_or mid i d) (said_of signal (get_or old i d).holder) refl
-        (λ n q. names (get_or old i d).holder n (in_old i d within) q) (does i d within) (for.each i d within) in
+    let within : i < length old = omega (arith, below, long) in
+    committed_leg config m signal h (get_or old i d) (get_or mid i d) (said_of signal (get_or old i d).holder) refl
+    (λ n q. names (get_or old i d).holder n (in_old i d within) q) (does i d within) (for.each i d within) in
     let kept : P (filter stay_q mid) = record {
       holders = kept_both R stay_p stay_q holder holder (λ a b r. (ap not r.flag, r.holder)) old mid pairs
           ∙ map_filter holder (λ (leg : Holder). not (is_rejected signal leg.section)) old

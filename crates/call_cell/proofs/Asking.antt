@@ -1,5 +1,5 @@
 -- A cell that is asked whether its call is due.
-use Rattle.std.proofs.Common.{◌≡◌, refl, ap, subst, sym, ◌∙◌, ℕ, ◌+◌, Bool, true, false, cond, List, [], ◌∷◌, filter, Option, Some, None, max, arith}
+use Rattle.std.proofs.Common.{◌≡◌, refl, ap, sym, ◌∙◌, ℕ, ◌+◌, Bool, true, false, cond, List, [], ◌∷◌, filter, Option, Some, None, max, arith}
 use Rattle.std.specs.Prelude.{◌||◌, is_some, nat_le, if◌then◌else◌}
 use Rattle.std.specs.List.{list_any}
 use Rattle.relay_outside.specs.declared.settings.Config.{Config}
@@ -7,7 +7,6 @@ use Rattle.histories.specs.Words.{first, final}
 use Rattle.call_cell.specs.declared.cell.Cell.{Cell}
 use Rattle.call_cell.specs.Cells.{CellEvent, CellEntry, Prepare, Commit, Relay, Expire, Read, End, since_end, prepared_call}
 use Rattle.call_cell.specs.Asked.{commits, is_activity, is_past, is_due}
-use Rattle.call_cell.specs.Standing.{LegsFor}
 use Rattle.call_cell.specs.CellStanding.{CellFor, WasAt, last_moment}
 use Rattle.call_cell.specs.Expiring.{is_ago, due_by, expired_at, with_moment, CellExpires}
 use Rattle.call_cell.proofs.Legs.{legs_stay}
@@ -63,7 +62,7 @@ due_so {O} config cell h now for =
     let c = list_any (λ (e : CellEntry). commits e.event) s in
     let holds : is_some cell.call ≡ is_some began = ap (λ (o : Option ℕ). is_some o) for.call_is ∙ both_final prepared_call s in
     ap (λ (b : Bool). if b then is_ago now cell.config.timeout_ms cell.active
-        else if is_some cell.call then is_ago now cell.config.offer_timeout_ms cell.began else false) for.is_committed
+    else if is_some cell.call then is_ago now cell.config.offer_timeout_ms cell.began else false) for.is_committed
     ∙ due_case c (is_some cell.call) active began now cell.config.timeout_ms cell.config.offer_timeout_ms cell.active cell.began (active_some s) holds for.active for.began
     ∙ ap (λ (x : Config). if c then is_past now x.timeout_ms active else is_past now x.offer_timeout_ms began) for.config_is
 

@@ -1,7 +1,6 @@
 -- Contexts that stand in a place on the heap.
-use Rattle.std.proofs.Common.{◌≡◌, refl, ap, subst, sym, ◌∙◌, ℕ, Bool, true, List, Option, Some, None, Result, Box, Global}
+use Rattle.std.proofs.Common.{◌≡◌, ap, sym, ◌∙◌, ℕ, List, Option, Some, Result, Box, Global}
 use Rattle.std.specs.Box.{with_value}
-use Rattle.rtp_packet.specs.declared.head.Half.{Half}
 use Rattle.sdes_lines.specs.declared.crypto_line.Suite.{Suite}
 use Rattle.srtp_sources.specs.Notes.{Note}
 use Rattle.port_pool.specs.declared.holder.Holder.{Holder}
@@ -11,7 +10,7 @@ use Rattle.call_cell.specs.declared.outcome.Lost.{Lost}
 use Rattle.call_cell.specs.declared.contexts.Inbound.{Inbound}
 use Rattle.call_cell.specs.declared.contexts.Outbound.{Outbound}
 use Rattle.call_cell.specs.Keyed.{Judged, Stopped, Passed, Wrapped, Held, Leaves}
-use Rattle.call_cell.specs.Parts.{OpensIn, OpensUnder, WrapsInTo, WrapsUnder, boxed_in}
+use Rattle.call_cell.specs.Parts.{OpensIn, OpensUnder, WrapsInTo, WrapsUnder}
 
 same_place : {C : Type 0} (place : Box (Option C) Global) (new : Option C) (o : Option (Box (Option C) Global)) → o ≡ Some place → new ≡ place.value
     → Some (with_value place new) ≡ o

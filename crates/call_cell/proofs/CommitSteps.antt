@@ -1,7 +1,6 @@
 -- A leg over one commit: it is committed, or nothing is said of it.
 use Rattle.std.proofs.Common.{◌≡◌, refl, ap, subst, sym, ◌∙◌, ℕ, Bool, true, false, cond, List, [], ◌∷◌, filter, Option, Some, None}
-use Rattle.std.specs.Prelude.{◌||◌, ◌==◌, if◌then◌else◌}
-use Rattle.relay_outside.specs.declared.address.Addr.{Addr}
+use Rattle.std.specs.Prelude.{◌||◌}
 use Rattle.relay_outside.specs.declared.settings.Config.{Config}
 use Rattle.rtp_packet.specs.declared.head.Half.{Half}
 use Rattle.sdes_lines.specs.declared.crypto_line.Suite.{Suite}
@@ -17,13 +16,13 @@ use Rattle.port_pool.specs.Signals.{NewKey, suite_eq}
 use Rattle.call_cell.specs.declared.contexts.Outbound.{Outbound}
 use Rattle.call_cell.specs.declared.sending.Sending.{Sending}
 use Rattle.call_cell.specs.declared.leg.Leg.{Leg}
-use Rattle.call_cell.specs.Cells.{CellEntry, Commit, differs, in_force, key_numbered}
-use Rattle.call_cell.specs.Keyed.{same_inbound, accepted, protected}
+use Rattle.call_cell.specs.Cells.{CellEntry, Commit, differs, in_force}
+use Rattle.call_cell.specs.Keyed.{same_inbound, accepted}
 use Rattle.call_cell.specs.Learning.{Lesson, same_address, lessons, learned, learned_from}
 use Rattle.call_cell.specs.LegKeys.{keys_for, key_of, number_of, OnePerSuite}
-use Rattle.call_cell.specs.Parts.{ReceivingFor, InboundIn, HasIt, boxed_in, contexts_of, has_number, is_numbered, number_in}
-use Rattle.call_cell.specs.Standing.{LegFor, inbound_of, outbound_of}
-use Rattle.call_cell.specs.Committing.{LegCommits, LegCommitsBy, HasKey, relearned, renoted, said_of, outbound_in}
+use Rattle.call_cell.specs.Parts.{InboundIn, HasIt, boxed_in, contexts_of, has_number, is_numbered, number_in}
+use Rattle.call_cell.specs.Standing.{LegFor, inbound_of}
+use Rattle.call_cell.specs.Committing.{LegCommits, LegCommitsBy, HasKey, said_of, outbound_in}
 use Rattle.call_cell.proofs.Steps.{commit_in_force, commit_accepted, commit_lessons}
 use Rattle.call_cell.proofs.KeysEqual.{suite_is}
 

@@ -30,10 +30,11 @@ pub all_go : {O : Type 0} (config : Config) (h : List CellEntry) (flags : List B
 all_go {O} config h flags old new before after for flagged empty part =
     let room : length before + length old ≤ 16
     = subst (λ (l : List (Lease × O × O)). length l + length old ≤ 16) (sym empty) (omega (arith, few config h old for)) in
-    let gone : (leg : Leg O) → In leg old → goes flags leg ≡ true = λ leg i. flagged leg.holder.section (each_in config h old leg for i).section in
-    ((part room).0 ∙ filter_none (λ (leg : Leg O). stays flags leg) old (λ leg i. ap not (gone leg i)),
-    (part room).1 ∙ ap (λ (l : List (Lease × O × O)). l ++ map (λ (leg : Leg O). parts_of leg) (filter (λ (leg : Leg O). goes flags leg) old)) empty
-    ∙ ap (λ (l : List (Leg O)). map (λ (leg : Leg O). parts_of leg) l) (filter_whole (λ (leg : Leg O). goes flags leg) old gone))
+    let gone : (leg : Leg O) → In leg old → goes flags leg ≡ true = λ leg i. flagged leg.holder.section (each_in config h old leg for i).section in (
+      (part room).0 ∙ filter_none (λ (leg : Leg O). stays flags leg) old (λ leg i. ap not (gone leg i)),
+      (part room).1 ∙ ap (λ (l : List (Lease × O × O)). l ++ map (λ (leg : Leg O). parts_of leg) (filter (λ (leg : Leg O). goes flags leg) old)) empty
+          ∙ ap (λ (l : List (Leg O)). map (λ (leg : Leg O). parts_of leg) l) (filter_whole (λ (leg : Leg O). goes flags leg) old gone),
+    )
 
 pub eight_true : (section : ℕ) → section < 8 → get_or (true ∷ true ∷ true ∷ true ∷ true ∷ true ∷ true ∷ true ∷ []) section false ≡ true
 eight_true zero q = refl

@@ -1,6 +1,6 @@
 -- A cell has at most 16 legs, since they stand apart, and in sections below 8.
-use Rattle.std.proofs.Common.{◌≡◌, refl, ap, subst, sym, ◌∙◌, ℕ, zero, suc, ◌+◌, ◌*◌, ◌<◌, ◌≤◌, ◌≢◌, ◌⊎◌, inl, inr, Bool, true, false, eqb, List, [], ◌∷◌, ◌++◌, map, filter, length, get_or, arith}
-use Rattle.std.specs.List.{AllPairs, list_any, IsDistinct}
+use Rattle.std.proofs.Common.{◌≡◌, refl, subst, sym, ℕ, zero, suc, ◌+◌, ◌<◌, ◌≤◌, ◌≢◌, inl, inr, true, eqb, List, [], ◌∷◌, map, length, get_or, arith}
+use Rattle.std.specs.List.{AllPairs, list_any}
 use Rattle.std.proofs.lemmas.Bool.{cases_order}
 use Rattle.std.proofs.lemmas.Bool.Decides.{Decides-eqb}
 use Rattle.std.proofs.lemmas.List.{length-map, get_or-map}
@@ -8,10 +8,9 @@ use Rattle.std.proofs.lemmas.Map.Made.{IsDistinct-from_AllPairs}
 use Rattle.std.proofs.lemmas.Map.Steps.{length-le_from_distinct_below}
 use Rattle.relay_outside.specs.declared.settings.Config.{Config}
 use Rattle.histories.specs.Words.{In, here, there}
-use Rattle.histories.proofs.Lists.{Made, mapped, any_is_in}
+use Rattle.histories.proofs.Lists.{mapped, any_is_in}
 use Rattle.port_pool.specs.declared.holder.Side.{Side}
 use Rattle.port_pool.specs.declared.holder.Side.TheVariants.{A, B}
-use Rattle.port_pool.specs.declared.holder.Holder.{Holder}
 use Rattle.port_pool.specs.Signals.{same_leg}
 use Rattle.call_cell.specs.declared.leg.Leg.{Leg}
 use Rattle.call_cell.specs.Cells.{CellEntry}
@@ -114,15 +113,15 @@ few {O} config h those for =
     let f : Leg O → ℕ = λ (leg : Leg O). number leg in
     let long : length (map f those) ≡ length those = length-map those f in
     let pairs : AllPairs (λ (a b : ℕ). a ≢ b) (map f those) = λ i j d less below.
-        let two : j < length those = omega (arith, below, long) in
-        let one : i < length those = omega (arith, less, two) in
-        let x = some_of those j two in
-        subst (λ (n : ℕ). n ≢ get_or (map f those) j d) (sym (at_number those i d x one))
-        (subst (λ (n : ℕ). number (get_or those i x) ≢ n) (sym (at_number those j d x two))
-        (number_apart (get_or those i x) (get_or those j x) (pairs_of those for.apart i j x less two))) in
+    let two : j < length those = omega (arith, below, long) in
+    let one : i < length those = omega (arith, less, two) in
+    let x = some_of those j two in
+    subst (λ (n : ℕ). n ≢ get_or (map f those) j d) (sym (at_number those i d x one))
+    (subst (λ (n : ℕ). number (get_or those i x) ≢ n) (sym (at_number those j d x two))
+    (number_apart (get_or those i x) (get_or those j x) (pairs_of those for.apart i j x less two))) in
     let small : (q : ℕ) → list_any (eqb q) (map f those) ≡ true → q < 16 = λ q any.
-        let m = any_is_in (eqb q) (map f those) any in
-        let n = mapped f those m.is_in in
-        let same : q ≡ m.from = (Decides-eqb q m.from).0 m.makes in
-        omega (arith, same, n.makes, number_small n.from (each_in config h those n.from for n.is_in).section) in
+    let m = any_is_in (eqb q) (map f those) any in
+    let n = mapped f those m.is_in in
+    let same : q ≡ m.from = (Decides-eqb q m.from).0 m.makes in
+    omega (arith, same, n.makes, number_small n.from (each_in config h those n.from for n.is_in).section) in
     omega (arith, long, length-le_from_distinct_below (map f those) 16 (IsDistinct-from_AllPairs (λ a b. Decides-eqb a b) (map f those) pairs) small)

@@ -1,5 +1,5 @@
 -- Keys that come to the legs that they are for, one by one.
-use Rattle.std.proofs.Common.{◌≡◌, refl, ap, subst, sym, ◌∙◌, ℕ, zero, suc, ◌<◌, ◌⊎◌, inl, inr, Bool, true, false, cond, List, [], ◌∷◌, ◌++◌, map, length, Option, Some, None, get_or, set, arith}
+use Rattle.std.proofs.Common.{◌≡◌, refl, ap, subst, sym, ◌∙◌, ℕ, zero, suc, ◌<◌, inl, inr, Bool, true, false, cond, List, [], ◌∷◌, ◌++◌, map, length, Option, Some, None, get_or, set, arith}
 use Rattle.std.specs.Prelude.{◌&&◌, ◌||◌, ◌==◌, is_some, position}
 use Rattle.std.specs.List.{list_any}
 use Rattle.std.proofs.lemmas.List.{length-map, get_or-map}
@@ -15,7 +15,6 @@ use Rattle.call_cell.specs.Standing.{AreApart, with_sending}
 use Rattle.call_cell.specs.Preparing.{is_at, with_contexts, with_key, put_if, with_keys}
 use Rattle.call_cell.proofs.Splits.{both_left, both_right}
 use Rattle.call_cell.proofs.Placing.{place_is, other_default, true_or_not}
-use Rattle.call_cell.proofs.Few.{at_in}
 use Rattle.call_cell.proofs.Answered.{apart_so}
 
 -- Lists.
@@ -74,11 +73,12 @@ abbrev on_place : PreparedKey → Holder → Bool
 on_place key holder = (key.section == holder.section) && side_eq key.side holder.side
 
 one_place : (key : PreparedKey) (a b : Holder) → on_place key a ≡ true → on_place key b ≡ true → (a.section ≡ b.section) × (a.side ≡ b.side)
-one_place key a b p q =
-    (sym (equal_if key.section a.section (both_left (key.section == a.section) (side_eq key.side a.side) p))
-    ∙ equal_if key.section b.section (both_left (key.section == b.section) (side_eq key.side b.side) q),
-    sym (side_is key.side a.side (both_right (key.section == a.section) (side_eq key.side a.side) p))
-    ∙ side_is key.side b.side (both_right (key.section == b.section) (side_eq key.side b.side) q))
+one_place key a b p q = (
+  sym (equal_if key.section a.section (both_left (key.section == a.section) (side_eq key.side a.side) p))
+      ∙ equal_if key.section b.section (both_left (key.section == b.section) (side_eq key.side b.side) q),
+  sym (side_is key.side a.side (both_right (key.section == a.section) (side_eq key.side a.side) p))
+      ∙ side_is key.side b.side (both_right (key.section == b.section) (side_eq key.side b.side) q),
+)
 
 pub put_by : {O : Type 0} (key : PreparedKey) (leg : Leg O) (b : Bool) → is_at key leg ≡ b → put_if key leg ≡ cond b (with_key key leg) leg
 put_by {O} key leg b q = ap (λ (c : Bool). cond c (with_key key leg) leg) q
@@ -132,12 +132,13 @@ pub one_put : {O : Type 0} (all keys rest : List PreparedKey) (key : PreparedKey
     → AreApart new × (map (λ (leg : Leg O). with_keys rest leg) new ≡ map (λ (leg : Leg O). with_keys all leg) first)
 one_put {O} all keys rest key first old new is before does =
     let put : Leg O → Leg O = λ (leg : Leg O). put_if key leg in
-    let it : new ≡ map put old = does before.0 in
-    (subst (λ (l : List (Leg O)). AreApart l) (sym it) (apart_map put old (λ leg. put_holder key leg) before.0),
-    ap (λ (l : List (Leg O)). map (λ (leg : Leg O). with_keys rest leg) l) it
-    ∙ map_map (λ (leg : Leg O). with_keys rest leg) put old
-    ∙ map_by (λ (leg : Leg O). with_keys rest (put_if key leg)) (λ (leg : Leg O). with_keys (rest ++ key ∷ []) leg) (λ leg. sym (with_more rest key leg)) old
-    ∙ ap (λ (l : List PreparedKey). map (λ (leg : Leg O). with_keys l leg) old) (sym is) ∙ before.1)
+    let it : new ≡ map put old = does before.0 in (
+      subst (λ (l : List (Leg O)). AreApart l) (sym it) (apart_map put old (λ leg. put_holder key leg) before.0),
+      ap (λ (l : List (Leg O)). map (λ (leg : Leg O). with_keys rest leg) l) it
+          ∙ map_map (λ (leg : Leg O). with_keys rest leg) put old
+          ∙ map_by (λ (leg : Leg O). with_keys rest (put_if key leg)) (λ (leg : Leg O). with_keys (rest ++ key ∷ []) leg) (λ leg. sym (with_more rest key leg)) old
+          ∙ ap (λ (l : List PreparedKey). map (λ (leg : Leg O). with_keys l leg) old) (sym is) ∙ before.1,
+    )
 
 map_all : {O : Type 0} (those : List (Leg O)) → map (λ (leg : Leg O). with_keys [] leg) those ≡ those
 map_all {O} those = map_same (λ (leg : Leg O). leg) those (λ leg i. refl)

@@ -29,6 +29,7 @@ pub mod Joined
 pub mod PrepareSteps
 pub mod Offered
 pub mod Asking
+pub mod Callers
 pub mod CommitSteps
 pub mod Answered
 pub mod Answering

@@ -1,7 +1,7 @@
 -- The legs of a cell over one Prepare: those of dropped sections go, and new ones come, with the keys.
-use Rattle.std.proofs.Common.{◌≡◌, refl, ap, subst, sym, ◌∙◌, ℕ, zero, suc, ◌+◌, ◌<◌, ◌≤◌, ◌⊎◌, inl, inr, Bool, true, false, cond, not, List, [], ◌∷◌, ◌++◌, map, filter, length, Option, Some, None, get_or, max, arith, Box, Global}
+use Rattle.std.proofs.Common.{◌≡◌, refl, ap, subst, sym, ◌∙◌, ℕ, zero, suc, ◌+◌, ◌<◌, ◌≤◌, inl, inr, Bool, true, false, cond, not, List, [], ◌∷◌, ◌++◌, map, filter, length, Option, Some, None, get_or, max, arith, Box, Global}
 use Rattle.std.specs.Prelude.{is_some, if◌then◌else◌}
-use Rattle.std.specs.List.{AllPairs, All, list_any, filter_map, cons_option}
+use Rattle.std.specs.List.{AllPairs, filter_map, cons_option}
 use Rattle.std.proofs.lemmas.List.{get_or-map, length-map, map-append}
 use Rattle.std.proofs.lemmas.List.Kept.{AllPairs-cons}
 use Rattle.relay_outside.specs.declared.settings.Config.{Config}
@@ -23,8 +23,8 @@ use Rattle.call_cell.specs.Asked.{is_activity}
 use Rattle.call_cell.specs.Standing.{LegFor, LegsFor, AreApart, with_sending}
 use Rattle.call_cell.specs.CellStanding.{CellFor, WasAt, last_moment}
 use Rattle.call_cell.specs.Ending.{parts_of}
-use Rattle.call_cell.specs.Parting.{FlagsAre, goes, stays, Part}
-use Rattle.call_cell.specs.Preparing.{PrepareFor, CanCome, AreTwo, CellPrepares, added, parts_added, prepare_entry, prepared_at, is_at, with_contexts, with_key, put_if, with_keys}
+use Rattle.call_cell.specs.Parting.{goes, stays, Part}
+use Rattle.call_cell.specs.Preparing.{PrepareFor, CanCome, AreTwo, CellPrepares, added, parts_added, prepare_entry, prepared_at, is_at, with_contexts, with_key, with_keys}
 use Rattle.call_cell.proofs.Placing.{same_itself}
 use Rattle.call_cell.proofs.Few.{few, in_at, at_in, each_in, Apart, pairs_of, apart_of}
 use Rattle.call_cell.proofs.Answered.{map_filter, apart_kept}
@@ -38,7 +38,7 @@ filter_case : {X : Type 0} (p q : X → Bool) (x : X) (xs : List X) → q x ≡ 
 filter_case {X} p q x xs same rest =
     ap (λ (b : Bool). cond b (x ∷ filter q xs) (filter q xs)) same ∙ ap (λ (l : List X). cond (p x) (x ∷ l) l) rest
 
-filter_by : {X : Type 0} (p q : X → Bool) (xs : List X) → ((x : X) → In x xs → q x ≡ p x) → filter q xs ≡ filter p xs
+pub filter_by : {X : Type 0} (p q : X → Bool) (xs : List X) → ((x : X) → In x xs → q x ≡ p x) → filter q xs ≡ filter p xs
 filter_by p q [] same = refl
 filter_by p q (x ∷ xs) same = filter_case p q x xs (same x (here refl)) (filter_by p q xs (λ y i. same y (there i)))
 
@@ -123,22 +123,22 @@ offered {O} config m call signal keys dropped h old kept joined new before after
       unnoted = unnoted;
     } in
     let kept_leg : (leg : Leg O) → In leg kept → LegFor config (e ∷ h) (f leg) = λ leg i.
-        let o = in_old leg i in
-        leg_stays config m call (added signal) signal.keys.items keys dropped h came leg
-        (any_false (same_leg leg.holder) (added signal) (λ x j same. can.new_lease x leg.holder j (is_leg leg o.0) same))
-        (can.one_each leg.holder (in_left (filter (λ (x : Holder). not (has dropped x.section)) (legs h)) (added signal)
-        (keeps (λ (x : Holder). not (has dropped x.section)) (legs h) (is_leg leg o.0) o.1)))
-        (each_in config h old leg for o.0) in
+    let o = in_old leg i in
+    leg_stays config m call (added signal) signal.keys.items keys dropped h came leg
+    (any_false (same_leg leg.holder) (added signal) (λ x j same. can.new_lease x leg.holder j (is_leg leg o.0) same))
+    (can.one_each leg.holder (in_left (filter (λ (x : Holder). not (has dropped x.section)) (legs h)) (added signal)
+    (keeps (λ (x : Holder). not (has dropped x.section)) (legs h) (is_leg leg o.0) o.1)))
+    (each_in config h old leg for o.0) in
     let new_leg : (leg : Leg O) → In leg signal.legs.items → LegFor config (e ∷ h) (f leg) = λ leg i.
-        leg_begins config m call (added signal) signal.keys.items keys dropped h came leg
-        (any_true (same_leg leg.holder) leg.holder (added signal) (is_added leg i) (same_itself leg.holder))
-        (can.one_each leg.holder (in_right (filter (λ (x : Holder). not (has dropped x.section)) (legs h)) (added signal) (is_added leg i)))
-        (can.sections leg i) (can.ports leg i) (prep.fresh leg i) in
+    leg_begins config m call (added signal) signal.keys.items keys dropped h came leg
+    (any_true (same_leg leg.holder) leg.holder (added signal) (is_added leg i) (same_itself leg.holder))
+    (can.one_each leg.holder (in_right (filter (λ (x : Holder). not (has dropped x.section)) (legs h)) (added signal) (is_added leg i)))
+    (can.sections leg i) (can.ports leg i) (prep.fresh leg i) in
     let each_joined : (leg : Leg O) → In leg joined → LegFor config (e ∷ h) (f leg) = λ leg i.
-        elim (in_append kept signal.legs.items (subst (λ (l : List (Leg O)). In leg l) joins i)) [
-          | inl one ↦ kept_leg leg one
-          | inr two ↦ new_leg leg two
-        ] in
+    elim (in_append kept signal.legs.items (subst (λ (l : List (Leg O)). In leg l) joins i)) [
+      | inl one ↦ kept_leg leg one
+      | inr two ↦ new_leg leg two
+    ] in
     let P : List (Leg O) → Type 0 = λ (l : List (Leg O)). LegsFor config (e ∷ h) l in
     record {
       legs_for = subst P (sym new_is) (record {
@@ -163,6 +163,7 @@ offered {O} config m call signal keys dropped h old kept joined new before after
     not_kept : (b : Bool) → not b ≡ true → b ≡ false
     not_kept true q = absurd (let x = q in cc)
     not_kept false q = refl
+
     new_pair : AllPairs AreTwo (map (λ (leg : Leg O). leg.holder) signal.legs.items) → (i j : ℕ) (d : Leg O) → i < j → j < length signal.legs.items
         → Apart (get_or signal.legs.items i d) (get_or signal.legs.items j d)
     new_pair pairs i j d less below =

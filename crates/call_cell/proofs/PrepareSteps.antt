@@ -1,19 +1,17 @@
 -- A leg over one Prepare: it stays, or it is new; and the keys that came for it.
-use Rattle.std.proofs.Common.{◌≡◌, refl, ap, subst, sym, ◌∙◌, ℕ, zero, suc, ◌<◌, ◌⊎◌, inl, inr, Bool, true, false, cond, List, [], ◌∷◌, ◌++◌, map, filter, length, Option, Some, None, Box, Global, arith, append-nil}
+use Rattle.std.proofs.Common.{◌≡◌, refl, ap, subst, sym, ◌∙◌, ℕ, ◌<◌, ◌⊎◌, inl, inr, Bool, true, false, cond, List, [], ◌∷◌, ◌++◌, filter, Option, Some, None, Box, Global, append-nil}
 use Rattle.std.specs.Prelude.{◌&&◌, ◌||◌, ◌==◌}
 use Rattle.std.specs.List.{AllZip, list_any}
 use Rattle.std.proofs.lemmas.List.Elements.{filter-append}
-use Rattle.relay_outside.specs.declared.address.Addr.{Addr}
 use Rattle.relay_outside.specs.declared.settings.Config.{Config}
 use Rattle.rtp_packet.specs.declared.head.Half.{Half}
 use Rattle.sdes_lines.specs.declared.crypto_line.Suite.{Suite}
 use Rattle.sdes_lines.specs.declared.crypto_line.Suite.TheVariants.{Tag80, Tag32}
 use Rattle.srtp_sources.specs.Notes.{Note}
 use Rattle.srtp_sources.proofs.Knowing.{equal, equal_if}
-use Rattle.histories.specs.Words.{In, here, there, first, or_else, has}
+use Rattle.histories.specs.Words.{In, here, there, first, or_else}
 use Rattle.histories.proofs.Lists.{filtered, keeps, in_left, in_right, in_append, any_is_in}
 use Rattle.port_pool.specs.declared.holder.Side.{Side}
-use Rattle.port_pool.specs.declared.holder.Side.TheVariants.{A, B}
 use Rattle.port_pool.specs.Ports.{half_port}
 use Rattle.port_pool.specs.declared.holder.Holder.{Holder}
 use Rattle.port_pool.specs.Signals.{NewKey, same_leg, side_eq, suite_eq}
@@ -23,19 +21,19 @@ use Rattle.call_cell.specs.declared.leg.Leg.{Leg}
 use Rattle.call_cell.specs.declared.prepare.PreparedKey.{PreparedKey}
 use Rattle.call_cell.specs.Cells.{CellEntry, key_numbered, keys_in}
 use Rattle.call_cell.specs.Keyed.{accepted, protected}
-use Rattle.call_cell.specs.Learning.{Lesson, learned, learned_from}
+use Rattle.call_cell.specs.Learning.{learned_from}
 use Rattle.call_cell.specs.LegKeys.{keys_for, keys_since, is_for, key_of, number_of, OnePerSuite}
 use Rattle.call_cell.specs.Contexts.{OutboundFor}
-use Rattle.call_cell.specs.Parts.{ReceivingFor, InboundIn, OutboundIn, IsKept, SendingFor, HasIt, boxed_in, contexts_of, has_number, is_numbered, number_in}
+use Rattle.call_cell.specs.Parts.{InboundIn, OutboundIn, SendingFor, HasIt, boxed_in, contexts_of, has_number, is_numbered, number_in}
 use Rattle.call_cell.specs.Standing.{LegFor, inbound_of, outbound_of, port_by, with_sending}
 use Rattle.call_cell.specs.Preparing.{IsPrepared, IsFresh, IsOutboundAnew, prepare_entry, is_at, with_contexts, with_key, put_if, with_keys}
 use Rattle.call_cell.proofs.Splits.{both_left, both_right}
 use Rattle.call_cell.proofs.Keys.{finds_key}
-use Rattle.call_cell.proofs.Placing.{true_or_not, same_itself}
+use Rattle.call_cell.proofs.Placing.{true_or_not}
 use Rattle.call_cell.proofs.KeysEqual.{suite_is}
 use Rattle.call_cell.proofs.Steps.{prepare_in_force, prepare_accepted, prepare_lessons, new_leg_unanswered, new_leg_notes_nothing, new_leg_learned_nothing}
 use Rattle.call_cell.proofs.CommitSteps.{has_of}
-use Rattle.call_cell.proofs.Joined.{side_is, put_holder}
+use Rattle.call_cell.proofs.Joined.{side_is}
 
 -- A leg with keys is the leg with another part for sending.
 
@@ -132,9 +130,10 @@ key_of_append suite keys more =
 -- The contexts stand for their keys.
 
 side_test : (leg : Holder) (key : NewKey) → is_for leg key ≡ true → (key.section ≡ leg.section) × (key.side ≡ leg.side)
-side_test leg key q =
-    (equal_if key.section leg.section (both_left (key.section == leg.section) (side_eq key.side leg.side) q),
-    side_is key.side leg.side (both_right (key.section == leg.section) (side_eq key.side leg.side) q))
+side_test leg key q = (
+  equal_if key.section leg.section (both_left (key.section == leg.section) (side_eq key.side leg.side) q),
+  side_is key.side leg.side (both_right (key.section == leg.section) (side_eq key.side leg.side) q),
+)
 
 anew_kept : (leg : Holder) (suite : Suite) (keys : ℕ → Option NewKey) (notes : ℕ → List Note) (key : NewKey) (o : Option Outbound) → is_for leg key ≡ true
     → suite_eq key.suite suite ≡ true → keys key.number ≡ Some key → notes key.number ≡ [] → IsOutboundAnew key o → OutboundIn leg suite keys notes o

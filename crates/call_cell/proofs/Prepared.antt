@@ -1,17 +1,15 @@
 -- What an offer prepares, part by part.
-use Rattle.std.proofs.Common.{◌≡◌, refl, ap, subst, sym, ◌∙◌, ℕ, zero, suc, ◌<◌, Bool, true, false, List, [], ◌∷◌, ◌++◌, map, ◌⊎◌, inl, inr, Option, Some, get_or, arith}
+use Rattle.std.proofs.Common.{◌≡◌, refl, ap, subst, sym, ℕ, zero, suc, ◌<◌, Bool, false, List, [], ◌∷◌, ◌++◌, map, inl, inr, get_or, arith}
 use Rattle.std.specs.List.{AllZip}
 use Rattle.histories.specs.Words.{In, here, there, has}
 use Rattle.histories.proofs.Lists.{in_append}
-use Rattle.port_pool.specs.declared.holder.Holder.{Holder}
 use Rattle.port_pool.specs.declared.pairs.Lease.{Lease}
 use Rattle.port_pool.specs.Signals.{NewKey}
-use Rattle.call_cell.specs.declared.contexts.Outbound.{Outbound}
 use Rattle.call_cell.specs.declared.leg.Leg.{Leg}
 use Rattle.call_cell.specs.declared.prepare.PreparedKey.{PreparedKey}
 use Rattle.call_cell.specs.declared.prepare.Prepare as prepared
 use Rattle.call_cell.specs.Parting.{FlagsAre}
-use Rattle.call_cell.specs.Preparing.{PrepareFor, IsPrepared, IsFresh, IsOutboundAnew, added, parts_added}
+use Rattle.call_cell.specs.Preparing.{PrepareFor, IsPrepared, IsFresh, added, parts_added}
 
 pub no_flags : (section : ℕ) → section < 8
     → get_or (false ∷ false ∷ false ∷ false ∷ false ∷ false ∷ false ∷ false ∷ []) section false ≡ has [] section
@@ -27,14 +25,15 @@ no_flags (suc (suc (suc (suc (suc (suc (suc (suc n)))))))) q = absurd (omega (ar
 
 pub nothing : {O : Type 0} (signal : prepared.Prepare O) → signal.keys.items ≡ [] → signal.legs.items ≡ [] → FlagsAre signal.dropped (has [])
     → PrepareFor signal [] [] × (added signal ≡ []) × (parts_added signal ≡ [])
-nothing {O} signal keys legs drops =
-    (record {
-      keys_are = subst (λ (l : List PreparedKey). AllZip IsPrepared l []) (sym keys) tt;
-      drops = drops;
-      fresh = λ leg i. elim (subst (λ (l : List (Leg O)). In leg l) legs i) [ ];
-    },
-    ap (λ (l : List (Leg O)). map (λ (leg : Leg O). leg.holder) l) legs,
-    ap (λ (l : List (Leg O)). map (λ (leg : Leg O). parts_of_leg leg) l) legs)
+nothing {O} signal keys legs drops = (
+  record {
+    keys_are = subst (λ (l : List PreparedKey). AllZip IsPrepared l []) (sym keys) tt;
+    drops = drops;
+    fresh = λ leg i. elim (subst (λ (l : List (Leg O)). In leg l) legs i) [ ];
+  },
+  ap (λ (l : List (Leg O)). map (λ (leg : Leg O). leg.holder) l) legs,
+  ap (λ (l : List (Leg O)). map (λ (leg : Leg O). parts_of_leg leg) l) legs,
+)
   where
     parts_of_leg : Leg O → Lease × O × O
     parts_of_leg leg = (leg.lease, leg.sending.rtp, leg.sending.rtcp)

@@ -45,8 +45,16 @@ some_of (x ∷ xs) i below = x
 room_left : {X Y : Type 0} (q : X → Bool) (f : X → Y) (before : List Y) (xs : List X) (i : ℕ) → i < length xs → length before + length xs ≤ 16
     → length (before ++ map f (filter q (take i xs))) < 16
 room_left q f before xs i below room =
-    omega (arith, below, room, length-append before (map f (filter q (take i xs))), length-map (filter q (take i xs)) f,
-    length-filter q (take i xs), count_by-le-length q (take i xs), length-take-le i xs (omega (arith, below)))
+    omega (
+      arith,
+      below,
+      room,
+      length-append before (map f (filter q (take i xs))),
+      length-map (filter q (take i xs)) f,
+      length-filter q (take i xs),
+      count_by-le-length q (take i xs),
+      length-take-le i xs (omega (arith, below)),
+    )
 
 pub turned : {X Y : Type 0} (p q : X → Bool) (f : X → Y) (xs ys new : List X) (before gone after : List Y) (i : ℕ) → i < length xs
     → length before + length xs ≤ 16 → ys ≡ drop i xs ++ filter p (take i xs) → gone ≡ before ++ map f (filter q (take i xs))
@@ -55,15 +63,17 @@ pub turned : {X Y : Type 0} (p q : X → Bool) (f : X → Y) (xs ys new : List X
     → (new ≡ drop (i + 1) xs ++ filter p (take (i + 1) xs)) × (after ≡ before ++ map f (filter q (take (i + 1) xs)))
 turned {X} {Y} p q f xs ys new before gone after i below room stays went stay go =
     let d = some_of xs i below in
-    let few : length gone < 16 = subst (λ (l : List Y). length l < 16) (sym went) (room_left q f before xs i below room) in
-    (stay d few ∙ stay_more p xs ys i d below stays,
-    go d few ∙ ap (λ (l : List Y). l ++ cond (q (get_or ys 0 d)) (f (get_or ys 0 d) ∷ []) []) went
-    ∙ went_more q f before xs i d (get_or ys 0 d) below (front_is p xs ys i d below stays))
+    let few : length gone < 16 = subst (λ (l : List Y). length l < 16) (sym went) (room_left q f before xs i below room) in (
+      stay d few ∙ stay_more p xs ys i d below stays,
+      go d few ∙ ap (λ (l : List Y). l ++ cond (q (get_or ys 0 d)) (f (get_or ys 0 d) ∷ []) []) went
+          ∙ went_more q f before xs i d (get_or ys 0 d) below (front_is p xs ys i d below stays),
+    )
 
 pub turned_all : {X Y : Type 0} (p q : X → Bool) (f : X → Y) (xs ys : List X) (before gone : List Y) (i : ℕ) → length xs ≤ i
     → (ys ≡ drop i xs ++ filter p (take i xs)) × (gone ≡ before ++ map f (filter q (take i xs)))
     → (ys ≡ filter p xs) × (gone ≡ before ++ map f (filter q xs))
 turned_all {X} {Y} p q f xs ys before gone i end h =
-    let whole : take i xs ≡ xs = take_all i xs end in
-    (h.0 ∙ ap (λ (l : List X). l ++ filter p (take i xs)) (drop_all i xs end) ∙ ap (λ (l : List X). filter p l) whole,
-    h.1 ∙ ap (λ (l : List X). before ++ map f (filter q l)) whole)
+    let whole : take i xs ≡ xs = take_all i xs end in (
+      h.0 ∙ ap (λ (l : List X). l ++ filter p (take i xs)) (drop_all i xs end) ∙ ap (λ (l : List X). filter p l) whole,
+      h.1 ∙ ap (λ (l : List X). before ++ map f (filter q l)) whole,
+    )

@@ -13,7 +13,7 @@ use Rattle.port_pool.specs.Signals.{NewKey, signal_at, is_rejected}
 use Rattle.call_cell.specs.declared.receiving.Receiving.{Receiving}
 use Rattle.call_cell.specs.declared.leg.Leg.{Leg}
 use Rattle.call_cell.specs.declared.cell.Cell.{Cell}
-use Rattle.call_cell.specs.Cells.{CellEntry, Commit, differs, legs, since_end}
+use Rattle.call_cell.specs.Cells.{CellEntry, Commit, differs, in_force, legs}
 use Rattle.call_cell.specs.Learning.{same_address}
 use Rattle.call_cell.specs.Keyed.{same_inbound}
 use Rattle.call_cell.specs.Asked.{FitsCell}
@@ -67,6 +67,10 @@ needs_contexts signal leg = needs_inbound leg.signal (said_of signal leg.holder)
 -- how many inbound contexts the signal makes
 abbrev pub contexts_due : {O : Type 0} → List SectionSignal → List (Leg O) → ℕ
 contexts_due {O} signal those = count_by (λ (leg : Leg O). needs_contexts signal leg) those
+
+-- how many the history says
+abbrev pub contexts_due_after : List CellEntry → List SectionSignal → ℕ
+contexts_due_after h signal = count_by (λ leg. needs_inbound (in_force h leg) (said_of signal leg)) (legs h)
 
 -- each leg is committed as the signal says
 abbrev pub LegsCommit : {O : Type 0} → List SectionSignal → List (Leg O) → List (Leg O) → Type 0

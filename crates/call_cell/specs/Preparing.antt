@@ -1,9 +1,8 @@
 -- What an offer prepares for a cell, and what the cell makes of it.
-use Rattle.std.specs.Prelude.{◌≡◌, ◌<◌, ◌≤◌, ◌+◌, ◌-◌, ◌&&◌, ◌==◌, not, ℕ, Bool, true, false, min, max, List, [], ◌∷◌, ◌++◌, map, filter, count_by, length, Option, Some, None, Box, vec_len, vec_capacity, if◌then◌else◌}
+use Rattle.std.specs.Prelude.{◌≡◌, ◌<◌, ◌≤◌, ◌+◌, ◌-◌, ◌&&◌, ◌==◌, not, ℕ, Bool, true, false, min, max, List, [], ◌∷◌, ◌++◌, map, filter, count_by, Option, Some, None, Box, vec_len, vec_capacity, if◌then◌else◌}
 use Rattle.std.specs.Global.{Global}
 use Rattle.std.specs.List.{AllPairs, AllZip}
 use Rattle.relay_outside.specs.declared.settings.Config.{Config}
-use Rattle.relay_outside.specs.declared.address.Addr.{Addr}
 use Rattle.rtp_packet.specs.declared.head.Half.{Half}
 use Rattle.sdes_lines.specs.declared.crypto_line.Suite.{Suite}
 use Rattle.sdes_lines.specs.declared.crypto_line.Suite.TheVariants.{Tag80, Tag32}
@@ -18,7 +17,7 @@ use Rattle.call_cell.specs.declared.leg.Leg.{Leg}
 use Rattle.call_cell.specs.declared.prepare.PreparedKey.{PreparedKey}
 use Rattle.call_cell.specs.declared.prepare.Prepare as prepared
 use Rattle.call_cell.specs.declared.cell.Cell.{Cell}
-use Rattle.call_cell.specs.Cells.{CellEntry, Prepare, legs, since_end, key_numbered}
+use Rattle.call_cell.specs.Cells.{CellEntry, Prepare, legs, key_numbered}
 use Rattle.call_cell.specs.Asked.{FitsCell}
 use Rattle.call_cell.specs.LegKeys.{keys_for, OnePerSuite}
 use Rattle.call_cell.specs.Contexts.{OutboundFor}
@@ -26,7 +25,7 @@ use Rattle.call_cell.specs.Parts.{ReceivingFor, contexts_of}
 use Rattle.call_cell.specs.Standing.{port_by, with_sending}
 use Rattle.call_cell.specs.CellStanding.{CellFor, last_moment}
 use Rattle.call_cell.specs.Ending.{parts_of}
-use Rattle.call_cell.specs.Parting.{FlagsAre, goes, stays}
+use Rattle.call_cell.specs.Parting.{FlagsAre, stays}
 
 -- What is prepared.
 

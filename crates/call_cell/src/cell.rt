@@ -8,9 +8,9 @@ ghost use Rattle.call_cell.specs.Expiring.{is_ago};
 
 use crate::gone::Gone;
 use crate::in_contexts::InContexts;
+use crate::joining::{join, put_keys};
 use crate::leg::{Leg, place_of, place_of_opposite};
 use crate::outcome::{Incoming, Lost, Outcome, Refused};
-use crate::joining::{join, put_keys};
 use crate::parting::part;
 use crate::prepare::Prepare;
 use crate::signals::{rejected, said_of};
@@ -196,13 +196,7 @@ impl<O: OutEnd> Cell<O> {
     /// Commits what an answer says of the call's legs, at the moment `now` in milliseconds. The legs of the sections that it
     /// rejects go to `gone`, which is empty. `contexts` has room for each inbound key or suite other than the one in force. It
     /// takes no memory.
-    pub fn commit(
-        &mut self,
-        signal: &Signal,
-        contexts: InContexts,
-        gone: &mut Gone<O>,
-        now: u64,
-    )
+    pub fn commit(&mut self, signal: &Signal, contexts: InContexts, gone: &mut Gone<O>, now: u64)
         requires empty { gone.old ≡ [] }
         requires room { contexts_due signal.now self.old.legs.items ≤ contexts }
         ensures { (config : Config) (h : List CellEntry) → CellFor config self.old h → NamesKeys (since_end h) signal.now →

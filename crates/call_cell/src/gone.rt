@@ -1,4 +1,4 @@
-ghost use Rattle.std.specs.Prelude.{◌≡◌, ◌<◌, ◌++◌, [], ◌∷◌, IfOk, length, nat_lt};
+ghost use Rattle.std.specs.Prelude.{◌≡◌, ◌<◌, ◌++◌, [], ◌∷◌, None, IfOk, length, nat_lt};
 ghost use Rattle.std.specs.Option.{option_to_list};
 ghost use Rattle.call_cell.specs.Ending.{parts_of};
 
@@ -59,7 +59,8 @@ impl<O> Gone<O> {
     /// Gives the lease of a leg that is left, and its out ends for RTP and for RTCP: that of the earliest one. `None`: none is
     /// left.
     pub fn pop(&mut self) -> Option<(Lease, O, O)>
-        ensures { self.old ≡ option_to_list result ++ self.new }
+        ensures takes { self.old ≡ option_to_list result ++ self.new }
+        ensures none { result ≡ None → self.new ≡ [] }
     {
         if self.legs.is_empty() {
             return None;

@@ -36,7 +36,8 @@ fn place_for<O>(legs: &[Leg<O>], key: &PreparedKey) -> Option<usize>
     ensures place { result ≡ position (λ leg. is_at key.now leg) legs.now }
     ensures within { IfSome result (λ at. at < length legs.now) }
 {
-    legs.iter().position(|leg| is_on(&leg.holder, key.section, key.side))
+    legs.iter()
+        .position(|leg| is_on(&leg.holder, key.section, key.side))
 }
 
 /// Gives the contexts of a key to the leg that it is for.

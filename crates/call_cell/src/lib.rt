@@ -20,9 +20,9 @@ mod joining;
 mod law;
 mod leg;
 mod outcome;
-mod receiving;
 mod parting;
 mod prepare;
+mod receiving;
 mod sending;
 mod signals;
 #[cfg(test)]
@@ -31,6 +31,6 @@ mod tests;
 pub use cell::Cell;
 pub use gone::Gone;
 pub use in_contexts::InContexts;
-pub use law::notes_are_new;
+pub use law::{contexts_are_counted, legs_find_places, notes_are_new};
 pub use outcome::{Incoming, Lost, Outcome, Refused};
 pub use prepare::Prepare;

@@ -98,7 +98,8 @@ impl<O> Prepare<O> {
         ensures room { (leg_room self.new + 1 ≡ leg_room self.old) × (key_room self.new ≡ key_room self.old) }
         ensures ready { IsReady self.old → IsReady self.new }
     {
-        self.legs.push_reserved(Leg::new(holder, lease, rtp_end, rtcp_end));
+        self.legs
+            .push_reserved(Leg::new(holder, lease, rtp_end, rtcp_end));
     }
 
     /// Adds a drawn key for the leg of a section and side, and a suite.

@@ -110,10 +110,7 @@ fn relearned(
 }
 
 /// The contexts of an inbound key, which have taken no packet; none where there is no key.
-fn begin(
-    key: &Option<([u8; 30], Suite)>,
-    contexts: &mut InContexts,
-) -> Option<Box<Option<Inbound>>>
+fn begin(key: &Option<([u8; 30], Suite)>, contexts: &mut InContexts) -> Option<Box<Option<Inbound>>>
     requires room { is_some key.now ≡ true → 0 < contexts.old }
     ensures contexts { InboundIn key.now (boxed_in result) [] }
     ensures room { contexts.new + (if is_some key.now then 1 else 0) ≡ contexts.old }

@@ -24,11 +24,7 @@ pub(crate) fn address(signal: &LegSignal, half: Half) -> Addr
 }
 
 /// Whether a commit names another address of a half than was in force, or is the leg's first.
-pub(crate) fn is_new_address(
-    earlier: &Option<LegSignal>,
-    signal: &LegSignal,
-    half: Half,
-) -> bool
+pub(crate) fn is_new_address(earlier: &Option<LegSignal>, signal: &LegSignal, half: Half) -> bool
     ensures { result ≡ differs (same_address half) (Some signal.now) earlier.now }
 {
     match earlier {

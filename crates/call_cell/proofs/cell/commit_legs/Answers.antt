@@ -15,9 +15,10 @@ pub loop-leg-preserved : goal.loop-leg-preserved
 loop-leg-preserved g c =
     let i = c.loop-leg.leg-index in
     let x = c.leg-item.result in
-    let same = c.loop-leg.invariant.2 i x (omega arith) in
-    (room_more c.args.signal.now c.args.legs.now c.loop-leg.legs i c.loop-leg.contexts c.commit_leg.new.contexts c.args.contexts.now x c.loop-leg-test.true same
-    c.loop-leg.invariant.0 c.commit_leg.ensures.room,
-    commits_more c.args.signal.now c.args.legs.now c.loop-leg.legs i c.commit_leg.new.leg x c.loop-leg-test.true c.loop-leg.auto.legs same
-    c.loop-leg.invariant.1 c.commit_leg.ensures.commits,
-    rest_more c.args.legs.now c.loop-leg.legs i c.commit_leg.new.leg c.loop-leg.invariant.2)
+    let same = c.loop-leg.invariant.2 i x (omega arith) in (
+      room_more c.args.signal.now c.args.legs.now c.loop-leg.legs i c.loop-leg.contexts c.commit_leg.new.contexts c.args.contexts.now x c.loop-leg-test.true same
+          c.loop-leg.invariant.0 c.commit_leg.ensures.room,
+      commits_more c.args.signal.now c.args.legs.now c.loop-leg.legs i c.commit_leg.new.leg x c.loop-leg-test.true c.loop-leg.auto.legs same
+          c.loop-leg.invariant.1 c.commit_leg.ensures.commits,
+      rest_more c.args.legs.now c.loop-leg.legs i c.commit_leg.new.leg c.loop-leg.invariant.2,
+    )

@@ -1,4 +1,4 @@
-use Rattle.std.proofs.Common.{refl, sym, ◌∙◌, ap, arith, subst, List, length}
+use Rattle.std.proofs.Common.{refl, ◌∙◌, ap, arith, subst, List, length}
 use Rattle.std.proofs.lemmas.List.{with_items_is}
 use Rattle.call_cell.specs.declared.leg.Leg.{Leg}
 use Rattle.call_cell.specs.Cells.{since_end}

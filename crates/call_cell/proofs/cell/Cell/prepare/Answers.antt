@@ -1,4 +1,4 @@
-use Rattle.std.proofs.Common.{refl, sym, ◌∙◌, ap, arith, subst, List, length, filter, map, ◌≡◌, ◌≤◌, ◌+◌, []}
+use Rattle.std.proofs.Common.{refl, sym, ◌∙◌, ap, arith, subst, List, length, map, ◌≡◌, ◌≤◌, ◌+◌}
 use Rattle.std.proofs.lemmas.List.{with_items_is}
 use Rattle.std.proofs.lemmas.List.Sums.{length-filter}
 use Rattle.port_pool.specs.declared.pairs.Lease.{Lease}
