@@ -1,6 +1,7 @@
 -- What a leg's part for receiving does with a packet that opens.
 use Rattle.std.proofs.Common.{◌≡◌, refl, subst, sym, ◌∙◌, ℕ, Bool, false, List, Option, Some, Ok}
-use Rattle.std.specs.Prelude.{not, if◌then◌else◌}
+use Rattle.std.specs.Prelude.{Box, not, if◌then◌else◌}
+use Rattle.std.specs.Global.{Global}
 use Rattle.std.specs.List.{cons_option}
 use Rattle.relay_outside.specs.declared.address.Addr.{Addr}
 use Rattle.rtp_packet.specs.declared.head.Half.{Half}
@@ -15,14 +16,14 @@ use Rattle.call_cell.specs.Learning.{is_wrong_source}
 use Rattle.call_cell.specs.Deeds.{judged_leg}
 use Rattle.call_cell.specs.Parts.{ReceivingFor, OpensIn, AcceptsTo, learned_in, taught_half}
 
-abbrev with_inbound : Receiving → Option Inbound → Receiving
+abbrev with_inbound : Receiving → Option (Box (Option Inbound) Global) → Receiving
 with_inbound old inbound = record { rtp = old.rtp; rtcp = old.rtcp; inbound = inbound }
 
-same_learned : (old : Receiving) (inbound : Option Inbound) (half : Half) → learned_in half (with_inbound old inbound) ≡ learned_in half old
+same_learned : (old : Receiving) (inbound : Option (Box (Option Inbound) Global)) (half : Half) → learned_in half (with_inbound old inbound) ≡ learned_in half old
 same_learned old inbound Rtp = refl
 same_learned old inbound Rtcp = refl
 
-accepts_case : (s : LegSignal) (half : Half) (source : Addr) (known : Half → Option Addr) (notes : List Note) (old new : Receiving) (inbound : Option Inbound)
+accepts_case : (s : LegSignal) (half : Half) (source : Addr) (known : Half → Option Addr) (notes : List Note) (old new : Receiving) (inbound : Option (Box (Option Inbound) Global))
     (buf : List ℕ) (size : ℕ) → ReceivingFor s.inbound old known notes → (j : Judged) → OpensIn j s.inbound notes old.inbound inbound buf (Ok size)
     → ((l : List Note) → ReceivingFor s.inbound (with_inbound old inbound) known l → ReceivingFor s.inbound new (taught_half half s.flags source known) l)
     → AcceptsTo j half source s known notes old new buf (Ok size)
@@ -35,7 +36,7 @@ accepts_case s half source known notes old new inbound buf size for (Passed note
     }
 
 pub accepts : (s : LegSignal) (half : Half) (source : Addr) (bytes : List ℕ) (known : Half → Option Addr) (notes : List Note) (old new : Receiving)
-    (inbound : Option Inbound) (buf : List ℕ) (size : ℕ) → ReceivingFor s.inbound old known notes
+    (inbound : Option (Box (Option Inbound) Global)) (buf : List ℕ) (size : ℕ) → ReceivingFor s.inbound old known notes
     → not (is_packet half bytes) ≡ false → is_wrong_source s.flags (known half) source ≡ false
     → OpensIn (opened_by s.inbound notes half bytes) s.inbound notes old.inbound inbound buf (Ok size)
     → ((l : List Note) → ReceivingFor s.inbound (with_inbound old inbound) known l → ReceivingFor s.inbound new (taught_half half s.flags source known) l)

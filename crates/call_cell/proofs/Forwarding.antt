@@ -1,6 +1,7 @@
 -- What a leg does with an accepted packet: it stays, or leaves by one send of the leg's end of the half.
 use Rattle.std.proofs.Common.{◌≡◌, refl, ap, subst, sym, ◌∙◌, ℕ, Bool, true, false, List, length, take, Option, Some, Result, Ok, Err}
-use Rattle.std.specs.Prelude.{◌≤◌, if◌then◌else◌, is_ok}
+use Rattle.std.specs.Prelude.{Box, ◌≤◌, if◌then◌else◌, is_ok}
+use Rattle.std.specs.Global.{Global}
 use Rattle.relay_outside.specs.declared.address.Addr.{Addr}
 use Rattle.relay_outside.specs.declared.ports.OutCall.{OutCall}
 use Rattle.relay_outside.specs.declared.ports.OutCall.TheVariants.{Send}
@@ -20,7 +21,7 @@ use Rattle.call_cell.specs.declared.sending.Sending.{Sending}
 use Rattle.call_cell.specs.declared.leg.Leg.{Leg}
 use Rattle.call_cell.specs.Keyed.{Wrapped, Held, Leaves}
 use Rattle.call_cell.specs.Learning.{endpoint_by}
-use Rattle.call_cell.specs.Parts.{OutboundIn, ProtectsTo, ForwardsTo, SendsBy, SameEnds, SameKeys, ends_of, other_half, noted_under, wrapped_by, wrapped_for, send_answer}
+use Rattle.call_cell.specs.Parts.{boxed_in, OutboundIn, ProtectsTo, ForwardsTo, SendsBy, SameEnds, SameKeys, ends_of, other_half, noted_under, wrapped_by, wrapped_for, send_answer}
 use Rattle.call_cell.specs.Standing.{LegForwards, LegForwardsBy, with_sending, port_by, outcome_of, send_outcome, sent_ok}
 
 -- A refusal.
@@ -82,8 +83,8 @@ sent_case {O} told faults leg keys notes half to old mid new buf size done resul
       buffer = does.buffer;
       under = does.under;
       keeps = record {
-        tag80 = subst (λ (o : Option Outbound). OutboundIn leg Tag80 keys (noted_under shield notes) o) (sym same.tag80) does.keeps.tag80;
-        tag32 = subst (λ (o : Option Outbound). OutboundIn leg Tag32 keys (noted_under shield notes) o) (sym same.tag32) does.keeps.tag32;
+        tag80 = subst (λ (o : Option (Box (Option Outbound) Global)). OutboundIn leg Tag80 keys (noted_under shield notes) (boxed_in o)) (sym same.tag80) does.keeps.tag80;
+        tag32 = subst (λ (o : Option (Box (Option Outbound) Global)). OutboundIn leg Tag32 keys (noted_under shield notes) (boxed_in o)) (sym same.tag32) does.keeps.tag32;
       };
       sends = sent;
     }

@@ -18,7 +18,7 @@ use Rattle.call_cell.specs.Cells.{CellEntry, Relayed, Receipt, Shield, Deed, in_
 use Rattle.call_cell.specs.Keyed.{accepted, protected}
 use Rattle.call_cell.specs.Learning.{Lesson, lessons, lesson_of, learned, learned_from}
 use Rattle.call_cell.specs.Contexts.{OutboundFor}
-use Rattle.call_cell.specs.Parts.{ReceivingFor, InboundIn, SendingFor, OutboundIn, HasNamed, SameNumbers, has_number, is_numbered, number_in, noted_under, taught, taught_half}
+use Rattle.call_cell.specs.Parts.{boxed_in, ReceivingFor, InboundIn, SendingFor, OutboundIn, HasNamed, HasIt, SameNumbers, contexts_of, has_number, is_numbered, number_in, noted_under, taught, taught_half}
 use Rattle.call_cell.specs.Standing.{LegFor, inbound_of, outbound_of, relay_entry, with_receiving, with_sending}
 use Rattle.call_cell.proofs.Steps.{if_true, heard_is, relay_accepted, relay_protected, taught_by}
 use Rattle.call_cell.proofs.Protecting.{other_kept}
@@ -49,7 +49,7 @@ receiving_keeps : (m : ℕ) (p : Receipt) (ok : Bool) (d : Deed) (h : List CellE
 receiving_keeps m p ok d h leg key receiving is_not for =
     record {
       learned = λ half. for.learned half ∙ sym (learned_keeps m p ok d h leg half is_not);
-      inbound = subst (λ (l : List Note). InboundIn key receiving.inbound l) (sym (accepted_keeps m p ok d h leg is_not)) for.inbound;
+      inbound = subst (λ (l : List Note). InboundIn key (boxed_in receiving.inbound) l) (sym (accepted_keeps m p ok d h leg is_not)) for.inbound;
     }
 
 taught_case : (r : Relayed) (s : LegSignal) (ls : List Lesson) (b : Bool)
@@ -77,7 +77,7 @@ receiving_takes : (m : ℕ) (p : Receipt) (ok : Bool) (d : Deed) (h : List CellE
 receiving_takes m p ok d h leg s receiving is_so force for =
     record {
       learned = λ half. for.learned half ∙ sym (learned_takes m p ok d h leg s half is_so force);
-      inbound = subst (λ (l : List Note). InboundIn s.inbound receiving.inbound l) (sym (accepted_takes m p ok d h leg is_so)) for.inbound;
+      inbound = subst (λ (l : List Note). InboundIn s.inbound (boxed_in receiving.inbound) l) (sym (accepted_takes m p ok d h leg is_so)) for.inbound;
     }
 
 -- Sending.
@@ -103,8 +103,8 @@ sending_over m p ok d h leg sending for =
     let same : (n : ℕ) → noted_under d.shield (protected h) n ≡ protected (relay_entry m p ok d ∷ h) n
     = λ n. sym (relay_protected m (relayed_of p ok d) h n) in
     record {
-      tag80 = same_in leg Tag80 (key_numbered h) (noted_under d.shield (protected h)) (protected (relay_entry m p ok d ∷ h)) same sending.tag80 for.tag80;
-      tag32 = same_in leg Tag32 (key_numbered h) (noted_under d.shield (protected h)) (protected (relay_entry m p ok d ∷ h)) same sending.tag32 for.tag32;
+      tag80 = same_in leg Tag80 (key_numbered h) (noted_under d.shield (protected h)) (protected (relay_entry m p ok d ∷ h)) same (boxed_in sending.tag80) for.tag80;
+      tag32 = same_in leg Tag32 (key_numbered h) (noted_under d.shield (protected h)) (protected (relay_entry m p ok d ∷ h)) same (boxed_in sending.tag32) for.tag32;
     }
 
 -- the shield is under no key of this leg
@@ -116,8 +116,8 @@ sending_keeps : {O : Type 0} (leg : Holder) (keys : ℕ → Option NewKey) (note
     → IsElsewhere leg keys shield → SendingFor leg keys notes sending → SendingFor leg keys (noted_under shield notes) sending
 sending_keeps leg keys notes shield sending apart for =
     record {
-      tag80 = other_kept leg Tag80 keys notes shield sending.tag80 (λ s q key there section side suite. apart s q key there section side) for.tag80;
-      tag32 = other_kept leg Tag32 keys notes shield sending.tag32 (λ s q key there section side suite. apart s q key there section side) for.tag32;
+      tag80 = other_kept leg Tag80 keys notes shield (boxed_in sending.tag80) (λ s q key there section side suite. apart s q key there section side) for.tag80;
+      tag32 = other_kept leg Tag32 keys notes shield (boxed_in sending.tag32) (λ s q key there section side suite. apart s q key there section side) for.tag32;
     }
 
 by_number : Option ℕ → ℕ → Bool
@@ -134,13 +134,21 @@ same_number a b n q = numbered_by a n ∙ ap (λ (o : Option ℕ). by_number o n
 
 same_has : {O : Type 0} (old new : Sending O) (n : ℕ) → SameNumbers old new → has_number new n ≡ has_number old n
 same_has old new n same =
-    ap (λ (b : Bool). b || is_numbered new.tag32 n) (same_number new.tag80 old.tag80 n same.tag80)
-    ∙ ap (λ (b : Bool). is_numbered old.tag80 n || b) (same_number new.tag32 old.tag32 n same.tag32)
+    ap (λ (b : Bool). b || is_numbered (boxed_in new.tag32) n) (same_number (boxed_in new.tag80) (boxed_in old.tag80) n same.tag80)
+    ∙ ap (λ (b : Bool). is_numbered (boxed_in old.tag80) n || b) (same_number (boxed_in new.tag32) (boxed_in old.tag32) n same.tag32)
 
-named_still : {O : Type 0} (number : Option ℕ) (keys : ℕ → Option NewKey) (old new : Sending O) → SameNumbers old new → HasNamed number keys old
-    → HasNamed number keys new
-named_still None keys old new same for = tt
-named_still (Some n) keys old new same for = λ q. for (sym (same_has old new n same) ∙ q)
+named_still : {O : Type 0} (number : Option ℕ) (old new : Sending O) → SameNumbers old new → HasIt number old → HasIt number new
+named_still None old new same for = tt
+named_still (Some n) old new same for = same_has old new n same ∙ for
+
+pub named_so : {O : Type 0} (number : Option ℕ) (keys : ℕ → Option NewKey) (sending : Sending O) → HasIt number sending → HasNamed number keys sending
+named_so None keys sending for = tt
+named_so (Some n) keys sending for = λ q. absurd (let e = sym for ∙ q in cc)
+
+held_still : {O : Type 0} (suite : Suite) (old new : Sending O) → SameNumbers old new
+    → number_in (contexts_of suite new) ≡ number_in (contexts_of suite old)
+held_still Tag80 old new same = same.tag80
+held_still Tag32 old new same = same.tag32
 
 -- A leg.
 
@@ -156,6 +164,9 @@ leg_keeps config m p ok d h leg is_not apart for =
       sending = sending_over m p ok d h leg.holder leg.sending
           (sending_keeps leg.holder (key_numbered h) (protected h) d.shield leg.sending apart for.sending);
       named = for.named;
+      section = for.section;
+      held = for.held;
+      one_each = for.one_each;
     }
 
 pub leg_takes : {O : Type 0} (config : Config) (m : ℕ) (p : Receipt) (ok : Bool) (d : Deed) (h : List CellEntry) (leg : Leg O) (s : LegSignal) (receiving : Receiving)
@@ -174,6 +185,9 @@ leg_takes config m p ok d h leg s receiving is_so apart signal takes_it for =
       sending = sending_over m p ok d h leg.holder leg.sending
           (sending_keeps leg.holder (key_numbered h) (protected h) d.shield leg.sending apart for.sending);
       named = for.named;
+      section = for.section;
+      held = for.held;
+      one_each = for.one_each;
     }
 
 pub leg_sends : {O : Type 0} (config : Config) (m : ℕ) (p : Receipt) (ok : Bool) (d : Deed) (h : List CellEntry) (leg : Leg O) (sending : Sending O)
@@ -187,5 +201,8 @@ leg_sends config m p ok d h leg sending is_not noted same for =
       port = for.port;
       receiving = receiving_keeps m p ok d h leg.holder (inbound_of leg.signal) leg.receiving is_not for.receiving;
       sending = sending_over m p ok d h leg.holder sending noted;
-      named = named_still (outbound_of leg.signal) (key_numbered h) leg.sending sending same for.named;
+      named = named_still (outbound_of leg.signal) leg.sending sending same for.named;
+      section = for.section;
+      held = λ suite. held_still suite leg.sending sending same ∙ for.held suite;
+      one_each = for.one_each;
     }

@@ -1,6 +1,7 @@
 -- What a leg's part for sending does: a packet is noted under the key that it was protected with, and under no other.
 use Rattle.std.proofs.Common.{◌≡◌, refl, ap, subst, sym, ◌∙◌, ℕ, Bool, true, List, Option, Some, None, Result}
-use Rattle.std.specs.Prelude.{if◌then◌else◌}
+use Rattle.std.specs.Prelude.{Box, if◌then◌else◌}
+use Rattle.std.specs.Global.{Global}
 use Rattle.std.specs.List.{cons_option}
 use Rattle.rtp_packet.specs.declared.head.Half.{Half}
 use Rattle.sdes_lines.specs.declared.crypto_line.Suite.{Suite}
@@ -15,7 +16,7 @@ use Rattle.call_cell.specs.declared.sending.Sending.{Sending}
 use Rattle.call_cell.specs.Cells.{Shield}
 use Rattle.call_cell.specs.Keyed.{Wrapped, Held, Leaves, wrapped_under, wrapped_with}
 use Rattle.call_cell.specs.Contexts.{OutboundFor, WrapsTo, IsUnder, note_of}
-use Rattle.call_cell.specs.Parts.{IsKept, IsOf, OutboundIn, is_numbered, note_under, noted_under, WrapsInTo, SendingFor, ProtectsTo}
+use Rattle.call_cell.specs.Parts.{boxed_in, WrapsInTo, IsKept, IsOf, OutboundIn, is_numbered, note_under, noted_under, WrapsUnder, SendingFor, ProtectsTo}
 
 -- under its own key a shield's note is noted
 own_note : (number : ℕ) (shield : Option Shield) → IsUnder number shield → note_under number shield ≡ note_of shield
@@ -23,7 +24,7 @@ own_note number None under = refl
 own_note number (Some s) under = ap (λ (b : Bool). if b then Some s.note else None) (equal s.key number under)
 
 -- under another key nothing is noted
-other_note : (number : ℕ) (shield : Option Shield) → ((s : Shield) → shield ≡ Some s → s.key ≡ number → ⊥) → note_under number shield ≡ None
+pub other_note : (number : ℕ) (shield : Option Shield) → ((s : Shield) → shield ≡ Some s → s.key ≡ number → ⊥) → note_under number shield ≡ None
 other_note number None apart = refl
 other_note number (Some s) apart = ap (λ (b : Bool). if b then Some s.note else None) (differ s.key number (apart s refl))
 
@@ -48,7 +49,7 @@ shield_of_key leg suite keys notes old k (Some t) under s q =
 
 wraps_case : (leg : Holder) (suite : Suite) (keys : ℕ → Option NewKey) (notes : ℕ → List Note) (old new : Outbound) (buf : List ℕ) (result : Result ℕ Lost)
     → (k : IsKept leg suite keys notes old) → (w : Wrapped) → WrapsTo w k.key (notes old.number) old new buf result
-    → WrapsInTo w leg suite keys notes (Some old) (Some new) buf result
+    → WrapsUnder w leg suite keys notes (Some old) (Some new) buf result
 wraps_case leg suite keys notes old new buf result k (Held cause) does =
     record { answer = does.answer; contexts = ap (λ (x : Outbound). Some x) does.contexts }
 wraps_case leg suite keys notes old new buf result k (Leaves shield bytes) does =
@@ -74,10 +75,10 @@ wraps_case leg suite keys notes old new buf result k (Leaves shield bytes) does 
 wraps_kept : (leg : Holder) (suite : Suite) (keys : ℕ → Option NewKey) (notes : ℕ → List Note) (half : Half) (bytes : List ℕ) (old new : Outbound) (buf : List ℕ)
     (result : Result ℕ Lost) → (k : IsKept leg suite keys notes old)
     → ((key : NewKey) (l : List Note) → OutboundFor key old l → WrapsTo (wrapped_under key l half bytes) key l old new buf result)
-    → WrapsInTo (wrapped_with (keys old.number) (notes old.number) half bytes) leg suite keys notes (Some old) (Some new) buf result
+    → WrapsUnder (wrapped_with (keys old.number) (notes old.number) half bytes) leg suite keys notes (Some old) (Some new) buf result
 wraps_kept leg suite keys notes half bytes old new buf result k does =
     let P : Option NewKey → Type 0 = λ (o : Option NewKey).
-    WrapsInTo (wrapped_with o (notes old.number) half bytes) leg suite keys notes (Some old) (Some new) buf result in
+    WrapsUnder (wrapped_with o (notes old.number) half bytes) leg suite keys notes (Some old) (Some new) buf result in
     subst P (sym k.is_there)
     (wraps_case leg suite keys notes old new buf result k (wrapped_under k.key (notes old.number) half bytes) (does k.key (notes old.number) k.contexts_for))
 
@@ -85,10 +86,10 @@ pub wraps_in : (leg : Holder) (suite : Suite) (keys : ℕ → Option NewKey) (no
     (buf : List ℕ) (result : Result ℕ Lost) (o : Option Outbound) → o ≡ Some old
     → ((key : NewKey) (l : List Note) → OutboundFor key old l → WrapsTo (wrapped_under key l half bytes) key l old new buf result)
     → OutboundIn leg suite keys notes o → is_numbered o number ≡ true
-    → WrapsInTo (wrapped_with (keys number) (notes number) half bytes) leg suite keys notes o (Some new) buf result
+    → WrapsUnder (wrapped_with (keys number) (notes number) half bytes) leg suite keys notes o (Some new) buf result
 wraps_in leg suite keys notes number half bytes old new buf result o is does for numbered =
-    let Q : Option Outbound → Type 0 = λ (x : Option Outbound). WrapsInTo (wrapped_with (keys number) (notes number) half bytes) leg suite keys notes x (Some new) buf result in
-    let P : ℕ → Type 0 = λ (n : ℕ). WrapsInTo (wrapped_with (keys n) (notes n) half bytes) leg suite keys notes (Some old) (Some new) buf result in
+    let Q : Option Outbound → Type 0 = λ (x : Option Outbound). WrapsUnder (wrapped_with (keys number) (notes number) half bytes) leg suite keys notes x (Some new) buf result in
+    let P : ℕ → Type 0 = λ (n : ℕ). WrapsUnder (wrapped_with (keys n) (notes n) half bytes) leg suite keys notes (Some old) (Some new) buf result in
     let k : IsKept leg suite keys notes old = subst (λ (x : Option Outbound). OutboundIn leg suite keys notes x) is for in
     let same : old.number ≡ number = equal_if old.number number (subst (λ (x : Option Outbound). is_numbered x number ≡ true) is numbered) in
     subst Q (sym is) (subst P same (wraps_kept leg suite keys notes half bytes old new buf result k does))
@@ -134,13 +135,13 @@ other_suite leg suite other keys shield differ under s q key there section side 
 tags_differ : ◌≡◌ {A = Suite} Tag80 Tag32 → ⊥
 tags_differ q = let f = q in cc
 
-pub protects_80 : {O : Type 0} (leg : Holder) (keys : ℕ → Option NewKey) (notes : ℕ → List Note) (old : Sending O) (new : Option Outbound) (buf : List ℕ)
+pub protects_80 : {O : Type 0} (leg : Holder) (keys : ℕ → Option NewKey) (notes : ℕ → List Note) (old : Sending O) (new : Option (Box (Option Outbound) Global)) (buf : List ℕ)
     (result : Result ℕ Lost) → SendingFor leg keys notes old → (w : Wrapped) → WrapsInTo w leg Tag80 keys notes old.tag80 new buf result
     → ProtectsTo w leg keys notes old (record { rtp = old.rtp; rtcp = old.rtcp; tag80 = new; tag32 = old.tag32 }) buf result
 protects_80 {O} leg keys notes old new buf result for (Held cause) does =
     record {
       answer = does.answer;
-      contexts = ap (λ (x : Option Outbound). as_it_is (record { rtp = old.rtp; rtcp = old.rtcp; tag80 = x; tag32 = old.tag32 })) does.contexts;
+      contexts = ap (λ (x : Option (Box (Option Outbound) Global)). as_it_is (record { rtp = old.rtp; rtcp = old.rtcp; tag80 = x; tag32 = old.tag32 })) does.contexts;
     }
   where
     as_it_is : Sending O → Sending O
@@ -152,17 +153,17 @@ protects_80 leg keys notes old new buf result for (Leaves shield bytes) does =
       under = λ s q. (Tag80, does.under s q);
       keeps = record {
         tag80 = does.contexts;
-        tag32 = other_kept leg Tag32 keys notes shield old.tag32 (other_suite leg Tag80 Tag32 keys shield tags_differ does.under) for.tag32;
+        tag32 = other_kept leg Tag32 keys notes shield (boxed_in old.tag32) (other_suite leg Tag80 Tag32 keys shield tags_differ does.under) for.tag32;
       };
     }
 
-pub protects_32 : {O : Type 0} (leg : Holder) (keys : ℕ → Option NewKey) (notes : ℕ → List Note) (old : Sending O) (new : Option Outbound) (buf : List ℕ)
+pub protects_32 : {O : Type 0} (leg : Holder) (keys : ℕ → Option NewKey) (notes : ℕ → List Note) (old : Sending O) (new : Option (Box (Option Outbound) Global)) (buf : List ℕ)
     (result : Result ℕ Lost) → SendingFor leg keys notes old → (w : Wrapped) → WrapsInTo w leg Tag32 keys notes old.tag32 new buf result
     → ProtectsTo w leg keys notes old (record { rtp = old.rtp; rtcp = old.rtcp; tag80 = old.tag80; tag32 = new }) buf result
 protects_32 {O} leg keys notes old new buf result for (Held cause) does =
     record {
       answer = does.answer;
-      contexts = ap (λ (x : Option Outbound). as_it_is (record { rtp = old.rtp; rtcp = old.rtcp; tag80 = old.tag80; tag32 = x })) does.contexts;
+      contexts = ap (λ (x : Option (Box (Option Outbound) Global)). as_it_is (record { rtp = old.rtp; rtcp = old.rtcp; tag80 = old.tag80; tag32 = x })) does.contexts;
     }
   where
     as_it_is : Sending O → Sending O
@@ -173,7 +174,7 @@ protects_32 leg keys notes old new buf result for (Leaves shield bytes) does =
       buffer = does.buffer;
       under = λ s q. (Tag32, does.under s q);
       keeps = record {
-        tag80 = other_kept leg Tag80 keys notes shield old.tag80 (other_suite leg Tag32 Tag80 keys shield (λ q. tags_differ (sym q)) does.under) for.tag80;
+        tag80 = other_kept leg Tag80 keys notes shield (boxed_in old.tag80) (other_suite leg Tag32 Tag80 keys shield (λ q. tags_differ (sym q)) does.under) for.tag80;
         tag32 = does.contexts;
       };
     }

@@ -24,7 +24,7 @@ use Rattle.call_cell.specs.Learning.{learned, endpoint_by}
 use Rattle.call_cell.specs.Deeds.{sent_outcome, deed, deed_wrapped, found, lost_deed, sent_deed, wrapped_towards, wrapped_numbered}
 use Rattle.call_cell.specs.Parts.{SendingFor, HasNamed, learned_in, SendsBy, SameNumbers, IsOf, wrapped_by, wrapped_for}
 use Rattle.call_cell.specs.Standing.{FrontIs, outbound_of, LegFor, LegsFor, LegsDo, LegsRelay, LegSends, LegKeeps, LegForwards, LegForwardsBy, EndsFor, opposite_of, is_leaving, relay_entry, sent_ok, send_outcome}
-use Rattle.call_cell.proofs.LegSteps.{IsElsewhere, leg_sends}
+use Rattle.call_cell.proofs.LegSteps.{IsElsewhere, leg_sends, named_so}
 use Rattle.call_cell.proofs.Placing.{IsPlace, same_or_not, at_set, off_set, same_holders, same_itself, not_opposite, true_or_not, other_default, apart_over}
 use Rattle.call_cell.proofs.Relaying.{found_at, holders_over, deed_to}
 use Rattle.call_cell.proofs.Crossing.{Taking, same_holder, taken_at, taken_off, not_same, lost_do, taker_sending, opposite_is}
@@ -282,7 +282,7 @@ relays_towards {O} told faults config h p those i x new noted plain buf size k z
     → LegForwardsBy told faults leg.signal (key_numbered h) (protected h) p.half (learned_in p.half leg.receiving) (take size buf) leg y out result in
     let many : size ≡ length plain = (let q = t.takes.answer in cc) in
     let front : take size buf ≡ plain = ap (λ (n : ℕ). take n buf) many ∙ t.takes.buffer in
-    let one = (subst P there (does (key_numbered h) (protected h))) leg_o.sending leg_o.named in
+    let one = (subst P there (does (key_numbered h) (protected h))) leg_o.sending (named_so (outbound_of o.signal) (key_numbered h) o.sending leg_o.named) in
     let two : LegForwardsBy told faults o.signal (key_numbered h) (protected h) p.half (learned h o.holder p.half) plain o y out result
     = subst (λ (l : List ℕ). LegForwardsBy told faults o.signal (key_numbered h) (protected h) p.half (learned h o.holder p.half) l o y out result) front
     (subst (λ (a : Option Addr). LegForwardsBy told faults o.signal (key_numbered h) (protected h) p.half a (take size buf) o y out result) (leg_o.receiving.learned p.half) one) in

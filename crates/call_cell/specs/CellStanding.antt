@@ -1,25 +1,36 @@
 -- For which histories a cell stands, and what a relay does to it.
-use Rattle.std.specs.Prelude.{◌≡◌, ◌<◌, ℕ, max, List, ◌∷◌, map, length, Option, slice_index_or}
+use Rattle.std.specs.Prelude.{◌≡◌, ◌<◌, ℕ, max, List, [], ◌∷◌, map, filter, length, Option, Some, None, is_some, slice_index_or}
+use Rattle.std.specs.List.{list_any}
 use Rattle.relay_outside.specs.declared.settings.Config.{Config}
 use Rattle.relay_outside.specs.declared.ports.OutCall.{OutCall}
-use Rattle.histories.specs.Words.{greatest}
+use Rattle.histories.specs.Words.{greatest, first, final}
 use Rattle.call_cell.specs.declared.outcome.Outcome.{Outcome}
 use Rattle.call_cell.specs.declared.leg.Leg.{Leg}
 use Rattle.call_cell.specs.declared.cell.Cell.{Cell}
-use Rattle.call_cell.specs.Cells.{CellEntry, Receipt, call, since_end}
+use Rattle.call_cell.specs.Cells.{CellEntry, Receipt, call, since_end, prepared_call, key_numbered}
+use Rattle.call_cell.specs.Keyed.{protected}
 use Rattle.call_cell.specs.Deeds.{deed, found}
-use Rattle.call_cell.specs.Asked.{FitsCell}
+use Rattle.call_cell.specs.Asked.{FitsCell, commits, is_activity}
 use Rattle.call_cell.specs.Standing.{LegsFor, EndsFor, FrontIs, relay_entry, sent_ok, opposite_of, is_leaving}
 
 -- the greatest moment of a history, at first 0
 abbrev pub last_moment : List CellEntry → ℕ
 last_moment h = greatest (map (λ (e : CellEntry). e.moment) h)
 
+-- the entry, where there is one, was at this moment
+abbrev pub WasAt : Option CellEntry → ℕ → Type 0
+WasAt None moment = Unit {0}
+WasAt (Some e) moment = e.moment ≡ moment
+
 -- the cell stands for this history
 pub record CellFor {O : Type 0} (config : Config) (cell : Cell O) (h : List CellEntry) : Type 0 where
   pub config_is : cell.config ≡ config
   pub moment : cell.moment ≡ last_moment h
   pub call_is : cell.call ≡ call (since_end h)
+  pub began : WasAt (final (filter (λ e. is_some (prepared_call e)) (since_end h))) cell.began
+  pub is_committed : cell.is_committed ≡ list_any (λ e. commits e.event) (since_end h)
+  pub active : WasAt (first (filter (λ e. is_activity e.event) (since_end h))) cell.active
+  pub unnoted : (number : ℕ) → key_numbered (since_end h) number ≡ None → protected (since_end h) number ≡ []
   pub legs_for : LegsFor config (since_end h) cell.legs.items
 
 -- the entry of a relay at that moment, with that outcome

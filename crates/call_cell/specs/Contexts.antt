@@ -1,5 +1,5 @@
 -- The SRTP and the SRTCP context of one key together: for which notes they stand, and what their calls do.
-use Rattle.std.specs.Prelude.{ℕ, ◌≡◌, List, take, length, Option, Some, None, Result, Ok, Err}
+use Rattle.std.specs.Prelude.{ℕ, ◌≡◌, List, [], take, length, Option, Some, None, Result, Ok, Err}
 use Rattle.std.specs.List.{cons_option}
 use Rattle.rtp_packet.specs.declared.head.Half.{Half}
 use Rattle.rtp_packet.specs.declared.head.Half.TheVariants.{Rtp, Rtcp}
@@ -20,6 +20,11 @@ use Rattle.call_cell.specs.Keyed.{Judged, Stopped, Passed, Wrapped, Held, Leaves
 pub record InboundFor (key : List ℕ × Suite) (contexts : Inbound) (notes : List Note) : Type 0 where
   pub rtp : srtp.InFor key.0 key.1 contexts.rtp notes
   pub rtcp : srtcp.InFor key.0 contexts.rtcp notes
+
+-- the contexts are there, are of this key and suite, and have taken no packet
+abbrev pub IsInboundAnew : List ℕ × Suite → Option Inbound → Type 0
+IsInboundAnew key None = ⊥
+IsInboundAnew key (Some contexts) = InboundFor key contexts []
 
 -- a packet was taken: the plain packet stands at the buffer's front
 pub record Takes (key : List ℕ × Suite) (notes : List Note) (noted : Option Note) (plain : List ℕ) (new : Inbound) (buf : List ℕ)

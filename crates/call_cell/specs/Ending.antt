@@ -3,7 +3,6 @@ use Rattle.std.specs.Prelude.{◌≡◌, List, ◌∷◌, map}
 use Rattle.relay_outside.specs.declared.settings.Config.{Config}
 use Rattle.port_pool.specs.declared.pairs.Lease.{Lease}
 use Rattle.call_cell.specs.declared.leg.Leg.{Leg}
-use Rattle.call_cell.specs.declared.gone.Gone.{Gone}
 use Rattle.call_cell.specs.declared.cell.Cell.{Cell}
 use Rattle.call_cell.specs.Cells.{CellEntry, End}
 use Rattle.call_cell.specs.Asked.{FitsCell}
@@ -13,16 +12,12 @@ use Rattle.call_cell.specs.CellStanding.{CellFor, last_moment}
 abbrev pub parts_of : {O : Type 0} → Leg O → Lease × O × O
 parts_of leg = (leg.lease, leg.sending.rtp, leg.sending.rtcp)
 
--- what went, the latest leg first
-abbrev pub parts_in : {O : Type 0} → Gone O → List (Lease × O × O)
-parts_in {O} gone = map (λ (leg : Leg O). parts_of leg) gone.legs.items
-
 -- the end of a call, which is handed no moment
 abbrev pub ended_after : List CellEntry → CellEntry
 ended_after h = record { moment = last_moment h; event = End }
 
--- the call ends after that history: the cell stands for it with the end, and all its legs went, as they were
-pub record CellEnds {O : Type 0} (config : Config) (old new : Cell O) (h : List CellEntry) (gone : Gone O) : Type 0 where
+-- the call ends after that history: the cell stands for it with the end, and all its legs went, as they were, in lease order
+pub record CellEnds {O : Type 0} (config : Config) (old new : Cell O) (h : List CellEntry) (gone : List (Lease × O × O)) : Type 0 where
   pub fits : FitsCell config h (ended_after h)
   pub stands : CellFor config new (ended_after h ∷ h)
-  pub went : parts_in gone ≡ map (λ (leg : Leg O). parts_of leg) old.legs.items
+  pub went : gone ≡ map (λ (leg : Leg O). parts_of leg) old.legs.items

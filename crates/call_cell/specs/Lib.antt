@@ -6,6 +6,11 @@ pub mod Asked
 pub mod Good
 pub mod Contexts
 pub mod Parts
+pub mod LegKeys
 pub mod Standing
 pub mod CellStanding
 pub mod Ending
+pub mod Committing
+pub mod Parting
+pub mod Preparing
+pub mod Expiring

@@ -1,6 +1,7 @@
 -- The parts of a leg: for which learned sources, keys and notes they stand, and what their calls do. A part knows no
 -- history; `specs/Standing.antt` says which sources, keys and notes a cell's history gives it.
-use Rattle.std.specs.Prelude.{◌≡◌, ◌≤◌, ℕ, Bool, true, false, ◌&&◌, ◌||◌, ◌==◌, not, List, take, length, Option, Some, None, Result, Ok, Err, is_ok, if◌then◌else◌}
+use Rattle.std.specs.Prelude.{◌≡◌, ◌≤◌, Box, ℕ, Bool, true, false, ◌&&◌, ◌||◌, ◌==◌, not, List, take, length, Option, Some, None, Result, Ok, Err, is_ok, if◌then◌else◌}
+use Rattle.std.specs.Global.{Global}
 use Rattle.std.specs.List.{cons_option}
 use Rattle.relay_outside.specs.declared.address.Addr.{Addr}
 use Rattle.relay_outside.specs.declared.settings.Flags.{Flags}
@@ -34,6 +35,11 @@ taught flags None source = if flags.asymmetric then None else Some source
 taught flags (Some known) source =
     if flags.asymmetric then Some known else if flags.handover && not flags.strict then Some source else Some known
 
+-- what stands in a place on the heap, where there is one
+abbrev pub boxed_in : {C : Type 0} → Option (Box (Option C) Global) → Option C
+boxed_in None = None
+boxed_in (Some place) = place.value
+
 -- the contexts of a key are there exactly where there is a key
 abbrev pub InboundIn : Option (List ℕ × Suite) → Option Inbound → List Note → Type 0
 InboundIn None None notes = Unit {0}
@@ -49,7 +55,7 @@ learned_in Rtcp receiving = receiving.rtcp
 -- the part stands for these learned sources, and these notes under this key
 pub record ReceivingFor (key : Option (List ℕ × Suite)) (receiving : Receiving) (known : Half → Option Addr) (notes : List Note) : Type 0 where
   pub learned : (half : Half) → learned_in half receiving ≡ known half
-  pub inbound : InboundIn key receiving.inbound notes
+  pub inbound : InboundIn key (boxed_in receiving.inbound) notes
 
 -- a packet was taken, and noted under the key
 pub record TakesIn (key : Option (List ℕ × Suite)) (notes : List Note) (noted : Option Note) (plain : List ℕ) (new : Option Inbound)
@@ -58,9 +64,14 @@ pub record TakesIn (key : Option (List ℕ × Suite)) (notes : List Note) (noted
   pub buffer : take (length plain) buf ≡ plain
   pub contexts : InboundIn key new (cons_option noted notes)
 
-abbrev pub OpensIn : Judged → Option (List ℕ × Suite) → List Note → Option Inbound → Option Inbound → List ℕ → Result ℕ Refused → Type 0
+abbrev pub OpensUnder : Judged → Option (List ℕ × Suite) → List Note → Option Inbound → Option Inbound → List ℕ → Result ℕ Refused → Type 0
+OpensUnder (Stopped cause) key notes old new buf result = Refuses cause old new result
+OpensUnder (Passed noted plain) key notes old new buf result = TakesIn key notes noted plain new buf result
+
+abbrev pub OpensIn : Judged → Option (List ℕ × Suite) → List Note → Option (Box (Option Inbound) Global) → Option (Box (Option Inbound) Global)
+    → List ℕ → Result ℕ Refused → Type 0
 OpensIn (Stopped cause) key notes old new buf result = Refuses cause old new result
-OpensIn (Passed noted plain) key notes old new buf result = TakesIn key notes noted plain new buf result
+OpensIn (Passed noted plain) key notes old new buf result = TakesIn key notes noted plain (boxed_in new) buf result
 
 -- the learned sources after an accepted packet of a half
 abbrev pub taught_half : Half → Flags → Addr → (Half → Option Addr) → Half → Option Addr
@@ -120,6 +131,11 @@ abbrev pub number_in : Option Outbound → Option ℕ
 number_in None = None
 number_in (Some contexts) = Some contexts.number
 
+-- the contexts of the key for a suite
+abbrev pub contexts_of : {O : Type 0} → Suite → Sending O → Option Outbound
+contexts_of Tag80 sending = boxed_in sending.tag80
+contexts_of Tag32 sending = boxed_in sending.tag32
+
 abbrev pub ends_of : {O : Type 0} → Half → Sending O → O
 ends_of Rtp sending = sending.rtp
 ends_of Rtcp sending = sending.rtcp
@@ -129,17 +145,22 @@ other_half Rtp = Rtcp
 other_half Rtcp = Rtp
 
 abbrev pub has_number : {O : Type 0} → Sending O → ℕ → Bool
-has_number sending number = is_numbered sending.tag80 number || is_numbered sending.tag32 number
+has_number sending number = is_numbered (boxed_in sending.tag80) number || is_numbered (boxed_in sending.tag32) number
 
 -- the part stands for these keys and their notes
 pub record SendingFor {O : Type 0} (leg : Holder) (keys : ℕ → Option NewKey) (notes : ℕ → List Note) (sending : Sending O) : Type 0 where
-  pub tag80 : OutboundIn leg Tag80 keys notes sending.tag80
-  pub tag32 : OutboundIn leg Tag32 keys notes sending.tag32
+  pub tag80 : OutboundIn leg Tag80 keys notes (boxed_in sending.tag80)
+  pub tag32 : OutboundIn leg Tag32 keys notes (boxed_in sending.tag32)
 
 -- the contexts of the key that is named are there, where there is such a key
 abbrev pub HasNamed : {O : Type 0} → Option ℕ → (ℕ → Option NewKey) → Sending O → Type 0
 HasNamed None keys sending = Unit {0}
 HasNamed (Some number) keys sending = has_number sending number ≡ false → keys number ≡ None
+
+-- the contexts of the key that is named are there
+abbrev pub HasIt : {O : Type 0} → Option ℕ → Sending O → Type 0
+HasIt None sending = Unit {0}
+HasIt (Some number) sending = has_number sending number ≡ true
 
 -- a packet was protected, and noted under its key
 pub record WrapsIn (leg : Holder) (suite : Suite) (keys : ℕ → Option NewKey) (notes : ℕ → List Note) (shield : Option Shield) (bytes : List ℕ)
@@ -149,10 +170,15 @@ pub record WrapsIn (leg : Holder) (suite : Suite) (keys : ℕ → Option NewKey)
   pub under : (s : Shield) → shield ≡ Some s → IsOf leg suite keys s.key
   pub contexts : OutboundIn leg suite keys (noted_under shield notes) new
 
-abbrev pub WrapsInTo : Wrapped → Holder → Suite → (ℕ → Option NewKey) → (ℕ → List Note) → Option Outbound → Option Outbound → List ℕ
+abbrev pub WrapsUnder : Wrapped → Holder → Suite → (ℕ → Option NewKey) → (ℕ → List Note) → Option Outbound → Option Outbound → List ℕ
     → Result ℕ Lost → Type 0
+WrapsUnder (Held cause) leg suite keys notes old new buf result = Refuses cause old new result
+WrapsUnder (Leaves shield bytes) leg suite keys notes old new buf result = WrapsIn leg suite keys notes shield bytes new buf result
+
+abbrev pub WrapsInTo : Wrapped → Holder → Suite → (ℕ → Option NewKey) → (ℕ → List Note) → Option (Box (Option Outbound) Global)
+    → Option (Box (Option Outbound) Global) → List ℕ → Result ℕ Lost → Type 0
 WrapsInTo (Held cause) leg suite keys notes old new buf result = Refuses cause old new result
-WrapsInTo (Leaves shield bytes) leg suite keys notes old new buf result = WrapsIn leg suite keys notes shield bytes new buf result
+WrapsInTo (Leaves shield bytes) leg suite keys notes old new buf result = WrapsIn leg suite keys notes shield bytes (boxed_in new) buf result
 
 -- the plain packet under the outbound key of this number
 abbrev pub wrapped_by : (ℕ → Option NewKey) → (ℕ → List Note) → Option ℕ → Half → List ℕ → Wrapped
@@ -216,5 +242,5 @@ ForwardsTo told faults (Leaves shield bytes) leg keys notes half to old new buf 
 
 -- the keys are those of before, whatever was protected under them
 pub record SameNumbers {O : Type 0} (old new : Sending O) : Type 0 where
-  pub tag80 : number_in new.tag80 ≡ number_in old.tag80
-  pub tag32 : number_in new.tag32 ≡ number_in old.tag32
+  pub tag80 : number_in (boxed_in new.tag80) ≡ number_in (boxed_in old.tag80)
+  pub tag32 : number_in (boxed_in new.tag32) ≡ number_in (boxed_in old.tag32)

@@ -26,7 +26,8 @@ use Rattle.call_cell.specs.Keyed.{accepted, protected, Judged, Stopped, Passed, 
 use Rattle.call_cell.specs.Learning.{learned, endpoint_by}
 use Rattle.call_cell.specs.Deeds.{deed, found}
 use Rattle.call_cell.specs.Contexts.{Refuses}
-use Rattle.call_cell.specs.Parts.{ReceivingFor, SendingFor, HasNamed, SendsBy, IsOf, taught_half, noted_under, wrapped_for}
+use Rattle.call_cell.specs.LegKeys.{keys_for, key_of, OnePerSuite}
+use Rattle.call_cell.specs.Parts.{ReceivingFor, SendingFor, HasIt, SendsBy, IsOf, taught_half, noted_under, wrapped_for, number_in, contexts_of}
 
 -- A leg.
 
@@ -112,7 +113,10 @@ pub record LegFor {O : Type 0} (config : Config) (h : List CellEntry) (leg : Leg
   pub port : (half : Half) → port_by half leg.lease.rtp_port ≡ half_port config leg.holder.pair half
   pub receiving : ReceivingFor (inbound_of leg.signal) leg.receiving (learned h leg.holder) (accepted h leg.holder)
   pub sending : SendingFor leg.holder (key_numbered h) (protected h) leg.sending
-  pub named : HasNamed (outbound_of leg.signal) (key_numbered h) leg.sending
+  pub named : HasIt (outbound_of leg.signal) leg.sending
+  pub section : leg.holder.section < 8
+  pub held : (suite : Suite) → number_in (contexts_of suite leg.sending) ≡ key_of suite (keys_for h leg.holder)
+  pub one_each : OnePerSuite (keys_for h leg.holder)
 
 -- no two of these legs are the same, or stand on one side of one section
 pub record AreApart {O : Type 0} (those : List (Leg O)) : Type 0 where

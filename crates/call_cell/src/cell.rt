@@ -1,14 +1,22 @@
-ghost use Rattle.std.specs.Prelude.{ℕ, ◌≡◌, ◌≤◌, [], List};
+ghost use Rattle.std.specs.Prelude.{ℕ, ◌≡◌, ◌≤◌, ◌<◌, ◌+◌, true, [], List, Some, is_some, if◌then◌else◌};
 ghost use Rattle.relay_outside.specs.declared.settings.Config.{Config};
-ghost use Rattle.call_cell.specs.Cells.{CellEntry, since_end};
+ghost use Rattle.histories.specs.Words.{or_else};
+ghost use Rattle.call_cell.specs.Cells.{CellEntry, since_end, is_accepted};
 ghost use Rattle.call_cell.specs.Standing.{LegsFor, LegsRelay, receipt_of};
+ghost use Rattle.call_cell.specs.Committing.{LegCommitsBy, LegsCommit, contexts_due, needs_contexts, said_of};
+ghost use Rattle.call_cell.specs.Expiring.{is_ago};
 
 use crate::gone::Gone;
+use crate::in_contexts::InContexts;
+use crate::joining::{join, put_keys};
 use crate::leg::{Leg, place_of, place_of_opposite};
 use crate::outcome::{Incoming, Lost, Outcome, Refused};
+use crate::parting::part;
+use crate::prepare::Prepare;
+use crate::signals::{rejected, said_of};
+use port_pool::Signal;
 use relay_outside::{Config, OutEnd};
 use std::alloc::Global;
-use std::mem;
 
 /// One call's media: its legs, and what they keep. Contracts see it by the histories that it stands for.
 #[derive(Drop)]
@@ -19,8 +27,66 @@ pub struct Cell<O> {
     moment: u64,
     /// The call's number, while it holds one.
     call: Option<u64>,
+    /// When its first offer was made, while it holds a call.
+    began: u64,
+    /// Whether an answer committed it.
+    is_committed: bool,
+    /// When the last answer was committed, or the last packet accepted since then.
+    active: u64,
     /// The call's legs, in lease order.
     legs: Vec<Leg<O>>,
+}
+
+/// Commits one leg.
+fn commit_leg<O>(leg: &mut Leg<O>, signal: &Signal, contexts: &mut InContexts)
+    requires room { needs_contexts signal.now leg.old ≡ true → 0 < contexts.old }
+    ensures commits { LegCommitsBy (said_of signal.now leg.old.holder) leg.old leg.new }
+    ensures room { contexts.new + (if needs_contexts signal.now leg.old then 1 else 0) ≡ contexts.old }
+{
+    if let Some(said) = said_of(signal, &leg.holder) {
+        leg.commit(&said, contexts);
+    }
+}
+
+/// Commits the legs.
+fn commit_legs<O>(legs: &mut [Leg<O>], signal: &Signal, contexts: &mut InContexts)
+    requires room { contexts_due signal.now legs.old ≤ contexts.old }
+    ensures { LegsCommit signal.now legs.old legs.new }
+{
+    for leg in legs.iter_mut() {
+        commit_leg(leg, signal, contexts);
+    }
+}
+
+/// When the call that the cell then holds began: now, where it held none.
+fn began_by(held: Option<u64>, began: u64, now: u64) -> u64
+    ensures { result ≡ (if is_some held then began else now) }
+{
+    match held {
+        None => now,
+        Some(_) => began,
+    }
+}
+
+/// The call that the cell then holds: this one, where it held none.
+fn held_by(held: Option<u64>, call: u64) -> u64
+    ensures { Some result ≡ or_else held (Some call) }
+{
+    match held {
+        None => call,
+        Some(held) => held,
+    }
+}
+
+/// The moment of the last activity after a packet: this one where the packet was accepted.
+fn active_after(outcome: Outcome, active: u64, now: u64) -> u64
+    ensures { result ≡ (if is_accepted outcome then now else active) }
+{
+    match outcome {
+        Outcome::Refused(_) => active,
+        Outcome::Lost(_) => now,
+        Outcome::Sent { .. } => now,
+    }
 }
 
 /// Relays a packet from the leg that received it to the one on the other side.
@@ -43,9 +109,37 @@ fn relay_legs<O: OutEnd>(legs: &mut [Leg<O>], packet: &Incoming, buf: &mut [u8; 
     legs[to].forward(packet.half, buf, len)
 }
 
+/// Whether that moment is at least so long ago.
+fn is_ago(now: u64, limit: u64, moment: u64) -> bool
+    ensures { result ≡ is_ago now limit moment }
+{
+    match moment.checked_add(limit) {
+        None => false,
+        Some(due) => due <= now,
+    }
+}
+
+impl<O> Cell<O> {
+    ghost use Rattle.call_cell.specs.Expiring.{due_by};
+
+    /// Whether the call is due to end at the cell's last moment.
+    fn is_due(&self) -> bool
+        ensures { result ≡ due_by self.now self.now.moment }
+    {
+        if self.is_committed {
+            return is_ago(self.moment, self.config.timeout_ms, self.active);
+        }
+        self.call.is_some() && is_ago(self.moment, self.config.offer_timeout_ms, self.began)
+    }
+}
+
 impl<O: OutEnd> Cell<O> {
     ghost use Rattle.call_cell.specs.CellStanding.{CellFor, CellRelays};
-    ghost use Rattle.call_cell.specs.Ending.{CellEnds, parts_in};
+    ghost use Rattle.call_cell.specs.Ending.{CellEnds};
+    ghost use Rattle.port_pool.specs.Signals.{NewKey};
+    ghost use Rattle.call_cell.specs.Committing.{CellCommits, NamesKeys};
+    ghost use Rattle.call_cell.specs.Expiring.{CellExpires};
+    ghost use Rattle.call_cell.specs.Preparing.{IsReady, FitsPlaces, PrepareFor, CanCome, CellPrepares};
 
     /// An empty cell, which takes no memory.
     pub fn empty(alloc: Global, config: &Config) -> Cell<O>
@@ -55,6 +149,9 @@ impl<O: OutEnd> Cell<O> {
             config: *config,
             moment: 0,
             call: None,
+            began: 0,
+            is_committed: false,
+            active: 0,
             legs: Vec::new(alloc),
         }
     }
@@ -67,15 +164,68 @@ impl<O: OutEnd> Cell<O> {
             CellRelays O.told O.faults config self.old self.new h (receipt_of number packet.now buf.old) now buf.new result }
     {
         self.moment = self.moment.max(now);
-        relay_legs(self.legs.as_mut_slice(), packet, buf)
+        let outcome = relay_legs(self.legs.as_mut_slice(), packet, buf);
+        self.active = active_after(outcome, self.active, self.moment);
+        outcome
+    }
+
+    /// Takes what an offer brings to the call with this number, at the moment `now` in milliseconds; an empty cell begins the
+    /// call. The legs of the sections that it drops go to `gone`, which is empty. It takes no memory.
+    pub fn prepare(&mut self, call: u64, signal: Prepare<O>, gone: &mut Gone<O>, now: u64)
+        requires empty { gone.old ≡ [] }
+        requires ready { IsReady signal }
+        requires room { FitsPlaces self.old signal }
+        ensures { (config : Config) (h : List CellEntry) (keys : List NewKey) (dropped : List ℕ) → CellFor config self.old h → PrepareFor signal keys dropped →
+            CanCome config (since_end h) signal call keys dropped → CellPrepares config self.old self.new h signal call keys dropped now gone.new }
+    {
+        let Prepare {
+            legs,
+            places,
+            keys,
+            spare: _,
+            dropped,
+        } = signal;
+        self.moment = self.moment.max(now);
+        self.began = began_by(self.call, self.began, self.moment);
+        self.call = Some(held_by(self.call, call));
+        part(&mut self.legs, &dropped, gone);
+        join(&mut self.legs, legs, places);
+        put_keys(self.legs.as_mut_slice(), keys);
+    }
+
+    /// Commits what an answer says of the call's legs, at the moment `now` in milliseconds. The legs of the sections that it
+    /// rejects go to `gone`, which is empty. `contexts` has room for each inbound key or suite other than the one in force. It
+    /// takes no memory.
+    pub fn commit(&mut self, signal: &Signal, contexts: InContexts, gone: &mut Gone<O>, now: u64)
+        requires empty { gone.old ≡ [] }
+        requires room { contexts_due signal.now self.old.legs.items ≤ contexts }
+        ensures { (config : Config) (h : List CellEntry) → CellFor config self.old h → NamesKeys (since_end h) signal.now →
+            CellCommits config self.old self.new h signal.now now gone.new }
+    {
+        let mut contexts = contexts;
+        self.moment = self.moment.max(now);
+        self.is_committed = true;
+        self.active = self.moment;
+        commit_legs(self.legs.as_mut_slice(), signal, &mut contexts);
+        part(&mut self.legs, &rejected(signal), gone);
+    }
+
+    /// Whether the call is due to end at the moment `now` in milliseconds: one that was committed, without a further answer or
+    /// an accepted packet for the timeout, or one that never was, begun the offer timeout ago.
+    pub fn expire(&mut self, now: u64) -> bool
+        ensures { (config : Config) (h : List CellEntry) → CellFor config self.old h → CellExpires config self.old self.new h now result }
+    {
+        self.moment = self.moment.max(now);
+        self.is_due()
     }
 
     /// Ends the call: all its legs go to `gone`, which is empty. It takes no memory.
     pub fn end(&mut self, gone: &mut Gone<O>)
-        requires empty { parts_in gone.old ≡ [] }
+        requires empty { gone.old ≡ [] }
         ensures { (config : Config) (h : List CellEntry) → CellFor config self.old h → CellEnds config self.old self.new h gone.new }
     {
         self.call = None;
-        mem::swap(&mut self.legs, &mut gone.legs);
+        self.is_committed = false;
+        part(&mut self.legs, &[true; 8], gone);
     }
 }

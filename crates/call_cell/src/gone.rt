@@ -1,25 +1,39 @@
-ghost use Rattle.std.specs.Prelude.{◌≡◌, ◌++◌, [], IfOk};
+ghost use Rattle.std.specs.Prelude.{◌≡◌, ◌<◌, ◌++◌, [], ◌∷◌, None, IfOk, length, nat_lt};
 ghost use Rattle.std.specs.Option.{option_to_list};
-ghost use Rattle.call_cell.specs.Ending.{parts_in};
+ghost use Rattle.call_cell.specs.Ending.{parts_of};
 
 use crate::leg::Leg;
 use port_pool::Lease;
 use relay_outside::OutOfMemory;
 use std::alloc::Global;
+use std::marker::Model;
 
 /// How many legs a call may have: one for each side of 8 sections.
-const MOST: usize = 16;
+pub(crate) const MOST: usize = 16;
 
-/// The legs that went from a cell: their leases and out ends, with room for 16.
+/// The legs that went from a cell: their leases and out ends, in lease order, with room for 16. Contracts see it as a list.
 #[derive(Drop)]
 pub struct Gone<O> {
-    pub(crate) legs: Vec<Leg<O>>,
+    legs: Vec<Leg<O>>,
+}
+
+impl<O> Model for Gone<O> {
+    ghost use Rattle.std.specs.Prelude.{◌≤◌, List, map, vec_capacity};
+    ghost use Rattle.port_pool.specs.declared.pairs.Lease.{Lease};
+    ghost use Rattle.call_cell.specs.declared.leg.Leg.{Leg};
+    ghost use Rattle.call_cell.specs.Ending.{parts_of};
+
+    ghost Value = { List (Lease × O × O) };
+
+    ghost view = { λ gone. map (λ (leg : Leg O). parts_of leg) gone.legs.items };
+
+    ghost invariant = { λ gone. 16 ≤ vec_capacity gone.legs };
 }
 
 impl<O> Gone<O> {
     /// No leg yet.
     pub fn new(alloc: Global) -> Result<Gone<O>, OutOfMemory>
-        ensures { IfOk result (λ gone. parts_in gone ≡ []) }
+        ensures { IfOk result (λ gone. gone ≡ []) }
     {
         match Vec::with_capacity(alloc, MOST) {
             Ok(legs) => Ok(Gone { legs }),
@@ -27,12 +41,30 @@ impl<O> Gone<O> {
         }
     }
 
+    /// Whether one more leg has room.
+    pub(crate) fn has_room(&self) -> bool
+        ensures { result ≡ nat_lt (length self.now) 16 }
+    {
+        self.legs.len() < MOST
+    }
+
+    /// Takes a leg.
+    pub(crate) fn put(&mut self, leg: Leg<O>)
+        requires { length self.old < 16 }
+        ensures { self.new ≡ self.old ++ parts_of leg ∷ [] }
+    {
+        self.legs.push_reserved(leg);
+    }
+
     /// Gives the lease of a leg that is left, and its out ends for RTP and for RTCP: that of the earliest one. `None`: none is
     /// left.
     pub fn pop(&mut self) -> Option<(Lease, O, O)>
-        ensures { parts_in self.old ≡ parts_in self.new ++ option_to_list result }
+        ensures takes { self.old ≡ option_to_list result ++ self.new }
+        ensures none { result ≡ None → self.new ≡ [] }
     {
-        let leg = self.legs.pop()?;
-        Some(leg.into_parts())
+        if self.legs.is_empty() {
+            return None;
+        }
+        Some(self.legs.remove(0).into_parts())
     }
 }

@@ -1,13 +1,32 @@
-ghost use Rattle.std.specs.Prelude.{◌≡◌, Bool, List, Some};
+ghost use Rattle.std.specs.Prelude.{◌≡◌, ℕ, Bool, List, Some};
 ghost use Rattle.relay_outside.specs.declared.settings.Config.{Config};
 ghost use Rattle.histories.specs.Words.{In};
-ghost use Rattle.call_cell.specs.Cells.{CellEntry, Receipt, Shield};
+ghost use Rattle.port_pool.specs.declared.signal.SectionSignal.{SectionSignal};
+ghost use Rattle.port_pool.specs.Signals.{NewKey};
+ghost use Rattle.call_cell.specs.declared.prepare.Prepare.{Prepare};
+ghost use Rattle.call_cell.specs.declared.cell.Cell.{Cell};
+ghost use Rattle.call_cell.specs.Cells.{CellEntry, Receipt, Shield, since_end};
 ghost use Rattle.call_cell.specs.Keyed.{protected};
 ghost use Rattle.call_cell.specs.Deeds.{deed};
 ghost use Rattle.call_cell.specs.Good.{GoodCell};
+ghost use Rattle.call_cell.specs.CellStanding.{CellFor};
+ghost use Rattle.call_cell.specs.Committing.{contexts_due, contexts_due_after};
+ghost use Rattle.call_cell.specs.Preparing.{PrepareFor, CanCome, FitsPlaces};
 
 /// A law, and no work: no packet is protected under an index that an earlier packet of its key, half and source had.
 pub fn notes_are_new()
     ensures { (config : Config) (h : List CellEntry) (p : Receipt) (ok : Bool) (s : Shield) → GoodCell config h
         → (deed config h p ok).shield ≡ Some s → In s.note (protected h s.key) → ⊥ }
+{}
+
+/// A law, and no work: the legs that stay in a cell and those that an offer brings find places, where the offer can come.
+pub fn legs_find_places<O>()
+    ensures { (config : Config) (cell : Cell O) (h : List CellEntry) (signal : Prepare O) (call : ℕ) (keys : List NewKey) (dropped : List ℕ) →
+        CellFor config cell h → PrepareFor signal keys dropped → CanCome config (since_end h) signal call keys dropped → FitsPlaces cell signal }
+{}
+
+/// A law, and no work: how many inbound contexts an answer makes in a cell is said by its history.
+pub fn contexts_are_counted<O>()
+    ensures { (config : Config) (cell : Cell O) (h : List CellEntry) (signal : List SectionSignal) → CellFor config cell h →
+        contexts_due signal cell.legs.items ≡ contexts_due_after (since_end h) signal }
 {}

@@ -1,20 +1,24 @@
-ghost use Rattle.std.specs.Prelude.{ℕ, ◌≡◌, ◌≤◌, ◌<◌, ◌+◌, List, take, Option, Some, IfOk, IfSome, length, position};
+ghost use Rattle.std.specs.Prelude.{ℕ, ◌≡◌, ◌≤◌, ◌<◌, ◌+◌, List, take, Option, Some, true, IfOk, IfSome, length, position, if◌then◌else◌};
 ghost use Rattle.relay_outside.specs.declared.address.Addr.{Addr};
 ghost use Rattle.rtp_packet.specs.declared.head.Half.{Half};
 ghost use Rattle.srtp_sources.specs.Notes.{Note};
 ghost use Rattle.port_pool.specs.Signals.{NewKey, same_leg, side_eq};
 ghost use Rattle.call_cell.specs.Cells.{is_opposite};
-ghost use Rattle.call_cell.specs.Learning.{address, endpoint_by};
+ghost use Rattle.call_cell.specs.Learning.{endpoint_by};
 ghost use Rattle.call_cell.specs.Deeds.{judged_leg};
 ghost use Rattle.call_cell.specs.Standing.{port_by, outcome_of};
 ghost use Rattle.call_cell.specs.Ending.{parts_of};
 
+use crate::contexts::Outbound;
+use crate::in_contexts::InContexts;
 use crate::outcome::{Lost, Outcome, Refused};
 use crate::receiving::Receiving;
 use crate::sending::Sending;
+use crate::signals::address;
 use port_pool::{Holder, Lease, LegSignal, Side};
 use relay_outside::{Addr, OutEnd};
 use rtp_packet::Half;
+use sdes_lines::Suite;
 
 /// One leg of the cell's call.
 #[derive(Drop)]
@@ -55,16 +59,6 @@ fn endpoint_by(signal: &LegSignal, learned: Option<Addr>, half: Half) -> Addr
     }
 }
 
-/// The address of a half that a commit names.
-fn address(signal: &LegSignal, half: Half) -> Addr
-    ensures { result ≡ address half signal.now }
-{
-    match half {
-        Half::Rtp => signal.rtp,
-        Half::Rtcp => signal.rtcp,
-    }
-}
-
 /// The place of the leg that a packet was taken for.
 pub(crate) fn place_of<O>(legs: &[Leg<O>], holder: &Holder) -> Option<usize>
     ensures place { result ≡ position (λ leg. same_leg holder.now leg.holder) legs.now }
@@ -102,6 +96,25 @@ fn outcome_of(port: u16, to: Addr, sent: Result<usize, Lost>) -> Outcome
 }
 
 impl<O> Leg<O> {
+    ghost use Rattle.call_cell.specs.Preparing.{IsFresh};
+
+    /// A leg that was answered by none, has received nothing and has no key.
+    pub(crate) fn new(holder: Holder, lease: Lease, rtp: O, rtcp: O) -> Leg<O>
+        requires pair { lease.pair ≡ holder.pair }
+        requires generation { lease.generation ≡ holder.generation }
+        ensures fresh { IsFresh result }
+        ensures holder { result.holder ≡ holder }
+        ensures parts { parts_of result ≡ (lease, rtp, rtcp) }
+    {
+        Leg {
+            holder,
+            lease,
+            signal: None,
+            receiving: Receiving::new(),
+            sending: Sending::new(rtp, rtcp),
+        }
+    }
+
     /// The leg's lease and its out ends.
     pub(crate) fn into_parts(self) -> (Lease, O, O)
         ensures { result ≡ parts_of self }
@@ -115,6 +128,29 @@ impl<O> Leg<O> {
         } = self;
         let (rtp, rtcp) = sending.into_ends();
         (lease, rtp, rtcp)
+    }
+}
+
+impl<O> Leg<O> {
+    ghost use Rattle.call_cell.specs.Committing.{LegCommits, is_inbound_anew};
+    ghost use Rattle.call_cell.specs.Standing.{with_sending};
+    ghost use Rattle.call_cell.specs.Preparing.{with_contexts};
+
+    /// Takes the contexts of a key for a suite.
+    pub(crate) fn put(&mut self, suite: Suite, contexts: Box<Option<Outbound>>)
+        ensures { self.new ≡ with_sending self.old (with_contexts suite contexts self.old.sending) }
+    {
+        self.sending.put(suite, contexts);
+    }
+
+    /// Commits what an answer says of the leg.
+    pub(crate) fn commit(&mut self, signal: &LegSignal, contexts: &mut InContexts)
+        requires room { is_inbound_anew self.old.signal signal.now ≡ true → 0 < contexts.old }
+        ensures commits { LegCommits signal.now self.old self.new }
+        ensures room { contexts.new + (if is_inbound_anew self.old.signal signal.now then 1 else 0) ≡ contexts.old }
+    {
+        self.receiving.commit(&self.signal, signal, contexts);
+        self.signal = Some(*signal);
     }
 }
 

@@ -1,29 +1,39 @@
 //! The state of one call's media: which packets are taken, where they go, and under which keys.
 //!
 //! Module `cell` has the cell, `leg` one leg of its call, which `receiving` packets keeps learned sources and the contexts of
-//! `contexts`, and by `sending` sends; `gone` takes the legs that went. Module `outcome` says what becomes of a packet that a
-//! leg received, `law` that no packet is protected under an index that another had.
+//! `contexts`, and by `sending` sends; `gone` takes the legs that went. An offer is collected by `prepare`, and `joining` brings
+//! its legs and keys to those that are there; `in_contexts` is room for what an answer brings, `signals` reads what it says, and
+//! `parting` parts the legs that go from those that stay. Module `outcome` says what becomes of a packet that a leg received,
+//! `law` that no packet is protected under an index that another had, and what a caller knows of a cell by its history.
 //!
 //! `specs/Cells.antt` has the history of a cell and its legs, `specs/Learning.antt` where packets go, `specs/Keyed.antt` what is
 //! taken and sent under a key, `specs/Deeds.antt` what a relay does, `specs/Asked.antt` when a call is due to end and what is
 //! told of its legs, `specs/Good.antt` which histories fit. `specs/CellStanding.antt` says for which histories a cell stands and
-//! what a relay does to it, `specs/Ending.antt` the same of the end of its call; they stand over `specs/Standing.antt` for legs,
-//! `specs/Parts.antt` for the parts of a leg and `specs/Contexts.antt` for the contexts of one key. `proofs/rows` has worked
-//! examples.
+//! what a relay does to it, `specs/Preparing.antt`, `specs/Committing.antt`, `specs/Expiring.antt` and `specs/Ending.antt` the
+//! same of offers, answers, the question whether the call is due, and its end; they stand over `specs/Standing.antt` for legs,
+//! `specs/LegKeys.antt` for their keys, `specs/Parting.antt` for legs that go, `specs/Parts.antt` for the parts of a leg and
+//! `specs/Contexts.antt` for the contexts of one key. `proofs/rows` has worked examples.
 #![tactic(auto)]
 
 mod cell;
 mod contexts;
 mod gone;
+mod in_contexts;
+mod joining;
 mod law;
 mod leg;
 mod outcome;
+mod parting;
+mod prepare;
 mod receiving;
 mod sending;
+mod signals;
 #[cfg(test)]
 mod tests;
 
 pub use cell::Cell;
 pub use gone::Gone;
-pub use law::notes_are_new;
+pub use in_contexts::InContexts;
+pub use law::{contexts_are_counted, legs_find_places, notes_are_new};
 pub use outcome::{Incoming, Lost, Outcome, Refused};
+pub use prepare::Prepare;

@@ -1,16 +1,17 @@
-ghost use Rattle.std.specs.Prelude.{ℕ, ◌≡◌, ◌≤◌, false, true, List, take, Option, Some, IfOk};
+ghost use Rattle.std.specs.Prelude.{ℕ, ◌≡◌, ◌≤◌, false, true, List, take, Option, Some, None, IfOk};
 ghost use Rattle.sdes_lines.specs.declared.crypto_line.Suite.{Suite};
 ghost use Rattle.srtp_sources.specs.Notes.{Note};
 ghost use Rattle.port_pool.specs.declared.holder.Holder.{Holder};
 ghost use Rattle.port_pool.specs.Signals.{NewKey};
 ghost use Rattle.call_cell.specs.Keyed.{wrapped_with};
-ghost use Rattle.call_cell.specs.Parts.{OutboundIn, WrapsInTo, is_numbered, number_in, send_answer};
+ghost use Rattle.call_cell.specs.Parts.{OutboundIn, WrapsUnder, WrapsInTo, boxed_in, is_numbered, number_in, send_answer};
 
 use crate::contexts::Outbound;
 use crate::outcome::Lost;
 use port_pool::LegSignal;
 use relay_outside::{Addr, OutEnd};
 use rtp_packet::Half;
+use sdes_lines::Suite;
 
 /// By what a leg sends: the out ends of its ports, and the contexts of the keys that were drawn for it.
 #[derive(Drop)]
@@ -18,13 +19,13 @@ pub(crate) struct Sending<O> {
     rtp: O,
     rtcp: O,
     /// The contexts of its key for the suite with tags of 80 bits.
-    tag80: Option<Outbound>,
+    tag80: Option<Box<Option<Outbound>>>,
     /// The contexts of its key for the suite with tags of 32 bits.
-    tag32: Option<Outbound>,
+    tag32: Option<Box<Option<Outbound>>>,
 }
 
 /// Whether the contexts are those of the key of this number.
-fn is_numbered(contexts: &Option<Outbound>, number: u64) -> bool
+fn is_numbered_so(contexts: &Option<Outbound>, number: u64) -> bool
     ensures { result ≡ is_numbered contexts.now number }
 {
     match contexts {
@@ -33,8 +34,18 @@ fn is_numbered(contexts: &Option<Outbound>, number: u64) -> bool
     }
 }
 
+/// Whether the contexts in this place are those of the key of this number.
+fn is_numbered(place: &Option<Box<Option<Outbound>>>, number: u64) -> bool
+    ensures { result ≡ is_numbered (boxed_in place.now) number }
+{
+    match place {
+        None => false,
+        Some(contexts) => is_numbered_so(&**contexts, number),
+    }
+}
+
 /// Protects a packet in place under the key of this number, where these are its contexts.
-fn protect_under(
+fn protect_so(
     contexts: &mut Option<Outbound>,
     number: u64,
     half: Half,
@@ -46,11 +57,32 @@ fn protect_under(
     ensures number { number_in contexts.new ≡ number_in contexts.old }
     ensures wraps { (leg : Holder) (suite : Suite) (keys : ℕ → Option NewKey) (notes : ℕ → List Note) → OutboundIn leg suite keys notes contexts.old →
         is_numbered contexts.old number ≡ true →
-        WrapsInTo (wrapped_with (keys number) (notes number) half (take len buf.old)) leg suite keys notes contexts.old contexts.new buf.new result }
+        WrapsUnder (wrapped_with (keys number) (notes number) half (take len buf.old)) leg suite keys notes contexts.old contexts.new buf.new result }
 {
     match contexts {
         None => Err(Lost::KeySpent),
         Some(contexts) => contexts.protect(half, buf, len),
+    }
+}
+
+/// Protects a packet in place under the key of this number, where its contexts stand in this place.
+fn protect_under(
+    place: &mut Option<Box<Option<Outbound>>>,
+    number: u64,
+    half: Half,
+    buf: &mut [u8; 2064],
+    len: usize,
+) -> Result<usize, Lost>
+    requires held { len ≤ 2000 }
+    ensures fits { IfOk result (λ size. size ≤ 2064) }
+    ensures number { number_in (boxed_in place.new) ≡ number_in (boxed_in place.old) }
+    ensures wraps { (leg : Holder) (suite : Suite) (keys : ℕ → Option NewKey) (notes : ℕ → List Note) → OutboundIn leg suite keys notes (boxed_in place.old) →
+        is_numbered (boxed_in place.old) number ≡ true →
+        WrapsInTo (wrapped_with (keys number) (notes number) half (take len buf.old)) leg suite keys notes place.old place.new buf.new result }
+{
+    match place {
+        None => Err(Lost::KeySpent),
+        Some(contexts) => protect_so(&mut **contexts, number, half, buf, len),
     }
 }
 
@@ -62,6 +94,32 @@ fn send_answer(size: usize, done: bool) -> Result<usize, Lost>
 }
 
 impl<O> Sending<O> {
+    ghost use Rattle.call_cell.specs.Parts.{contexts_of};
+    ghost use Rattle.call_cell.specs.Preparing.{with_contexts};
+
+    /// The out ends for RTP and for RTCP, and no key.
+    pub(crate) fn new(rtp: O, rtcp: O) -> Sending<O>
+        ensures ends { (result.rtp ≡ rtp) × (result.rtcp ≡ rtcp) }
+        ensures keyless { (suite : Suite) → contexts_of suite result ≡ None }
+    {
+        Sending {
+            rtp,
+            rtcp,
+            tag80: None,
+            tag32: None,
+        }
+    }
+
+    /// Takes the contexts of a key for a suite.
+    pub(crate) fn put(&mut self, suite: Suite, contexts: Box<Option<Outbound>>)
+        ensures { self.new ≡ with_contexts suite contexts self.old }
+    {
+        match suite {
+            Suite::Tag80 => self.tag80 = Some(contexts),
+            Suite::Tag32 => self.tag32 = Some(contexts),
+        }
+    }
+
     /// The out ends, for RTP and for RTCP.
     pub(crate) fn into_ends(self) -> (O, O)
         ensures { result ≡ (self.rtp, self.rtcp) }

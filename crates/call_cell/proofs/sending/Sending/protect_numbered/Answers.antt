@@ -1,21 +1,21 @@
 use Rattle.std.proofs.Common.{◌≡◌, sym, ◌∙◌, take, true}
 use Rattle.sdes_lines.specs.declared.crypto_line.Suite.TheVariants.{Tag80, Tag32}
 use Rattle.call_cell.specs.Keyed.{wrapped_with}
-use Rattle.call_cell.specs.Parts.{is_numbered}
+use Rattle.call_cell.specs.Parts.{boxed_in, is_numbered}
 use Rattle.call_cell.proofs.Protecting.{protects_80, protects_32}
 use Rattle.call_cell.proofs.sending.Sending.protect_numbered.Goals as goal
 
 pub returns-then-is_numbered-clause-protects : goal.returns-then-is_numbered-clause-protects
 returns-then-is_numbered-clause-protects g c leg keys notes for named =
-    let numbered : is_numbered c.args.self.now.tag80 c.args.number ≡ true = sym c.is_numbered.ensures ∙ c.if-is_numbered.true in
-    protects_80 leg keys notes c.args.self.now c.protect_under.new.contexts c.protect_under.new.buf c.protect_under.result for
+    let numbered : is_numbered (boxed_in c.args.self.now.tag80) c.args.number ≡ true = sym c.is_numbered.ensures ∙ c.if-is_numbered.true in
+    protects_80 leg keys notes c.args.self.now c.protect_under.new.place c.protect_under.new.buf c.protect_under.result for
     (wrapped_with (keys c.args.number) (notes c.args.number) c.args.half (take c.args.len c.args.buf.now))
     (c.protect_under.ensures.wraps leg Tag80 keys notes for.tag80 numbered)
 
 pub returns-then-is_numbered-2-clause-protects : goal.returns-then-is_numbered-2-clause-protects
 returns-then-is_numbered-2-clause-protects g c leg keys notes for named =
-    let numbered : is_numbered c.args.self.now.tag32 c.args.number ≡ true = sym c.is_numbered-2.ensures ∙ c.if-is_numbered-2.true in
-    protects_32 leg keys notes c.args.self.now c.protect_under-then-is_numbered-2.new.contexts c.protect_under-then-is_numbered-2.new.buf
+    let numbered : is_numbered (boxed_in c.args.self.now.tag32) c.args.number ≡ true = sym c.is_numbered-2.ensures ∙ c.if-is_numbered-2.true in
+    protects_32 leg keys notes c.args.self.now c.protect_under-then-is_numbered-2.new.place c.protect_under-then-is_numbered-2.new.buf
     c.protect_under-then-is_numbered-2.result for
     (wrapped_with (keys c.args.number) (notes c.args.number) c.args.half (take c.args.len c.args.buf.now))
     (c.protect_under-then-is_numbered-2.ensures.wraps leg Tag32 keys notes for.tag32 numbered)

@@ -1,0 +1,150 @@
+-- A leg over one commit: it is committed, or nothing is said of it.
+use Rattle.std.proofs.Common.{◌≡◌, refl, ap, subst, sym, ◌∙◌, ℕ, Bool, true, false, cond, List, [], ◌∷◌, filter, Option, Some, None}
+use Rattle.std.specs.Prelude.{◌||◌}
+use Rattle.relay_outside.specs.declared.settings.Config.{Config}
+use Rattle.rtp_packet.specs.declared.head.Half.{Half}
+use Rattle.sdes_lines.specs.declared.crypto_line.Suite.{Suite}
+use Rattle.sdes_lines.specs.declared.crypto_line.Suite.TheVariants.{Tag80, Tag32}
+use Rattle.srtp_sources.specs.Notes.{Note}
+use Rattle.srtp_sources.proofs.Knowing.{equal}
+use Rattle.histories.specs.Words.{In, first, or_else}
+use Rattle.histories.proofs.Lists.{filtered, keeps, first_is_in}
+use Rattle.port_pool.specs.declared.holder.Holder.{Holder}
+use Rattle.port_pool.specs.declared.signal.LegSignal.{LegSignal}
+use Rattle.port_pool.specs.declared.signal.SectionSignal.{SectionSignal}
+use Rattle.port_pool.specs.Signals.{NewKey, suite_eq}
+use Rattle.call_cell.specs.declared.contexts.Outbound.{Outbound}
+use Rattle.call_cell.specs.declared.sending.Sending.{Sending}
+use Rattle.call_cell.specs.declared.leg.Leg.{Leg}
+use Rattle.call_cell.specs.Cells.{CellEntry, Commit, differs, in_force}
+use Rattle.call_cell.specs.Keyed.{same_inbound, accepted}
+use Rattle.call_cell.specs.Learning.{Lesson, same_address, lessons, learned, learned_from}
+use Rattle.call_cell.specs.LegKeys.{keys_for, key_of, number_of, OnePerSuite}
+use Rattle.call_cell.specs.Parts.{InboundIn, HasIt, boxed_in, contexts_of, has_number, is_numbered, number_in}
+use Rattle.call_cell.specs.Standing.{LegFor, inbound_of}
+use Rattle.call_cell.specs.Committing.{LegCommits, LegCommitsBy, HasKey, said_of, outbound_in}
+use Rattle.call_cell.proofs.Steps.{commit_in_force, commit_accepted, commit_lessons}
+use Rattle.call_cell.proofs.KeysEqual.{suite_is}
+
+abbrev pub commit_entry : ℕ → List SectionSignal → CellEntry
+commit_entry moment signal = record { moment = moment; event = Commit signal }
+
+-- The key that a signal names.
+
+suite_itself : (s : Suite) → suite_eq s s ≡ true
+suite_itself Tag80 = refl
+suite_itself Tag32 = refl
+
+-- of the keys for a suite there is a first one
+first_there : (key : NewKey) (keys : List NewKey) → In key keys → (k : NewKey) × (first keys ≡ Some k)
+first_there key [] i = elim i [ ]
+first_there key (k ∷ keys) i = (k, refl)
+
+numbered_so : (o : Option Outbound) (n : ℕ) → number_in o ≡ Some n → is_numbered o n ≡ true
+numbered_so None n q = absurd (let e = q in cc)
+numbered_so (Some x) n q = equal x.number n (let e = q in cc)
+
+or_right : (b : Bool) → (b || true) ≡ true
+or_right true = refl
+or_right false = refl
+
+has_so : {O : Type 0} (suite : Suite) (sending : Sending O) (n : ℕ) → number_in (contexts_of suite sending) ≡ Some n → has_number sending n ≡ true
+has_so Tag80 sending n q = ap (λ (b : Bool). b || is_numbered (boxed_in sending.tag32) n) (numbered_so (boxed_in sending.tag80) n q)
+has_so Tag32 sending n q = ap (λ (b : Bool). is_numbered (boxed_in sending.tag80) n || b) (numbered_so (boxed_in sending.tag32) n q) ∙ or_right (is_numbered (boxed_in sending.tag80) n)
+
+-- a key of a leg has its contexts
+pub has_of : {O : Type 0} (keys : List NewKey) (sending : Sending O) (n : ℕ) → ((suite : Suite) → number_in (contexts_of suite sending) ≡ key_of suite keys)
+    → OnePerSuite keys → (k : NewKey) → In k keys → k.number ≡ n → has_number sending n ≡ true
+has_of keys sending n held one k stands is =
+    let test : NewKey → Bool = λ (x : NewKey). suite_eq x.suite k.suite in
+    let f = first_there k (filter test keys) (keeps test keys stands (suite_itself k.suite)) in
+    let first_one = filtered test keys (first_is_in (filter test keys) f.1) in
+    let same : f.0.number ≡ n = one f.0 k first_one.0 stands (suite_is f.0.suite k.suite first_one.1) ∙ is in
+    has_so k.suite sending n (held k.suite ∙ ap number_of f.1 ∙ ap Some same)
+
+named_by : {O : Type 0} (config : Config) (h : List CellEntry) (leg : Leg O) (o : Option ℕ) → LegFor config h leg
+    → ((n : ℕ) → o ≡ Some n → HasKey h leg.holder n) → HasIt o leg.sending
+named_by config h leg None for keys = tt
+named_by config h leg (Some n) for keys =
+    let key = keys n refl in
+    has_of (keys_for h leg.holder) leg.sending n for.held for.one_each key.key key.is_there key.number_is
+
+-- What a commit does to what is received.
+
+cut_case : (b : Bool) (ls : List Lesson) → learned_from (cond b [] ls) ≡ cond b None (learned_from ls)
+cut_case true ls = refl
+cut_case false ls = refl
+
+learned_so : (m : ℕ) (signal : List SectionSignal) (h : List CellEntry) (leg : Holder) (half : Half) (said earlier : Option LegSignal) → said_of signal leg ≡ said
+    → earlier ≡ in_force h leg
+    → learned (commit_entry m signal ∷ h) leg half ≡ cond (differs (same_address half) said earlier) None (learned h leg half)
+learned_so m signal h leg half said earlier is force =
+    ap learned_from (commit_lessons m signal h leg half)
+    ∙ cut_case (differs (same_address half) (said_of signal leg) (in_force h leg)) (lessons h leg half)
+    ∙ ap (λ (o : Option LegSignal). cond (differs (same_address half) o (in_force h leg)) None (learned h leg half)) is
+    ∙ sym (ap (λ (o : Option LegSignal). cond (differs (same_address half) said o) None (learned h leg half)) force)
+
+accepted_so : (m : ℕ) (signal : List SectionSignal) (h : List CellEntry) (leg : Holder) (said earlier : Option LegSignal) → said_of signal leg ≡ said
+    → earlier ≡ in_force h leg
+    → accepted (commit_entry m signal ∷ h) leg ≡ cond (differs same_inbound said earlier) [] (accepted h leg)
+accepted_so m signal h leg said earlier is force =
+    commit_accepted m signal h leg
+    ∙ ap (λ (o : Option LegSignal). cond (differs same_inbound o (in_force h leg)) [] (accepted h leg)) is
+    ∙ sym (ap (λ (o : Option LegSignal). cond (differs same_inbound said o) [] (accepted h leg)) force)
+
+force_so : (m : ℕ) (signal : List SectionSignal) (h : List CellEntry) (leg : Holder) (said : Option LegSignal) → said_of signal leg ≡ said
+    → in_force (commit_entry m signal ∷ h) leg ≡ or_else said (in_force h leg)
+force_so m signal h leg said is = commit_in_force m signal h leg ∙ ap (λ (o : Option LegSignal). or_else o (in_force h leg)) is
+
+-- The leg.
+
+silent_leg : {O : Type 0} (config : Config) (m : ℕ) (signal : List SectionSignal) (h : List CellEntry) (leg : Leg O) → said_of signal leg.holder ≡ None
+    → LegFor config h leg → LegFor config (commit_entry m signal ∷ h) leg
+silent_leg config m signal h leg is for =
+    record {
+      pair = for.pair;
+      generation = for.generation;
+      signal = for.signal ∙ sym (force_so m signal h leg.holder None is);
+      port = for.port;
+      receiving = record {
+        learned = λ half. for.receiving.learned half ∙ sym (learned_so m signal h leg.holder half None leg.signal is for.signal);
+        inbound = subst (λ (l : List Note). InboundIn (inbound_of leg.signal) (boxed_in leg.receiving.inbound) l)
+            (sym (accepted_so m signal h leg.holder None leg.signal is for.signal)) for.receiving.inbound;
+      };
+      sending = for.sending;
+      named = for.named;
+      section = for.section;
+      held = for.held;
+      one_each = for.one_each;
+    }
+
+said_leg : {O : Type 0} (config : Config) (m : ℕ) (signal : List SectionSignal) (h : List CellEntry) (old new : Leg O) (s : LegSignal)
+    → said_of signal old.holder ≡ Some s → ((n : ℕ) → s.outbound ≡ Some n → HasKey h old.holder n) → LegCommits s old new → LegFor config h old
+    → LegFor config (commit_entry m signal ∷ h) new
+said_leg {O} config m signal h old new s is keys does for =
+    let r = does.receiving (learned h old.holder) (accepted h old.holder) for.receiving in
+    let P : Leg O → Type 0 = λ (l : Leg O). LegFor config (commit_entry m signal ∷ h) l in
+    subst P (sym does.rest)
+    (record {
+      pair = for.pair;
+      generation = for.generation;
+      signal = sym (force_so m signal h old.holder (Some s) is);
+      port = for.port;
+      receiving = record {
+        learned = λ half. r.learned half ∙ sym (learned_so m signal h old.holder half (Some s) old.signal is for.signal);
+        inbound = subst (λ (l : List Note). InboundIn s.inbound (boxed_in new.receiving.inbound) l)
+            (sym (accepted_so m signal h old.holder (Some s) old.signal is for.signal)) r.inbound;
+      };
+      sending = for.sending;
+      named = named_by config h old s.outbound for keys;
+      section = for.section;
+      held = for.held;
+      one_each = for.one_each;
+    })
+
+pub committed_leg : {O : Type 0} (config : Config) (m : ℕ) (signal : List SectionSignal) (h : List CellEntry) (old new : Leg O) (said : Option LegSignal)
+    → said_of signal old.holder ≡ said → ((n : ℕ) → outbound_in said ≡ Some n → HasKey h old.holder n) → LegCommitsBy said old new → LegFor config h old
+    → LegFor config (commit_entry m signal ∷ h) new
+committed_leg {O} config m signal h old new None is keys does for =
+    subst (λ (l : Leg O). LegFor config (commit_entry m signal ∷ h) l) (sym does) (silent_leg config m signal h old is for)
+committed_leg config m signal h old new (Some s) is keys does for = said_leg config m signal h old new s is keys does for

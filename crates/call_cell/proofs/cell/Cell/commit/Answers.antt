@@ -1,0 +1,22 @@
+use Rattle.std.proofs.Common.{refl, ◌∙◌, ap, arith, subst, List, length}
+use Rattle.std.proofs.lemmas.List.{with_items_is}
+use Rattle.call_cell.specs.declared.leg.Leg.{Leg}
+use Rattle.call_cell.specs.Cells.{since_end}
+use Rattle.call_cell.specs.Committing.{LegsCommit}
+use Rattle.call_cell.specs.Parting.{Part}
+use Rattle.call_cell.proofs.Answered.{cell_commits, answered}
+use Rattle.call_cell.proofs.cell.Cell.commit.Goals as goal
+
+pub returns : goal.returns
+returns g c config h for names =
+    let signal = c.args.signal.now in
+    let old = c.args.self.now.legs.items in
+    let mid = c.commit_legs.new.legs in
+    let value = c.as_mut_slice.ensures.value in
+    let long = c.commit_legs.auto.legs ∙ ap (λ (l : List (Leg _)). length l) value in
+    let commits = subst (λ (l : List (Leg _)). LegsCommit signal l mid) value c.commit_legs.ensures in
+    let items = with_items_is c.args.self.now.legs mid (omega (arith, c.commit_legs.auto.legs, c.as_mut_slice.ensures.len)) in
+    let part = subst (λ (l : List (Leg _)). Part c.rejected.result l c.part.new.legs.items c.args.gone.now c.part.new.gone) items c.part.ensures in
+    cell_commits config c.args.self.now _ h signal c.args.now c.part.new.gone for refl c.max-self.ensures refl refl refl refl
+    (λ m. answered config m signal (since_end h) c.rejected.result old mid c.part.new.legs.items c.args.gone.now c.part.new.gone
+    for.legs_for names long commits c.rejected.ensures c.requires.empty part)

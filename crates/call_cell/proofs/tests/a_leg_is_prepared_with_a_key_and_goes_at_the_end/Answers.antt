@@ -1,0 +1,8 @@
+use Rattle.std.proofs.Common.{◌∙◌}
+use Rattle.call_cell.proofs.Callers.{empty_fits}
+use Rattle.call_cell.proofs.tests.a_leg_is_prepared_with_a_key_and_goes_at_the_end.Goals as goal
+
+pub prepare-requires-clause-room : goal.prepare-requires-clause-room
+prepare-requires-clause-room g c =
+    empty_fits _ c.empty-cell.result c.add_key.new.self _ _ c.empty-cell.ensures c.in_ok-signal.ensures.nothing.1
+    (c.add_key.ensures.legs.0 ∙ c.add_leg.ensures.holders)
