@@ -23,3 +23,15 @@ after_call failures = record {
   calls = next_count failures.calls;
   faults = if next_fails failures then next_count failures.faults else failures.faults;
 }
+
+-- a device that was not called yet, whose calls with these numbers fail
+abbrev pub uncalled : List ℕ → Failures
+uncalled numbers = record { numbers = numbers; calls = 0; faults = 0 }
+
+-- after one more fault, of a call that was counted before
+abbrev pub after_fault : Failures → Failures
+after_fault failures = record {
+  numbers = failures.numbers;
+  calls = failures.calls;
+  faults = next_count failures.faults;
+}

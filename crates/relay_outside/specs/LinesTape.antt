@@ -1,13 +1,20 @@
--- What the line source in memory gives.
+-- What the line sources in memory give.
 use Rattle.std.specs.Prelude.{◌≡◌, ℕ, min, Option, List, [], ◌∷◌, length, take}
 use Rattle.relay_outside.specs.declared.answers.LineRead.{LineRead}
 use Rattle.relay_outside.specs.declared.answers.LineRead.TheVariants as read
 use Rattle.relay_outside.specs.declared.lines.LineCall.{LineCall}
+use Rattle.relay_outside.specs.Failures.{Failures}
 
 -- a line source in memory: what it tells, and the lines that are left
 pub record LinesTape : Type 0 where
   pub told : Option (List LineCall)
   pub lines : List (List ℕ)
+
+-- a line source in memory whose reads may fail
+pub record LinesState : Type 0 where
+  pub told : Option (List LineCall)
+  pub lines : List (List ℕ)
+  pub failures : Failures
 
 -- a read gives the front of the list, cut at the room of the buffer; after the list, the end
 abbrev pub GivesLine : List (List ℕ) → List (List ℕ) → LineRead → List ℕ → Type 0

@@ -2,8 +2,10 @@
 use Rattle.std.specs.Prelude.{◌≡◌, ℕ, min, Option, Some, None, List, [], ◌∷◌, MatchOption, position, slice_index_or, slice_set, length, take}
 use Rattle.relay_outside.specs.declared.address.Addr.{Addr}
 use Rattle.relay_outside.specs.declared.ports.InCall.{InCall}
+use Rattle.relay_outside.specs.declared.ports.OutCall.{OutCall}
 use Rattle.relay_outside.specs.declared.ports.PortCall.{PortCall}
 use Rattle.relay_outside.specs.declared.memory.ports.Packet.{Packet}
+use Rattle.relay_outside.specs.Failures.{Failures, uncalled}
 use Rattle.relay_outside.specs.Ports.{same_addr}
 use Rattle.relay_outside.specs.declared.memory.ports.Packet.TheVariants as packet
 
@@ -43,3 +45,67 @@ GoesBack old at (packet ∷ packets) new =
     (λ place.
     let entry = slice_index_or old place (at, []) in
     new ≡ slice_set old place (entry.0, packet ∷ packets))
+
+-- an in end in memory whose takes may fail
+pub record InState : Type 0 where
+  pub told : Option (List InCall)
+  pub packets : List Packet
+  pub failures : Failures
+
+-- an out end in memory whose sends may fail
+pub record OutState : Type 0 where
+  pub told : Option (List OutCall)
+  pub failures : Failures
+
+-- what the ends at one address are to give, and the numbers of their takes and sends that fail
+pub record PortState : Type 0 where
+  pub at : Addr
+  pub packets : List Packet
+  pub takes : List ℕ
+  pub sends : List ℕ
+
+-- a port maker in memory whose openings may fail: what it tells, what it has for the ends at each address
+pub record MakerState : Type 0 where
+  pub told : Option (List PortCall)
+  pub ports : List PortState
+  pub failures : Failures
+
+-- an entry that holds nothing
+abbrev pub nothing_at : Addr → PortState
+nothing_at at = record { at = at; packets = []; takes = []; sends = [] }
+
+-- the in end that gets what an entry holds: it tells, it was not called, and it counts from its opening
+abbrev pub in_from : PortState → InState
+in_from port = record { told = Some []; packets = port.packets; failures = uncalled port.takes }
+
+-- the out end that gets what an entry holds, in the same way
+abbrev pub out_from : PortState → OutState
+out_from port = record { told = Some []; failures = uncalled port.sends }
+
+-- an entry that gets back what its ends are left with: the packets that were not given, and the numbers of
+-- their failing calls, which count anew at the next opening
+abbrev pub returned : Addr → InState → OutState → PortState
+returned at receiving sending = record {
+  at = at;
+  packets = receiving.packets;
+  takes = receiving.failures.numbers;
+  sends = sending.failures.numbers;
+}
+
+-- the ends get what the first entry for their address holds, which is left with nothing
+abbrev pub MovesOut : List PortState → Addr → InState → OutState → List PortState → Type 0
+MovesOut old at receiving sending new =
+    MatchOption (position (λ port. same_addr port.at at) old)
+    ((receiving ≡ in_from (nothing_at at)) × (sending ≡ out_from (nothing_at at)) × (new ≡ old))
+    (λ place.
+    let port = slice_index_or old place (nothing_at at) in
+    (receiving ≡ in_from port) × (sending ≡ out_from port) × (new ≡ slice_set old place (nothing_at port.at)))
+
+-- what the ends are left with goes back to the first entry for their address, if there is one
+abbrev pub MovesBack : List PortState → Addr → InState → OutState → List PortState → Type 0
+MovesBack old at receiving sending new =
+    MatchOption (position (λ port. same_addr port.at at) old)
+    (new ≡ old)
+    (λ place.
+    let port = slice_index_or old place (nothing_at at) in
+    new ≡ slice_set old place (returned port.at receiving sending))

@@ -1,5 +1,5 @@
 ghost use Rattle.std.specs.Prelude.{◌≡◌, ◌==◌, ℕ, ◌≤◌, if◌then◌else◌, IsTrue};
-ghost use Rattle.relay_outside.specs.Failures.{next_count, next_fails, after_call};
+ghost use Rattle.relay_outside.specs.Failures.{next_count, next_fails, after_call, after_fault};
 ghost use Rattle.relay_outside.specs.Told.{Rose};
 ghost use Rattle.std.specs.List.{list_any};
 
@@ -44,6 +44,27 @@ impl Failing {
         let fails = contains(self.numbers.as_slice(), self.calls);
         self.faults = raised_if(fails, self.faults);
         fails
+    }
+
+    /// The call that was just counted fails for a cause of its own: the count of faults rises.
+    pub fn fault(&mut self)
+        ensures counted { self.new ≡ after_fault self.old }
+        ensures later { self.old.faults ≤ self.new.faults }
+        ensures cause { Rose self.old.faults self.new.faults }
+    {
+        self.faults = self.faults.saturating_add(1);
+    }
+
+    /// The numbers of the calls that fail.
+    pub(crate) fn into_numbers(self) -> Vec<u64>
+        ensures { result.items ≡ self.numbers }
+    {
+        let Failing {
+            numbers,
+            calls: _,
+            faults: _,
+        } = self;
+        numbers
     }
 }
 

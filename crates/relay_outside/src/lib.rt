@@ -1,5 +1,6 @@
 //! The outside of the relay, as traits: sockets, ports, keys, time and lines.
 //! Each trait says what its calls mean by a list of what was called and answered, and by a count of
+//! faults.
 //! Nothing here opens a socket: the devices that do stand with the programs that use them.
 #![tactic(auto)]
 
@@ -26,9 +27,10 @@ pub use keys::{KeyCall, KeySource};
 pub use lines::{LineCall, LineGiven, LineSink, LineSource, WriteCall};
 pub use link::{ControlLink, LinkCall, LinkGiven};
 pub use memory::clock::{HandClock, HandTimer};
+pub use memory::failing_ports::{MemoryIn, MemoryMaker, MemoryOut, MemoryPort};
 pub use memory::gate::OpenGate;
-pub use memory::keys::SteadyKeys;
-pub use memory::lines::SteadyLines;
+pub use memory::keys::{KeyList, SteadyKeys};
+pub use memory::lines::{MemoryLines, SteadyLines};
 pub use memory::link::{LinkGift, MemoryLink, SteadyLink};
 pub use memory::ports::{Arrivals, Packet, SteadyIn, SteadyMaker, SteadyOut};
 pub use memory::sink::{MemorySink, SteadySink};

@@ -1,6 +1,7 @@
 //! Devices in memory, for tests and for replayed scripts.
 
 pub(crate) mod clock;
+pub(crate) mod failing_ports;
 mod fill;
 pub(crate) mod gate;
 pub(crate) mod keys;

@@ -2,8 +2,9 @@ ghost use Rattle.std.specs.Prelude.{◌≡◌, Some, [], IfOk};
 
 use crate::{
     Addr, Arrivals, Clock, ControlLink, Copied, Failed, Gate, HandClock, HandTimer, InEnd, Ip,
-    KeySource, LineRead, LineSink, LineSource, LinkGift, MemoryLink, MemorySink, OpenGate, OutEnd,
-    Packet, PortMaker, SteadyKeys, SteadyLines, SteadyMaker, Taken, Timer,
+    KeyList, KeySource, LineRead, LineSink, LineSource, LinkGift, MemoryIn, MemoryLines,
+    MemoryLink, MemoryMaker, MemoryOut, MemoryPort, MemorySink, OpenGate, OutEnd, Packet,
+    PortMaker, SteadyKeys, SteadyLines, SteadyMaker, Taken, Timer,
 };
 use std::alloc::Global;
 use std::test::Fail;
@@ -120,6 +121,105 @@ fn what_an_end_has_not_given_goes_back(rt: HostRuntime) -> Result<(), Fail> {
         return Ok(());
     };
     assert_eq!(rt; receiving.take(&mut buf), Ok(Some((HERE, 6))));
+    maker.close(HERE, receiving, sending);
+    Ok(())
+}
+
+#[test]
+fn a_failing_draw_keeps_its_key(rt: HostRuntime) -> Result<(), Fail> {
+    let alloc = rt.alloc();
+    let given = [[1; 30], [2; 30]].to_vec(alloc)?;
+    let mut keys = KeyList::new(alloc, given, [2].to_vec(alloc)?);
+    assert_eq!(rt; keys.draw(), Ok([1; 30]));
+    assert_eq!(rt; keys.draw(), Err(Failed));
+    assert_eq!(rt; keys.draw(), Ok([2; 30]));
+    assert_eq!(rt; keys.draw(), Err(Failed));
+    assert!(rt; keys.tells());
+    Ok(())
+}
+
+#[test]
+fn a_failing_read_keeps_its_line(rt: HostRuntime) -> Result<(), Fail> {
+    let alloc = rt.alloc();
+    let mut lines = Vec::new(alloc);
+    lines.push(Copied::of(alloc, b"at 5").ok_or("memory")?)?;
+    let mut source = MemoryLines::new(alloc, lines, [1].to_vec(alloc)?);
+    let mut buf = [0; 8];
+    assert_eq!(rt; source.line(&mut buf), Err(Failed));
+    assert_eq!(rt; source.line(&mut buf), Ok(LineRead::Text { len: 4 }));
+    assert_eq!(rt; buf, *b"at 5\0\0\0\0");
+    assert_eq!(rt; source.line(&mut buf), Ok(LineRead::End));
+    assert!(rt; source.tells());
+    Ok(())
+}
+
+fn failing_maker(alloc: Global, failing: u64) -> Result<MemoryMaker, Fail>
+    ensures { IfOk result (λ maker. maker.told ≡ Some []) }
+{
+    let mut packets = Vec::new(alloc);
+    packets.push(Packet::datagram(alloc, HERE, b"packet")?)?;
+    let takes = [1].to_vec(alloc)?;
+    let sends = [2].to_vec(alloc)?;
+    let mut ports = Vec::new(alloc);
+    ports.push(MemoryPort::new(HERE, packets, takes, sends))?;
+    Ok(MemoryMaker::new(alloc, ports, [failing].to_vec(alloc)?))
+}
+
+/// What three takes and two sends answer, in turns.
+fn takes_and_sends(
+    receiving: &mut MemoryIn,
+    sending: &mut MemoryOut,
+    buf: &mut [u8; 16],
+) -> (
+    [Result<Option<(Addr, usize)>, Failed>; 3],
+    [Result<(), Failed>; 2],
+) {
+    let first = receiving.take(buf);
+    let sent = sending.send(HERE, b"out");
+    let second = receiving.take(buf);
+    let lost = sending.send(HERE, b"lost");
+    ([first, second, receiving.take(buf)], [sent, lost])
+}
+
+#[test]
+fn the_second_opening_fails(rt: HostRuntime) -> Result<(), Fail> {
+    let mut maker = failing_maker(rt.alloc(), 2)?;
+    let Ok((receiving, sending)) = maker.open(HERE) else {
+        assert!(rt; false, "not opened");
+        return Ok(());
+    };
+    maker.close(HERE, receiving, sending);
+    assert!(rt; maker.open(HERE).is_err());
+    assert!(rt; maker.tells());
+    assert!(rt; maker.calls().is_some_and(|calls| calls.len() == 3));
+    Ok(())
+}
+
+#[test]
+fn each_end_counts_its_own_calls_from_its_opening(rt: HostRuntime) -> Result<(), Fail> {
+    let mut maker = failing_maker(rt.alloc(), 3)?;
+    let mut buf = [0; 16];
+    let Ok((mut receiving, mut sending)) = maker.open(HERE) else {
+        assert!(rt; false, "not opened");
+        return Ok(());
+    };
+    assert_eq!(rt;
+        takes_and_sends(&mut receiving, &mut sending, &mut buf),
+        (
+            [Err(Failed), Ok(Some((HERE, 6))), Ok(None)],
+            [Ok(()), Err(Failed)]
+        )
+    );
+    assert!(rt; receiving.tells() && sending.tells());
+    maker.close(HERE, receiving, sending);
+    let Ok((mut receiving, mut sending)) = maker.open(HERE) else {
+        assert!(rt; false, "not opened again");
+        return Ok(());
+    };
+    assert_eq!(rt;
+        takes_and_sends(&mut receiving, &mut sending, &mut buf),
+        ([Err(Failed), Ok(None), Ok(None)], [Ok(()), Err(Failed)])
+    );
     maker.close(HERE, receiving, sending);
     Ok(())
 }

@@ -1,7 +1,12 @@
-ghost use Rattle.std.specs.Prelude.{◌≡◌, ◌↔◌, Some, [], IsTrue, IsSome, IsOk, IfOk};
+ghost use Rattle.std.specs.Prelude.{◌≡◌, ◌↔◌, Some, [], IsTrue, IsSome, IsOk, IfOk, MatchResult, not};
+ghost use Rattle.relay_outside.specs.Told.{Gains, HasCause, is_done};
+ghost use Rattle.relay_outside.specs.Keys.{drawn_as};
+ghost use Rattle.relay_outside.specs.KeyTape.{draw_fails, after_draw, GivesKey};
+ghost use Rattle.relay_outside.specs.Failures.{uncalled};
 
 use crate::answers::Failed;
 use crate::calls::CallList;
+use crate::failing::Failing;
 use crate::keys::{KeyCall, KeySource};
 use std::alloc::Global;
 use std::marker::Model;
@@ -64,5 +69,79 @@ impl KeySource for SteadyKeys {
         self.number = self.number.saturating_add(1);
         self.told.note(Some(KeyCall::Drawn { key }));
         Ok(key)
+    }
+}
+
+/// A key source in memory: its draws give the keys that it was made from, in order. The draws whose
+/// numbers, from 1, it was given fail, and so does every draw once no key is left.
+///
+/// A failing draw gives no key and uses none up. Keys for tests and replayed scripts, never for calls.
+#[derive(Drop)]
+pub struct KeyList {
+    told: CallList<KeyCall>,
+    keys: Vec<[u8; 30]>,
+    next: usize,
+    failing: Failing,
+}
+
+impl Model for KeyList {
+    ghost use Rattle.std.specs.Prelude.{drop};
+    ghost use Rattle.relay_outside.specs.KeyTape.{KeyState};
+
+    ghost Value = { KeyState };
+
+    ghost view = { λ list. record { told = list.told; keys = drop list.next list.keys.items; failures = list.failing } };
+}
+
+impl KeyList {
+    /// A source of these keys, whose draws with these numbers fail.
+    pub fn new(alloc: Global, keys: Vec<[u8; 30]>, failing: Vec<u64>) -> KeyList
+        ensures { result ≡ record { told = Some []; keys = keys.items; failures = uncalled failing.items } }
+    {
+        KeyList {
+            told: CallList::new(alloc),
+            keys,
+            next: 0,
+            failing: Failing::new(failing),
+        }
+    }
+
+    /// Whether the source still tells its list.
+    pub fn tells(&self) -> bool
+        ensures { IsTrue result ↔ IsSome self.now.told }
+    {
+        self.told.tells()
+    }
+}
+
+impl KeySource for KeyList {
+    ghost use Rattle.std.specs.Prelude.{◌≡◌, MatchResult, not};
+    ghost use Rattle.relay_outside.specs.Told.{Gains, HasCause, is_done};
+    ghost use Rattle.relay_outside.specs.Keys.{drawn_as};
+    ghost use Rattle.relay_outside.specs.KeyTape.{draw_fails, after_draw, GivesKey};
+
+    ghost told = { λ list. list.told };
+
+    ghost faults = { λ list. list.failures.faults };
+
+    fn draw(&mut self) -> Result<[u8; 30], Failed>
+        ensures told { Gains self.old.told self.new.told (drawn_as result) }
+        ensures cause { HasCause self.old.failures.faults self.new.failures.faults result }
+        ensures fails { draw_fails self.old.keys self.old.failures ≡ not (is_done result) }
+        ensures counted { self.new.failures ≡ after_draw self.old.keys self.old.failures }
+        ensures key { MatchResult result (λ key. GivesKey self.old.keys self.new.keys key) (λ _. self.new.keys ≡ self.old.keys) }
+    {
+        if self.failing.fails() {
+            self.told.note(Some(KeyCall::Failed));
+            return Err(Failed);
+        }
+        let Some(key) = self.keys.get(self.next) else {
+            self.failing.fault();
+            self.told.note(Some(KeyCall::Failed));
+            return Err(Failed);
+        };
+        self.next += 1;
+        self.told.note(Some(KeyCall::Drawn { key: *key }));
+        Ok(*key)
     }
 }

@@ -1,8 +1,13 @@
-ghost use Rattle.std.specs.Prelude.{◌≡◌, ◌↔◌, Some, [], IsTrue, IsSome, IsOk, IfOk, MatchOption, length};
+ghost use Rattle.std.specs.Prelude.{◌≡◌, ◌↔◌, Some, Ok, [], IsTrue, IsSome, IsOk, IfOk, MatchOption, MatchResult, length, not};
+ghost use Rattle.relay_outside.specs.Told.{Gains, HasCause, is_done};
+ghost use Rattle.relay_outside.specs.Lines.{FitsLine, line_given};
+ghost use Rattle.relay_outside.specs.LinesTape.{GivesLine};
+ghost use Rattle.relay_outside.specs.Failures.{uncalled, next_fails, after_call};
 
 use super::fill::fill;
 use crate::answers::{Failed, LineRead};
 use crate::calls::{CallList, Copied};
+use crate::failing::Failing;
 use crate::lines::{LineCall, LineGiven, LineSource};
 use std::alloc::Global;
 use std::marker::Model;
@@ -51,6 +56,34 @@ impl SteadyLines {
         }
     }
 
+    /// Gives the next line, if there is one, and tells of it.
+    fn give(&mut self, buf: &mut [u8]) -> LineRead
+        ensures within { FitsLine (Ok result) (length buf.old) }
+        ensures told { Gains self.old.told self.new.told (LineCall.Line (length buf.old) (line_given (Ok result) buf.new)) }
+        ensures line { GivesLine self.old.lines self.new.lines result buf.new }
+    {
+        let room = buf.len();
+        let Some(line) = self.lines.get(self.next) else {
+            let given = LineGiven::End;
+            self.told.note(Some(LineCall::Line { room, given }));
+            return LineRead::End;
+        };
+        self.next += 1;
+        let len = fill(buf, line.as_slice());
+        let call = text_call(self.alloc, room, &buf[..len]);
+        self.told.note(call);
+        LineRead::Text { len }
+    }
+
+    /// Tells of a read that failed.
+    fn note_failed(&mut self, room: usize)
+        ensures told { Gains self.old.told self.new.told (LineCall.Line room LineGiven.Failed) }
+        ensures lines { self.new.lines ≡ self.old.lines }
+    {
+        let given = LineGiven::Failed;
+        self.told.note(Some(LineCall::Line { room, given }));
+    }
+
     /// Whether the source still tells its list.
     pub fn tells(&self) -> bool
         ensures { IsTrue result ↔ IsSome self.now.told }
@@ -76,16 +109,68 @@ impl LineSource for SteadyLines {
         ensures done { IsOk result }
         ensures line { IfOk result (λ answer. GivesLine self.old.lines self.new.lines answer buf.new) }
     {
-        let room = buf.len();
-        let Some(line) = self.lines.get(self.next) else {
-            let given = LineGiven::End;
-            self.told.note(Some(LineCall::Line { room, given }));
-            return Ok(LineRead::End);
-        };
-        self.next += 1;
-        let len = fill(buf, line.as_slice());
-        let call = text_call(self.alloc, room, &buf[..len]);
-        self.told.note(call);
-        Ok(LineRead::Text { len })
+        Ok(self.give(buf))
+    }
+}
+
+/// A line source in memory: it gives its lines in order, and then the end; the reads whose numbers, from
+/// 1, it was given fail. A failing read gives no line and uses none up.
+#[derive(Drop)]
+pub struct MemoryLines {
+    lines: SteadyLines,
+    failing: Failing,
+}
+
+impl Model for MemoryLines {
+    ghost use Rattle.relay_outside.specs.LinesTape.{LinesState};
+
+    ghost Value = { LinesState };
+
+    ghost view = { λ source. record { told = source.lines.told; lines = source.lines.lines; failures = source.failing } };
+}
+
+impl MemoryLines {
+    /// A source of these lines, each without its line feed, whose reads with these numbers fail.
+    pub fn new(alloc: Global, lines: Vec<Copied>, failing: Vec<u64>) -> MemoryLines
+        ensures { result ≡ record { told = Some []; lines = lines.items; failures = uncalled failing.items } }
+    {
+        MemoryLines {
+            lines: SteadyLines::new(alloc, lines),
+            failing: Failing::new(failing),
+        }
+    }
+
+    /// Whether the source still tells its list.
+    pub fn tells(&self) -> bool
+        ensures { IsTrue result ↔ IsSome self.now.told }
+    {
+        self.lines.tells()
+    }
+}
+
+impl LineSource for MemoryLines {
+    ghost use Rattle.std.specs.Prelude.{◌≡◌, MatchResult, length, not};
+    ghost use Rattle.relay_outside.specs.Told.{Gains, HasCause, is_done};
+    ghost use Rattle.relay_outside.specs.Lines.{FitsLine, line_given};
+    ghost use Rattle.relay_outside.specs.LinesTape.{GivesLine};
+    ghost use Rattle.relay_outside.specs.Failures.{next_fails, after_call};
+
+    ghost told = { λ source. source.told };
+
+    ghost faults = { λ source. source.failures.faults };
+
+    fn line(&mut self, buf: &mut [u8]) -> Result<LineRead, Failed>
+        ensures within { FitsLine result (length buf.old) }
+        ensures told { Gains self.old.told self.new.told (LineCall.Line (length buf.old) (line_given result buf.new)) }
+        ensures cause { HasCause self.old.failures.faults self.new.failures.faults result }
+        ensures fails { next_fails self.old.failures ≡ not (is_done result) }
+        ensures counted { self.new.failures ≡ after_call self.old.failures }
+        ensures line { MatchResult result (λ answer. GivesLine self.old.lines self.new.lines answer buf.new) (λ _. (self.new.lines ≡ self.old.lines) × (buf.new ≡ buf.old)) }
+    {
+        if self.failing.fails() {
+            self.lines.note_failed(buf.len());
+            return Err(Failed);
+        }
+        Ok(self.lines.give(buf))
     }
 }

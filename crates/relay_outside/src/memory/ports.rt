@@ -1,6 +1,7 @@
 ghost use Rattle.std.specs.Prelude.{◌≡◌, ◌↔◌, ◌≤◌, ◌<◌, ℕ, true, Some, None, Ok, [], List, IsTrue, IsSome, IsOk, IfOk, MatchOption, position, drop, length};
-ghost use Rattle.relay_outside.specs.Ports.{same_addr};
-ghost use Rattle.relay_outside.specs.PortTape.{Moves, GoesBack};
+ghost use Rattle.relay_outside.specs.Told.{Gains};
+ghost use Rattle.relay_outside.specs.Ports.{FitsTake, in_given, same_addr};
+ghost use Rattle.relay_outside.specs.PortTape.{GivesPacket, Moves, GoesBack};
 
 use super::fill::fill;
 use crate::address::Addr;
@@ -51,15 +52,11 @@ fn arrival_call(alloc: Global, room: usize, from: Addr, bytes: &[u8]) -> Option<
 }
 
 /// The record of a send; `None` where its bytes could not be copied.
-fn departure_call(alloc: Global, to: Addr, bytes: &[u8]) -> Option<OutCall>
-    ensures { MatchOption result (Unit {0}) (λ call. call ≡ OutCall.Send to bytes.now true) }
+fn departure_call(alloc: Global, to: Addr, bytes: &[u8], done: bool) -> Option<OutCall>
+    ensures { MatchOption result (Unit {0}) (λ call. call ≡ OutCall.Send to bytes.now done) }
 {
     match Copied::of(alloc, bytes) {
-        Some(bytes) => Some(OutCall::Send {
-            to,
-            bytes,
-            done: true,
-        }),
+        Some(bytes) => Some(OutCall::Send { to, bytes, done }),
         None => None,
     }
 }
@@ -85,7 +82,7 @@ impl Model for SteadyIn {
 
 impl SteadyIn {
     /// An end that was not called yet, with the packets from a place on.
-    fn with(alloc: Global, packets: Vec<Packet>, next: usize) -> SteadyIn
+    pub(super) fn with(alloc: Global, packets: Vec<Packet>, next: usize) -> SteadyIn
         ensures told { result.told ≡ Some [] }
         ensures packets { result.packets ≡ drop next packets.items }
     {
@@ -105,7 +102,7 @@ impl SteadyIn {
     }
 
     /// What the end told, and the end with a new list in its place.
-    fn without_list(self, alloc: Global) -> (CallList<InCall>, SteadyIn)
+    pub(super) fn without_list(self, alloc: Global) -> (CallList<InCall>, SteadyIn)
         ensures list { result.0 ≡ self.told }
         ensures packets { result.1.packets ≡ self.packets }
     {
@@ -116,6 +113,43 @@ impl SteadyIn {
             next,
         } = self;
         (told, SteadyIn::with(alloc, packets, next))
+    }
+
+    /// Gives the next packet, if there is one, and tells of it.
+    pub(super) fn give(&mut self, buf: &mut [u8]) -> Option<(Addr, usize)>
+        ensures within { FitsTake (Ok result) (length buf.old) }
+        ensures told { Gains self.old.told self.new.told (InCall.Take (length buf.old) (in_given (Ok result) buf.new)) }
+        ensures packet { GivesPacket self.old.packets self.new.packets result buf.new }
+    {
+        let room = buf.len();
+        let Some(packet) = self.packets.get(self.next) else {
+            let given = InGiven::Nothing;
+            self.told.note(Some(InCall::Take { room, given }));
+            return None;
+        };
+        self.next += 1;
+        match packet {
+            Packet::Datagram { from, bytes } => {
+                let len = fill(buf, bytes.as_slice());
+                let call = arrival_call(self.alloc, room, *from, &buf[..len]);
+                self.told.note(call);
+                Some((*from, len))
+            }
+            Packet::Nothing => {
+                let given = InGiven::Nothing;
+                self.told.note(Some(InCall::Take { room, given }));
+                None
+            }
+        }
+    }
+
+    /// Tells of a take that failed.
+    pub(super) fn note_failed(&mut self, room: usize)
+        ensures told { Gains self.old.told self.new.told (InCall.Take room InGiven.Failed) }
+        ensures packets { self.new.packets ≡ self.old.packets }
+    {
+        let given = InGiven::Failed;
+        self.told.note(Some(InCall::Take { room, given }));
     }
 
     /// Whether the end still tells its list.
@@ -144,26 +178,7 @@ impl InEnd for SteadyIn {
         ensures done { IsOk result }
         ensures packet { IfOk result (λ answer. GivesPacket self.old.packets self.new.packets answer buf.new) }
     {
-        let room = buf.len();
-        let Some(packet) = self.packets.get(self.next) else {
-            let given = InGiven::Nothing;
-            self.told.note(Some(InCall::Take { room, given }));
-            return Ok(None);
-        };
-        self.next += 1;
-        match packet {
-            Packet::Datagram { from, bytes } => {
-                let len = fill(buf, bytes.as_slice());
-                let call = arrival_call(self.alloc, room, *from, &buf[..len]);
-                self.told.note(call);
-                Ok(Some((*from, len)))
-            }
-            Packet::Nothing => {
-                let given = InGiven::Nothing;
-                self.told.note(Some(InCall::Take { room, given }));
-                Ok(None)
-            }
-        }
+        Ok(self.give(buf))
     }
 }
 
@@ -184,6 +199,32 @@ impl Model for SteadyOut {
 }
 
 impl SteadyOut {
+    /// An end that was not called yet.
+    pub(super) fn new(alloc: Global) -> SteadyOut
+        ensures { result ≡ Some [] }
+    {
+        SteadyOut {
+            alloc,
+            told: CallList::new(alloc),
+        }
+    }
+
+    /// Tells of a send.
+    pub(super) fn note_send(&mut self, to: Addr, bytes: &[u8], done: bool)
+        ensures { Gains self.old self.new (OutCall.Send to bytes.now done) }
+    {
+        let call = departure_call(self.alloc, to, bytes, done);
+        self.told.note(call);
+    }
+
+    /// What the end told.
+    pub(super) fn into_list(self) -> CallList<OutCall>
+        ensures { result ≡ self }
+    {
+        let SteadyOut { alloc: _, told } = self;
+        told
+    }
+
     /// Whether the end still tells its list.
     pub fn tells(&self) -> bool
         ensures { IsTrue result ↔ IsSome self.now }
@@ -205,14 +246,13 @@ impl OutEnd for SteadyOut {
         ensures cause { HasCause 0 0 result }
         ensures done { IsOk result }
     {
-        let call = departure_call(self.alloc, to, bytes);
-        self.told.note(call);
+        self.note_send(to, bytes, true);
         Ok(())
     }
 }
 
 /// Whether two transport addresses are the same.
-fn is_same(a: Addr, b: Addr) -> bool
+pub(super) fn is_same(a: Addr, b: Addr) -> bool
     ensures same { IsTrue result ↔ (a ≡ b) }
     ensures test { result ≡ same_addr a b }
 {
@@ -238,8 +278,15 @@ impl Model for Arrivals {
 }
 
 impl Arrivals {
+    /// The address.
+    pub(super) fn address(&self) -> Addr
+        ensures { result ≡ self.now.0 }
+    {
+        self.at
+    }
+
     /// An in end with these packets, of which none are left here.
-    fn move_out(&mut self, alloc: Global) -> SteadyIn
+    pub(super) fn move_out(&mut self, alloc: Global) -> SteadyIn
         ensures told { result.told ≡ Some [] }
         ensures packets { result.packets ≡ self.old.1 }
         ensures left { self.new ≡ (self.old.0, []) }
@@ -251,7 +298,7 @@ impl Arrivals {
     }
 
     /// Takes the packets of an in end in place of those that are here.
-    fn move_in(&mut self, receiving: SteadyIn)
+    pub(super) fn move_in(&mut self, receiving: SteadyIn)
         ensures { self.new ≡ (self.old.0, receiving.packets) }
     {
         let SteadyIn {
@@ -370,10 +417,7 @@ impl PortMaker for SteadyMaker {
         ensures moved { IfOk result (λ ends. Moves self.old.arrivals at ends.0.packets self.new.arrivals) }
     {
         let receiving = arriving(self.alloc, &mut self.arrivals, at);
-        let sending = SteadyOut {
-            alloc: self.alloc,
-            told: CallList::new(self.alloc),
-        };
+        let sending = SteadyOut::new(self.alloc);
         self.told.note(Some(PortCall::Open { at, done: true }));
         Ok((receiving, sending))
     }
@@ -384,10 +428,7 @@ impl PortMaker for SteadyMaker {
         ensures later { 0 ≤ 0 }
         ensures back { GoesBack self.old.arrivals at receiving.packets self.new.arrivals }
     {
-        let SteadyOut {
-            alloc: _,
-            told: sent,
-        } = sending;
+        let sent = sending.into_list();
         let (taken, receiving) = receiving.without_list(self.alloc);
         self.told.note(Some(PortCall::Close { at, taken, sent }));
         give_back(&mut self.arrivals, at, receiving);
