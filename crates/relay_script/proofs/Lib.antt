@@ -1,0 +1,5 @@
+pub mod Texts
+pub mod Payloads
+pub mod Digits
+pub mod Addresses
+pub mod Words
