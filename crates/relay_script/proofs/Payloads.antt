@@ -1,9 +1,10 @@
 -- Texts of hexadecimal digits and of pieces: what they stand for, as they are read from the left.
 use Rattle.ng_bencode.proofs.Numbers.{false_true}
-use Rattle.std.proofs.Common.{◌≡◌, ◌≢◌, ◌==◌, Bool, true, false, ℕ, List, [], ◌∷◌, ◌++◌, ◌+◌, ◌*◌, ◌<◌, ◌≤◌, suc, zero, length, map, refl, sym, ◌∙◌, ap, subst, arith, append_assoc, append-nil, Ok, Err, Result, MatchResult, ◌⊎◌, inl, inr, Option, Some, None, IfSome, MatchOption}
+use Rattle.std.proofs.Common.{◌≡◌, ◌≢◌, ◌==◌, Bool, true, false, ℕ, List, [], ◌∷◌, ◌++◌, ◌+◌, ◌*◌, ◌<◌, ◌≤◌, suc, zero, length, map, refl, sym, ◌∙◌, ap, subst, arith, append_assoc, append-nil, take, get_or, add-one, Ok, Err, Result, MatchResult, ◌⊎◌, inl, inr, Option, Some, None, IfSome, MatchOption}
 use Rattle.std.specs.Borrow.{Bor}
 use Rattle.std.specs.List.{flat_map}
 use Rattle.std.specs.Prelude.{slice_index}
+use Rattle.std.proofs.Math.Seq.{take-suc}
 use Rattle.std.proofs.lemmas.Grind.{flat_map-append}
 use Rattle.std.proofs.lemmas.List.{map-append, length-append}
 use Rattle.hex.specs.Hex.{encode_lower, encode_with, lower_digits, decode_of, IsBytes}
@@ -45,10 +46,10 @@ same_split (c ∷ a) (d ∷ b) x y len e =
     let same = same_split a b x y (omega (arith, len)) rest in
     (rw (head, same.0) refl, same.1)
 
-heads : (a b : ℕ) (x y : List ℕ) → a ∷ x ≡ b ∷ y → a ≡ b
+pub heads : (a b : ℕ) (x y : List ℕ) → a ∷ x ≡ b ∷ y → a ≡ b
 heads a b x y e = cc
 
-tails : (a b : ℕ) (x y : List ℕ) → a ∷ x ≡ b ∷ y → x ≡ y
+pub tails : (a b : ℕ) (x y : List ℕ) → a ∷ x ≡ b ∷ y → x ≡ y
 tails a b x y e = cc
 
 pub some_left : (xs : List ℕ) (b : Bool) → b ≡ (length xs == 0) → b ≡ false → xs ≡ [] → ⊥
@@ -69,6 +70,13 @@ encode_append [] b = rw encode_none refl
 encode_append (x ∷ a) b =
     encode_cons x (a ++ b) ∙ ap (λ t. encode_lower (x ∷ []) ++ t) (encode_append a b)
     ∙ sym (append_assoc (encode_lower (x ∷ [])) (encode_lower a) (encode_lower b)) ∙ ap (λ t. t ++ encode_lower b) (sym (encode_cons x a))
+
+-- one more byte behind a line
+pub encode_more : (front bytes old line : List ℕ) (i : ℕ) → i < length bytes → old ≡ front ++ encode_lower (take i bytes) → line ≡ old ++ encode_lower (get_or bytes i 0 ∷ []) → line ≡ front ++ encode_lower (take (i + 1) bytes)
+encode_more front bytes old line i low before e =
+    let next : take (i + 1) bytes ≡ take i bytes ++ get_or bytes i 0 ∷ [] = rw add-one (take-suc bytes i 0 low) in
+    e ∙ ap (λ t. t ++ encode_lower (get_or bytes i 0 ∷ [])) before ∙ append_assoc front (encode_lower (take i bytes)) (encode_lower (get_or bytes i 0 ∷ []))
+    ∙ ap (λ t. front ++ t) (sym (encode_append (take i bytes) (get_or bytes i 0 ∷ []))) ∙ ap (λ t. front ++ encode_lower t) (sym next)
 
 pub encode_one_length : (byte : ℕ) → length (encode_lower (byte ∷ [])) ≡ 2
 encode_one_length byte = length-encode_with lower_digits (byte ∷ [])

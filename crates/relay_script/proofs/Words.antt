@@ -23,7 +23,7 @@ use Rattle.relay_script.proofs.Digits.{free_in_number}
 pub clash : (a b : List ℕ) → bytes_eq a b ≡ false → a ≡ b → ⊥
 clash a b differ e = false_true (sym differ ∙ (bytes_eq-Decides a b).1 e)
 
-free_port : (text : List ℕ) (n : ℕ) → IsNumber (2 ^ 16) text n → IsFreeOf 32 text
+pub free_port : (text : List ℕ) (n : ℕ) → IsNumber (2 ^ 16) text n → IsFreeOf 32 text
 free_port text n is = free_in_number 32 (inl (omega arith)) (2 ^ 16) (omega arith) text n is
 
 -- Datagrams.
@@ -64,21 +64,21 @@ no_send_count text port_text number e free none port count is =
     let same = same_front 32 port_text is.port_text number is.number free (free_port is.port_text port is.port_number) (sym e ∙ is.parts) in
     none count (subst (λ t. IsCount t count) (sym same.1) is.counted)
 
-free_kind : (k : FailKind) → IsFreeOf 32 (kind_word k)
+pub free_kind : (k : FailKind) → IsFreeOf 32 (kind_word k)
 free_kind kind.Open = free_by_test 32 (codes "open") refl
 free_kind kind.Draw = free_by_test 32 (codes "draw") refl
 free_kind kind.Take = free_by_test 32 (codes "take") refl
 free_kind kind.Read = free_by_test 32 (codes "read") refl
 free_kind kind.Reply = free_by_test 32 (codes "reply") refl
 
-no_send : (k : FailKind) → kind_word k ≡ codes "send" → ⊥
+pub no_send : (k : FailKind) → kind_word k ≡ codes "send" → ⊥
 no_send kind.Open e = clash (codes "open") (codes "send") refl e
 no_send kind.Draw e = clash (codes "draw") (codes "send") refl e
 no_send kind.Take e = clash (codes "take") (codes "send") refl e
 no_send kind.Read e = clash (codes "read") (codes "send") refl e
 no_send kind.Reply e = clash (codes "reply") (codes "send") refl e
 
-kind_known : (k : FailKind) → kind_of (kind_word k) ≡ Some k
+pub kind_known : (k : FailKind) → kind_of (kind_word k) ≡ Some k
 kind_known kind.Open = refl
 kind_known kind.Draw = refl
 kind_known kind.Take = refl
@@ -145,7 +145,7 @@ fail_uncounted rest name more k e known none =
 
 -- Lines.
 
-free_word : (step : Step) → IsFreeOf 32 (first_word step)
+pub free_word : (step : Step) → IsFreeOf 32 (first_word step)
 free_word Skip = tt
 free_word (At moment) = free_by_test 32 (codes "at") refl
 free_word (Key bytes) = free_by_test 32 (codes "key") refl
