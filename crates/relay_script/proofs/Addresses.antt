@@ -1,5 +1,5 @@
 -- Addresses of a line: a host and a port stand around the last colon of a word.
-use Rattle.std.proofs.Common.{◌≡◌, ℕ, List, [], ◌∷◌, ◌++◌, ◌+◌, ◌-◌, ◌<◌, ◌≤◌, ◌^◌, inl, inr, length, take, drop, refl, sym, ◌∙◌, ap, subst, arith}
+use Rattle.std.proofs.Common.{◌≡◌, ℕ, List, ◌∷◌, ◌++◌, ◌+◌, ◌-◌, ◌^◌, inr, length, take, drop, sym, ◌∙◌, subst, arith}
 use Rattle.ng_bencode.specs.Fits.{IsFreeOf}
 use Rattle.ng_bencode.proofs.Numbers.{rest_all}
 use Rattle.relay_outside.specs.declared.address.Addr.{Addr}

@@ -1,11 +1,11 @@
 -- What the calls for decimal and hexadecimal digits tell.
-use Rattle.std.proofs.Common.{◌≡◌, ℕ, List, [], ◌∷◌, ◌++◌, ◌+◌, ◌*◌, ◌<◌, ◌≤◌, ◌^◌, ◌⊎◌, inl, inr, ◌↔◌, length, get_or, refl, sym, ◌∙◌, ap, subst, arith, decimal, Ok, Err, Result, MatchResult, OnOk, IsOk}
+use Rattle.std.proofs.Common.{◌≡◌, ℕ, List, [], ◌∷◌, ◌*◌, ◌<◌, ◌≤◌, ◌^◌, ◌⊎◌, ◌↔◌, length, get_or, refl, sym, ◌∙◌, ap, subst, arith, decimal, Ok, Err, Result, MatchResult, OnOk, IsOk}
 use Rattle.std.proofs.lemmas.Fmt.{decimal_injective}
-use Rattle.hex.specs.Hex.{encode_lower, decode_of, decode_sized, IsBytes}
+use Rattle.hex.specs.Hex.{encode_lower, decode_sized, IsBytes}
 use Rattle.hex.specs.declared.error.FromHexError.{FromHexError}
 use Rattle.hex.proofs.HexLemmas.{decode_of-ok, decode_sized-ok, decode_sized-twice, decode_sized-encode_lower}
 use Rattle.ng_bencode.specs.Fits.{IsFreeOf}
-use Rattle.relay_script.specs.Fields.{IsNumber, IsCount}
+use Rattle.relay_script.specs.Fields.{IsNumber}
 use Rattle.relay_script.proofs.Texts.{free_number}
 
 -- a text is at most one number

@@ -1,23 +1,22 @@
 -- A line spells at most one step: its words, numbers, addresses and bytes are each said once.
-use Rattle.std.proofs.Common.{◌≡◌, ℕ, List, [], ◌∷◌, ◌++◌, ◌+◌, ◌<◌, ◌≤◌, ◌^◌, ◌&&◌, ◌⊎◌, Bool, true, false, cond, inl, inr, map, length, refl, sym, ◌∙◌, ap, subst, arith, decimal, Option, Some, None}
+use Rattle.std.proofs.Common.{◌≡◌, ℕ, List, [], ◌∷◌, ◌++◌, ◌≤◌, ◌^◌, ◌&&◌, Bool, true, false, cond, inl, inr, map, refl, sym, ◌∙◌, ap, subst, arith, Option, Some, None}
 use Rattle.std.specs.Prelude.{codes}
 use Rattle.std.specs.List.{slice_split, onto_first, list_all}
 use Rattle.std.proofs.lemmas.Fmt.{decimal_injective}
-use Rattle.hex.specs.Hex.{encode_lower}
 use Rattle.ng_bencode.specs.Fits.{IsFreeOf}
 use Rattle.ng_bencode.proofs.Numbers.{same_front}
 use Rattle.relay_outside.specs.declared.address.Addr.{Addr}
 use Rattle.relay_outside.specs.declared.address.Ip.{Ip}
 use Rattle.relay_outside.specs.declared.address.Ip.TheVariants.{V4, V6}
-use Rattle.sdp_text.specs.Pieces.{pieces, number, at_most, is_filled, is_digit, decimal_value}
-use Rattle.sdp_text.specs.Hosts.{ipv4, ipv6, ipv4_bytes, exactly, all_some, octet}
+use Rattle.sdp_text.specs.Pieces.{pieces, at_most, is_filled, is_digit, decimal_value}
+use Rattle.sdp_text.specs.Hosts.{ipv4, ipv6, exactly, all_some, octet}
 use Rattle.sdp_text.specs.declared.host.Host.{Host}
 use Rattle.sdp_text.specs.declared.host.Host.TheVariants as host
 use Rattle.sdp_text.proofs.Cuts.{pieces_open}
 use Rattle.relay_script.specs.declared.step.FailKind.{FailKind}
 use Rattle.relay_script.specs.Steps.{Step, Skip, At, Key, Fail, FailSend, Ng, Take, Relay, Packet, Tick}
-use Rattle.relay_script.specs.Fields.{IsNumber, IsCount, InBrackets, IsHost, IsAddr, IsHex, IsText, InHex, InText, IsPayload}
-use Rattle.relay_script.specs.Lines.{first_word, kind_word, IsKey, IsFailure, IsSendFailure, IsDatagram, IsArrival, Behind, InWords, IsSkipped, SpellsStep, Spells}
+use Rattle.relay_script.specs.Fields.{IsNumber, IsCount, InBrackets, IsHost, IsAddr, IsText, IsPayload}
+use Rattle.relay_script.specs.Lines.{first_word, kind_word, IsFailure, IsSendFailure, IsDatagram, IsArrival, Behind, IsSkipped, SpellsStep, Spells}
 use Rattle.relay_script.specs.Reading.{kind_of}
 use Rattle.relay_script.proofs.Texts.{same_back, free_by_test}
 use Rattle.relay_script.proofs.Payloads.{heads, tails, same_hex, same_text}

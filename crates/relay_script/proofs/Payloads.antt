@@ -1,14 +1,12 @@
 -- Texts of hexadecimal digits and of pieces: what they stand for, as they are read from the left.
 use Rattle.ng_bencode.proofs.Numbers.{false_true}
-use Rattle.std.proofs.Common.{◌≡◌, ◌≢◌, ◌==◌, Bool, true, false, ℕ, List, [], ◌∷◌, ◌++◌, ◌+◌, ◌*◌, ◌<◌, ◌≤◌, suc, zero, length, map, refl, sym, ◌∙◌, ap, subst, arith, append_assoc, append-nil, take, get_or, add-one, Ok, Err, Result, MatchResult, ◌⊎◌, inl, inr, Option, Some, None, IfSome, MatchOption}
+use Rattle.std.proofs.Common.{◌≡◌, ◌==◌, Bool, false, ℕ, List, [], ◌∷◌, ◌++◌, ◌+◌, ◌<◌, suc, zero, length, map, refl, sym, ◌∙◌, ap, subst, arith, append_assoc, append-nil, take, get_or, add-one, Ok, Err, Result, MatchResult, inl, inr, Option, Some, None, IfSome, MatchOption}
 use Rattle.std.specs.Borrow.{Bor}
 use Rattle.std.specs.List.{flat_map}
-use Rattle.std.specs.Prelude.{slice_index}
 use Rattle.std.proofs.Math.Seq.{take-suc}
 use Rattle.std.proofs.lemmas.Grind.{flat_map-append}
 use Rattle.std.proofs.lemmas.List.{map-append, length-append}
 use Rattle.hex.specs.Hex.{encode_lower, encode_with, lower_digits, decode_of, IsBytes}
-use Rattle.hex.specs.declared.error.FromHexError.{FromHexError}
 use Rattle.hex.proofs.HexLemmas.{length-encode_with, decode_of-encode_lower, decode_of-same}
 use Rattle.relay_script.specs.Fields.{Piece, Plain, Return, Feed, Backslash, Coded, IsPiece, piece_text, piece_byte, ArePieces, IsText, IsHex, IsPayload}
 use Rattle.relay_script.specs.Reading.{BeginsWith, NoPiece, Refuses}

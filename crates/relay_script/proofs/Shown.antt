@@ -1,9 +1,9 @@
 -- The bytes of a reply, as they are printed, are a text that stands for them.
-use Rattle.std.proofs.Common.{◌≡◌, ◌≢◌, ◌==◌, ℕ, List, [], ◌∷◌, ◌++◌, ◌<◌, ◌&&◌, Bool, true, false, cond, map, nat_le, refl, sym, ◌∙◌, ap}
+use Rattle.std.proofs.Common.{◌≡◌, ◌==◌, ℕ, List, [], ◌∷◌, ◌++◌, ◌<◌, ◌&&◌, Bool, true, false, cond, map, nat_le, refl, ◌∙◌, ap}
 use Rattle.std.specs.List.{flat_map}
 use Rattle.std.proofs.lemmas.Bool.{eqb-true, eqb-false}
 use Rattle.hex.specs.Hex.{IsBytes}
-use Rattle.relay_script.specs.Fields.{Piece, Plain, Backslash, Coded, IsPiece, piece_text, piece_byte, ArePieces, IsText}
+use Rattle.relay_script.specs.Fields.{Plain, Backslash, Coded, IsPiece, piece_text, piece_byte, ArePieces, IsText}
 use Rattle.relay_script.specs.Printing.{shown_piece, shown_byte, shown_text}
 use Rattle.relay_script.proofs.Payloads.{first_byte, more_bytes}
 

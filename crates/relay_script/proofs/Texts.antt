@@ -1,9 +1,8 @@
 -- Texts that are cut at a byte, and the bytes that are nowhere in them.
-use Rattle.std.proofs.Common.{◌≡◌, ◌≢◌, ℕ, List, [], ◌∷◌, ◌++◌, ◌+◌, ◌-◌, ◌%◌, ◌<◌, ◌≤◌, ◌^◌, ◌==◌, ◌⊎◌, ◌&&◌, inl, inr, suc, zero, not, true, false, Bool, length, take, drop, get_or, Some, None, refl, sym, ◌∙◌, ap, subst, arith, decimal, add-one}
+use Rattle.std.proofs.Common.{◌≡◌, ℕ, List, [], ◌∷◌, ◌++◌, ◌+◌, ◌%◌, ◌<◌, ◌^◌, ◌==◌, ◌⊎◌, ◌&&◌, inl, inr, not, true, false, Bool, refl, subst, arith, decimal}
 use Rattle.std.specs.List.{list_all}
-use Rattle.std.proofs.lemmas.Bool.{eqb-false, ne_eqb}
+use Rattle.std.proofs.lemmas.Bool.{eqb-false}
 use Rattle.std.proofs.lemmas.Fmt.{decimal_by_steps}
-use Rattle.std.proofs.Math.Seq.{split_at}
 use Rattle.ng_bencode.specs.Fits.{IsFreeOf}
 use Rattle.ng_bencode.proofs.Numbers.{free_append}
 

@@ -1,5 +1,5 @@
 -- Lines as words: what stands before the first space and behind it says which step is asked for.
-use Rattle.std.proofs.Common.{◌≡◌, ℕ, List, [], ◌∷◌, ◌++◌, ◌+◌, ◌<◌, ◌≤◌, ◌^◌, Bool, true, false, inl, inr, refl, sym, ◌∙◌, ap, subst, arith, Ok, Err, Some, None, Option, Result, IfOk, IfErr}
+use Rattle.std.proofs.Common.{◌≡◌, ℕ, List, ◌∷◌, ◌++◌, ◌^◌, false, inl, refl, sym, ◌∙◌, ap, subst, arith, Ok, Err, Some, None, Option, Result, IfOk, IfErr}
 use Rattle.std.specs.Prelude.{codes}
 use Rattle.std.specs.Str.{bytes_eq}
 use Rattle.std.proofs.lemmas.Slice.Eq.{bytes_eq-Decides}
@@ -14,7 +14,7 @@ use Rattle.relay_script.specs.declared.step.Step as coded
 use Rattle.relay_script.specs.declared.reading.Keyword.{Keyword}
 use Rattle.relay_script.specs.Steps.{Step, Skip, At, Key, Fail, FailSend, Ng, Take, Relay, Packet, Tick, meaning}
 use Rattle.relay_script.specs.Fields.{IsNumber, IsCount, IsAddr, IsPayload}
-use Rattle.relay_script.specs.Lines.{first_word, kind_word, IsFailure, IsSendFailure, IsDatagram, IsArrival, Behind, InWords, IsSkipped, SpellsStep, Spells, IsOutside}
+use Rattle.relay_script.specs.Lines.{first_word, kind_word, IsFailure, IsSendFailure, IsDatagram, IsArrival, Behind, InWords, IsSkipped, SpellsStep}
 use Rattle.relay_script.specs.Reading.{Refuses, NoStep, NoWords, Fits, Reads, IsPortAndCount, ReadsSendFailure, kind_of, keyword_of, keyword_text}
 use Rattle.relay_script.proofs.Texts.{free_by_test}
 use Rattle.relay_script.proofs.Digits.{free_in_number}
@@ -36,8 +36,8 @@ no_source text address payload e free none source bytes is =
 pub datagram_refused : (fault : ParseFault) (text address payload : List ℕ) → text ≡ address ++ 32 ∷ payload → IsFreeOf 32 address → Refuses fault ((bytes : List ℕ) → IsPayload payload bytes → ⊥) → Refuses fault ((source : Addr) (bytes : List ℕ) → IsDatagram text source bytes → ⊥)
 datagram_refused NotInGrammar text address payload e free none =
     λ source bytes is.
-        let same = same_front 32 address is.address payload is.payload free is.from.one_word (sym e ∙ is.parts) in
-        none bytes (subst (λ t. IsPayload t bytes) (sym same.1) is.carried)
+    let same = same_front 32 address is.address payload is.payload free is.from.one_word (sym e ∙ is.parts) in
+    none bytes (subst (λ t. IsPayload t bytes) (sym same.1) is.carried)
 datagram_refused OutOfMemory text address payload e free none = tt
 
 pub no_arrival : (text port_text datagram : List ℕ) → text ≡ port_text ++ 32 ∷ datagram → IsFreeOf 32 port_text → ((n : ℕ) → IsNumber (2 ^ 16) port_text n → ⊥) → (port : ℕ) (source : Addr) (bytes : List ℕ) → IsArrival text port source bytes → ⊥
@@ -48,8 +48,8 @@ no_arrival text port_text datagram e free none port source bytes is =
 pub arrival_refused : (fault : ParseFault) (text port_text datagram : List ℕ) → text ≡ port_text ++ 32 ∷ datagram → IsFreeOf 32 port_text → Refuses fault ((source : Addr) (bytes : List ℕ) → IsDatagram datagram source bytes → ⊥) → Refuses fault ((port : ℕ) (source : Addr) (bytes : List ℕ) → IsArrival text port source bytes → ⊥)
 arrival_refused NotInGrammar text port_text datagram e free none =
     λ port source bytes is.
-        let same = same_front 32 port_text is.port_text datagram is.datagram free (free_port is.port_text port is.port_number) (sym e ∙ is.parts) in
-        none source bytes (subst (λ t. IsDatagram t source bytes) (sym same.1) is.arrived)
+    let same = same_front 32 port_text is.port_text datagram is.datagram free (free_port is.port_text port is.port_number) (sym e ∙ is.parts) in
+    none source bytes (subst (λ t. IsDatagram t source bytes) (sym same.1) is.arrived)
 arrival_refused OutOfMemory text port_text datagram e free none = tt
 
 -- Failures.
@@ -129,11 +129,11 @@ pub fail_unknown : (rest name more : List ℕ) → rest ≡ name ++ 32 ∷ more 
 fail_unknown rest name more e free other unknown =
     fail_steps rest
     (λ k count is.
-        let same = same_front 32 name (kind_word k) more is.number free (free_kind k) (sym e ∙ is.parts) in
-        let known = kind_known k in
-        let told = ap kind_of same.0 in
-        let both : ◌≡◌ {A = Option FailKind} None (Some k) = sym unknown ∙ told ∙ known in
-        (cc))
+    let same = same_front 32 name (kind_word k) more is.number free (free_kind k) (sym e ∙ is.parts) in
+    let known = kind_known k in
+    let told = ap kind_of same.0 in
+    let both : ◌≡◌ {A = Option FailKind} None (Some k) = sym unknown ∙ told ∙ known in
+    (cc))
     (λ port count is. other (same_front 32 name (codes "send") more (is.port_text ++ 32 ∷ is.number) free (free_by_test 32 (codes "send") refl) (sym e ∙ is.parts)).0)
 
 pub fail_uncounted : (rest name more : List ℕ) (k : FailKind) → rest ≡ name ++ 32 ∷ more → name ≡ kind_word k → ((n : ℕ) → IsCount more n → ⊥) → NoStep (codes "fail") rest

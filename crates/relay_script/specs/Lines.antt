@@ -1,5 +1,5 @@
 -- Which lines a script may have, and which step each asks for.
-use Rattle.std.specs.Prelude.{◌≡◌, ◌≤◌, ◌⊎◌, ◌^◌, ℕ, List, [], ◌∷◌, ◌++◌, codes, length}
+use Rattle.std.specs.Prelude.{◌≡◌, ◌≤◌, ◌^◌, ℕ, List, [], ◌∷◌, ◌++◌, codes, length}
 use Rattle.relay_outside.specs.declared.address.Addr.{Addr}
 use Rattle.relay_script.specs.declared.step.FailKind.{FailKind}
 use Rattle.relay_script.specs.declared.step.FailKind.TheVariants as kind

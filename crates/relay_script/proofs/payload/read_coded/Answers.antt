@@ -1,4 +1,3 @@
-use Rattle.std.proofs.Common.{sym, ◌∙◌, ap, arith, length}
 use Rattle.relay_script.proofs.Payloads.{no_head, no_second, no_pair}
 use Rattle.relay_script.proofs.payload.read_coded.Goals as goal
 

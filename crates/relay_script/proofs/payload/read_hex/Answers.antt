@@ -1,8 +1,5 @@
-use Rattle.std.proofs.Common.{◌∙◌, sym, subst, ap, rules, arith, List, ℕ, [], length, true, false}
-use Rattle.std.proofs.lemmas.List.{length-append}
-use Rattle.hex.specs.Hex.{encode_lower}
-use Rattle.relay_script.specs.Fields.{IsHex}
-use Rattle.relay_script.proofs.Payloads.{HexBefore, SomeHex, hex_start, hex_more, hex_whole, hex_left, hex_stuck, hex_longer, some_left}
+use Rattle.std.proofs.Common.{arith}
+use Rattle.relay_script.proofs.Payloads.{hex_start, hex_more, hex_left, hex_stuck, hex_longer, some_left}
 use Rattle.relay_script.proofs.payload.read_hex.Goals as goal
 
 pub loop-rest-init : goal.loop-rest-init

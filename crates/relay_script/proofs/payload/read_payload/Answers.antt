@@ -1,4 +1,3 @@
-use Rattle.std.proofs.Common.{◌∷◌, sym, ◌∙◌, ap}
 use Rattle.relay_script.proofs.Payloads.{hex_payload, text_payload}
 use Rattle.relay_script.proofs.payload.read_payload.Goals as goal
 

@@ -1,4 +1,3 @@
-use Rattle.std.proofs.Common.{◌∷◌, rules, sym, ◌∙◌, ap, arith}
 use Rattle.relay_script.proofs.Payloads.{plain_piece, coded_found}
 use Rattle.relay_script.proofs.payload.read_piece.Goals as goal
 

@@ -1,4 +1,4 @@
-use Rattle.std.proofs.Common.{◌∙◌, sym, rules, arith, List, ℕ, [], length}
+use Rattle.std.proofs.Common.{arith}
 use Rattle.relay_script.proofs.Payloads.{text_more, text_left, text_stuck, piece_shorter, some_left}
 use Rattle.relay_script.proofs.payload.read_text.Goals as goal
 
