@@ -1,0 +1,30 @@
+use Rattle.std.proofs.Common.{arith}
+use Rattle.relay_script.proofs.Payloads.{hex_start, hex_more, hex_left, hex_stuck, hex_longer, some_left}
+use Rattle.relay_script.proofs.payload.read_hex.Goals as goal
+
+pub loop-rest-init : goal.loop-rest-init
+loop-rest-init c = record {
+  before = rw (c.in-Ok.ensures.list, c.new-bytes.ensures) (hex_start c.args.digits.now);
+  left = λ all is. record { all = all; is = is };
+  room = omega (arith, c.in-Ok.ensures.room);
+}
+
+pub returns-in_default-read_coded : goal.returns-in_default-read_coded
+returns-in_default-read_coded c bytes is =
+    let left = c.loop-rest.invariant.left bytes is in
+    hex_stuck c.loop-rest.rest.now (some_left c.loop-rest.rest.now c.is_empty.result c.is_empty.ensures c.loop-rest-test.true) c.in_default-read_coded.ensures.digits left.all left.is
+
+pub push-requires : goal.push-requires
+push-requires c = omega (arith, hex_longer c.loop-rest.rest.now c.in-Some.more.now c.in-Some.byte c.in-Some.ensures.digits)
+
+pub loop-rest-smaller : goal.loop-rest-smaller
+loop-rest-smaller c = omega (arith, hex_longer c.loop-rest.rest.now c.in-Some.more.now c.in-Some.byte c.in-Some.ensures.digits)
+
+pub loop-rest-preserved : goal.loop-rest-preserved
+loop-rest-preserved c = record {
+  before = rw c.push.ensures.list (hex_more c.args.digits.now c.loop-rest.bytes.list c.loop-rest.rest.now c.in-Some.more.now c.in-Some.byte c.loop-rest.invariant.before c.in-Some.ensures.byte c.in-Some.ensures.digits);
+  left = λ all is.
+      (let left = c.loop-rest.invariant.left all is in
+      hex_left c.loop-rest.rest.now c.in-Some.more.now c.in-Some.byte c.in-Some.ensures.byte c.in-Some.ensures.digits left.all left.is);
+  room = omega (arith, hex_longer c.loop-rest.rest.now c.in-Some.more.now c.in-Some.byte c.in-Some.ensures.digits);
+}

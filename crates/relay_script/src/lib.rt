@@ -1,0 +1,21 @@
+//! The language of replayed scripts: `parse` reads one line as the step that it asks for, and `print` writes one line of
+//! what a replay prints. No memory is kept, nothing is done: the steps are made elsewhere.
+//!
+//! `specs/Fields.antt` has the fields of a line, `specs/Lines.antt` which lines are in the grammar and what each asks for.
+#![tactic(auto)]
+
+mod event;
+mod fields;
+mod law;
+mod payload;
+mod reading;
+mod step;
+#[cfg(test)]
+mod tests;
+mod writing;
+
+pub use event::Printed;
+pub use law::{one_step, printed_text_is_read};
+pub use reading::parse;
+pub use step::{FailKind, ParseFault, Step};
+pub use writing::print;
