@@ -1,5 +1,5 @@
 -- Arrays that are filled from the front.
-use Rattle.std.proofs.Common.{◌≡◌, ◌≢◌, ◌+◌, ◌<◌, ℕ, List, length, slice_index_or, slice_set, sym, subst, below_more, arith}
+use Rattle.std.proofs.Common.{◌≢◌, ◌+◌, ◌<◌, ℕ, List, length, slice_index_or, slice_set, sym, subst, below_more, arith}
 use Rattle.std.proofs.lemmas.List.{get_or-set_same, get_or-set_other}
 
 -- one more element

@@ -1,14 +1,12 @@
 -- What the filling of a plan keeps.
-use Rattle.std.proofs.Common.{◌≡◌, ◌∙◌, refl, ap, sym, subst, ℕ, zero, suc, ◌+◌, ◌<◌, ◌≤◌, false, List, [], ◌∷◌, length, map, replicate, slice_index_or, arith, if◌then◌else◌, Some}
-use Rattle.std.specs.Prelude.{◌&&◌}
+use Rattle.std.proofs.Common.{◌≡◌, ◌∙◌, refl, ap, sym, subst, ℕ, zero, suc, ◌+◌, ◌<◌, ◌≤◌, false, List, ◌∷◌, length, map, replicate, slice_index_or, arith}
 use Rattle.relay_outside.specs.declared.address.Ip.{Ip}
 use Rattle.histories.specs.Words.{numbers}
-use Rattle.sdp_edit.specs.declared.edits.SectionEdit.{SectionEdit}
 use Rattle.sdp_edit.specs.declared.edits.Edit.{Edit}
 use Rattle.sdp_edit.specs.Editing.{edited}
 use Rattle.ng_command.specs.declared.command.Options.{Options}
 use Rattle.offer_answer.specs.Texts.{host_of_ip}
-use Rattle.offer_answer.specs.Writing.{IsReserved, widest_section, widest_at, widest_sections, widest_edit, widest_len, made_at}
+use Rattle.offer_answer.specs.Writing.{IsReserved, widest_section, widest_at, widest_sections, widest_len, made_at}
 use Rattle.offer_answer.specs.Widths.{SameMade, SameOffer, KeepsOffer, WritesNext}
 use Rattle.offer_answer.specs.declared.last_offer.MadeSection.{MadeSection}
 use Rattle.offer_answer.specs.declared.last_offer.LastOffer.{LastOffer}

@@ -1,6 +1,6 @@
 -- The legs of a section after an offer: as they are planned, with new ports and with new keys.
-use Rattle.std.proofs.Common.{◌≡◌, ℕ, ◌+◌, ◌<◌, ◌≢◌, Bool, true, false, not, ◌&&◌, ◌||◌, ◌==◌, List, [], ◌∷◌, ◌++◌, length, Option, Some, None, refl, sym, ap, ◌∙◌, subst, if◌then◌else◌, true≢false, find, filter, map, zip, unwrap_or, option_map, drop, get_or, arith}
-use Rattle.std.proofs.lemmas.List.{drop_more, length-map}
+use Rattle.std.proofs.Common.{◌≡◌, ℕ, ◌+◌, ◌<◌, Bool, true, false, not, ◌&&◌, ◌||◌, ◌==◌, List, [], ◌∷◌, ◌++◌, length, Option, Some, None, refl, sym, ap, ◌∙◌, subst, if◌then◌else◌, filter, map, unwrap_or, option_map, drop, get_or, arith}
+use Rattle.std.proofs.lemmas.List.{drop_more}
 use Rattle.histories.specs.Words.{or_else}
 use Rattle.relay_outside.specs.declared.settings.Config.{Config}
 use Rattle.sdes_lines.specs.declared.crypto_line.Suite.{Suite}
@@ -11,16 +11,16 @@ use Rattle.port_pool.specs.declared.holder.Side.{Side}
 use Rattle.port_pool.specs.declared.holder.Side.TheVariants.{A, B}
 use Rattle.port_pool.specs.Signals.{NewKey, side_eq, suite_eq, other_side}
 use Rattle.port_pool.specs.Ports.{pair_port}
-use Rattle.offer_answer.specs.Rounds.{Round, Offered, OfferAsk, NewLeg, KeyPlace}
+use Rattle.offer_answer.specs.Rounds.{Round, Offered, OfferAsk, NewLeg}
 use Rattle.offer_answer.specs.Sides.{offerer}
-use Rattle.offer_answer.specs.Sections.{section_in, is_active, is_active_in, has_pairs, is_committed, leg_of}
+use Rattle.offer_answer.specs.Sections.{section_in, is_active, is_active_in, has_pairs, is_committed}
 use Rattle.offer_answer.specs.Profiles.{is_srtp, profile_offered, written}
 use Rattle.offer_answer.specs.Keys.{is_for, leg_keys, key_among, leg_key, key_in_force, line_with, lines_of_keys, no_lines, offered_lines}
-use Rattle.offer_answer.specs.Demands.{new_legs, is_dropped}
+use Rattle.offer_answer.specs.Demands.{new_legs}
 use Rattle.offer_answer.specs.Texts.{new_port, standing_port}
-use Rattle.offer_answer.specs.Dialogs.{LegFor, SectionFor, drawn_as, key_for, leg_at, no_leg}
+use Rattle.offer_answer.specs.Dialogs.{drawn_as, key_for, leg_at, no_leg}
 use Rattle.offer_answer.specs.Offering.{OfferedFor, leg_asked, key_asked}
-use Rattle.offer_answer.specs.Nexts.{numbered_keys, pairs_after, port_kept, key_kept, carrying, LegNext, SectionNext, MadeNext}
+use Rattle.offer_answer.specs.Nexts.{numbered_keys, pairs_after, port_kept, key_kept, carrying, LegNext, MadeNext}
 use Rattle.offer_answer.specs.declared.leg.DrawnKey.{DrawnKey}
 use Rattle.offer_answer.specs.declared.leg.Leg.{Leg}
 use Rattle.offer_answer.specs.declared.leg.DialogSection.{DialogSection}

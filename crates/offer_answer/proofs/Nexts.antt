@@ -1,39 +1,33 @@
 -- What the sections of a dialog become by an offer.
-use Rattle.std.proofs.Common.{◌≡◌, ℕ, ◌+◌, ◌<◌, ◌≤◌, Bool, true, false, not, ◌&&◌, ◌||◌, ◌==◌, List, [], ◌∷◌, ◌++◌, length, Option, Some, None, refl, sym, ap, ◌∙◌, subst, if◌then◌else◌, true≢false, find, filter, map, unwrap_or, option_map, append-nil, arith}
+use Rattle.std.proofs.Common.{◌≡◌, ℕ, ◌+◌, ◌≤◌, Bool, true, false, not, ◌&&◌, ◌||◌, ◌==◌, List, [], ◌∷◌, length, Option, Some, None, refl, sym, ap, ◌∙◌, subst, if◌then◌else◌, true≢false, find, filter, map, unwrap_or, option_map, append-nil, arith}
 use Rattle.std.specs.List.{list_any}
 use Rattle.histories.specs.Words.{In, here, there, or_else}
 use Rattle.relay_outside.specs.declared.settings.Config.{Config}
 use Rattle.sdes_lines.specs.declared.crypto_line.Suite.{Suite}
-use Rattle.sdes_lines.specs.declared.crypto_line.Suite.TheVariants.{Tag80, Tag32}
-use Rattle.sdes_lines.specs.declared.crypto_line.CryptoLine.{CryptoLine}
-use Rattle.sdp_text.specs.declared.proto.Proto.{Proto}
 use Rattle.port_pool.specs.declared.holder.Side.{Side}
 use Rattle.port_pool.specs.declared.holder.Holder.{Holder}
-use Rattle.port_pool.specs.Signals.{NewKey, side_eq, suite_eq, other_side}
+use Rattle.port_pool.specs.Signals.{NewKey, side_eq, suite_eq}
 use Rattle.port_pool.specs.Ports.{pair_port}
 use Rattle.offer_answer.specs.Rounds.{Round, Offered, Answered, OfferAsk, NewLeg, KeyPlace, drawn_for}
 use Rattle.offer_answer.specs.Sides.{is_begun, has_answer, last_answer, first_tag, offerer}
-use Rattle.offer_answer.specs.Sections.{most_sections, all_sections, active_sections, is_active, is_active_in, leases, life, has_pairs, is_committed, leased_for, leg_of}
-use Rattle.offer_answer.specs.Profiles.{is_srtp, profile_offered, profile_in_force, written}
-use Rattle.offer_answer.specs.Keys.{is_for, leg_keys, key_among, leg_key, committed_key, key_in_force, section_keys, line_with, lines_of_keys, no_lines, offered_lines}
-use Rattle.offer_answer.specs.Demands.{new_leg, legs_for, new_active_sections, new_legs, new_keys, is_dropped}
+use Rattle.offer_answer.specs.Sections.{most_sections, all_sections, active_sections, is_active_in, leases, life, has_pairs, is_committed, leased_for, leg_of}
+use Rattle.offer_answer.specs.Profiles.{profile_offered, profile_in_force}
+use Rattle.offer_answer.specs.Keys.{is_for, key_among, leg_key, committed_key, key_in_force, section_keys}
+use Rattle.offer_answer.specs.Demands.{new_leg, legs_for, new_active_sections, new_legs, new_keys}
 use Rattle.offer_answer.specs.Texts.{new_port, standing_port}
 use Rattle.offer_answer.specs.Laws.{leg_place, new_leg_place, key_place}
-use Rattle.offer_answer.specs.Dialogs.{DialogFor, Awaits, LegFor, SectionFor, drawn_as, key_for, leg_at, no_leg}
+use Rattle.offer_answer.specs.Dialogs.{DialogFor, Awaits, SectionFor}
 use Rattle.offer_answer.specs.Filled.{AreLeased, port_after}
-use Rattle.offer_answer.specs.Offering.{OfferedFor}
-use Rattle.offer_answer.specs.Nexts.{numbered_keys, pairs_after, port_kept, key_kept, carrying, LegNext, SectionNext, MadeNext}
-use Rattle.offer_answer.specs.declared.leg.DrawnKey.{DrawnKey}
+use Rattle.offer_answer.specs.Nexts.{numbered_keys, pairs_after, port_kept, key_kept, LegNext, SectionNext}
 use Rattle.offer_answer.specs.declared.leg.Leg.{Leg}
 use Rattle.offer_answer.specs.declared.leg.DialogSection.{DialogSection}
-use Rattle.offer_answer.specs.declared.offered.OfferedSection.{OfferedSection}
 use Rattle.offer_answer.specs.declared.dialog.Dialog.{Dialog}
 use Rattle.offer_answer.proofs.Members.{found, kept}
 use Rattle.offer_answer.proofs.Numbers.{in-map, in-flat_map}
 use Rattle.offer_answer.proofs.Demanded.{in-legs_for, in-section_keys}
 use Rattle.offer_answer.proofs.Keyed.{in-kept}
 use Rattle.offer_answer.proofs.Secured.{in-active, none-passes, some-passes, in-mapped, in-flat, section-of}
-use Rattle.offer_answer.proofs.Steps.{pairs-offered, committed-offered, not-among, leg-offered, find-append, key-offered, in_force-offered, profile-offered}
+use Rattle.offer_answer.proofs.Steps.{pairs-offered, committed-offered, not-among, leg-offered, key-offered, in_force-offered}
 
 -- Sections without pairs, and ones that aren't committed.
 

@@ -1,5 +1,5 @@
 -- What a dialog keeps of the last accepted offer.
-use Rattle.std.specs.Prelude.{◌≡◌, ◌<◌, ◌≤◌, ℕ, List, [], ◌∷◌, Option, Some, None, slice_index_or}
+use Rattle.std.specs.Prelude.{◌≡◌, ◌<◌, ◌≤◌, ℕ, Option, Some, None, slice_index_or}
 use Rattle.sdp_text.specs.declared.proto.Proto.TheVariants.{Other}
 use Rattle.offer_answer.specs.Sides.{MadeOffer, maker}
 use Rattle.offer_answer.specs.Sections.{most_sections, no_section, section_in, section_count}

@@ -5,8 +5,6 @@ use Rattle.offer_answer.specs.Sections.{most_sections}
 use Rattle.offer_answer.specs.Writing.{IsReserved, made_at, widest_len}
 use Rattle.offer_answer.specs.declared.last_offer.MadeSection.{MadeSection}
 use Rattle.offer_answer.specs.declared.last_offer.LastOffer.{LastOffer}
-use Rattle.offer_answer.specs.declared.last_offer.OfferedNext.{OfferedNext}
-use Rattle.offer_answer.specs.declared.next_answer.AnsweredNext.{AnsweredNext}
 use Rattle.offer_answer.specs.declared.plan.Next.{Next}
 use Rattle.offer_answer.specs.declared.plan.Next.TheVariants.{Offer, Answer}
 use Rattle.offer_answer.specs.declared.plan.Plan.{Plan}

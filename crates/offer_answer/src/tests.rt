@@ -224,60 +224,62 @@ fn written(
     Ok(out)
 }
 
-/// An offer by alice that asks for this protocol, what bob gets of it, his answer, and what alice gets.
-fn check_call(
+/// What bob gets of an offer by alice that asks for this protocol. The dialog takes it in.
+fn offered(
     rt: &impl Abort,
     alloc: Global,
+    dialog: &mut Dialog,
     transport: Option<Proto>,
+    ports: &[u16],
     keys: &[[u8; 30]],
-    texts: [&[u8]; 3],
-) -> Result<Dialog, Fail> {
+) -> Result<Bytes, Fail> {
     let input = asked(alloc, transport)?;
     let sdp = read(alloc, ALICE)?;
-    let mut dialog = Dialog::new(alloc, &input.from_tag)?;
-    let mut plan = offer(alloc, &CONFIG, &dialog, &input, &sdp)?;
-    let offered = written(rt, alloc, &mut plan, &sdp, &[30_000, 30_002], keys)?;
-    assert_eq!(rt; offered.as_slice(), texts[0]);
+    let mut plan = offer(alloc, &CONFIG, dialog, &input, &sdp)?;
+    let out = written(rt, alloc, &mut plan, &sdp, ports, keys)?;
     dialog.apply(plan);
-    let sdp = read(alloc, texts[1])?;
-    let mut plan = answer(alloc, &CONFIG, &dialog, &replied(alloc)?, &sdp)?;
-    let answered = written(rt, alloc, &mut plan, &sdp, &[], &[])?;
-    assert_eq!(rt; answered.as_slice(), texts[2]);
-    assert_eq!(rt; plan.signal().len(), 1);
+    Ok(out)
+}
+
+/// What alice gets of this answer by bob. The dialog takes it in.
+fn replied_to(
+    rt: &impl Abort,
+    alloc: Global,
+    dialog: &mut Dialog,
+    description: &[u8],
+) -> Result<Bytes, Fail> {
+    assert!(rt; description.len() < 65_536);
+    let input = replied(alloc)?;
+    let sdp = read(alloc, description)?;
+    let mut plan = answer(alloc, &CONFIG, dialog, &input, &sdp)?;
+    let out = written(rt, alloc, &mut plan, &sdp, &[], &[])?;
+    assert!(rt; plan.signal().len() == 1);
     dialog.apply(plan);
-    assert_eq!(rt; dialog.tag(Side::B), Some(b"bob".as_slice()));
-    Ok(dialog)
+    Ok(out)
 }
 
 #[test]
 fn a_call_is_offered_and_answered(rt: HostRuntime) -> Result<(), Fail> {
-    let dialog = check_call(
-        &rt,
-        rt.alloc(),
-        None,
-        &[],
-        [ALICE_OFFERED, BOB, BOB_ANSWERED],
-    )?;
-    assert_eq!(rt; dialog.protocol(0, Side::B), Some(Proto::Avp));
+    let alloc = rt.alloc();
+    let mut dialog = Dialog::new(alloc, &text(alloc, b"alice")?)?;
+    let out = offered(&rt, alloc, &mut dialog, None, &[30_000, 30_002], &[])?;
+    assert_eq!(rt; out.as_slice(), ALICE_OFFERED);
+    let out = replied_to(&rt, alloc, &mut dialog, BOB)?;
+    assert_eq!(rt; out.as_slice(), BOB_ANSWERED);
+    assert!(rt; dialog.protocol(0, Side::B) == Some(Proto::Avp));
     Ok(())
 }
 
 #[test]
 fn a_later_offer_carries_the_key_in_force_alone(rt: HostRuntime) -> Result<(), Fail> {
     let alloc = rt.alloc();
-    let dialog = check_call(
-        &rt,
-        alloc,
-        Some(Proto::Savp),
-        &KEYS,
-        [ALICE_SECURED, BOB_SECURED, BOB_ANSWERED],
-    )?;
-    assert_eq!(rt; dialog.protocol(0, Side::A), Some(Proto::Avp));
-    assert_eq!(rt; dialog.protocol(0, Side::B), Some(Proto::Savp));
-    let sdp = read(alloc, ALICE)?;
-    let mut plan = offer(alloc, &CONFIG, &dialog, &asked(alloc, None)?, &sdp)?;
-    assert!(rt; plan.pairs() == 0 && plan.keys() == 0 && !plan.drops(0));
-    let again = written(&rt, alloc, &mut plan, &sdp, &[], &[])?;
-    assert_eq!(rt; again.as_slice(), ALICE_AGAIN);
+    let secure = Some(Proto::Savp);
+    let mut dialog = Dialog::new(alloc, &text(alloc, b"alice")?)?;
+    let out = offered(&rt, alloc, &mut dialog, secure, &[30_000, 30_002], &KEYS)?;
+    assert_eq!(rt; out.as_slice(), ALICE_SECURED);
+    let out = replied_to(&rt, alloc, &mut dialog, BOB_SECURED)?;
+    assert_eq!(rt; out.as_slice(), BOB_ANSWERED);
+    let out = offered(&rt, alloc, &mut dialog, None, &[], &[])?;
+    assert_eq!(rt; out.as_slice(), ALICE_AGAIN);
     Ok(())
 }

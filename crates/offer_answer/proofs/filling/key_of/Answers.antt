@@ -1,4 +1,4 @@
-use Rattle.std.proofs.Common.{◌≡◌, false, sym, ◌∙◌, arith}
+use Rattle.std.proofs.Common.{false, sym, ◌∙◌}
 use Rattle.offer_answer.proofs.NextLegs.{key-turn}
 use Rattle.offer_answer.proofs.filling.key_of.Goals as goal
 

@@ -1,4 +1,4 @@
-use Rattle.std.proofs.Common.{◌≡◌, false, sym, ◌∙◌, arith}
+use Rattle.std.proofs.Common.{false, sym, ◌∙◌}
 use Rattle.offer_answer.proofs.NextLegs.{port-turn}
 use Rattle.offer_answer.proofs.filling.port_of.Goals as goal
 

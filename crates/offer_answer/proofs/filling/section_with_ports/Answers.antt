@@ -1,8 +1,5 @@
-use Rattle.std.proofs.Common.{◌≡◌, ℕ, map, sym, ap, ◌∙◌, subst, unwrap_or}
+use Rattle.std.proofs.Common.{map}
 use Rattle.offer_answer.specs.Offering.{leg_asked}
-use Rattle.offer_answer.specs.Texts.{new_port}
-use Rattle.offer_answer.specs.Nexts.{LegNext}
-use Rattle.offer_answer.specs.declared.leg.Leg.{Leg}
 use Rattle.port_pool.specs.declared.holder.Side.TheVariants.{A, B}
 use Rattle.offer_answer.proofs.NextLegs.{two-sides, leg-ported}
 use Rattle.offer_answer.proofs.filling.section_with_ports.Goals as goal

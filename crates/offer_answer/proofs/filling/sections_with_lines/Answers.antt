@@ -1,4 +1,4 @@
-use Rattle.std.proofs.Common.{◌≡◌, sym, ap, ◌∙◌, subst, slice_index_or, arith}
+use Rattle.std.proofs.Common.{sym, ap, ◌∙◌, subst, slice_index_or, arith}
 use Rattle.std.proofs.lemmas.List.{length-set, get_or_default}
 use Rattle.port_pool.specs.Signals.{other_side}
 use Rattle.offer_answer.specs.Sides.{offerer}

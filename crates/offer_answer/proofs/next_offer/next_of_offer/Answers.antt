@@ -1,4 +1,4 @@
-use Rattle.std.proofs.Common.{◌≡◌, ap, sym, ◌∙◌, arith}
+use Rattle.std.proofs.Common.{ap, sym, ◌∙◌, arith}
 use Rattle.offer_answer.proofs.Offering.{count-heard}
 use Rattle.offer_answer.proofs.next_offer.next_of_offer.Goals as goal
 

@@ -1,4 +1,4 @@
-use Rattle.std.proofs.Common.{length, map, sym, ap, ◌∙◌, subst}
+use Rattle.std.proofs.Common.{map, sym, ◌∙◌, subst}
 use Rattle.std.proofs.lemmas.List.{length-map}
 use Rattle.offer_answer.specs.Offering.{key_asked}
 use Rattle.offer_answer.specs.Filled.{FilledFor}

@@ -1,8 +1,5 @@
-use Rattle.std.proofs.Common.{◌≡◌, Some, ap, ◌∙◌, subst}
-use Rattle.port_pool.specs.declared.holder.Side.{Side}
+use Rattle.std.proofs.Common.{ap, ◌∙◌}
 use Rattle.port_pool.specs.Signals.{other_side}
-use Rattle.offer_answer.specs.Rounds.{Offered}
-use Rattle.offer_answer.specs.Profiles.{profile_offered}
 use Rattle.offer_answer.proofs.NextLegs.{written-over}
 use Rattle.offer_answer.proofs.offered.OfferedSection.made.Goals as goal
 
