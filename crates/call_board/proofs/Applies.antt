@@ -18,7 +18,8 @@ use Rattle.offer_answer.specs.declared.plan.Plan.{Plan}
 use Rattle.call_board.specs.declared.live_call.LiveCall.{LiveCall}
 use Rattle.call_board.specs.Views.{CallView, is_numbered, with_round, goes_on}
 use Rattle.call_board.specs.Boards.{CallFor, CallsFor, CellsFor}
-use Rattle.call_board.specs.Applied.{IsPlanOf}
+use Rattle.call_board.specs.Applied.{IsPlanOf, BeginsBy}
+use Rattle.call_board.specs.declared.board_plan.NewCall.{NewCall}
 
 abbrev pub AwaitsRound : Dialog → Round → Type 0
 AwaitsRound dialog (Offered ask legs keys) = Awaits dialog ask.from_tag
@@ -113,3 +114,8 @@ cells_more config taken cs c s low high = record {
         get_or-set_other taken (c.of.cell - 1) k true d (λ same. let n : c.of.cell ≡ 1 + k = omega (arith, same, low) in let f : true ≡ false = sym (equal c.of.cell (1 + k) n) ∙ is in cc)
         ∙ s.taken_are k d below
         ∙ sym (ap (λ (b : Bool). cond b true (has (cells cs) (1 + k))) is)
+
+-- what is kept of a call that begins by this round
+pub begins_by : (config : Config) (id : List ℕ) (round : Round) (new : NewCall) → BeginsBy config id round new → (new.id.list ≡ id) × DialogFor config new.dialog [] × AwaitsRound new.dialog round
+begins_by config id (Offered ask legs keys) new b = (b.id_is, b.dialog_for, b.awaits)
+begins_by config id (Answered ask) new b = elim b [ ]

@@ -100,7 +100,7 @@ shown_call config v calls number i d s e =
     let f = call_at_place config (λ (call : LiveCall). call.number == number) (is_numbered number) calls v.calls i d (asks_number config number) s e in
     record { of = f.of; found = f.found; call_for = f.call_for }
 
-same_one : {A : Type 0} {o : Option A} {x y : A} → o ≡ Some x → o ≡ Some y → x ≡ y
+pub same_one : {A : Type 0} {o : Option A} {x y : A} → o ≡ Some x → o ≡ Some y → x ≡ y
 same_one {A} {o} {x} {y} e f = let q : Some x ≡ Some y = sym e ∙ f in cc
 
 -- the call that is shown is that of this number

@@ -1,0 +1,37 @@
+use Rattle.std.proofs.Common.{◌≡◌, ◌∙◌, ◌-◌, ◌+◌, ◌++◌, ◌∷◌, [], refl, ap, sym, subst, ℕ, List, Bool, true, set, arith}
+use Rattle.std.proofs.lemmas.List.{with_items_is}
+use Rattle.call_board.specs.declared.live_call.LiveCall.{LiveCall}
+use Rattle.call_board.specs.Views.{CallView}
+use Rattle.call_board.specs.Boards.{CallFor, CallsFor, CellsFor}
+use Rattle.call_board.proofs.Applies.{applied, begins_by, one_more_call, cells_more}
+use Rattle.call_board.proofs.board.Board.begin.Goals as goal
+
+pub returns : goal.returns
+returns c = λ config v of round s next number cell b p.
+    let view : CallView = record { of = of; rounds = round ∷ []; first = c.args.now; last = c.args.now } in
+    let new = begins_by config of.id round c.args.new b in
+    let items : List Bool = c.args.self.now.taken.items in
+    let whole = with_items_is c.args.self.now.taken c.take_cell.new.taken (omega (arith, c.take_cell.auto.taken, c.as_mut_slice.ensures.len)) in
+    let taken : c.take_cell.new.taken ≡ set items (c.args.cell - 1) true =
+        c.take_cell.ensures ∙ ap (λ (those : List Bool). set those (c.args.cell - 1) true) c.as_mut_slice.ensures.value in
+    record {
+      config_is = s.config_is;
+      moment_is = s.moment_is;
+      begun_is = ap (λ (n : ℕ). n + 1) s.begun_is;
+      drawn_is = s.drawn_is;
+      calls_for = subst (λ (calls : List LiveCall). CallsFor config calls (v.calls ++ view ∷ [])) (sym c.push_reserved.ensures.items)
+          (one_more_call config c.args.self.now.calls.items v.calls
+          (record { number = c.args.call; cell = c.args.cell; id = c.args.new.id; dialog = c.apply.new.self; first_moment = c.args.now; last_moment = c.args.now }) view s.calls_for
+          (record {
+            number_is = number;
+            cell_is = cell;
+            id_is = new.0;
+            dialog_for = applied config c.args.new.dialog c.apply.new.self c.args.plan [] round c.apply.ensures.offered c.apply.ensures.answered new.1 new.2 p;
+            first_is = refl;
+            last_is = refl;
+          }));
+      cells_for = subst (λ (those : List Bool). CellsFor config those (v.calls ++ view ∷ [])) (sym (whole ∙ taken ∙ ap (λ (n : ℕ). set items (n - 1) true) cell))
+          (cells_more config items v.calls view s.cells_for next.cell_is_one next.cell_is_there);
+      pool_for = s.pool_for;
+      replies_for = s.replies_for;
+    }

@@ -1,0 +1,14 @@
+use Rattle.std.proofs.Common.{refl}
+use Rattle.call_board.proofs.Applies.{applied, begun_awaits}
+use Rattle.call_board.proofs.live_call.LiveCall.go_on.Goals as goal
+
+pub returns : goal.returns
+returns c = λ config of round s begun p. record {
+  number_is = s.number_is;
+  cell_is = s.cell_is;
+  id_is = s.id_is;
+  dialog_for = applied config c.args.self.now.dialog c.apply.new.self c.args.plan of.rounds round c.apply.ensures.offered c.apply.ensures.answered s.dialog_for
+      (begun_awaits config c.args.self.now.dialog of.rounds round s.dialog_for begun) p;
+  first_is = s.first_is;
+  last_is = refl;
+}
