@@ -1,5 +1,5 @@
 -- What a board becomes by a plan that is taken in.
-use Rattle.std.proofs.Common.{◌≡◌, ◌∙◌, refl, ap, sym, subst, ℕ, zero, suc, ◌+◌, ◌-◌, ◌<◌, ◌≤◌, Bool, true, false, cond, List, [], ◌∷◌, ◌++◌, map, length, filter, Option, Some, None, get_or, set, arith}
+use Rattle.std.proofs.Common.{◌≡◌, ◌∙◌, refl, ap, sym, subst, ℕ, zero, suc, ◌+◌, ◌-◌, ◌<◌, ◌≤◌, Bool, true, false, cond, List, [], ◌∷◌, ◌++◌, map, length, filter, Some, get_or, set, arith}
 use Rattle.std.specs.Prelude.{◌==◌, position}
 use Rattle.std.proofs.lemmas.List.{length-set, get_or-set_same, get_or-set_other, map_push}
 use Rattle.std.proofs.lemmas.List.Quantifiers.{position-Some}
@@ -49,9 +49,11 @@ went_on_at config number round now (call ∷ calls) (c ∷ cs) zero d new s belo
     (step c (ap (λ (b : Bool). first (cond b (c ∷ filter (is_numbered number) cs) (filter (is_numbered number) cs))) is), s.1)
 went_on_at config number round now (call ∷ calls) (c ∷ cs) (suc i) d new s below is_so is_not step =
     let is : is_numbered number c ≡ false = ap (λ n. n == number) (sym s.0.number_is) ∙ is_not zero (omega arith) in
-    subst (λ (b : Bool). CallsFor config (call ∷ set calls i new) (cond b (with_round round now c ∷ cs) (c ∷ goes_on number round now cs))) (sym is)
-    (s.0, went_on_at config number round now calls cs i d new s.1 (omega (arith, below)) is_so (λ k lt. is_not (suc k) (omega (arith, lt)))
-    (λ e f. step e (ap (λ (b : Bool). first (cond b (c ∷ filter (is_numbered number) cs) (filter (is_numbered number) cs))) is ∙ f)))
+    subst (λ (b : Bool). CallsFor config (call ∷ set calls i new) (cond b (with_round round now c ∷ cs) (c ∷ goes_on number round now cs))) (sym is) (
+      s.0,
+      went_on_at config number round now calls cs i d new s.1 (omega (arith, below)) is_so (λ k lt. is_not (suc k) (omega (arith, lt)))
+          (λ e f. step e (ap (λ (b : Bool). first (cond b (c ∷ filter (is_numbered number) cs) (filter (is_numbered number) cs))) is ∙ f)),
+    )
 
 -- the other calls are kept as before
 pub went_on : (config : Config) (number : ℕ) (round : Round) (now : ℕ) (calls : List LiveCall) (cs : List CallView) (i : ℕ) (d new : LiveCall) → CallsFor config calls cs →

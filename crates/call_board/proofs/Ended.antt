@@ -1,16 +1,15 @@
 -- A call that ends.
-use Rattle.std.proofs.Common.{◌≡◌, ◌∙◌, refl, ap, sym, subst, ℕ, zero, suc, ◌+◌, ◌-◌, ◌<◌, ◌≤◌, ◌⊎◌, inl, inr, Bool, true, false, cond, List, [], ◌∷◌, ◌++◌, map, length, filter, take, drop, Option, Some, None, get_or, set, arith}
+use Rattle.std.proofs.Common.{◌≡◌, ◌∙◌, refl, ap, sym, subst, ℕ, zero, suc, ◌+◌, ◌-◌, ◌<◌, ◌≤◌, Bool, true, false, cond, List, [], ◌∷◌, map, length, filter, Some, get_or, set, arith}
 use Rattle.std.specs.Prelude.{◌==◌, position}
 use Rattle.std.specs.List.{remove}
 use Rattle.std.proofs.lemmas.List.{length-set, get_or-set_same, get_or-set_other}
 use Rattle.std.proofs.lemmas.List.Quantifiers.{position-Some}
-use Rattle.std.proofs.lemmas.Bool.{eqb-false}
 use Rattle.relay_outside.specs.declared.settings.Config.{Config}
 use Rattle.histories.specs.Words.{In, here, there, first, has}
 use Rattle.histories.proofs.Lists.{equal, equal_if, it_has, maps, filtered, first_is_in}
 use Rattle.call_board.specs.declared.live_call.LiveCall.{LiveCall}
 use Rattle.call_board.specs.Views.{CallView, is_numbered, without}
-use Rattle.call_board.specs.Boards.{CallFor, CallsFor, CellsFor, CellsApart}
+use Rattle.call_board.specs.Boards.{CallsFor, CellsFor, CellsApart}
 
 removed_at : (config : Config) (number : ℕ) (calls : List LiveCall) (cs : List CallView) (i : ℕ) (d : LiveCall) → CallsFor config calls cs → i < length calls →
     ((get_or calls i d).number == number) ≡ true → ((k : ℕ) → k < i → ((get_or calls k d).number == number) ≡ false) → CallsFor config (remove calls i) (without number cs)
@@ -86,7 +85,7 @@ without_cells number (x ∷ cs) c e apart n = go (is_numbered number x) refl (wi
         ∙ subst (λ (d : CallView). has (cells cs) n ≡ cond (d.of.cell == n) false (has (cells (x ∷ cs)) n)) same (this (x.of.cell == n) refl)
     go false is more =
         let f : first (filter (is_numbered number) cs) ≡ Some c =
-            sym (ap (λ (b : Bool). first (cond b (x ∷ filter (is_numbered number) cs) (filter (is_numbered number) cs))) is) ∙ e in
+        sym (ap (λ (b : Bool). first (cond b (x ∷ filter (is_numbered number) cs) (filter (is_numbered number) cs))) is) ∙ e in
         ap (λ (b : Bool). has (cells (cond b cs (x ∷ without number cs))) n) is
         ∙ later (x.of.cell == n) refl (has_cell number cs c f) (more f apart.2 n)
 

@@ -1,5 +1,5 @@
 -- A new board.
-use Rattle.std.proofs.Common.{◌≡◌, ◌∙◌, refl, ap, sym, subst, ℕ, zero, suc, ◌+◌, ◌<◌, Bool, true, false, not, List, [], ◌∷◌, ◌++◌, length, map, filter, replicate, get_or, append-nil, arith}
+use Rattle.std.proofs.Common.{◌≡◌, ◌∙◌, refl, ap, sym, subst, ℕ, Bool, false, not, List, [], ◌∷◌, length, filter, replicate, get_or, append-nil, arith}
 use Rattle.std.proofs.lemmas.List.{get_or-replicate, length-replicate}
 use Rattle.relay_outside.specs.declared.settings.Config.{Config}
 use Rattle.histories.specs.Words.{has, numbers}
@@ -9,7 +9,7 @@ use Rattle.port_pool.specs.Pools.{Pairs}
 use Rattle.port_pool.proofs.Standing.{fresh_stands, stands_alike}
 use Rattle.call_board.specs.declared.live_call.LiveCall.{LiveCall}
 use Rattle.call_board.specs.Pairs.{free}
-use Rattle.call_board.specs.Views.{CallView, view_of, times_leased}
+use Rattle.call_board.specs.Views.{times_leased}
 use Rattle.call_board.specs.Boards.{CallsFor, CellsFor}
 
 all_kept : (xs : List ℕ) → filter (λ p. not (has [] p)) xs ≡ xs

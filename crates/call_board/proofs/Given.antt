@@ -1,14 +1,14 @@
 -- Leases that are given back one after the other.
-use Rattle.std.proofs.Common.{◌≡◌, ◌∙◌, refl, ap, sym, subst, ℕ, suc, ◌+◌, ◌<◌, Bool, true, false, cond, List, [], ◌∷◌, ◌++◌, length, append_assoc, append-nil, arith}
+use Rattle.std.proofs.Common.{◌≡◌, ◌∙◌, refl, ap, sym, subst, ℕ, Bool, true, false, cond, List, [], ◌∷◌, ◌++◌, length, append_assoc, append-nil, arith}
 use Rattle.std.specs.Prelude.{◌==◌}
 use Rattle.relay_outside.specs.declared.settings.Config.{Config}
 use Rattle.histories.specs.Words.{has}
 use Rattle.histories.proofs.Lists.{equal, equal_if}
-use Rattle.port_pool.specs.Pools.{Pairs, generation, after_return}
+use Rattle.port_pool.specs.Pools.{Pairs, after_return}
 use Rattle.port_pool.specs.declared.pairs.Lease.{Lease}
 use Rattle.call_board.specs.declared.board.Board.{Board}
 use Rattle.call_board.specs.Views.{View, with_returned}
-use Rattle.call_board.specs.Boards.{Shows, IsOut, AreOut, pairs_in}
+use Rattle.call_board.specs.Boards.{Shows, AreOut, pairs_in}
 
 has-behind : (xs : List ℕ) (p q : ℕ) → has xs q ≡ false → (p == q) ≡ false → has (xs ++ p ∷ []) q ≡ false
 has-behind [] p q e n = ap (λ (b : Bool). cond b true false) n
@@ -38,12 +38,15 @@ later p q qs e = go (q == p) refl
 -- the other leases are out as before when a pair was given back
 pub out_after : (pool : Pairs) (pair : ℕ) (leases : List Lease) → AreOut pool leases → has (pairs_in leases) pair ≡ false → AreOut (after_return pool pair) leases
 out_after pool pair [] out new = _
-out_after pool pair (lease ∷ leases) out new =
-    (record {
-      of_pool = out.0.of_pool;
-      not_free = has-behind pool.free pair lease.pair out.0.not_free (differs pair lease.pair (pairs_in leases) new);
-      last = out.0.last;
-    }, out.1, out_after pool pair leases out.2 (later pair lease.pair (pairs_in leases) new))
+out_after pool pair (lease ∷ leases) out new = (
+  record {
+    of_pool = out.0.of_pool;
+    not_free = has-behind pool.free pair lease.pair out.0.not_free (differs pair lease.pair (pairs_in leases) new);
+    last = out.0.last;
+  },
+  out.1,
+  out_after pool pair leases out.2 (later pair lease.pair (pairs_in leases) new),
+)
 
 -- one pair more was given back
 pub one_more_returned : (config : Config) (board : Board) (v : View) (given : List ℕ) (pair : ℕ) → Shows config board (with_returned (with_returned v given) (pair ∷ [])) →

@@ -1,9 +1,8 @@
 -- What one more lease adds to those that were made.
-use Rattle.std.proofs.Common.{◌≡◌, ◌∙◌, refl, ap, sym, subst, ℕ, zero, suc, ◌+◌, ◌<◌, ◌≤◌, Bool, true, false, cond, List, [], ◌∷◌, ◌++◌, length, map, take, drop, Option, Some, arith}
+use Rattle.std.proofs.Common.{◌≡◌, ◌∙◌, refl, ap, sym, subst, ℕ, zero, suc, ◌+◌, ◌<◌, Bool, true, false, cond, List, [], ◌∷◌, ◌++◌, length, map, take, drop, Option, Some, arith}
 use Rattle.std.specs.Prelude.{count_by, ◌==◌}
 use Rattle.std.proofs.lemmas.List.{drop-drop, map_push}
 use Rattle.std.proofs.lemmas.List.Sums.{sum_by-append}
-use Rattle.std.proofs.lemmas.Bool.Decides.{nat_tests}
 use Rattle.relay_outside.specs.declared.settings.Config.{Config}
 use Rattle.histories.specs.Words.{has}
 use Rattle.histories.proofs.Lists.{equal, equal_if}
@@ -100,7 +99,7 @@ pub one_more_lease : (config : Config) (v : View) (k : ℕ) (pair : ℕ) (rest :
 one_more_lease config v k pair rest made free e is =
     let none = count-none pair (take k v.free) (not-before (pair_count config) k v.free pair rest free e) in
     let same : lease_at config (with_leases v k).leases pair ≡ lease_at config v.leases pair =
-        ap (λ n. record { pair = pair; rtp_port = pair_port config pair; generation = n }) (omega (arith, none)) in
+    ap (λ n. record { pair = pair; rtp_port = pair_port config pair; generation = n }) (omega (arith, none)) in
     ap (λ (lease : Lease). made ++ lease ∷ []) same
     ∙ ap (λ (those : List Lease). those ++ lease_at config v.leases pair ∷ []) is
     ∙ sym (map_push (lease_at config v.leases) (take k v.free) pair)

@@ -1,5 +1,5 @@
 -- Whether an element passes, by the first place at which one does.
-use Rattle.std.proofs.Common.{◌≡◌, ◌∙◌, refl, ℕ, suc, ◌+◌, Bool, true, false, not, List, [], ◌∷◌, length, Option, Some, None, inl, inr, arith, if◌then◌else◌}
+use Rattle.std.proofs.Common.{◌≡◌, ◌∙◌, refl, ℕ, suc, ◌+◌, Bool, true, false, not, List, [], ◌∷◌, length, Some, None, inl, inr, arith, if◌then◌else◌}
 use Rattle.std.specs.Prelude.{◌||◌, is_some, nat_lt, position}
 use Rattle.std.specs.List.{list_any, position_or_len}
 use Rattle.std.proofs.lemmas.Bool.{cases_lt}

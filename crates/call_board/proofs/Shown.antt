@@ -8,7 +8,7 @@ use Rattle.relay_outside.specs.declared.settings.Config.{Config}
 use Rattle.histories.specs.Words.{first}
 use Rattle.call_board.proofs.Placed.{any-position}
 use Rattle.call_board.specs.declared.live_call.LiveCall.{LiveCall}
-use Rattle.call_board.specs.Views.{CallView, View, is_of_id, is_numbered, call_of_id, call_numbered}
+use Rattle.call_board.specs.Views.{CallView, View, is_of_id, is_numbered, call_numbered}
 use Rattle.call_board.specs.Boards.{CallFor, CallsFor, ShowsCall}
 
 pub calls_count : (config : Config) (calls : List LiveCall) (cs : List CallView) → CallsFor config calls cs → length calls ≡ length cs

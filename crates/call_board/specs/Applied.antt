@@ -1,5 +1,5 @@
 -- What a board becomes by a plan that is taken in.
-use Rattle.std.specs.Prelude.{◌≡◌, ◌<◌, ◌≤◌, ◌^◌, ℕ, Bool, true, false, List, [], ◌∷◌, Option, Some, None}
+use Rattle.std.specs.Prelude.{◌≡◌, ◌<◌, ◌≤◌, ◌^◌, ℕ, true, List, [], ◌∷◌, Option, Some, None}
 use Rattle.std.specs.Vec.{vec_len, vec_capacity}
 use Rattle.relay_outside.specs.declared.settings.Config.{Config}
 use Rattle.offer_answer.specs.Rounds.{Round, Offered, Answered}

@@ -85,3 +85,12 @@ AreOut pool (lease ∷ leases) = IsOut pool lease × (has (pairs_in leases) leas
 abbrev pub CellsApart : List CallView → Type 0
 CellsApart [] = Unit {0}
 CellsApart (c ∷ cs) = (has (map (λ (d : CallView). d.of.cell) cs) c.of.cell ≡ false) × (1 ≤ c.of.cell) × CellsApart cs
+
+-- the same calls, and the same room for more
+pub record KeepsCalls (old new : Board) : Type 0 where
+  pub calls_are : new.calls ≡ old.calls
+  pub begun_is : new.begun ≡ old.begun
+
+-- the same kept replies, and the same room for more
+abbrev pub KeepsReplies : Board → Board → Type 0
+KeepsReplies old new = new.replies ≡ old.replies

@@ -1,11 +1,11 @@
 -- The calls: which are live, in which cells, and their accepted offers and answers.
-use Rattle.std.specs.Prelude.{ℕ, ◌+◌, Bool, true, false, not, ◌==◌, List, [], ◌∷◌, ◌++◌, map, length, Option, Some, None, filter, if◌then◌else◌}
+use Rattle.std.specs.Prelude.{ℕ, ◌+◌, Bool, false, not, ◌==◌, List, [], ◌∷◌, ◌++◌, map, length, Option, Some, None, filter, if◌then◌else◌}
 use Rattle.std.specs.List.{list_any, flat_map}
 use Rattle.std.specs.Str.{bytes_eq}
 use Rattle.histories.specs.Words.{first, final, has, greatest, numbers}
 use Rattle.offer_answer.specs.Rounds.{Round}
 use Rattle.offer_answer.specs.Rounds as round
-use Rattle.call_board.specs.Acts.{Call, Offer, Answer, Act, Repeated, Starved, Failed, Undone, Offered, Answered, Deleted, Queried, Told, BoardEvent, Turn, Tick, Stop, BoardEntry, act}
+use Rattle.call_board.specs.Acts.{Call, Act, Offered, Answered, Deleted, BoardEvent, Turn, Tick, Stop, BoardEntry, act}
 
 -- the call that the entry began
 abbrev pub begun_by_act : Act → List Call

@@ -3,7 +3,7 @@ use Rattle.std.specs.Prelude.{ℕ, Bool, true, false, List, Option, Some, None, 
 use Rattle.relay_outside.specs.declared.address.Addr.{Addr}
 use Rattle.cookie_cache.specs.Keepings.{Keeping}
 use Rattle.cookie_cache.specs.Keepings as cache
-use Rattle.call_board.specs.Acts.{Control, Act, Repeated, Starved, Failed, Undone, Offered, Answered, Deleted, Queried, Told, BoardEvent, Turn, Tick, Stop, BoardEntry}
+use Rattle.call_board.specs.Acts.{Act, Repeated, Starved, BoardEvent, Turn, Tick, Stop, BoardEntry}
 
 -- the first reply of a cookie is kept, and none for want of memory
 abbrev pub is_kept : Act → Bool

@@ -7,7 +7,7 @@ ghost use Rattle.offer_answer.specs.Rounds.{Round};
 ghost use Rattle.offer_answer.specs.Sides.{is_begun};
 ghost use Rattle.call_board.specs.Acts.{Call};
 ghost use Rattle.call_board.specs.Views.{View, CallView, with_round, with_calls, with_new_call, goes_on, call_numbered};
-ghost use Rattle.call_board.specs.Boards.{Shows, CallFor, IsLive};
+ghost use Rattle.call_board.specs.Boards.{Shows, CallFor, IsLive, KeepsReplies};
 ghost use Rattle.call_board.specs.Applied.{IsPlanOf, BeginsBy, IsNext, TakesIn, taken_in, MayApply};
 
 use crate::board::Board;
@@ -40,7 +40,8 @@ impl Board {
     /// Takes in one more offer or answer of a live call.
     fn go_on(&mut self, plan: Plan, call: u64, now: u64)
         requires { IsLive self.old call }
-        ensures { (config : Config) (v : View) (c : CallView) (round : Round) → Shows config self.old v → call_numbered v call ≡ Some c → is_begun c.rounds ≡ true →
+        ensures replies { KeepsReplies self.old self.new }
+        ensures taken { (config : Config) (v : View) (c : CallView) (round : Round) → Shows config self.old v → call_numbered v call ≡ Some c → is_begun c.rounds ≡ true →
             IsPlanOf config c.rounds round plan → Shows config self.new (with_calls v (goes_on call round now v.calls)) }
     {
         let place = self.place(call);
@@ -51,7 +52,8 @@ impl Board {
     fn begin(&mut self, new: NewCall, plan: Plan, call: u64, cell: u32, now: u64)
         requires room { vec_len self.old.calls < vec_capacity self.old.calls }
         requires few { self.old.begun < 2 ^ 63 }
-        ensures { (config : Config) (v : View) (of : Call) (round : Round) → Shows config self.old v → IsNext config v of → call ≡ of.number → cell ≡ of.cell →
+        ensures replies { KeepsReplies self.old self.new }
+        ensures taken { (config : Config) (v : View) (of : Call) (round : Round) → Shows config self.old v → IsNext config v of → call ≡ of.number → cell ≡ of.cell →
             BeginsBy config of.id round new → IsPlanOf config [] round plan →
             Shows config self.new (with_new_call v (record { of = of; rounds = round ∷ []; first = now; last = now })) }
     {
@@ -74,7 +76,8 @@ impl Board {
     /// and fewer than 2^63 calls were begun.
     pub fn apply(&mut self, plan: BoardPlan, now: u64)
         requires { MayApply self.old plan plan.begun }
-        ensures { (config : Config) (v : View) (of : Call) (round : Round) → Shows config self.old v → TakesIn config v of round plan plan.begun →
+        ensures replies { KeepsReplies self.old self.new }
+        ensures taken { (config : Config) (v : View) (of : Call) (round : Round) → Shows config self.old v → TakesIn config v of round plan plan.begun →
             Shows config self.new (taken_in v of round now plan plan.begun) }
     {
         let BoardPlan {

@@ -9,7 +9,7 @@ ghost use Rattle.histories.specs.Words.{has};
 ghost use Rattle.port_pool.specs.Pools.{generation};
 ghost use Rattle.offer_answer.specs.Plan as plan;
 ghost use Rattle.call_board.specs.Views.{View, CallView, at_moment, with_keeping, one_drawn, with_returned, without_call, call_of_id, call_numbered};
-ghost use Rattle.call_board.specs.Boards.{Shows, ShowsCall, BoardFor, IsLive};
+ghost use Rattle.call_board.specs.Boards.{Shows, ShowsCall, BoardFor, IsLive, KeepsCalls, KeepsReplies};
 
 use crate::live_call::{LiveCall, place_of, place_of_id};
 use cookie_cache::CookieCache;
@@ -66,7 +66,9 @@ impl Board {
 
     /// Raises the board's last moment to `now`, in milliseconds, where that is greater, and answers it.
     pub fn advance(&mut self, now: u64) -> u64
-        ensures { (config : Config) (v : View) → Shows config self.old v → Shows config self.new (at_moment v now) × (result ≡ max now v.moment) }
+        ensures moment { (config : Config) (v : View) → Shows config self.old v → Shows config self.new (at_moment v now) × (result ≡ max now v.moment) }
+        ensures calls { KeepsCalls self.old self.new }
+        ensures replies { KeepsReplies self.old self.new }
     {
         self.moment = self.moment.max(now);
         self.moment
@@ -87,6 +89,8 @@ impl Board {
     pub fn reserve_reply(&mut self) -> Result<(), OutOfMemory>
         ensures shows { (config : Config) (v : View) → Shows config self.old v → Shows config self.new v }
         ensures place { OnOk result (HasSparePlace self.new.replies) }
+        ensures calls { KeepsCalls self.old self.new }
+        ensures pool { self.new.pool ≡ self.old.pool }
     {
         self.replies.reserve()
     }
@@ -96,7 +100,8 @@ impl Board {
     pub fn keep_reply(&mut self, source: Addr, cookie: Text, reply: Text, now: u64)
         requires cookie { IsCookie cookie.list }
         requires place { HasSparePlace self.old.replies }
-        ensures { (config : Config) (v : View) → Shows config self.old v →
+        ensures calls { KeepsCalls self.old self.new }
+        ensures kept { (config : Config) (v : View) → Shows config self.old v →
             Shows config self.new (with_keeping v (record { source = source; cookie = cookie.list; reply = reply.list; moment = keepings.moment_used v.keepings now })) }
     {
         self.replies.keep(source, cookie, reply, now);
@@ -105,7 +110,9 @@ impl Board {
     /// Numbers a drawn key, from 0. Fewer than 2^63 keys were drawn before.
     pub fn count_draw(&mut self) -> u64
         requires { self.old.drawn < 2 ^ 63 }
-        ensures { (config : Config) (v : View) → Shows config self.old v → Shows config self.new (one_drawn v) × (result ≡ v.drawn) }
+        ensures drawn { (config : Config) (v : View) → Shows config self.old v → Shows config self.new (one_drawn v) × (result ≡ v.drawn) }
+        ensures calls { KeepsCalls self.old self.new }
+        ensures replies { KeepsReplies self.old self.new }
     {
         let number = self.drawn;
         self.drawn += 1;
@@ -129,7 +136,9 @@ impl Board {
         requires of_pool { lease.pair < length self.old.pool.generations }
         requires not_free { has self.old.pool.free lease.pair ≡ false }
         requires last { generation self.old.pool lease.pair ≡ lease.generation }
-        ensures { (config : Config) (v : View) → Shows config self.old v → Shows config self.new (with_returned v (lease.pair ∷ [])) }
+        ensures returned { (config : Config) (v : View) → Shows config self.old v → Shows config self.new (with_returned v (lease.pair ∷ [])) }
+        ensures calls { KeepsCalls self.old self.new }
+        ensures replies { KeepsReplies self.old self.new }
     {
         self.pool.give_back(lease);
     }

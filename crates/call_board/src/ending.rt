@@ -3,7 +3,7 @@
 ghost use Rattle.std.specs.Prelude.{◌≡◌, ℕ, List, Some, option_map, slice_set, ◌-◌, false};
 ghost use Rattle.relay_outside.specs.declared.settings.Config.{Config};
 ghost use Rattle.call_board.specs.Views.{View, CallView, without_call, call_numbered};
-ghost use Rattle.call_board.specs.Boards.{Shows, IsLive, CellsApart};
+ghost use Rattle.call_board.specs.Boards.{Shows, IsLive, CellsApart, KeepsReplies};
 
 use crate::board::Board;
 
@@ -23,6 +23,7 @@ impl Board {
         requires { IsLive self.old call }
         ensures shows { (config : Config) (v : View) → Shows config self.old v → CellsApart v.calls → Shows config self.new (without_call v call) }
         ensures cell { (config : Config) (v : View) → Shows config self.old v → option_map (λ (c : CallView). c.of.cell) (call_numbered v call) ≡ Some result }
+        ensures replies { KeepsReplies self.old self.new }
     {
         let place = self.place(call);
         let ended = self.calls.remove(place);

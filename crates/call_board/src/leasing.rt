@@ -7,7 +7,7 @@ ghost use Rattle.port_pool.specs.Pools.{generation, AreFree};
 ghost use Rattle.port_pool.specs.LeaseLists.{with_lease};
 ghost use Rattle.offer_answer.specs.Offering.{pair_count};
 ghost use Rattle.call_board.specs.Views.{View, with_leases, with_returned};
-ghost use Rattle.call_board.specs.Boards.{Shows, AreOut, pairs_in, lease_at, leases_of};
+ghost use Rattle.call_board.specs.Boards.{Shows, KeepsCalls, KeepsReplies, AreOut, pairs_in, lease_at, leases_of};
 ghost use Rattle.call_board.specs.Planned.{HasRoom, leased};
 
 use crate::board::Board;
@@ -27,6 +27,8 @@ impl Board {
         ensures longer { length leases.new.list ≡ length leases.old.list + 1 }
         ensures room { leases.new.room ≡ leases.old.room }
         ensures rises { (pair : ℕ) → generation self.new.pool pair ≤ generation self.old.pool pair + 1 }
+        ensures calls { KeepsCalls self.old self.new }
+        ensures replies { KeepsReplies self.old self.new }
     {
         if let Some(lease) = self.pool.lease() {
             leases.push(lease);
@@ -44,6 +46,8 @@ impl Board {
         ensures leases { (config : Config) (v : View) → Shows config self.old v → AreFree (ports.pair_count config) v.free →
             result.list ≡ leases_of config v (pair_count plan.old.plan) }
         ensures plan { plan.new ≡ leased plan.old }
+        ensures calls { KeepsCalls self.old self.new }
+        ensures replies { KeepsReplies self.old self.new }
     {
         let mut leases = plan.leases.take().unwrap();
         for _made in 0..plan.plan.pairs() {
@@ -60,6 +64,8 @@ impl Board {
         ensures shows { (config : Config) (v : View) → Shows config self.old v →
             (pair : ℕ) × (pair ∷ pairs_in leases.new.list ≡ pairs_in leases.old.list) × Shows config self.new (with_returned v (pair ∷ [])) }
         ensures count { length leases.new.list + 1 ≡ length leases.old.list }
+        ensures calls { KeepsCalls self.old self.new }
+        ensures replies { KeepsReplies self.old self.new }
     {
         let Some(lease) = leases.pop() else {
             return;
@@ -71,7 +77,9 @@ impl Board {
     /// gave for the plan, and none of them was given back.
     pub fn undo_offer(&mut self, plan: BoardPlan, leases: Leases)
         requires { AreOut self.old.pool leases.list }
-        ensures { (config : Config) (v : View) → Shows config self.old v → Shows config self.new (with_returned v (pairs_in leases.list)) }
+        ensures returned { (config : Config) (v : View) → Shows config self.old v → Shows config self.new (with_returned v (pairs_in leases.list)) }
+        ensures calls { KeepsCalls self.old self.new }
+        ensures replies { KeepsReplies self.old self.new }
     {
         let _ = plan;
         let mut left = leases;

@@ -8,12 +8,12 @@ ghost use Rattle.offer_answer.specs.Widths.{WritesFrom};
 ghost use Rattle.offer_answer.specs.Offering.{AsksOffer, pair_count};
 ghost use Rattle.call_board.specs.Calls.{lowest_but};
 ghost use Rattle.call_board.specs.Views.{View, CallView};
-ghost use Rattle.call_board.specs.Boards.{Shows};
+ghost use Rattle.call_board.specs.Boards.{Shows, KeepsReplies};
 ghost use Rattle.call_board.specs.Planned.{RoomFor, PlansOffer, PlansFor, HasRoom, NewFor, target_by, board_fault};
 
+use crate::board::Board;
 use crate::board_plan::{BoardPlan, NewCall};
 use crate::fault::BoardFault;
-use crate::board::Board;
 use crate::live_call::place_of_id;
 use ng_bencode::Text;
 use ng_command::OfferIn;
@@ -57,7 +57,11 @@ fn copy_of(alloc: Global, text: &Text) -> Result<Text, OutOfMemory>
 }
 
 /// What is kept for a call of this call-id, which the side with this tag is to begin.
-pub(crate) fn new_call(alloc: Global, call_id: &Text, from_tag: &Text) -> Result<NewCall, OutOfMemory>
+pub(crate) fn new_call(
+    alloc: Global,
+    call_id: &Text,
+    from_tag: &Text,
+) -> Result<NewCall, OutOfMemory>
     ensures { (config : Config) → IfOk result (NewFor config call_id.now.list from_tag.now.list) }
 {
     let dialog = Dialog::new(alloc, from_tag)?;
@@ -149,6 +153,10 @@ impl Board {
         sdp: &Sdp,
     ) -> Result<BoardPlan, BoardFault>
         ensures shows { (config : Config) (v : View) → Shows config self.old v → Shows config self.new v }
+        ensures live { self.new.calls.items ≡ self.old.calls.items }
+        ensures begun { self.new.begun ≡ self.old.begun }
+        ensures pool { self.new.pool ≡ self.old.pool }
+        ensures replies { KeepsReplies self.old self.new }
         ensures plans { (config : Config) (v : View) (ask : OfferAsk) → Shows config self.old v → AsksOffer input.now sdp.now ask →
             PlansFor config v (target_by v input.now.call_id.list None) ask result }
         ensures room { IfOk result (HasRoom self.new) }
@@ -194,6 +202,10 @@ impl Board {
         sdp: &Sdp,
     ) -> Result<BoardPlan, BoardFault>
         ensures shows { (config : Config) (v : View) → Shows config self.old v → Shows config self.new v }
+        ensures live { self.new.calls.items ≡ self.old.calls.items }
+        ensures begun { self.new.begun ≡ self.old.begun }
+        ensures pool { self.new.pool ≡ self.old.pool }
+        ensures replies { KeepsReplies self.old self.new }
         ensures plans { (config : Config) (v : View) (ask : OfferAsk) → Shows config self.old v → AsksOffer input.now sdp.now ask →
             PlansOffer config v input.now.call_id.list ask result }
         ensures room { IfOk result (HasRoom self.new) }

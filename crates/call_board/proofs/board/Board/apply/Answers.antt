@@ -4,14 +4,14 @@ use Rattle.call_board.specs.Boards.{Shows}
 use Rattle.call_board.specs.Applied.{TakesIn, taken_in}
 use Rattle.call_board.proofs.board.Board.apply.Goals as goal
 
-pub returns-in-Some : goal.returns-in-Some
-returns-in-Some c = λ config v of round s t.
+pub returns-in-Some-clause-taken : goal.returns-in-Some-clause-taken
+returns-in-Some-clause-taken c = λ config v of round s t.
     let f = subst (λ (o : Option NewCall). TakesIn config v of round c.args.plan o) c.in-Some.is t in
     subst (λ (o : Option NewCall). Shows config c.begin.new.self (taken_in v of round c.args.now c.args.plan o)) (sym c.in-Some.is)
-    (c.begin.ensures config v of round s f.0 f.1 f.2 f.3 f.4)
+    (c.begin.ensures.taken config v of round s f.0 f.1 f.2 f.3 f.4)
 
-pub returns : goal.returns
-returns c = λ config v of round s t.
+pub returns-clause-taken : goal.returns-clause-taken
+returns-clause-taken c = λ config v of round s t.
     let f = subst (λ (o : Option NewCall). TakesIn config v of round c.args.plan o) c.in-None.is t in
     subst (λ (o : Option NewCall). Shows config c.go_on.new.self (taken_in v of round c.args.now c.args.plan o)) (sym c.in-None.is)
-    (c.go_on.ensures config v f.0 round s f.1 f.2 f.3)
+    (c.go_on.ensures.taken config v f.0 round s f.1 f.2 f.3)

@@ -22,7 +22,7 @@ returns-clause-shows c = λ config v s apart.
       cells_for =
           let whole = with_items_is c.args.self.now.taken c.free_cell.new.taken (omega (arith, c.free_cell.auto.taken, c.as_mut_slice.ensures.len)) in
           let free : c.free_cell.new.taken ≡ set c.args.self.now.taken.items (c.remove-ended.result.cell - 1) false =
-              c.free_cell.ensures ∙ ap (λ (taken : List Bool). set taken (c.remove-ended.result.cell - 1) false) c.as_mut_slice.ensures.value in
+          c.free_cell.ensures ∙ ap (λ (taken : List Bool). set taken (c.remove-ended.result.cell - 1) false) c.as_mut_slice.ensures.value in
           let cell : c.remove-ended.result.cell ≡ shown.of.of.cell = shown.call_for.cell_is in
           subst (λ (taken : List Bool). CellsFor config taken (without c.args.call v.calls))
           (sym (whole ∙ free ∙ ap (λ n. set c.args.self.now.taken.items (n - 1) false) cell))

@@ -1,4 +1,4 @@
-use Rattle.std.proofs.Common.{sym, subst, List}
+use Rattle.std.proofs.Common.{sym, subst}
 use Rattle.call_board.specs.declared.live_call.LiveCall.{LiveCall}
 use Rattle.call_board.specs.Views.{CallView, with_round}
 use Rattle.call_board.specs.Boards.{CallFor, ShowsCall}
@@ -6,8 +6,8 @@ use Rattle.call_board.proofs.Shown.{shown_call, shown_is, same_one}
 use Rattle.call_board.proofs.Applies.{went_on, cells_stay}
 use Rattle.call_board.proofs.board.Board.go_on.Goals as goal
 
-pub returns : goal.returns
-returns c = λ config v of round s e begun p.
+pub returns-clause-taken : goal.returns-clause-taken
+returns-clause-taken c = λ config v of round s e begun p.
     let old : LiveCall = c.index_mut.result.now in
     let new : LiveCall = c.go_on.new.self in
     let shown = subst (λ (call : LiveCall). ShowsCall config v c.args.call call) (sym c.index_mut.ensures.value)

@@ -1,4 +1,4 @@
-use Rattle.std.proofs.Common.{refl, ap, sym, subst, ◌∙◌, arith, ℕ, ◌≡◌, ◌≤◌, ◌<◌, ◌+◌, List, length, take, drop}
+use Rattle.std.proofs.Common.{refl, ap, sym, subst, ◌∙◌, arith, ℕ, ◌≡◌, ◌<◌, List, length, drop}
 use Rattle.port_pool.specs.LeaseLists.{LeaseList}
 use Rattle.offer_answer.specs.Offering.{pair_count}
 use Rattle.call_board.specs.Views.{with_leases}
@@ -13,6 +13,8 @@ loop-made-init c =
       leases = λ config v s free. room.0;
       free = omega arith;
       count = ap length room.0;
+      calls = record { calls_are = refl; begun_is = refl };
+      replies = refl;
       room = room.1 ∙ sym c.pairs-made-end.ensures.count;
       rises = λ pair. omega arith;
     }
@@ -44,6 +46,8 @@ loop-made-preserved c =
           ∙ one_more_lease config v k f.0 f.1 c.loop-made.leases.list free f.2 (inv.leases config v s free);
       free = omega (arith, c.lease_one.ensures.count, inv.free);
       count = omega (arith, c.lease_one.ensures.longer, inv.count);
+      calls = record { calls_are = c.lease_one.ensures.calls.calls_are ∙ inv.calls.calls_are; begun_is = c.lease_one.ensures.calls.begun_is ∙ inv.calls.begun_is };
+      replies = c.lease_one.ensures.replies ∙ inv.replies;
       room = c.lease_one.ensures.room ∙ inv.room;
       rises = λ pair. let a = c.lease_one.ensures.rises pair in let b = inv.rises pair in omega (arith, a, b);
     }

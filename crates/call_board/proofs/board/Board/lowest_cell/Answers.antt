@@ -1,4 +1,4 @@
-use Rattle.std.proofs.Common.{ap, sym, ◌∙◌, arith, ℕ, length, Option, List, Bool, not, position, unwrap_or, subst, ◌≤◌, ◌≡◌, min}
+use Rattle.std.proofs.Common.{ap, ◌∙◌, arith, ℕ, Option, List, Bool, not, position, unwrap_or, subst, ◌≤◌, ◌≡◌, min}
 use Rattle.std.proofs.lemmas.List.{length-map}
 use Rattle.relay_outside.specs.declared.settings.Config.{Config}
 use Rattle.call_board.specs.Views.{CallView}

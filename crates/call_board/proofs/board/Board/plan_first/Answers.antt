@@ -26,10 +26,12 @@ pub returns-clause-plans : goal.returns-clause-plans
 returns-clause-plans c = λ config v ask s asks.
     let for = (c.in-Ok.ensures c.args.self.now.config).dialog_for in
     let made = c.in-Ok-offer.ensures.answered [] ask for asks in
-    let full = sym c.is_full.ensures ∙ c.if-is_full.false in
-    (answers_none config c.args.self.now v true [] ask c.in-Ok-offer.plan s (made.0, made.1.demands) (inr full) (sym c.lacks_pairs.ensures ∙ c.if-lacks_pairs.false), record {
-      call_is = s.begun_is;
-      cell_is = c.lowest_cell-cell.ensures config v s (has_session config c.args.self.now v s full);
-      plan_for = subst (λ (k : Config). OfferPlan k [] ask c.in-Ok-offer.plan) s.config_is made.1;
-      begins = (refl, subst (λ (tag : List ℕ). NewFor config c.args.input.now.call_id.list tag c.in-Ok.begun) (sym asks.from_tag_is) (c.in-Ok.ensures config));
-    })
+    let full = sym c.is_full.ensures ∙ c.if-is_full.false in (
+      answers_none config c.args.self.now v true [] ask c.in-Ok-offer.plan s (made.0, made.1.demands) (inr full) (sym c.lacks_pairs.ensures ∙ c.if-lacks_pairs.false),
+      record {
+        call_is = s.begun_is;
+        cell_is = c.lowest_cell-cell.ensures config v s (has_session config c.args.self.now v s full);
+        plan_for = subst (λ (k : Config). OfferPlan k [] ask c.in-Ok-offer.plan) s.config_is made.1;
+        begins = (refl, subst (λ (tag : List ℕ). NewFor config c.args.input.now.call_id.list tag c.in-Ok.begun) (sym asks.from_tag_is) (c.in-Ok.ensures config));
+      },
+    )

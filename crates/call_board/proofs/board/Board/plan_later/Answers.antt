@@ -42,10 +42,12 @@ returns-clause-plans c = λ config v ask s asks.
     let dialog = subst (λ (k : Config). DialogFor k call.dialog f.of.rounds) (sym s.config_is) f.call_for.dialog_for in
     let made = c.in-Ok.ensures.answered f.of.rounds ask dialog asks in
     subst (λ (o : Option CallView). PlansFor config v (target_by v id o) ask
-    (Ok (record { plan = c.in-Ok.plan; call = call.number; cell = call.cell; begun = None; leases = c.in-Ok-room_for.leases }))) (sym f.found)
-    (answers_none config c.args.self.now v false f.of.rounds ask c.in-Ok.plan s (made.0, made.1.demands) (inl refl) (sym c.lacks_pairs.ensures ∙ c.if-lacks_pairs.false), record {
-      call_is = f.call_for.number_is;
-      cell_is = f.call_for.cell_is;
-      plan_for = subst (λ (k : Config). OfferPlan k f.of.rounds ask c.in-Ok.plan) s.config_is made.1;
-      begins = refl;
-    })
+    (Ok (record { plan = c.in-Ok.plan; call = call.number; cell = call.cell; begun = None; leases = c.in-Ok-room_for.leases }))) (sym f.found) (
+      answers_none config c.args.self.now v false f.of.rounds ask c.in-Ok.plan s (made.0, made.1.demands) (inl refl) (sym c.lacks_pairs.ensures ∙ c.if-lacks_pairs.false),
+      record {
+        call_is = f.call_for.number_is;
+        cell_is = f.call_for.cell_is;
+        plan_for = subst (λ (k : Config). OfferPlan k f.of.rounds ask c.in-Ok.plan) s.config_is made.1;
+        begins = refl;
+      },
+    )

@@ -30,9 +30,12 @@ returns-in-Ok-clause-plans c = λ config v s.
     subst (λ (o : Option CallView). PlansAnswer config c.args.input.now c.args.sdp.now o
     (Ok (record { plan = c.in-Ok.plan; call = call.number; cell = call.cell; begun = None; leases = None }))) (sym f.found)
     (λ ask asks.
-    let made = c.in-Ok.ensures.answered f.of.rounds ask dialog asks in (made.0, record {
-      call_is = f.call_for.number_is;
-      cell_is = f.call_for.cell_is;
-      plan_for = subst (λ (k : Config). AnswerPlan k f.of.rounds ask c.args.sdp.now c.in-Ok.plan) s.config_is made.1;
-      begins_none = refl;
-    }))
+    let made = c.in-Ok.ensures.answered f.of.rounds ask dialog asks in (
+      made.0,
+      record {
+        call_is = f.call_for.number_is;
+        cell_is = f.call_for.cell_is;
+        plan_for = subst (λ (k : Config). AnswerPlan k f.of.rounds ask c.args.sdp.now c.in-Ok.plan) s.config_is made.1;
+        begins_none = refl;
+      },
+    ))

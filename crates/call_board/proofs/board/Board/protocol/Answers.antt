@@ -1,4 +1,3 @@
-use Rattle.std.proofs.Common.{◌∙◌}
 use Rattle.call_board.proofs.Shown.{shown_is}
 use Rattle.call_board.proofs.board.Board.protocol.Goals as goal
 

@@ -1,4 +1,4 @@
-use Rattle.std.proofs.Common.{refl, ap, sym, subst, ◌∙◌, arith, ℕ, ◌≡◌, ◌<◌, ◌++◌, ◌∷◌, [], List, length}
+use Rattle.std.proofs.Common.{ap, sym, subst, ◌++◌, ◌∷◌, [], List}
 use Rattle.port_pool.specs.Pools as pools
 use Rattle.port_pool.specs.Pools.{Pairs}
 use Rattle.port_pool.specs.declared.pairs.Lease.{Lease}
@@ -23,14 +23,18 @@ returns-clause-out c =
     (out_after c.args.self.now.pool c.in-Some.lease.pair c.pop.new.self.list out.2 out.1)
 
 pub returns-clause-shows : goal.returns-clause-shows
-returns-clause-shows c = λ config v s. (c.in-Some.lease.pair, ap pairs_in (sym c.in-Some.ensures.list), record {
-  config_is = s.config_is;
-  moment_is = s.moment_is;
-  begun_is = s.begun_is;
-  drawn_is = s.drawn_is;
-  calls_for = s.calls_for;
-  cells_for = s.cells_for;
-  pool_for = subst (λ (pool : Pairs). pools.StandsFor config (v.free ++ c.in-Some.lease.pair ∷ []) v.leases pool) (sym c.give_back.ensures)
-      (returned_stands config v.free v.leases c.args.self.now.pool c.in-Some.lease.pair s.pool_for);
-  replies_for = s.replies_for;
-})
+returns-clause-shows c = λ config v s. (
+  c.in-Some.lease.pair,
+  ap pairs_in (sym c.in-Some.ensures.list),
+  record {
+    config_is = s.config_is;
+    moment_is = s.moment_is;
+    begun_is = s.begun_is;
+    drawn_is = s.drawn_is;
+    calls_for = s.calls_for;
+    cells_for = s.cells_for;
+    pool_for = subst (λ (pool : Pairs). pools.StandsFor config (v.free ++ c.in-Some.lease.pair ∷ []) v.leases pool) (sym c.give_back.ensures)
+        (returned_stands config v.free v.leases c.args.self.now.pool c.in-Some.lease.pair s.pool_for);
+    replies_for = s.replies_for;
+  },
+)

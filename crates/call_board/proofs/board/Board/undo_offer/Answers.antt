@@ -1,4 +1,4 @@
-use Rattle.std.proofs.Common.{refl, ap, sym, subst, ◌∙◌, arith, ℕ, ◌≡◌, ◌<◌, ◌++◌, ◌∷◌, [], List, length, append_assoc, append-nil}
+use Rattle.std.proofs.Common.{refl, ap, sym, subst, ◌∙◌, arith, ℕ, ◌≡◌, ◌++◌, ◌∷◌, [], List, length, append_assoc, append-nil}
 use Rattle.port_pool.specs.declared.pairs.Lease.{Lease}
 use Rattle.call_board.specs.Views.{with_returned}
 use Rattle.call_board.specs.Boards.{Shows, pairs_in}
@@ -10,6 +10,8 @@ loop-back-init c = record {
   shows = λ config v s. ([], refl, none_returned config c.args.self.now v s);
   out = c.requires;
   count = omega (arith, c.len-back-end.ensures);
+  calls = record { calls_are = refl; begun_is = refl };
+  replies = refl;
 }
 
 pub take_back-requires-clause-some : goal.take_back-requires-clause-some
@@ -20,16 +22,19 @@ loop-back-preserved c = record {
   shows = λ config v s.
       let former = c.loop-back.invariant.shows config v s in
       let given : List ℕ = former.0 in
-      let f = c.take_back.ensures.shows config (with_returned v given) former.2 in
-      (given ++ f.0 ∷ [],
-      append_assoc given (f.0 ∷ []) (pairs_in c.take_back.new.leases.list) ∙ ap (λ (more : List ℕ). given ++ more) f.1 ∙ former.1,
-      one_more_returned config c.take_back.new.self v given f.0 f.2);
+      let f = c.take_back.ensures.shows config (with_returned v given) former.2 in (
+        given ++ f.0 ∷ [],
+        append_assoc given (f.0 ∷ []) (pairs_in c.take_back.new.leases.list) ∙ ap (λ (more : List ℕ). given ++ more) f.1 ∙ former.1,
+        one_more_returned config c.take_back.new.self v given f.0 f.2,
+      );
   out = c.take_back.ensures.out;
   count = omega (arith, c.take_back.ensures.count, c.loop-back.invariant.count);
+  calls = record { calls_are = c.take_back.ensures.calls.calls_are ∙ c.loop-back.invariant.calls.calls_are; begun_is = c.take_back.ensures.calls.begun_is ∙ c.loop-back.invariant.calls.begun_is };
+  replies = c.take_back.ensures.replies ∙ c.loop-back.invariant.replies;
 }
 
-pub returns : goal.returns
-returns c = λ config v s.
+pub returns-clause-returned : goal.returns-clause-returned
+returns-clause-returned c = λ config v s.
     let former = c.loop-back.invariant.shows config v s in
     let done : length c.loop-back.left.list ≡ 0 = omega (arith, c.loop-back-test.false, c.loop-back.auto._back-end, c.loop-back.invariant.count) in
     subst (λ (pairs : List ℕ). Shows config c.loop-back.self (with_returned v pairs))
