@@ -3,6 +3,11 @@
 //! `specs/Acts.antt` has the entries of that history, `specs/Calls.antt` the live calls and their rounds, `specs/Pairs.antt`
 //! who holds which pair and which pairs are free, `specs/Kept.antt` the replies that are kept, `specs/Answers.antt` what a
 //! datagram is answered and does.
+//!
+//! Module `board` has the board, `live_call` a live call. `planning` plans offers and `answering` answers as a `BoardPlan`,
+//! `leasing` leases the pairs that it demands and takes them back, `applying` takes it in, `ending` ends a call.
+//! `specs/Views.antt` says what the board keeps of its history, and what each call changes of that; `specs/Boards.antt` that it
+//! keeps it, `specs/Planned.antt` what an offer or an answer is answered, `specs/Applied.antt` what a plan makes of the board.
 #![tactic(auto)]
 
 mod answering;
@@ -14,6 +19,8 @@ mod fault;
 mod leasing;
 mod live_call;
 mod planning;
+#[cfg(test)]
+mod tests;
 
 pub use board::Board;
 pub use board_plan::BoardPlan;
