@@ -22,5 +22,9 @@ pub mod Shutting
 pub mod Plans
 pub mod Counts
 pub mod Laid
+pub mod Stays
+pub mod Own
+pub mod Given
+pub mod Beginnings
 mod Example
 mod rows

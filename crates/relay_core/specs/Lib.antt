@@ -3,3 +3,9 @@ pub mod Scripts
 pub mod Legal
 pub mod Safe
 pub mod Carried
+pub mod Codes
+pub mod Made
+pub mod Steps
+pub mod Beginning
+pub mod Standing
+pub mod Turning
