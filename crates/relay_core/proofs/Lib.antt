@@ -22,5 +22,9 @@ pub mod Shutting
 pub mod Plans
 pub mod Counts
 pub mod Laid
+pub mod Rounded
+pub mod Suites
+pub mod Asks
+pub mod CallRounds
 mod Example
 mod rows
