@@ -68,6 +68,18 @@ more_by h x number act.Told q = none (ap (λ (d : Act). round_of number d ++ rou
 pub more_rounds : (h : List BoardEntry) (x : BoardEntry) (number : ℕ) → MoreRounds h x number
 more_rounds h x number = more_by h x number (act.act x) refl
 
+pub rounds_offer : (h : List BoardEntry) (x : BoardEntry) (p : act.Offer) → act.act x ≡ act.Offered p
+    → rounds (x ∷ h) p.of.number ≡ round.Offered p.ask p.legs p.keys ∷ rounds h p.of.number
+rounds_offer h x p q =
+    ap (λ (a : Act). round_of p.of.number a ++ rounds h p.of.number) q
+    ∙ ap (λ (b : Bool). cond b (round.Offered p.ask p.legs p.keys ∷ []) [] ++ rounds h p.of.number) (equal p.of.number p.of.number refl)
+
+pub rounds_answer : (h : List BoardEntry) (x : BoardEntry) (a : act.Answer) → act.act x ≡ act.Answered a
+    → rounds (x ∷ h) a.of.number ≡ round.Answered a.ask ∷ rounds h a.of.number
+rounds_answer h x a q =
+    ap (λ (d : Act). round_of a.of.number d ++ rounds h a.of.number) q
+    ∙ ap (λ (b : Bool). cond b (round.Answered a.ask ∷ []) [] ++ rounds h a.of.number) (equal a.of.number a.of.number refl)
+
 -- A call that wasn't begun has no rounds.
 
 begun_grows : (h : List BoardEntry) (x : BoardEntry) → length (begun h) ≤ length (begun (x ∷ h))

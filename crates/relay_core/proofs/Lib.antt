@@ -26,5 +26,8 @@ pub mod Rounded
 pub mod Suites
 pub mod Asks
 pub mod CallRounds
+pub mod Lasting
+pub mod Following
+pub mod Fronts
 mod Example
 mod rows
