@@ -1,10 +1,10 @@
 -- What an accepted offer or answer asked: its command, and that it has no fault. So the rounds of a call are as they come about.
-use Rattle.std.proofs.Common.{◌≡◌, ◌∙◌, sym, ap, subst, refl, ℕ, ◌≤◌, List, [], Bool, true, false, cond, Option, Some, None, not, length}
+use Rattle.std.proofs.Common.{◌≡◌, ◌∙◌, sym, ap, refl, ℕ, ◌≤◌, List, [], Bool, true, false, cond, Option, Some, None, not, length}
 use Rattle.std.specs.Prelude.{Result, Ok, Err}
 use Rattle.std.specs.Prelude.{◌&&◌, nat_le}
 use Rattle.std.specs.List.{list_any}
-
 use Rattle.relay_outside.specs.declared.settings.Config.{Config}
+use Rattle.ng_bencode.specs.Tree.{Entries}
 use Rattle.sdp_text.specs.Lines.{lines_of}
 use Rattle.sdp_text.specs.Reading.{fault_in, v6_line_in}
 use Rattle.sdp_text.specs.declared.fault.SdpFault.{SdpFault}
@@ -25,8 +25,8 @@ use Rattle.call_board.specs.Pairs.{free_in, is_short}
 use Rattle.call_board.specs.Kept.{kept}
 use Rattle.call_board.specs.Asked.{asked, asked_by, command_in, sdp_error, description_error, unless, code_if, v6_error}
 use Rattle.call_board.specs.Replies.{Fault, Done, reply_text}
-use Rattle.call_board.specs.Answers.{Answering, failing, offer_ask, answer_ask, leased_pairs, offer_leased, offer_unless, offer_to, answer_unless, answer_to, delete_of, missing, names_side, query_of, answering_command, answering_asked, answering, answering_unless, spelled, Answered}
-use Rattle.call_board.specs.Fits.{FitsBoard, FitsAt, FitsControl, Hears, answer_of, is_heard}
+use Rattle.call_board.specs.Answers.{failing, offer_ask, answer_ask, leased_pairs, offer_leased, offer_unless, offer_to, answer_unless, answer_to, delete_of, missing, names_side, query_of, answering_command, answering_asked, answering, answering_unless, spelled, Answered}
+use Rattle.call_board.specs.Fits.{FitsControl}
 use Rattle.call_board.proofs.Tells.{leased_case}
 
 -- an accepted offer's call and what it asks
@@ -86,14 +86,14 @@ to_is config h given id ask p (Some of) found q =
 
 -- Answers.
 
-answer_no_offer : (config : Config) (h : List BoardEntry) (ask : AnswerAsk) (of : Call) (before : List Round) → (fault : Option ErrorCode)
+answer_no_offer : (config : Config) (ask : AnswerAsk) (of : Call) (before : List Round) → (fault : Option ErrorCode)
     → offer_in (answer_unless config ask of before fault).act ≡ None
-answer_no_offer config h ask of before (Some code) = refl
-answer_no_offer config h ask of before None = refl
+answer_no_offer config ask of before (Some code) = refl
+answer_no_offer config ask of before None = refl
 
 found_no_offer : (config : Config) (h : List BoardEntry) (ask : AnswerAsk) → (found : Option Call) → offer_in (answer_to config h ask found).act ≡ None
 found_no_offer config h ask None = refl
-found_no_offer config h ask (Some of) = answer_no_offer config h ask of (rounds h of.number) (plan.answer_fault (rounds h of.number) ask)
+found_no_offer config h ask (Some of) = answer_no_offer config ask of (rounds h of.number) (plan.answer_fault (rounds h of.number) ask)
 
 answered_is : (config : Config) (ask : AnswerAsk) (of : Call) (before : List Round) (p : Call × AnswerAsk) → (fault : Option ErrorCode)
     → answer_in (answer_unless config ask of before fault).act ≡ Some p → (fault ≡ None) × ((of, ask) ≡ p)
@@ -301,8 +301,8 @@ offered_fault config (Ok says) id from_tag sdp options q =
     ap (description_error config) (sym u.1) ∙ u.0
 
 -- an offer that is heard has at most 8 sections
-pub offers_few : (config : Config) (too_long : Bool) (c : Control) (id from_tag sdp : List ℕ) (options : Options)
-    → asked config too_long c.pairs ≡ Ok (said.Offer id from_tag sdp options) → section_count sdp ≤ most_sections
+pub offers_few : (config : Config) (too_long : Bool) (pairs : Option Entries) (id from_tag sdp : List ℕ) (options : Options)
+    → asked config too_long pairs ≡ Ok (said.Offer id from_tag sdp options) → section_count sdp ≤ most_sections
 unfolding asked
-offers_few config too_long c id from_tag sdp options q =
-    few_sections sdp (no_sdp_fault config sdp (offered_fault config (command_in too_long c.pairs) id from_tag sdp options q))
+offers_few config too_long pairs id from_tag sdp options q =
+    few_sections sdp (no_sdp_fault config sdp (offered_fault config (command_in too_long pairs) id from_tag sdp options q))

@@ -1,8 +1,6 @@
 -- The rounds of each call of a board are as they come about.
-use Rattle.std.proofs.Common.{◌≡◌, ◌∙◌, sym, ap, subst, refl, ℕ, ◌+◌, ◌<◌, ◌≤◌, inl, inr, List, [], ◌∷◌, ◌++◌, Bool, true, false, cond, not, Option, Some, None, map, filter, length, length-append, ◌==◌, arith}
-use Rattle.std.specs.Prelude.{Ok}
+use Rattle.std.proofs.Common.{◌≡◌, ◌∙◌, sym, ap, subst, refl, ℕ, ◌+◌, ◌<◌, ◌≤◌, inl, inr, List, [], ◌∷◌, ◌++◌, Bool, true, false, cond, not, Option, map, filter, length, length-append, ◌==◌, arith}
 use Rattle.relay_outside.specs.declared.settings.Config.{Config}
-use Rattle.ng_command.specs.Said as said
 use Rattle.histories.specs.Words.{In, has}
 use Rattle.histories.proofs.Lists.{in_append, in_left, in_right, filtered, equal, equal_if}
 use Rattle.port_pool.specs.declared.holder.Side.{Side}
@@ -12,16 +10,15 @@ use Rattle.offer_answer.specs.Rounds.{Round, OfferAsk, AnswerAsk, NewLeg, KeyPla
 use Rattle.offer_answer.specs.Rounds as round
 use Rattle.offer_answer.specs.Sections.{most_sections, section_count, leased_for}
 use Rattle.offer_answer.specs.Plan as plan
-use Rattle.offer_answer.specs.Laws.{leg_place, new_leg_place, key_place, IsOfferRound, IsAnswerRound, AreRounds}
+use Rattle.offer_answer.specs.Laws.{leg_place, new_leg_place, key_place, IsOfferRound, IsAnswerRound}
 use Rattle.call_cell.specs.Cells.{legs}
 use Rattle.call_cell.proofs.Legs.{same_leg_is}
 use Rattle.call_cell.proofs.Joined.{map_map}
 use Rattle.call_board.specs.Acts as act
 use Rattle.call_board.specs.Acts.{Call, Act, Control, BoardEvent, Turn, BoardEntry}
-use Rattle.call_board.specs.Calls.{live, begun, begun_by_act, find_call, new_call, rounds, rounds_of_call, round_of}
-use Rattle.call_board.specs.Pairs.{fronts, free_in, next_generation, new_keys, drawn}
-use Rattle.call_board.specs.Asked.{asked}
-use Rattle.call_board.specs.Answers.{offer_ask, answer_ask}
+use Rattle.call_board.specs.Calls.{begun, begun_by_act, find_call, rounds, rounds_of_call, round_of}
+use Rattle.call_board.specs.Pairs.{next_generation, new_keys, drawn}
+use Rattle.call_board.specs.Answers.{answer_ask}
 use Rattle.call_board.specs.Fits.{FitsBoard, FitsAt, FitsControl, IsFitting, Hears, HearsAnswer, is_heard}
 use Rattle.call_board.proofs.Moments.{now, after}
 use Rattle.call_board.proofs.Told.{IsTurn, IsCallOf, begins, goes_on, IsOffer}
@@ -29,8 +26,8 @@ use Rattle.call_board.proofs.Tells.{offer_told, answer_told}
 use Rattle.call_board.proofs.Calls.{begun_below, live_begun, offered_live}
 use Rattle.call_board.proofs.Leases.{leg_generation, leg_below_next, generations_rise}
 use Rattle.call_board.proofs.Demands.{Place, of_leg, of_new_leg, legs_demanded}
-use Rattle.relay_core.proofs.Rounded.{entries_of, AreFew, LeaseAnew, AreGood}
-use Rattle.relay_core.proofs.Asks.{SaysOffer, SaysAnswer, IsItsCall, is_new, is_found, control_offers, control_answers, offers_few}
+use Rattle.relay_core.proofs.Rounded.{entries_of, AreGood}
+use Rattle.relay_core.proofs.Asks.{IsItsCall, is_new, is_found, control_offers, control_answers, offers_few}
 
 -- What an entry adds to the rounds of a call.
 pub data MoreRounds (h : List BoardEntry) (x : BoardEntry) (number : ℕ) : Type 0 where
@@ -151,7 +148,7 @@ offer_round config h x p good fits q =
     let s = control_offers config h x.moment told.turn.control p (turn_fits config h x (act.Offered p) fits told.turn) told.turn.acts in
     let demand_is : told.demand ≡ plan.demand (rounds h p.of.number) p.ask
     = told.demand_is ∙ ap (λ (rs : List Round). plan.demand rs p.ask) (its_rounds config h told.id p.of good (told_call config h x p told)) in
-    let few = offers_few config told.turn.control.too_long told.turn.control s.id s.from_tag s.sdp s.options s.asks in
+    let few = offers_few config told.turn.control.too_long told.turn.control.pairs s.id s.from_tag s.sdp s.options s.asks in
     record {
       comes = record {
         no_fault = ap (λ (rs : List Round). plan.offer_fault rs p.ask) (sym (its_rounds config h s.id p.of good s.call_is)) ∙ s.no_fault;

@@ -1,6 +1,6 @@
 -- The lasting entries of a cell since its last End are those that the rounds of its live call owe; where its place has no live
 -- call there are none.
-use Rattle.std.proofs.Common.{◌≡◌, ◌∙◌, sym, ap, subst, refl, ℕ, zero, suc, ◌<◌, ◌≤◌, ◌⊎◌, inl, inr, List, [], ◌∷◌, Bool, true, false, cond, map, length, ◌==◌, arith}
+use Rattle.std.proofs.Common.{◌≡◌, ◌∙◌, sym, ap, subst, refl, ℕ, ◌⊎◌, inl, inr, List, [], ◌∷◌, Bool, true, false, cond, map, length, ◌==◌, arith}
 use Rattle.std.specs.List.{list_any}
 use Rattle.relay_outside.specs.declared.settings.Config.{Config}
 use Rattle.histories.specs.Words.{In, here, there, has}
@@ -9,15 +9,14 @@ use Rattle.call_cell.specs.Cells.{CellEvent, CellEntry, Prepare, Commit, ends, s
 use Rattle.call_cell.proofs.Since.{since_more}
 use Rattle.call_cell.proofs.PrepareSteps.{any_true}
 use Rattle.offer_answer.specs.Rounds.{Round}
-use Rattle.offer_answer.specs.Rounds as round
 use Rattle.offer_answer.specs.Plan as plan
 use Rattle.call_board.specs.Acts as act
 use Rattle.call_board.specs.Acts.{Call, Act, BoardEntry}
-use Rattle.call_board.specs.Calls.{live, begun, begun_by_act, ended_by, ended_by_act, rounds}
+use Rattle.call_board.specs.Calls.{live, begun, begun_by_act, ended_by, rounds}
 use Rattle.call_board.specs.Fits.{FitsBoard, IsFitting}
 use Rattle.call_board.proofs.Told.{IsCallOf, begins, goes_on, IsAnswer}
 use Rattle.call_board.proofs.Tells.{offer_told, answer_told, ended_live}
-use Rattle.call_board.proofs.Calls.{begun_below, live_begun, live_before, stays_live, ended_by_turn, ended_here, offered_live, live_numbers}
+use Rattle.call_board.proofs.Calls.{begun_below, live_begun, live_before, ended_by_turn, ended_here, offered_live, live_numbers}
 use Rattle.call_board.proofs.Cells.{live_cells}
 use Rattle.relay_core.proofs.Rounded.{entries_of}
 use Rattle.relay_core.proofs.CallRounds.{MoreRounds, none, by_offer, by_answer, more_rounds, rounds_offer, rounds_answer, no_rounds, offer_round}

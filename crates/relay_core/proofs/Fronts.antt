@@ -1,9 +1,7 @@
 -- What a turn of the board finds in the cells: what the rounds of a live call owe to its cell, and nothing where no call is live.
-use Rattle.std.proofs.Common.{◌≡◌, ◌∙◌, sym, ap, subst, refl, ℕ, zero, suc, ◌<◌, ◌≤◌, ◌⊎◌, inl, inr, List, [], ◌∷◌, true, None, Some, map, arith}
+use Rattle.std.proofs.Common.{◌≡◌, ◌∙◌, sym, ap, subst, refl, ℕ, zero, suc, ◌<◌, ◌≤◌, ◌⊎◌, inl, inr, List, [], ◌∷◌, true, None, Some, arith}
 use Rattle.relay_outside.specs.declared.settings.Config.{Config}
 use Rattle.histories.specs.Words.{In}
-use Rattle.port_pool.specs.declared.holder.Holder.{Holder}
-use Rattle.port_pool.specs.Signals.{NewKey}
 use Rattle.call_cell.specs.Cells.{CellEvent, CellEntry, Prepare, Commit, End, since_end}
 use Rattle.call_cell.specs.Lasting.{is_lasting, kept}
 use Rattle.call_cell.proofs.Nested.{entry_at, SameLasting, same_lasting, kept_since}
@@ -16,7 +14,7 @@ use Rattle.call_board.specs.Calls.{live, ended_by, rounds}
 use Rattle.call_board.specs.Fits.{FitsBoard, IsFitting}
 use Rattle.call_board.proofs.Tells.{offer_told, answer_told}
 use Rattle.call_board.proofs.Calls.{ended_by_turn}
-use Rattle.relay_core.specs.Entries.{Event, Cell, Entry, is_nested, board_entry, cell_history, board_history}
+use Rattle.relay_core.specs.Entries.{Cell, Entry, is_nested, board_entry, cell_history, board_history}
 use Rattle.relay_core.specs.Scripts.{Owed, in_cell}
 use Rattle.relay_core.specs.Legal.{Orderly}
 use Rattle.relay_core.proofs.Histories.{good_history, More, same, added, more, same_at}
@@ -269,8 +267,10 @@ pub front_follows : (config : Config) (l : List Entry) → Orderly config l → 
     → Follows place (lasting l place k) (board_history l n)
 front_follows config l o place n k above_board above =
     follows config l o place n k
-    (λ e i p t. ((λ before. nested_below config l o n above_board e i (lasts_nested e.event t)),
-    (λ from. (let low : e.number < k = above e i p in absurd (omega (arith, low, from))))))
+    (λ e i p t. (
+      (λ before. nested_below config l o n above_board e i (lasts_nested e.event t)),
+      (λ from. (let low : e.number < k = above e i p in absurd (omega (arith, low, from)))),
+    ))
 
 -- What a cell has.
 

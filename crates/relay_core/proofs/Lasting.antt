@@ -1,6 +1,5 @@
 -- The lasting entries of a cell in a list: which there are, and what of the board they belong to.
-use Rattle.std.proofs.Common.{◌≡◌, ◌∙◌, sym, ap, subst, refl, ℕ, zero, suc, ◌<◌, ◌≤◌, ◌⊎◌, inl, inr, List, [], ◌∷◌, ◌++◌, Bool, true, false, cond, Option, Some, None, map, length, filter, ◌==◌, arith}
-use Rattle.std.proofs.lemmas.List.Elements.{filter-append}
+use Rattle.std.proofs.Common.{◌≡◌, ◌∙◌, sym, ap, subst, refl, ℕ, zero, suc, ◌<◌, ◌≤◌, ◌⊎◌, inl, inr, List, [], ◌∷◌, Bool, true, false, cond, Some, None, map, length, filter, ◌==◌, arith}
 use Rattle.relay_outside.specs.declared.settings.Config.{Config}
 use Rattle.histories.specs.Words.{In}
 use Rattle.histories.proofs.Lists.{keeps, equal, only}
@@ -9,7 +8,7 @@ use Rattle.port_pool.specs.declared.signal.SectionSignal.{SectionSignal}
 use Rattle.port_pool.specs.Signals.{NewKey}
 use Rattle.call_cell.specs.Cells.{CellEvent, CellEntry, Prepare, Commit, Relay, Expire, Read, End, is_end, since_end}
 use Rattle.call_cell.specs.Lasting.{is_lasting, kept}
-use Rattle.call_cell.proofs.Since.{since_more, since_at_end}
+use Rattle.call_cell.proofs.Since.{since_at_end}
 use Rattle.call_board.specs.Acts as act
 use Rattle.call_board.specs.Acts.{Call, Act, Control, BoardEvent, Turn, Tick, Stop, BoardEntry}
 use Rattle.call_board.specs.Calls.{ended_by}
@@ -152,8 +151,8 @@ module _ (config : Config) (l : List Entry) (o : Orderly config l) (b : Entry) (
       let p = prepare_of config l o f j call legs keys dropped v in
       let events : Prepare call legs keys dropped ≡ Prepare p.offer.of.number p.offer.legs p.offer.keys p.offer.dropped
       = ap (λ (n : ℕ). Prepare n legs keys dropped) p.call_is ∙ ap (λ (hs : List Holder). Prepare p.offer.of.number hs keys dropped) p.legs_are
-          ∙ ap (λ (ks : List NewKey). Prepare p.offer.of.number p.offer.legs ks dropped) p.keys_are
-          ∙ ap (λ (ns : List ℕ). Prepare p.offer.of.number p.offer.legs p.offer.keys ns) p.dropped_are in
+      ∙ ap (λ (ks : List NewKey). Prepare p.offer.of.number p.offer.legs ks dropped) p.keys_are
+      ∙ ap (λ (ns : List ℕ). Prepare p.offer.of.number p.offer.legs p.offer.keys ns) p.dropped_are in
       prepared p.offer (ap (λ (y : BoardEntry). act.act y) (sym (its_entry f p.nested q)) ∙ p.acts) (sym p.place_is) (v ∙ ap Cell events)
 
   owner_commit : (f : Entry) → In f l → f.board ≡ b.number → (signal : List SectionSignal) → f.event ≡ Cell (Commit signal) → Owner x f.place f.event

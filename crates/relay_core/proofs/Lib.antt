@@ -29,5 +29,7 @@ pub mod CallRounds
 pub mod Lasting
 pub mod Following
 pub mod Fronts
+pub mod Coming
+pub mod KeysOnce
 mod Example
 mod rows

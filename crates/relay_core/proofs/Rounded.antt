@@ -1,11 +1,10 @@
 -- The entries that the rounds of a call owe to its cell, and what a cell has of legs and keys after them.
-use Rattle.std.proofs.Common.{◌≡◌, ◌∙◌, sym, ap, subst, refl, ℕ, ◌<◌, ◌≤◌, inl, inr, List, [], ◌∷◌, ◌++◌, Bool, true, false, cond, not, ◌&&◌, ◌==◌, Option, Some, None, map, filter, length, nat_lt, zero, suc, true≢false, if◌then◌else◌, arith}
+use Rattle.std.proofs.Common.{◌≡◌, ◌∙◌, sym, ap, subst, refl, ℕ, ◌<◌, ◌≤◌, inl, inr, List, [], ◌∷◌, ◌++◌, Bool, true, false, cond, not, ◌&&◌, ◌==◌, Option, Some, None, filter, length, nat_lt, zero, suc, true≢false, if◌then◌else◌, arith}
 use Rattle.std.specs.List.{list_any}
 use Rattle.std.proofs.lemmas.Bool.Decides.{nat_tests}
 use Rattle.std.proofs.lemmas.List.{length-map}
-use Rattle.histories.specs.Words.{In, here, there, has, numbers}
-use Rattle.histories.proofs.Lists.{in_append, in_left, in_right, filtered, keeps, equal}
-use Rattle.ng_reply.specs.declared.code.ErrorCode.{ErrorCode}
+use Rattle.histories.specs.Words.{In, has, numbers}
+use Rattle.histories.proofs.Lists.{in_append, filtered, equal}
 use Rattle.ng_reply.specs.declared.code.ErrorCode.TheVariants.{E8, E10, E11, E12}
 use Rattle.port_pool.specs.declared.holder.Side.{Side}
 use Rattle.port_pool.specs.declared.holder.Holder.{Holder}
@@ -275,15 +274,15 @@ stands number (Offered ask new keys ∷ rounds) rs few leg i =
     let stay : Holder → Bool = λ (x : Holder). not (has (demand rounds ask).dropped x.section) in
     elim (in_append (filter stay (legs (entries_of number rounds))) new i) [
       | inl j ↦ (let f = filtered stay (legs (entries_of number rounds)) j in
-      let had = stands number rounds rs.1 few.1 leg f.0 in
-      pairs_offer rounds ask new keys leg.section rs.0 (small rounds rs.1 few.1 leg.section had) had (not_true (has (demand rounds ask).dropped leg.section) f.1))
+          let had = stands number rounds rs.1 few.1 leg f.0 in
+          pairs_offer rounds ask new keys leg.section rs.0 (small rounds rs.1 few.1 leg.section had) had (not_true (has (demand rounds ask).dropped leg.section) f.1))
       | inr j ↦ pairs_new ask new keys rounds leg j
     ]
 stands number (Answered ask ∷ rounds) rs few leg i =
     let stay : Holder → Bool = λ (x : Holder). not (is_rejected (signal rounds ask) x.section) in
     elim (in_append (filter stay (legs (entries_of number rounds))) [] i) [
       | inl j ↦ (let f = filtered stay (legs (entries_of number rounds)) j in
-      pairs_answer rounds ask leg.section rs.1 rs.0 (stands number rounds rs.1 few leg f.0) (not_true (is_rejected (signal rounds ask) leg.section) f.1))
+          pairs_answer rounds ask leg.section rs.1 rs.0 (stands number rounds rs.1 few leg f.0) (not_true (is_rejected (signal rounds ask) leg.section) f.1))
       | inr j ↦ elim j [ ]
     ]
 
@@ -328,19 +327,19 @@ since_life number (Offered ask new keys ∷ rounds) rs few anew leg i =
     let stay : Holder → Bool = λ (x : Holder). not (has (demand rounds ask).dropped x.section) in
     elim (in_append (filter stay (legs (entries_of number rounds))) new i) [
       | inl j ↦ (let f = filtered stay (legs (entries_of number rounds)) j in
-      since_old number rounds ask new keys leg
-      (any_false (same_leg leg) new (λ x k same. anew.0 x leg k f.0 same))
-      (leases_none rounds ask new keys rs.0 leg.section (stands number rounds rs.1 few.1 leg f.0))
-      (stands number (Offered ask new keys ∷ rounds) rs few leg i)
-      (since_life number rounds rs.1 few.1 anew.1 leg f.0) (life-step (Offered ask new keys) rounds leg.section))
+          since_old number rounds ask new keys leg
+          (any_false (same_leg leg) new (λ x k same. anew.0 x leg k f.0 same))
+          (leases_none rounds ask new keys rs.0 leg.section (stands number rounds rs.1 few.1 leg f.0))
+          (stands number (Offered ask new keys ∷ rounds) rs few leg i)
+          (since_life number rounds rs.1 few.1 anew.1 leg f.0) (life-step (Offered ask new keys) rounds leg.section))
       | inr j ↦ since_new number rounds ask new keys leg j
     ]
 since_life number (Answered ask ∷ rounds) rs few anew leg i =
     let stay : Holder → Bool = λ (x : Holder). not (is_rejected (signal rounds ask) x.section) in
     elim (in_append (filter stay (legs (entries_of number rounds))) [] i) [
       | inl j ↦ (let f = filtered stay (legs (entries_of number rounds)) j in
-      since_answered number rounds ask leg (stands number (Answered ask ∷ rounds) rs few leg i)
-      (since_life number rounds rs.1 few anew leg f.0) (life-step (Answered ask) rounds leg.section))
+          since_answered number rounds ask leg (stands number (Answered ask ∷ rounds) rs few leg i)
+          (since_life number rounds rs.1 few anew leg f.0) (life-step (Answered ask) rounds leg.section))
       | inr j ↦ elim j [ ]
     ]
 

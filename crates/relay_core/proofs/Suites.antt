@@ -1,6 +1,6 @@
 -- A leg has one key for a suite: an offer demands a key where its leg has none for that suite.
-use Rattle.std.proofs.Common.{◌≡◌, ◌∙◌, sym, ap, subst, refl, ℕ, inl, inr, List, [], ◌∷◌, ◌++◌, true, false, Some, None, map, filter, is_none, true≢false}
-use Rattle.std.specs.Prelude.{◌&&◌, ◌==◌}
+use Rattle.std.proofs.Common.{◌≡◌, ◌∙◌, sym, ap, subst, ℕ, inl, inr, List, [], ◌∷◌, ◌++◌, true, Some, map, filter, is_none, true≢false}
+use Rattle.std.specs.Prelude.{◌==◌}
 use Rattle.sdes_lines.specs.declared.crypto_line.Suite.{Suite}
 use Rattle.histories.specs.Words.{In, here, there}
 use Rattle.histories.proofs.Lists.{in_append, filtered, keeps, equal_if, maps}
@@ -10,7 +10,6 @@ use Rattle.port_pool.specs.Signals.{NewKey, side_eq}
 use Rattle.offer_answer.specs.Rounds.{Round, Offered, Answered, OfferAsk, AnswerAsk, KeyPlace, drawn_for}
 use Rattle.offer_answer.specs.Sections.{life}
 use Rattle.offer_answer.specs.Keys.{is_for, leg_keys, leg_key}
-use Rattle.offer_answer.specs.Plan.{demand}
 use Rattle.offer_answer.specs.Laws.{key_place, IsOfferRound, AreRounds}
 use Rattle.offer_answer.proofs.Numbers.{Ordered}
 use Rattle.offer_answer.proofs.Demanded.{AreKeysApart, new_keys-apart, new_key-is_missing}
@@ -72,14 +71,14 @@ one_of_both rounds ask new keys r section side old are_old one a b i j suites =
     let y = for_leg section side b q.1 in
     elim (in_append keys old p.0) [
       | inl m ↦ elim (in_append keys old q.0) [
-          | inl n ↦ ap (λ (k : NewKey). k.number)
-              (one_new rounds ask new keys r a b m n (x.of_section ∙ sym y.of_section) (x.of_side ∙ sym y.of_side) suites)
-          | inr n ↦ absurd (none_old rounds ask new keys r section side a b m x.of_section x.of_side (are_old b n q.1) suites)
-        ]
+        | inl n ↦ ap (λ (k : NewKey). k.number)
+            (one_new rounds ask new keys r a b m n (x.of_section ∙ sym y.of_section) (x.of_side ∙ sym y.of_side) suites)
+        | inr n ↦ absurd (none_old rounds ask new keys r section side a b m x.of_section x.of_side (are_old b n q.1) suites)
+      ]
       | inr m ↦ elim (in_append keys old q.0) [
-          | inl n ↦ absurd (none_old rounds ask new keys r section side b a n y.of_section y.of_side (are_old a m p.1) (sym suites))
-          | inr n ↦ one a b (are_old a m p.1) (are_old b n q.1) suites
-        ]
+        | inl n ↦ absurd (none_old rounds ask new keys r section side b a n y.of_section y.of_side (are_old a m p.1) (sym suites))
+        | inr n ↦ one a b (are_old a m p.1) (are_old b n q.1) suites
+      ]
     ]
 
 -- keys of no leg
