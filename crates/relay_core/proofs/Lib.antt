@@ -35,5 +35,6 @@ pub mod Following
 pub mod Fronts
 pub mod Coming
 pub mod KeysOnce
+pub mod LegsHeld
 mod Example
 mod rows
