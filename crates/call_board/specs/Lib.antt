@@ -11,3 +11,4 @@ pub mod Views
 pub mod Boards
 pub mod Planned
 pub mod Applied
+pub mod Whole

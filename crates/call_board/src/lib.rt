@@ -16,6 +16,7 @@ mod board;
 mod board_plan;
 mod ending;
 mod fault;
+pub mod law;
 mod leasing;
 mod live_call;
 mod planning;
