@@ -67,7 +67,7 @@ calls_once config h e old fits = event_once config h e.moment e.event old fits
 abbrev pub given_by : List BoardEntry → BoardEntry → List ℕ
 given_by h e = map pair_of (closed h e) ++ undone_pairs (act e)
 
-closed_apart : (config : Config) (h : List BoardEntry) (e : BoardEntry) (of : Call) (calls : List Call) (p : ℕ) → IsFitting config h → (In of.number (map number_of calls) → ⊥) →
+pub closed_apart : (config : Config) (h : List BoardEntry) (e : BoardEntry) (of : Call) (calls : List Call) (p : ℕ) → IsFitting config h → (In of.number (map number_of calls) → ⊥) →
     In p (map pair_of (closed_of h e of)) → In p (map pair_of (flat_map (closed_of h e) calls)) → ⊥
 closed_apart config h e of calls p old new i j =
     let a = mapped pair_of (closed_of h e of) i in
@@ -199,14 +199,14 @@ undone_once (act.Deleted of) once = tt
 undone_once (act.Queried of) once = tt
 undone_once act.Told once = tt
 
-taken_in : (p k : ℕ) (xs : List ℕ) → In p (take k xs) → In p xs
+pub taken_in : (p k : ℕ) (xs : List ℕ) → In p (take k xs) → In p xs
 taken_in p zero [] i = elim i [ ]
 taken_in p zero (x ∷ xs) i = elim i [ ]
 taken_in p (suc k) [] i = elim i [ ]
 taken_in p (suc k) (x ∷ xs) (here e) = here e
 taken_in p (suc k) (x ∷ xs) (there i) = there (taken_in p k xs i)
 
-once_taken : (k : ℕ) (xs : List ℕ) → Once xs → Once (take k xs)
+pub once_taken : (k : ℕ) (xs : List ℕ) → Once xs → Once (take k xs)
 once_taken zero [] once = tt
 once_taken zero (x ∷ xs) once = tt
 once_taken (suc k) [] once = tt

@@ -32,3 +32,6 @@ pub mod Sieves
 pub mod FreeAfter
 pub mod CallsAfter
 pub mod Entries
+pub mod Bounds
+pub mod Found
+pub mod Outs

@@ -12,3 +12,4 @@ pub mod Boards
 pub mod Planned
 pub mod Applied
 pub mod Whole
+pub mod Returns
