@@ -1,5 +1,5 @@
 -- How often a pair is leased, how many keys are drawn and how many calls are begun: a few at each entry.
-use Rattle.std.proofs.Common.{◌≡◌, ◌∙◌, refl, sym, ap, subst, ℕ, suc, ◌+◌, ◌*◌, ◌^◌, ◌≤◌, ◌<◌, ◌⊎◌, inl, inr, List, [], ◌∷◌, ◌++◌, map, filter, length, Bool, true, false, cond, not, ◌==◌, Option, Some, None, Result, Ok, Err, arith, get_or, length-append, mul-suc}
+use Rattle.std.proofs.Common.{◌≡◌, refl, ap, subst, ℕ, suc, ◌+◌, ◌*◌, ◌^◌, ◌≤◌, ◌<◌, ◌⊎◌, inl, inr, List, [], ◌∷◌, filter, length, Bool, true, false, cond, not, ◌==◌, Option, Some, None, Result, Ok, Err, arith, length-append, mul-suc}
 use Rattle.std.specs.Prelude.{count_by, ◌&&◌, is_none, nat_lt}
 use Rattle.std.specs.List.{flat_map, list_any}
 use Rattle.std.proofs.lemmas.List.{length-map, get_or_past}
@@ -17,18 +17,18 @@ use Rattle.ng_reply.specs.declared.code.ErrorCode.{ErrorCode}
 use Rattle.sdes_lines.specs.declared.crypto_line.Suite.{Suite}
 use Rattle.sdes_lines.specs.declared.crypto_line.Suite.TheVariants.{Tag80, Tag32}
 use Rattle.sdes_lines.specs.declared.crypto_line.CryptoLine.{CryptoLine}
-use Rattle.histories.specs.Words.{has, or_else}
+use Rattle.histories.specs.Words.{or_else}
 use Rattle.histories.proofs.Lists.{equal_if}
 use Rattle.port_pool.specs.Ports.{pair_count}
 use Rattle.port_pool.specs.Pools.{generation}
 use Rattle.port_pool.specs.declared.holder.Side.{Side}
 use Rattle.port_pool.specs.Signals.{other_side}
-use Rattle.offer_answer.specs.Rounds.{Round, OfferAsk, Demand, NewLeg, KeyPlace}
+use Rattle.offer_answer.specs.Rounds.{Round, OfferAsk, Demand}
 use Rattle.offer_answer.specs.Sides.{offerer}
 use Rattle.offer_answer.specs.Sections.{section_in, section_count, all_sections, active_sections, is_active_in, has_pairs}
 use Rattle.offer_answer.specs.Profiles.{is_srtp, written}
 use Rattle.offer_answer.specs.Keys.{leg_key, key_in_force, place_of, section_keys, missing_keys, offerers_suites, others_suites, suite_of, chosen_in}
-use Rattle.offer_answer.specs.Demands.{new_legs, new_keys, legs_for, new_active_sections}
+use Rattle.offer_answer.specs.Demands.{legs_for, new_active_sections}
 use Rattle.offer_answer.specs.Plan.{demand}
 use Rattle.offer_answer.proofs.Demanded.{few_sections}
 use Rattle.call_board.specs.Acts as act
@@ -37,7 +37,7 @@ use Rattle.call_board.specs.Calls.{begun, begun_by_act, find_call, rounds_of_cal
 use Rattle.call_board.specs.Pairs.{leased, leased_by_act, drawn, draws_of_act}
 use Rattle.call_board.specs.Asked.{asked, asked_by, unless, command_in, description_error, sdp_error, code_if, v6_error}
 use Rattle.call_board.specs.Answers.{offer_ask}
-use Rattle.call_board.specs.Fits.{FitsBoard, FitsAt, FitsControl, IsFitting, GivesFor, GivesUndone, demanded, demanded_by}
+use Rattle.call_board.specs.Fits.{FitsAt, IsFitting, GivesFor, GivesUndone, demanded, demanded_by}
 use Rattle.call_board.specs.Views.{View, times_leased}
 use Rattle.call_board.specs.Boards.{Shows}
 use Rattle.call_board.specs.Whole.{with_draws}

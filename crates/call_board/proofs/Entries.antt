@@ -54,6 +54,27 @@ draws_are v zero = view_alike v (more_drawn v zero) refl refl (omega arith) refl
 draws_are v (suc count) =
     ap one_drawn (draws_are v count) ∙ view_alike (one_drawn (more_drawn v count)) (more_drawn v (suc count)) refl refl (omega arith) refl refl refl refl
 
+-- a draw changes how many keys were drawn, and nothing else
+pub record AreDraws (v : View) (count : ℕ) (drawn : View) : Type 0 where
+  pub moment_is : drawn.moment ≡ v.moment
+  pub begun_is : drawn.begun ≡ v.begun
+  pub drawn_is : drawn.drawn ≡ v.drawn + count
+  pub calls_are : drawn.calls ≡ v.calls
+  pub free_is : drawn.free ≡ v.free
+  pub leases_are : drawn.leases ≡ v.leases
+  pub keepings_are : drawn.keepings ≡ v.keepings
+
+pub draws_keep : (v : View) (count : ℕ) → AreDraws v count (with_draws v count)
+draws_keep v count = let is = draws_are v count in record {
+  moment_is = ap (λ (w : View). w.moment) is;
+  begun_is = ap (λ (w : View). w.begun) is;
+  drawn_is = ap (λ (w : View). w.drawn) is;
+  calls_are = ap (λ (w : View). w.calls) is;
+  free_is = ap (λ (w : View). w.free) is;
+  leases_are = ap (λ (w : View). w.leases) is;
+  keepings_are = ap (λ (w : View). w.keepings) is;
+}
+
 -- one key more
 pub one_more_drawn : (v : View) (count : ℕ) → one_drawn (with_draws v count) ≡ with_draws v (count + 1)
 one_more_drawn v count = let next : suc count ≡ count + 1 = omega arith in ap (with_draws v) next

@@ -1,8 +1,7 @@
 -- Which live call is found, by its number or by its call-id, and what holds of the live calls that a board keeps.
-use Rattle.std.proofs.Common.{◌≡◌, ◌∙◌, refl, sym, ap, subst, ℕ, ◌≤◌, List, [], ◌∷◌, map, filter, length, Bool, true, false, cond, not, ◌==◌, Option, Some, None}
+use Rattle.std.proofs.Common.{◌≡◌, ◌∙◌, refl, sym, ap, subst, ℕ, ◌≤◌, List, [], ◌∷◌, map, filter, Bool, true, false, cond, not, ◌==◌, Option, Some, None}
 use Rattle.std.specs.Prelude.{option_map}
 use Rattle.std.specs.List.{list_any}
-use Rattle.std.specs.Str.{bytes_eq}
 use Rattle.relay_outside.specs.declared.settings.Config.{Config}
 use Rattle.histories.specs.Words.{In, here, there, first, has}
 use Rattle.histories.proofs.Lists.{filtered, keeps, maps, mapped, equal, equal_if, first_is_in}
@@ -15,14 +14,14 @@ use Rattle.call_board.specs.Fits.{IsFitting}
 use Rattle.call_board.specs.Views.{View, CallView, call_view, view_of, is_of_id, is_numbered, call_of_id, call_numbered}
 use Rattle.call_board.specs.Boards.{Shows, IsLive, CellsApart}
 use Rattle.call_board.specs.Whole.{with_ended}
-use Rattle.call_board.proofs.Once.{Once, once_equal, once_filtered, not_false}
+use Rattle.call_board.proofs.Once.{Once, once_equal, once_filtered}
 use Rattle.call_board.proofs.Sieves.{is_out}
 use Rattle.call_board.proofs.Calls.{live_begun}
 use Rattle.call_board.proofs.Cells.{live_cells_once, live_cell}
-use Rattle.call_board.proofs.Shown.{Asks, asks_number, none_first}
+use Rattle.call_board.proofs.Shown.{asks_number, none_first}
 use Rattle.call_board.proofs.FreeAfter.{live_once}
 use Rattle.call_board.proofs.CallsAfter.{Views, rounds_had, cleared, cleared_map}
-use Rattle.call_board.proofs.Entries.{ended_are, ended_view}
+use Rattle.call_board.proofs.Entries.{ended_are}
 
 -- The first of a list.
 
@@ -105,7 +104,11 @@ apart_in : (h : List BoardEntry) (calls : List Call) → Once (map cell_of calls
 apart_in h [] once positive = tt
 apart_in h (c ∷ calls) once positive = (cell_free h c calls once.0, positive c (here refl), apart_in h calls once.1 (λ d i. positive d (there i)))
 
--- no two live calls have one cell, whichever of them have ended
+-- no two live calls have one cell
+pub live_cells_apart : (config : Config) (h : List BoardEntry) → IsFitting config h → CellsApart (map (call_view h) (live h))
+live_cells_apart config h fits = apart_in h (live h) (live_cells_once config h fits) (λ c i. (live_cell config h c fits i).0)
+
+-- nor any two of some live calls
 pub cells_apart : (config : Config) (h : List BoardEntry) (p : Call → Bool) → IsFitting config h → CellsApart (map (call_view h) (filter p (live h)))
 cells_apart config h p fits =
     apart_in h (filter p (live h)) (once_filtered cell_of p (live h) (live_cells_once config h fits)) (λ c i. (live_cell config h c fits (filtered p (live h) i).0).0)

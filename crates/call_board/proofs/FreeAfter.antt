@@ -99,7 +99,7 @@ pairs_of_new h c [] legs same = refl
 pairs_of_new h c (p ∷ pairs) [] same = absurd (let e = same in omega (arith, e))
 pairs_of_new h c (p ∷ pairs) (leg ∷ legs) same = ap (λ ps. p ∷ ps) (pairs_of_new h c pairs legs (let e = same in omega (arith, e)))
 
-pairs_leased : (h : List BoardEntry) (pairs : List ℕ) → map (λ (lease : Lease). lease.pair) (map (lease_of h) pairs) ≡ pairs
+pub pairs_leased : (h : List BoardEntry) (pairs : List ℕ) → map (λ (lease : Lease). lease.pair) (map (lease_of h) pairs) ≡ pairs
 pairs_leased h [] = refl
 pairs_leased h (p ∷ pairs) = ap (λ ps. p ∷ ps) (pairs_leased h pairs)
 

@@ -35,3 +35,4 @@ pub mod Entries
 pub mod Bounds
 pub mod Found
 pub mod Outs
+pub mod Dues

@@ -1,24 +1,25 @@
 -- Which leases may be given back after an entry's changes: those of the legs that it closes, and those of an offer that is undone.
-use Rattle.std.proofs.Common.{◌≡◌, ◌∙◌, refl, sym, ap, subst, ℕ, zero, suc, ◌+◌, ◌<◌, ◌⊎◌, inl, inr, List, [], ◌∷◌, ◌++◌, map, filter, take, drop, length, Bool, true, false, cond, not, ◌==◌, arith}
+use Rattle.std.proofs.Common.{◌≡◌, ◌∙◌, refl, sym, ap, subst, ℕ, zero, suc, ◌+◌, ◌<◌, ◌⊎◌, inl, inr, List, [], ◌∷◌, ◌++◌, map, filter, take, drop, Bool, true, false, cond, ◌==◌, arith}
 use Rattle.std.specs.Prelude.{count_by, ◌&&◌}
 use Rattle.std.specs.List.{flat_map}
 use Rattle.std.proofs.lemmas.List.Sums.{sum_by-append}
 use Rattle.relay_outside.specs.declared.settings.Config.{Config}
 use Rattle.histories.specs.Words.{In, here, there, has}
-use Rattle.histories.proofs.Lists.{in_append, filtered, keeps, maps, mapped, it_has, equal_if}
+use Rattle.histories.proofs.Lists.{in_append, maps, it_has, equal_if}
 use Rattle.port_pool.specs.Ports.{pair_count}
 use Rattle.port_pool.specs.Pools.{AreFree}
 use Rattle.port_pool.specs.declared.holder.Holder.{Holder}
+use Rattle.port_pool.specs.Signals.{is_rejected}
 use Rattle.port_pool.specs.declared.pairs.Lease.{Lease}
 use Rattle.call_board.specs.declared.board.Board.{Board}
 use Rattle.call_board.specs.Acts as act
-use Rattle.call_board.specs.Acts.{Call, Offer, Act, BoardEntry, act}
+use Rattle.call_board.specs.Acts.{Call, Offer, Answer, Act, Control, BoardEvent, Turn, BoardEntry, act}
 use Rattle.call_board.specs.Calls.{ended_by}
 use Rattle.call_board.specs.Pairs.{held, legs_of_act, closes_leg, closes_leg_act, closed_of, leased, leased_by_act, free, next_generation}
 use Rattle.call_board.specs.Fits.{FitsBoard, IsFitting}
-use Rattle.call_board.specs.Views.{View, view_of, times_leased, with_leases, with_returned}
+use Rattle.call_board.specs.Views.{View, view_of, times_leased, with_leases, with_returned, without_call}
 use Rattle.call_board.specs.Boards.{Shows, IsOut, AreOut, lease_at, leases_of, pairs_in}
-use Rattle.call_board.specs.Whole.{with_draws, with_ended}
+use Rattle.call_board.specs.Whole.{with_closed, with_ended}
 use Rattle.call_board.specs.Returns.{leg_lease, MayReturn, MayReturnAll}
 use Rattle.call_board.proofs.Once.{Once, once_filtered}
 use Rattle.call_board.proofs.Sieves.{is_out, filter_alike}
@@ -29,6 +30,7 @@ use Rattle.call_board.proofs.Free.{legs_leased, leased_free, free_once, free_bel
 use Rattle.call_board.proofs.FreeAfter.{leases_once, taken_in, once_taken, closed_apart}
 use Rattle.call_board.proofs.Bounds.{once_count}
 use Rattle.call_board.proofs.Given.{has-behind, differs, later}
+use Rattle.call_board.proofs.CallsAfter.{eq_swap}
 use Rattle.call_board.proofs.Entries.{ended_are}
 
 -- From what the board keeps to the board.
@@ -189,7 +191,7 @@ apart_taken p (suc k) [] once i j = elim i [ ]
 apart_taken p (suc k) (x ∷ xs) once (here e) j = once.0 (subst (λ q. In q xs) e (dropped_in p k xs j))
 apart_taken p (suc k) (x ∷ xs) once (there i) j = apart_taken p k xs once.1 i j
 
-lease_pairs : (config : Config) (f : ℕ → ℕ) (pairs : List ℕ) → pairs_in (map (lease_at config f) pairs) ≡ pairs
+pub lease_pairs : (config : Config) (f : ℕ → ℕ) (pairs : List ℕ) → pairs_in (map (lease_at config f) pairs) ≡ pairs
 lease_pairs config f [] = refl
 lease_pairs config f (p ∷ pairs) = ap (λ (ps : List ℕ). p ∷ ps) (lease_pairs config f pairs)
 
@@ -240,3 +242,36 @@ pub closed_of_ended : (h : List BoardEntry) (e : BoardEntry) (of : Call) → In 
 closed_of_ended h e of i =
     filter_alike (λ (leg : Holder). (leg.call == of.number) && closes_leg e leg) (λ (leg : Holder). leg.call == of.number) (held h)
     (λ leg j. closes_case e leg of i (leg.call == of.number) refl)
+
+swap_case : (a b x : Bool) → a ≡ b → (a && (b && x)) ≡ (a && x)
+swap_case true true x same = refl
+swap_case false b x same = refl
+swap_case true false x same = absurd (let e = same in cc)
+
+abbrev turn : ℕ → Control → Act → BoardEntry
+turn now c a = record { moment = now; event = Turn (record c { act = a }) }
+
+-- of its call an offer closes the legs of the sections that it drops
+pub closed_of_offer : (h : List BoardEntry) (now : ℕ) (c : Control) (o : Offer) → c.act ≡ act.Offered o →
+    closed_of h (record { moment = now; event = Turn c }) o.of ≡ filter (λ leg. (leg.call == o.of.number) && has o.dropped leg.section) (held h)
+closed_of_offer h now c o is =
+    ap (λ (a : Act). closed_of h (turn now c a) o.of) is
+    ∙ filter_alike (λ (leg : Holder). (leg.call == o.of.number) && ((o.of.number == leg.call) && has o.dropped leg.section)) (λ (leg : Holder). (leg.call == o.of.number) && has o.dropped leg.section) (held h)
+    (λ leg i. swap_case (leg.call == o.of.number) (o.of.number == leg.call) (has o.dropped leg.section) (eq_swap leg.call o.of.number))
+
+-- of its call an answer closes the legs of the sections that it rejects
+pub closed_of_answer : (h : List BoardEntry) (now : ℕ) (c : Control) (a : Answer) → c.act ≡ act.Answered a →
+    closed_of h (record { moment = now; event = Turn c }) a.of ≡ filter (λ leg. (leg.call == a.of.number) && is_rejected a.signal leg.section) (held h)
+closed_of_answer h now c a is =
+    ap (λ (x : Act). closed_of h (turn now c x) a.of) is
+    ∙ filter_alike (λ (leg : Holder). (leg.call == a.of.number) && ((a.of.number == leg.call) && is_rejected a.signal leg.section)) (λ (leg : Holder). (leg.call == a.of.number) && is_rejected a.signal leg.section) (held h)
+    (λ leg i. swap_case (leg.call == a.of.number) (a.of.number == leg.call) (is_rejected a.signal leg.section) (eq_swap leg.call a.of.number))
+
+-- which entry ends the calls makes no difference
+pub ended_alike : (h : List BoardEntry) (e f : BoardEntry) (calls : List Call) (v : View) → ((of : Call) → In of calls → In of (ended_by e)) → ((of : Call) → In of calls → In of (ended_by f)) →
+    with_ended h e calls v ≡ with_ended h f calls v
+ended_alike h e f [] v by_e by_f = refl
+ended_alike h e f (of ∷ calls) v by_e by_f =
+    ap (λ (legs : List Holder). with_ended h e calls (with_returned (without_call v of.number) (map pair_of legs)))
+    (closed_of_ended h e of (by_e of (here refl)) ∙ sym (closed_of_ended h f of (by_f of (here refl))))
+    ∙ ended_alike h e f calls (with_closed h f of (without_call v of.number)) (λ c i. by_e c (there i)) (λ c i. by_f c (there i))

@@ -1,5 +1,5 @@
 -- Which leases may be given back, by what the board keeps.
-use Rattle.std.specs.Prelude.{◌≡◌, ◌<◌, ℕ, false, List, [], ◌∷◌}
+use Rattle.std.specs.Prelude.{◌≡◌, ◌<◌, false, List, [], ◌∷◌}
 use Rattle.relay_outside.specs.declared.settings.Config.{Config}
 use Rattle.histories.specs.Words.{has}
 use Rattle.port_pool.specs.Ports.{pair_count, pair_port}

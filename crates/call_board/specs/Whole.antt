@@ -1,11 +1,23 @@
 -- What an entry of the history makes of what the board keeps: the changes that the calls of its turn make, in their order.
 use Rattle.std.specs.Prelude.{◌≡◌, ◌≤◌, ℕ, zero, suc, List, [], ◌∷◌, map, length, if◌then◌else◌}
 use Rattle.cookie_cache.specs.Keepings.{moment_used}
-use Rattle.offer_answer.specs.Rounds.{Round}
+use Rattle.port_pool.specs.declared.holder.Holder.{Holder}
+use Rattle.port_pool.specs.declared.pairs.Lease as pairs
+use Rattle.offer_answer.specs.Rounds.{Round, NewLeg}
 use Rattle.offer_answer.specs.Rounds as round
 use Rattle.call_board.specs.Acts.{Call, Lease, Offer, Answer, Act, Repeated, Starved, Failed, Undone, Offered, Answered, Deleted, Queried, Told, Control, BoardEvent, Turn, Tick, Stop, BoardEntry}
 use Rattle.call_board.specs.Pairs.{closed_of}
 use Rattle.call_board.specs.Views.{View, last_moment, at_moment, with_keeping, one_drawn, with_calls, with_new_call, with_leases, with_returned, without_call, goes_on}
+
+-- The legs that an offer leases pairs for: a lease for each leg that it demands, in order.
+
+abbrev pub leg_of : Call → pairs.Lease → NewLeg → Holder
+leg_of c lease leg = record { cell = c.cell; call = c.number; section = leg.section; side = leg.side; pair = lease.pair; generation = lease.generation }
+
+abbrev pub legs_of : Call → List pairs.Lease → List NewLeg → List Holder
+legs_of c [] legs = []
+legs_of c (lease ∷ leases) [] = []
+legs_of c (lease ∷ leases) (leg ∷ legs) = leg_of c lease leg ∷ legs_of c leases legs
 
 -- Steps that several acts have.
 
