@@ -4,7 +4,10 @@ pub mod Boards
 pub mod Keys
 pub mod Commits
 pub mod Lives
+pub mod LegEntries
+pub mod KeyRounds
 pub mod Keyed
+pub mod KeyLives
 pub mod Shields
 pub mod Relays
 pub mod Leases
