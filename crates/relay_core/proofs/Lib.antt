@@ -17,6 +17,7 @@ pub mod Generations
 pub mod Sends
 pub mod Replies
 pub mod Safety
+pub mod Learned
 pub mod Elsewhere
 pub mod Turns
 pub mod Gains

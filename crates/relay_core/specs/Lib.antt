@@ -3,3 +3,4 @@ pub mod Scripts
 pub mod Legal
 pub mod Safe
 pub mod Carried
+pub mod Learned

@@ -3,9 +3,9 @@
 //!
 //! Module `laws` states that. `specs/Entries.antt` has the entries and the histories of places, `specs/Scripts.antt` what an entry of the board owes,
 //! `specs/Legal.antt` when a list is legal, `specs/Safe.antt` what is then promised, `specs/Carried.antt` what the list has that
-//! shows that legal lists exist.
+//! shows that legal lists exist, `specs/Learned.antt` that a cell learns as a learner does.
 #![tactic(auto)]
 
 mod laws;
 
-pub use laws::{a_legal_list_exists, cells_are_apart, legal_is_safe, orderly_is_safe};
+pub use laws::{a_legal_list_exists, cells_are_apart, learning_is_one, legal_is_safe, orderly_is_safe};
