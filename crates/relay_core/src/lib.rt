@@ -8,4 +8,6 @@
 
 mod laws;
 
-pub use laws::{a_legal_list_exists, cells_are_apart, learning_is_one, legal_is_safe, orderly_is_safe};
+pub use laws::{
+    a_legal_list_exists, cells_are_apart, learning_is_one, legal_is_safe, orderly_is_safe,
+};
