@@ -26,5 +26,14 @@ pub mod Shutting
 pub mod Plans
 pub mod Counts
 pub mod Laid
+pub mod Rounded
+pub mod Suites
+pub mod Asks
+pub mod CallRounds
+pub mod Lasting
+pub mod Following
+pub mod Fronts
+pub mod Coming
+pub mod KeysOnce
 mod Example
 mod rows
