@@ -35,5 +35,7 @@ pub mod Following
 pub mod Fronts
 pub mod Coming
 pub mod KeysOnce
+pub mod LegStays
+pub mod OneLeg
 mod Example
 mod rows

@@ -136,8 +136,11 @@ pub record BoardSafe (config : Config) (l : List Entry) : Type 0 where
   -- a box is opened only where it has no holder, and closed only where it has one
   pub opens_shut : (e : Entry) (leg : Holder) → In e l → e.event ≡ Box (Open leg) → holder (box_history l e.place e.number) ≡ None
   pub closes_open : (e : Entry) → In e l → e.event ≡ Box Close → IsSome (holder (box_history l e.place e.number))
-  -- each key number enters one leg, once
+  -- each key number comes once, for one section and side of one call
   pub keys_apart : (e f : Entry) (k j : NewKey) → In e l → In f l → In k (keys_at e) → In j (keys_at f) → k.number ≡ j.number → (e ≡ f) × (k ≡ j)
+  -- and it belongs to one leg, which is one lease of a pair, in whatever cells and at whatever times legs have it
+  pub one_leg : (e f : Entry) (a b : Holder) (number : ℕ) → In e l → In f l → In a (legs (cell_before l e)) → In b (legs (cell_before l f))
+      → HasKey (cell_before l e) a number → HasKey (cell_before l f) b number → a ≡ b
   -- what is read of a datagram is what its body spells, and the lines that are chosen are those of its description
   pub bodies_are : (e : Entry) (c : Control) → In e l → e.event ≡ Board (Turn c) → is_read c ≡ true → Reads c.body c.pairs
   pub lines_are : (e : Entry) (c : Control) → In e l → e.event ≡ Board (Turn c) → is_heard c.act ≡ true
