@@ -8,12 +8,8 @@ use Rattle.call_board.specs.Fits.{FitsBoard}
 use Rattle.relay_core.specs.Entries.{Entry, board_entry, board_history}
 use Rattle.relay_core.specs.Scripts.{Owed, owed_by, script}
 use Rattle.relay_core.specs.Legal.{Orderly}
+pub use Rattle.relay_core.specs.Turning.{Rising, Gained}
 use Rattle.relay_core.proofs.Turns.{Numbered, IsAbove, IsTurn, with_turn, numbered_append, numbered_single, turn_keeps}
-
--- each entry is above all that its place had when it came
-abbrev pub Rising : List Entry → List Entry → Type 0
-Rising l [] = Unit {0}
-Rising l (e ∷ es) = IsAbove l e.place e.number × Rising (l ++ e ∷ []) es
 
 pub rising_above : (l ns : List Entry) → Rising l ns → (e : Entry) → In e ns → IsAbove l e.place e.number
 rising_above l [] r e i = elim i [ ]
@@ -60,12 +56,6 @@ pub rising_append : (l ns ms : List Entry) → Rising l ns → Rising (l ++ ns) 
 rising_append l [] ms r s = rising_from l (l ++ []) ms (λ e i. in_left l [] i) s
 rising_append l (g ∷ ns) ms r s =
     (r.0, rising_append (l ++ g ∷ []) ns ms r.1 (subst (λ k. Rising k ms) (sym (append_assoc l (g ∷ []) ns)) s))
-
--- The list gains these entries, which meet these events in order and belong to the board's entry of that number
-pub record Gained (l : List Entry) (number : ℕ) (events : List Owed) (ns : List Entry) : Type 0 where
-  pub owes : map owed_by ns ≡ events
-  pub of_board : (e : Entry) → In e ns → e.board ≡ number
-  pub rising : Rising l ns
 
 pub gained_nothing : (l : List Entry) (number : ℕ) → Gained l number [] []
 gained_nothing l number = record {

@@ -26,6 +26,10 @@ pub mod Shutting
 pub mod Plans
 pub mod Counts
 pub mod Laid
+pub mod Stays
+pub mod Own
+pub mod Given
+pub mod Beginnings
 pub mod Rounded
 pub mod Suites
 pub mod Asks
@@ -37,5 +41,6 @@ pub mod Coming
 pub mod KeysOnce
 pub mod LegStays
 pub mod OneLeg
+pub mod LegsHeld
 mod Example
 mod rows

@@ -11,6 +11,7 @@ use Rattle.call_board.specs.Fits.{FitsBoard}
 use Rattle.relay_core.specs.Entries.{Event, Board, Cell, Box, Entry, is_nested, is_at, belongs_to, history, board_at, board_entry, board_history}
 use Rattle.relay_core.specs.Scripts.{owed_by, script}
 use Rattle.relay_core.specs.Legal.{Orderly}
+pub use Rattle.relay_core.specs.Turning.{Numbered, IsAbove, IsTurn, with_turn, IsOfLane}
 use Rattle.relay_core.proofs.Elsewhere.{IsElsewhere, owed_elsewhere}
 use Rattle.relay_core.proofs.Histories.{good_history, both, and_true, at_place, is_there}
 
@@ -56,14 +57,6 @@ before_across (z ∷ xs) ys (here q) j = begins q (in_right xs ys j)
 before_across (z ∷ xs) ys (there i) j = goes_on (before_across xs ys i j)
 
 -- What the clauses of an orderly list need of an append.
-
--- each entry of the list has one number of its place
-abbrev pub Numbered : List Entry → Type 0
-Numbered l = (e : Entry) → In e l → length (filter (is_at e.place e.number) l) ≡ 1
-
--- the number is above all of the list's at that place
-abbrev pub IsAbove : List Entry → ℕ → ℕ → Type 0
-IsAbove l place number = (e : Entry) → In e l → e.place ≡ place → e.number < number
 
 pub false_if : (t : Bool) → (t ≡ true → ⊥) → t ≡ false
 false_if false fails = refl
@@ -164,32 +157,12 @@ nothing_is_orderly config = record {
   ordered = λ e f i j a b p k. elim i [ ];
 }
 
--- The nested entries of a turn of the board, and the board's own entry, for the list before it
-pub record IsTurn (config : Config) (l ns : List Entry) (b : Entry) : Type 0 where
-  pub entry : BoardEntry
-  pub is : board_entry b ≡ Some entry
-  pub at_board : b.place ≡ 0
-  -- the board's entry is above all that the list has of the board, and fits what they leave
-  pub at_front : IsAbove l 0 b.number
-  pub fits : FitsBoard config (board_history l b.number) entry
-  -- the nested entries are its script, in order
-  pub owes : map owed_by ns ≡ script config (board_history l b.number) entry
-  pub of_board : (e : Entry) → In e ns → e.board ≡ b.number
-  -- each is above all that its place has
-  pub above : (e : Entry) → In e ns → IsAbove l e.place e.number
-  pub once : Numbered ns
-  pub in_order : (e f : Entry) → In e ns → In f ns → e.place ≡ f.place → e.number < f.number → Before e f ns
-
 -- so they are nested, and none is at the board's place
 pub turn_elsewhere : (config : Config) (l ns : List Entry) (b : Entry) → Orderly config l → IsTurn config l ns b → (e : Entry) → In e ns
     → IsElsewhere config (owed_by e)
 turn_elsewhere config l ns b o t e i =
     owed_elsewhere config (board_history l b.number) t.entry (owed_by e) (good_history config l o b.number) t.fits
     (subst (λ ws. In (owed_by e) ws) t.owes (maps owed_by ns i))
-
--- the longer list
-abbrev pub with_turn : List Entry → List Entry → Entry → List Entry
-with_turn l ns b = (l ++ ns) ++ b ∷ []
 
 pub data Part (l ns : List Entry) (b e : Entry) : Type 0 where
   old : In e l → Part l ns b e
@@ -346,12 +319,6 @@ turn_keeps config l ns b o t = record {
 }
 
 -- The steps of lanes.
-
--- a take or a relay
-abbrev pub IsOfLane : Event → Type 0
-IsOfLane (Cell (Relay r)) = Unit {0}
-IsOfLane (Box (Take half taken)) = Unit {0}
-IsOfLane _ = ⊥
 
 lane_not_nested : (v : Event) → IsOfLane v → is_nested v ≡ false
 lane_not_nested (Board b) h = absurd h

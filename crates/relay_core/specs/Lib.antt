@@ -4,3 +4,9 @@ pub mod Legal
 pub mod Safe
 pub mod Carried
 pub mod Learned
+pub mod Codes
+pub mod Made
+pub mod Steps
+pub mod Beginning
+pub mod Standing
+pub mod Turning

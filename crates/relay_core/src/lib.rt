@@ -6,8 +6,14 @@
 //! shows that legal lists exist, `specs/Learned.antt` that a cell learns as a learner does.
 #![tactic(auto)]
 
+mod beginning;
 mod laws;
+mod machine;
+mod part;
 
+pub use beginning::parts;
 pub use laws::{
     a_legal_list_exists, cells_are_apart, learning_is_one, legal_is_safe, orderly_is_safe,
 };
+pub use machine::{Happening, Relay, Says, Told};
+pub use part::Part;

@@ -1,0 +1,78 @@
+-- Parts that are added one after the other.
+use Rattle.std.proofs.Common.{◌≡◌, refl, sym, ◌∙◌, ap, ℕ, zero, suc, ◌+◌, not, List, [], ◌∷◌, ◌++◌, length, filter, append_assoc, length-append, arith}
+use Rattle.histories.specs.Words.{has, numbers}
+use Rattle.port_pool.specs.Ports.{pair_count}
+use Rattle.call_board.specs.declared.board.Board as board
+use Rattle.call_board.specs.Boards.{BoardFor}
+use Rattle.call_board.specs.Pairs.{free}
+use Rattle.relay_core.specs.declared.part.Part.TheVariants as part
+use Rattle.relay_core.proofs.Turns.{filter_every}
+use Rattle.relay_outside.specs.declared.settings.Config.{Config}
+use Rattle.relay_core.specs.declared.part.Part.{Part}
+use Rattle.relay_core.specs.Beginning.{IsCell, IsBox, AreCells, AreBoxes, AddsCells, AddsBoxes, AreParts}
+
+nothing_behind : {A : Type 0} (xs : List A) → xs ++ [] ≡ xs
+nothing_behind [] = refl
+nothing_behind (x ∷ xs) = ap (λ (ys : List _). x ∷ ys) (nothing_behind xs)
+
+module _ {I O : Type 0} where
+  cells_and : (config : Config) (xs : List (Part I O)) (x : Part I O) → AreCells config xs → IsCell config x → AreCells config (xs ++ x ∷ [])
+  cells_and config [] x are is = (is, tt)
+  cells_and config (y ∷ xs) x are is = (are.0, cells_and config xs x are.1 is)
+
+  boxes_and : (config : Config) (xs : List (Part I O)) (x : Part I O) → AreBoxes config xs → IsBox config x → AreBoxes config (xs ++ x ∷ [])
+  boxes_and config [] x are is = (is, tt)
+  boxes_and config (y ∷ xs) x are is = (are.0, boxes_and config xs x are.1 is)
+
+  pub no_cells : (config : Config) (xs : List (Part I O)) → AddsCells config xs xs 0
+  no_cells config xs = record { added = []; is = sym (nothing_behind xs); as_many = refl; are = tt }
+
+  pub no_boxes : (config : Config) (xs : List (Part I O)) → AddsBoxes config xs xs 0
+  no_boxes config xs = record { added = []; is = sym (nothing_behind xs); as_many = refl; are = tt }
+
+  pub one_more_cell : (config : Config) (old new newer : List (Part I O)) (count : ℕ) (x : Part I O) → AddsCells config old new count → IsCell config x
+      → newer ≡ new ++ x ∷ [] → AddsCells config old newer (count + 1)
+  one_more_cell config old new newer count x adds is q = record {
+    added = adds.added ++ x ∷ [];
+    is = q ∙ ap (λ (xs : List (Part I O)). xs ++ x ∷ []) adds.is ∙ append_assoc old adds.added (x ∷ []);
+    as_many = length-append adds.added (x ∷ []) ∙ ap (λ (n : ℕ). n + 1) adds.as_many;
+    are = cells_and config adds.added x adds.are is;
+  }
+
+  pub one_more_box : (config : Config) (old new newer : List (Part I O)) (count : ℕ) (x : Part I O) → AddsBoxes config old new count → IsBox config x
+      → newer ≡ new ++ x ∷ [] → AddsBoxes config old newer (count + 1)
+  one_more_box config old new newer count x adds is q = record {
+    added = adds.added ++ x ∷ [];
+    is = q ∙ ap (λ (xs : List (Part I O)). xs ++ x ∷ []) adds.is ∙ append_assoc old adds.added (x ∷ []);
+    as_many = length-append adds.added (x ∷ []) ∙ ap (λ (n : ℕ). n + 1) adds.as_many;
+    are = boxes_and config adds.added x adds.are is;
+  }
+
+numbers_count : (n count : ℕ) → length (numbers n count) ≡ count
+numbers_count n zero = refl
+numbers_count n (suc count) = ap (λ (k : ℕ). suc k) (numbers_count (suc n) count)
+
+-- at first all pairs are free
+pub all_free : (config : Config) → length (free config []) ≡ pair_count config
+all_free config =
+    ap (λ (xs : List ℕ). length xs)
+    (nothing_behind (filter (λ p. not (has [] p)) (numbers 0 (pair_count config)))
+    ∙ filter_every (λ p. not (has [] p)) (numbers 0 (pair_count config)) (λ p i. refl))
+    ∙ numbers_count 0 (pair_count config)
+
+module _ {I O : Type 0} where
+  pub parts_begin : (config : Config) (b : board.Board) (none one two three : List (Part I O)) (pairs : ℕ) → none ≡ [] → one ≡ none ++ part.Board b ∷ []
+      → AddsCells config one two config.max_sessions → AddsBoxes config two three pairs → pairs ≡ pair_count config → BoardFor config b [] → AreParts config three
+  parts_begin config b none one two three pairs empty first cells boxes count for = record {
+    board = b;
+    cells = cells.added;
+    boxes = boxes.added;
+    parts_are = boxes.is
+        ∙ ap (λ (xs : List (Part I O)). xs ++ boxes.added) (cells.is ∙ ap (λ (xs : List (Part I O)). xs ++ cells.added) (first ∙ ap (λ (xs : List (Part I O)). xs ++ part.Board b ∷ []) empty))
+        ∙ append_assoc (part.Board b ∷ []) cells.added boxes.added;
+    board_for = for;
+    cell_count = cells.as_many;
+    are_cells = cells.are;
+    box_count = boxes.as_many ∙ count;
+    are_boxes = boxes.are;
+  }

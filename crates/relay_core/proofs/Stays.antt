@@ -1,0 +1,211 @@
+-- Each state of a place stands for what is recorded of the place.
+use Rattle.std.proofs.Common.{◌≡◌, ◌≢◌, refl, sym, ◌∙◌, ap, subst, ℕ, ◌+◌, ◌<◌, ◌≤◌, ◌==◌, Bool, true, false, cond, List, [], ◌∷◌, ◌++◌, Option, Some, None, map, filter, length, arith, slice_get, take}
+use Rattle.std.specs.List.{filter_map, cons_option}
+use Rattle.relay_outside.specs.declared.ports.InCall.{InCall}
+use Rattle.relay_outside.specs.declared.ports.OutCall.{OutCall}
+use Rattle.relay_outside.specs.declared.settings.Config.{Config}
+use Rattle.turn_table.specs.declared.machine.Entry as table
+use Rattle.turn_table.specs.Histories.{Leaves}
+use Rattle.histories.specs.Words.{In, until, first}
+use Rattle.port_pool.specs.declared.boxes.PairBox.{PairBox}
+use Rattle.port_pool.specs.declared.holder.Holder.{Holder}
+use Rattle.port_pool.specs.Signals.{NewKey}
+use Rattle.port_pool.specs.Boxes.{BoxEvent}
+use Rattle.port_pool.specs.PairBoxes.{BoxFor, cells_of}
+use Rattle.call_cell.specs.declared.cell.Cell as cell
+use Rattle.call_cell.specs.Cells.{CellEvent, CellEntry, Prepare, Commit, Relay, Expire, Read, End, is_end, ends, since_end, keys_of, keys_in, key_numbered}
+use Rattle.call_cell.specs.Good.{FittingCell, empty, longer}
+use Rattle.call_cell.specs.declared.outcome.Outcome.{Outcome}
+use Rattle.call_cell.specs.Cells.{Relayed}
+use Rattle.call_cell.specs.Deeds.{deed}
+use Rattle.call_cell.specs.Asked.{FitsCell}
+use Rattle.call_cell.specs.Standing.{sent_ok}
+use Rattle.call_cell.specs.Preparing.{added}
+use Rattle.call_cell.specs.CellStanding.{CellFor, relayed_at}
+use Rattle.call_cell.specs.CellStanding as cells
+use Rattle.call_board.specs.declared.board.Board as board
+use Rattle.call_board.specs.Acts.{BoardEntry}
+use Rattle.call_board.specs.Boards.{BoardFor}
+use Rattle.call_board.specs.Fits.{IsFitting}
+use Rattle.call_cell.proofs.NewKeys.{none_since}
+use Rattle.relay_core.specs.declared.part.Part.{Part}
+use Rattle.relay_core.specs.declared.part.Part.TheVariants as part
+use Rattle.relay_core.specs.Entries.{Event, Board, Cell, Box, Entry, board_at, cell_at, box_in, board_entry, cell_entry, box_event}
+use Rattle.relay_core.specs.Made.{Made, entry_of, told_cell, told_relay}
+use Rattle.relay_core.specs.Steps.{BoardStep, BoardSteps, board_made, BoxSteps, CellStepsBy, CellSteps, CellRelayed, Relates, AreNew}
+use Rattle.relay_core.specs.Standing.{told_entry, FittingBox, CellStands, BringsNewKeys, Stands, IsBoardPart, IsCellPart, IsBoxPart}
+
+-- The keys that were brought.
+
+told_keys : (c : CellEvent) → keys_of (told_cell c) ≡ keys_of c
+told_keys (Prepare call legs keys dropped) = refl
+told_keys (Commit signal) = refl
+told_keys (Relay x) = refl
+told_keys (Expire due) = refl
+told_keys (Read reports) = refl
+told_keys End = refl
+
+told_keys_in : (h : List CellEntry) → keys_in (map told_entry h) ≡ keys_in h
+told_keys_in [] = refl
+told_keys_in (e ∷ h) =
+    ap (λ (ks : List NewKey). ks ++ keys_in (map told_entry h)) (told_keys e.event) ∙ ap (λ (ks : List NewKey). keys_of e.event ++ ks) (told_keys_in h)
+
+-- so what is recorded tells which keys are new
+pub new_recorded : (history recorded : List CellEntry) (keys : List NewKey) → map told_entry history ≡ recorded
+    → ((key : NewKey) → In key keys → key_numbered recorded key.number ≡ None) → AreNew history keys
+new_recorded history recorded keys is new key i =
+    let P : List NewKey → Type 0 = λ (ks : List NewKey). first (filter (λ (k : NewKey). k.number == key.number) ks) ≡ None in
+    none_since history key.number
+    (subst P (ap (λ (h : List CellEntry). keys_in h) (sym is) ∙ told_keys_in history) (new key i))
+
+-- One step.
+
+after_board : (config : Config) (old new : board.Board) (made : Made) (ev : Event) (h : List BoardEntry) → BoardSteps old made ev new
+    → IsFitting config h × BoardFor config old h
+    → IsFitting config (cons_option (board_at made.moment ev) h) × BoardFor config new (cons_option (board_at made.moment ev) h)
+after_board config old new made (Board e) h steps for =
+    let c : old.config ≡ config = for.1.config_is in
+    let s : BoardStep config h made e new = subst (λ (k : Config). BoardStep k h made e new) c
+    (steps h (subst (λ (k : Config). IsFitting k h) (sym c) for.0) (subst (λ (k : Config). BoardFor k old h) (sym c) for.1)) in
+    ((s.fits, for.0), s.stands)
+after_board config old new made (Cell e) h steps for = absurd steps
+after_board config old new made (Box e) h steps for = absurd steps
+
+after_box : {I : Type 0} (it : I → Option (List InCall)) (ic : I → ℕ) (old new : PairBox I) (made : Made) (ev : Event) (h : List BoxEvent)
+    → BoxSteps it ic old made ev new → FittingBox h × BoxFor old h → FittingBox (cons_option (box_in ev) h) × BoxFor new (cons_option (box_in ev) h)
+after_box it ic old new made (Box e) h step for = let s = step.stands h for.1 in ((s.0, for.0), s.1)
+after_box it ic old new made (Cell e) h step for = absurd step
+after_box it ic old new made (Board e) h step for = absurd step
+
+box_cells : {I : Type 0} (it : I → Option (List InCall)) (ic : I → ℕ) (cells : ℕ) (old new : PairBox I) (made : Made) (ev : Event)
+    → BoxSteps it ic old made ev new → cells_of old ≡ cells → cells_of new ≡ cells
+box_cells it ic cells old new made (Box e) step is = step.cells_are ∙ is
+box_cells it ic cells old new made (Cell e) step is = absurd step
+box_cells it ic cells old new made (Board e) step is = absurd step
+
+-- a cell that makes one more entry, which is recorded so
+one_more : {O : Type 0} (config : Config) (new : cell.Cell O) (history recorded : List CellEntry) (e r : CellEntry) → map told_entry history ≡ recorded
+    → FittingCell config history → FitsCell config history e → CellFor config new (e ∷ history) → told_entry e ≡ r → CellStands config new (r ∷ recorded)
+one_more config new history recorded e r is fitting fits stands told = record {
+  history = e ∷ history;
+  is_recorded = ap (λ (x : CellEntry). x ∷ map told_entry history) told ∙ ap (λ (h : List CellEntry). r ∷ h) is;
+  fitting = longer fits fitting;
+  stands = stands;
+}
+
+at_same : (a b : ℕ) (event : CellEvent) → a ≡ b → told_cell event ≡ event → told_entry (record { moment = a; event = event }) ≡ record { moment = b; event = event }
+at_same a b event p q =
+    ap (λ (m : ℕ). told_entry (record { moment = m; event = event })) p ∙ ap (λ (c : CellEvent). record { moment = b; event = c }) q
+
+after_cell_by : {O : Type 0} (ot : O → Option (List OutCall)) (oc : O → ℕ) (config : Config) (old new : cell.Cell O) (made : Made) (ev : CellEvent)
+    (recorded : List CellEntry) → ((key : NewKey) → In key (keys_of ev) → key_numbered recorded key.number ≡ None)
+    → CellStepsBy ot oc old made ev new → CellStands config old recorded
+    → CellStands config new ((record { moment = made.moment; event = ev }) ∷ recorded)
+after_cell_by ot oc config old new made (Prepare call legs keys dropped) recorded fresh step for =
+    let s = step.steps config for.history for.stands (new_recorded for.history recorded keys for.is_recorded fresh) in
+    one_more config new for.history recorded _ _ for.is_recorded for.fitting s.1.fits s.1.stands
+    (at_same _ _ (Prepare call (added step.signal) keys dropped) (sym s.0) refl
+    ∙ ap (λ (ls : List Holder). record { moment = made.moment; event = Prepare call ls keys dropped }) step.legs_are)
+after_cell_by ot oc config old new made (Commit signal) recorded fresh step for =
+    let s = step.steps config for.history for.stands in
+    one_more config new for.history recorded _ _ for.is_recorded for.fitting s.1.fits s.1.stands (at_same _ _ (Commit signal) (sym s.0) refl)
+after_cell_by ot oc config old new made (Relay x) recorded fresh step for =
+    let s = step.steps config for.history for.stands in
+    let d = deed config (since_end for.history) x.packet (sent_ok x.deed.outcome) in
+    let told : told_relay x.packet d.outcome ≡ x = ap (λ (o : Outcome). told_relay x.packet o) (sym s.1.outcome) ∙ sym step.is_told in
+    one_more config new for.history recorded (relayed_at config for.history x.packet made.handed x.deed.outcome) (record { moment = made.moment; event = Relay x })
+    for.is_recorded for.fitting s.1.fits s.1.stands
+    (ap (λ (m : ℕ). record { moment = m; event = Relay (told_relay x.packet d.outcome) }) (sym s.0)
+    ∙ ap (λ (r : Relayed). record { moment = made.moment; event = Relay r }) told)
+after_cell_by ot oc config old new made (Expire due) recorded fresh step for =
+    let s = step config for.history for.stands in
+    one_more config new for.history recorded _ _ for.is_recorded for.fitting s.1.fits s.1.stands (at_same _ _ (Expire due) (sym s.0) refl)
+after_cell_by ot oc config old new made (Read reports) recorded fresh step for = absurd step
+after_cell_by ot oc config old new made End recorded fresh step for =
+    let s = step.steps config for.history for.stands in
+    one_more config new for.history recorded _ _ for.is_recorded for.fitting s.1.fits s.1.stands (at_same _ _ End (sym s.0) refl)
+
+after_cell : {O : Type 0} (ot : O → Option (List OutCall)) (oc : O → ℕ) (config : Config) (old new : cell.Cell O) (made : Made) (ev : Event)
+    (recorded : List CellEntry) → BringsNewKeys (cons_option (cell_at made.moment ev) recorded)
+    → CellSteps ot oc old made ev new → CellStands config old recorded → CellStands config new (cons_option (cell_at made.moment ev) recorded)
+after_cell ot oc config old new made (Cell e) recorded fresh step for = after_cell_by ot oc config old new made e recorded fresh.0 step for
+after_cell ot oc config old new made (Board e) recorded fresh step for = absurd step
+after_cell ot oc config old new made (Box e) recorded fresh step for = absurd step
+
+brings_option : (o : Option CellEntry) (h : List CellEntry) → BringsNewKeys (cons_option o h) → BringsNewKeys h
+brings_option None h b = b
+brings_option (Some e) h b = b.1
+
+-- Any number of steps.
+
+module _ {T : Type 0} where
+  -- the history with these rows of the table, from the first to the last
+  abbrev pub onto : List (table.Entry Made T) → List Entry → List Entry
+  onto [] h = h
+  onto (row ∷ rows) h = onto rows (entry_of row ∷ h)
+
+  brings_onto : (rows : List (table.Entry Made T)) (h : List Entry) → BringsNewKeys (filter_map cell_entry (onto rows h)) → BringsNewKeys (filter_map cell_entry h)
+  brings_onto [] h b = b
+  brings_onto (row ∷ rows) h b = brings_option (cell_entry (entry_of row)) (filter_map cell_entry h) (brings_onto rows (entry_of row ∷ h) b)
+
+  module _ {I O : Type 0} (it : I → Option (List InCall)) (ic : I → ℕ) (ot : O → Option (List OutCall)) (oc : O → ℕ) where
+    abbrev pub Steps : Part I O → Made → T → Part I O → Type 0
+    Steps old made outcome new = Relates it ic ot oc old made new
+
+    cell_back : (a b : Part I O) (made : Made) (outcome : T) → Steps a made outcome b → IsCellPart b → IsCellPart a
+    cell_back (part.Board old) (part.Board new) made o step is = is
+    cell_back (part.Cell old) (part.Cell new) made o step is = is
+    cell_back (part.Pair old) (part.Pair new) made o step is = is
+    cell_back _ _ made o step is = absurd step
+
+    after : (config : Config) (old new : Part I O) (row : table.Entry Made T) (h : List Entry)
+        → (IsCellPart old → BringsNewKeys (filter_map cell_entry (entry_of row ∷ h))) → Steps old row.event row.outcome new → Stands config old h
+        → Stands config new (entry_of row ∷ h)
+    after config (part.Board old) (part.Board new) row h fresh step for =
+        after_board config old new row.event row.event.event (filter_map board_entry h) step for
+    after config (part.Cell old) (part.Cell new) row h fresh step for =
+        after_cell ot oc config old new row.event row.event.event (filter_map cell_entry h) (fresh tt) step for
+    after config (part.Pair old) (part.Pair new) row h fresh step for =
+        after_box it ic old new row.event row.event.event (filter_map box_event h) step for
+    after config _ _ row h fresh step for = absurd step
+
+    -- a state stands for the history with the rows that lead to it
+    pub stands_onto : (config : Config) (a b : Part I O) (rows : List (table.Entry Made T)) (h : List Entry) → Leaves Steps a rows b
+        → (IsCellPart a → BringsNewKeys (filter_map cell_entry (onto rows h))) → Stands config a h → Stands config b (onto rows h)
+    stands_onto config a b [] h same fresh for = subst (λ (x : Part I O). Stands config x h) same for
+    stands_onto config a b (row ∷ rows) h l fresh for =
+        stands_onto config l.0 b rows (entry_of row ∷ h) l.2 (λ is. fresh (cell_back a l.0 row.event row.outcome l.1 is))
+        (after config a l.0 row h (λ is. brings_onto rows (entry_of row ∷ h) (fresh is)) l.1 for)
+
+    -- a board stays a board, a cell a cell, and a box a box
+    board_step : (a b : Part I O) (made : Made) (outcome : T) → Steps a made outcome b → IsBoardPart a → IsBoardPart b
+    board_step (part.Board old) (part.Board new) made o step is = is
+    board_step (part.Cell old) (part.Cell new) made o step is = is
+    board_step (part.Pair old) (part.Pair new) made o step is = is
+    board_step _ _ made o step is = absurd step
+
+    cell_step : (a b : Part I O) (made : Made) (outcome : T) → Steps a made outcome b → IsCellPart a → IsCellPart b
+    cell_step (part.Board old) (part.Board new) made o step is = is
+    cell_step (part.Cell old) (part.Cell new) made o step is = is
+    cell_step (part.Pair old) (part.Pair new) made o step is = is
+    cell_step _ _ made o step is = absurd step
+
+    box_step : (cells : ℕ) (a b : Part I O) (made : Made) (outcome : T) → Steps a made outcome b → IsBoxPart cells a → IsBoxPart cells b
+    box_step cells (part.Board old) (part.Board new) made o step is = is
+    box_step cells (part.Cell old) (part.Cell new) made o step is = is
+    box_step cells (part.Pair old) (part.Pair new) made o step is = box_cells it ic cells old new made made.event step is
+    box_step cells _ _ made o step is = absurd step
+
+    stays : (P : Part I O → Type 0) → ((a b : Part I O) (made : Made) (o : T) → Steps a made o b → P a → P b)
+        → (a b : Part I O) (rows : List (table.Entry Made T)) → Leaves Steps a rows b → P a → P b
+    stays P step a b [] same is = subst P same is
+    stays P step a b (row ∷ rows) l is = stays P step l.0 b rows l.2 (step a l.0 row.event row.outcome l.1 is)
+
+    pub board_stays : (a b : Part I O) (rows : List (table.Entry Made T)) → Leaves Steps a rows b → IsBoardPart a → IsBoardPart b
+    board_stays a b rows l is = stays IsBoardPart board_step a b rows l is
+
+    pub cell_stays : (a b : Part I O) (rows : List (table.Entry Made T)) → Leaves Steps a rows b → IsCellPart a → IsCellPart b
+    cell_stays a b rows l is = stays IsCellPart cell_step a b rows l is
+
+    pub box_stays : (cells : ℕ) (a b : Part I O) (rows : List (table.Entry Made T)) → Leaves Steps a rows b → IsBoxPart cells a → IsBoxPart cells b
+    box_stays cells a b rows l is = stays (IsBoxPart cells) (box_step cells) a b rows l is

@@ -1,0 +1,50 @@
+-- What the table of places records of a step, and the lists of entries that hands make.
+use Rattle.std.specs.Prelude.{ℕ, Bool, true, false, ◌||◌, max, List, [], ◌∷◌, None, map, if◌then◌else◌}
+use Rattle.turn_table.specs.declared.machine.Entry as table
+use Rattle.call_cell.specs.declared.outcome.Outcome.{Outcome}
+use Rattle.call_cell.specs.Cells.{CellEvent, Relay, Receipt, Relayed, Deed}
+use Rattle.call_cell.specs.Standing.{sent_ok}
+use Rattle.port_pool.specs.Boxes.{BoxEvent, Take}
+use Rattle.relay_core.specs.Entries.{Event, Board, Cell, Box, Entry}
+use Rattle.relay_core.specs.Legal.{is_handed_own, is_handed_boards}
+
+-- A step as the table records it: the moment that it was handed, its moment, the number of the board entry that it belongs to, and
+-- its event. Of a relay the outcome is recorded: what it noted, protected and sent follows from the history of its cell.
+pub record Made : Type 0 where
+  pub handed : ℕ
+  pub moment : ℕ
+  pub board : ℕ
+  pub event : Event
+
+-- a relay by its packet and its outcome
+abbrev pub told_deed : Receipt → Outcome → Deed
+told_deed p outcome = record { outcome = outcome; kind = p.half; noted = None; shield = None; sending = None }
+
+abbrev pub told_relay : Receipt → Outcome → Relayed
+told_relay p outcome = record { packet = p; sent_ok = sent_ok outcome; deed = told_deed p outcome }
+
+-- what is recorded of a cell's event
+abbrev pub told_cell : CellEvent → CellEvent
+told_cell (Relay x) = Relay (told_relay x.packet x.deed.outcome)
+told_cell event = event
+
+-- what is recorded of an event
+abbrev pub told_event : Event → Event
+told_event (Cell c) = Cell (told_cell c)
+told_event event = event
+
+abbrev pub told : Entry → Entry
+told e = record { place = e.place; number = e.number; moment = e.moment; board = e.board; event = told_event e.event }
+
+-- the moment of an event that was handed this moment, where the last one of its place was that
+abbrev pub moment_of : Event → ℕ → ℕ → ℕ
+moment_of event handed last = if is_handed_own event || is_handed_boards event then max handed last else last
+
+module _ {T : Type 0} where
+  -- a row of the table as an entry
+  abbrev pub entry_of : table.Entry Made T → Entry
+  entry_of row = record { place = row.place; number = row.number; moment = row.event.moment; board = row.event.board; event = row.event.event }
+
+  -- the entries of a hand
+  abbrev pub list_of : List (table.Entry Made T) → List Entry
+  list_of rows = map entry_of rows

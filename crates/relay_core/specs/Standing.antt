@@ -1,0 +1,74 @@
+-- For which history of its place a state stands.
+use Rattle.std.specs.Prelude.{◌≡◌, ℕ, List, [], ◌∷◌, map, filter, filter_map, Option, None}
+use Rattle.relay_outside.specs.declared.settings.Config.{Config}
+use Rattle.port_pool.specs.Boxes.{BoxEvent, FitsBox}
+use Rattle.port_pool.specs.PairBoxes.{BoxFor, cells_of, holder_in}
+use Rattle.call_cell.specs.declared.cell.Cell as cell
+use Rattle.port_pool.specs.declared.holder.Holder.{Holder}
+use Rattle.call_cell.specs.Cells.{CellEntry}
+pub use Rattle.call_cell.specs.Numbers.{BringsNewKeys}
+use Rattle.call_cell.specs.Good.{FittingCell}
+use Rattle.call_cell.specs.CellStanding.{CellFor}
+use Rattle.call_board.specs.Acts.{BoardEntry}
+use Rattle.call_board.specs.Boards.{BoardFor}
+use Rattle.call_board.specs.Fits.{IsFitting}
+use Rattle.relay_core.specs.declared.part.Part.{Part}
+use Rattle.relay_core.specs.declared.part.Part.TheVariants as part
+use Rattle.relay_core.specs.Entries.{Entry, is_nested_cell, board_entry, cell_entry, box_event}
+use Rattle.relay_core.specs.Made.{told_cell}
+
+abbrev pub told_entry : CellEntry → CellEntry
+told_entry e = record { moment = e.moment; event = told_cell e.event }
+
+-- each event of a box's history is one that those before it allow
+abbrev pub FittingBox : List BoxEvent → Type 0
+FittingBox [] = Unit {0}
+FittingBox (e ∷ h) = FitsBox h e × FittingBox h
+
+-- A cell stands for a history that is recorded so, and whose each entry is one that those before it demand
+pub record CellStands {O : Type 0} (config : Config) (cell : cell.Cell O) (recorded : List CellEntry) : Type 0 where
+  pub history : List CellEntry
+  pub is_recorded : map told_entry history ≡ recorded
+  pub fitting : FittingCell config history
+  pub stands : CellFor config cell history
+
+module _ {I O : Type 0} where
+  -- the state stands for what is recorded of its place, the latest first
+  abbrev pub Stands : Config → Part I O → List Entry → Type 0
+  Stands config (part.Board board) h = IsFitting config (filter_map board_entry h) × BoardFor config board (filter_map board_entry h)
+  Stands config (part.Cell cell) h = CellStands config cell (filter_map cell_entry h)
+  Stands config (part.Pair box) h = FittingBox (filter_map box_event h) × BoxFor box (filter_map box_event h)
+
+  -- the kinds of places
+  abbrev pub IsBoardPart : Part I O → Type 0
+  IsBoardPart (part.Board board) = Unit {0}
+  IsBoardPart _ = ⊥
+
+  abbrev pub IsCellPart : Part I O → Type 0
+  IsCellPart (part.Cell cell) = Unit {0}
+  IsCellPart _ = ⊥
+
+  -- a box, where there are so many cells
+  abbrev pub IsBoxPart : ℕ → Part I O → Type 0
+  IsBoxPart cells (part.Pair box) = cells_of box ≡ cells
+  IsBoxPart cells _ = ⊥
+
+-- the entries of a cell but for relays
+abbrev pub nested_of : List CellEntry → List CellEntry
+nested_of h = filter (λ e. is_nested_cell e.event) h
+
+module _ {I O : Type 0} where
+  -- the state is a board that stands for this history
+  abbrev pub BoardIs : Config → Part I O → List BoardEntry → Type 0
+  BoardIs config (part.Board board) h = IsFitting config h × BoardFor config board h
+  BoardIs config _ h = ⊥
+
+  -- the state is a box with this holder, where there are so many cells
+  abbrev pub BoxIs : ℕ → Part I O → Option Holder → Type 0
+  BoxIs cells (part.Pair box) held = (holder_in box ≡ held) × (cells_of box ≡ cells)
+  BoxIs cells _ held = ⊥
+
+  -- the state is a cell that stands for a history whose nested entries these are
+  abbrev pub CellIs : Config → Part I O → List CellEntry → Type 0
+  CellIs config (part.Cell cell) nested = (h : List CellEntry) × (nested_of h ≡ nested) × CellFor config cell h
+  CellIs config _ nested = ⊥

@@ -1,0 +1,62 @@
+//! The places of a relay before its first step.
+
+ghost use Rattle.std.specs.Prelude.{IfOk, OnOk};
+ghost use Rattle.relay_core.specs.Beginning.{AreParts, AddsCells, AddsBoxes};
+
+use crate::part::Part;
+use call_board::Board;
+use call_cell::Cell;
+use port_pool::PairBox;
+use relay_outside::{Config, InEnd, OutEnd, OutOfMemory};
+use std::alloc::Global;
+
+/// Adds an empty cell for each call that may be live.
+fn add_cells<I: InEnd + Drop, O: OutEnd + Drop>(
+    alloc: Global,
+    parts: &mut Vec<Part<I, O>>,
+    config: &Config,
+) -> Result<(), OutOfMemory>
+    ensures { OnOk result (AddsCells config.now parts.old.items parts.new.items config.now.max_sessions) }
+{
+    for _ in 0..config.max_sessions {
+        let Ok(()) = parts.push(Part::Cell(Cell::empty(alloc, config))) else {
+            return Err(OutOfMemory);
+        };
+    }
+    Ok(())
+}
+
+/// Adds a closed box for each of so many port pairs.
+fn add_boxes<I: InEnd + Drop, O: OutEnd + Drop>(
+    parts: &mut Vec<Part<I, O>>,
+    config: &Config,
+    pairs: usize,
+) -> Result<(), OutOfMemory>
+    ensures { OnOk result (AddsBoxes config.now parts.old.items parts.new.items pairs) }
+{
+    for _ in 0..pairs {
+        let Ok(()) = parts.push(Part::Pair(PairBox::empty(config.max_sessions))) else {
+            return Err(OutOfMemory);
+        };
+    }
+    Ok(())
+}
+
+/// What the places of a relay hold before its first step: the board, an empty cell for each call that may be live, and a
+/// closed box for each port pair.
+pub fn parts<I: InEnd + Drop, O: OutEnd + Drop>(
+    alloc: Global,
+    config: &Config,
+) -> Result<Vec<Part<I, O>>, OutOfMemory>
+    ensures { IfOk result (λ parts. AreParts config.now parts.items) }
+{
+    let board = Board::new(alloc, config)?;
+    let pairs = board.free_count();
+    let mut parts = Vec::new(alloc);
+    let Ok(()) = parts.push(Part::Board(board)) else {
+        return Err(OutOfMemory);
+    };
+    add_cells(alloc, &mut parts, config)?;
+    add_boxes(&mut parts, config, pairs)?;
+    Ok(parts)
+}
