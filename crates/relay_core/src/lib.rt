@@ -3,7 +3,7 @@
 //!
 //! Module `laws` states that. `specs/Entries.antt` has the entries and the histories of places, `specs/Scripts.antt` what an entry of the board owes,
 //! `specs/Legal.antt` when a list is legal, `specs/Safe.antt` what is then promised, `specs/Carried.antt` what the list has that
-//! shows that legal lists exist.
+//! shows that legal lists exist, `specs/Learned.antt` that a cell learns as a learner does.
 #![tactic(auto)]
 
 mod beginning;
@@ -12,6 +12,8 @@ mod machine;
 mod part;
 
 pub use beginning::parts;
-pub use laws::{a_legal_list_exists, cells_are_apart, legal_is_safe, orderly_is_safe};
+pub use laws::{
+    a_legal_list_exists, cells_are_apart, learning_is_one, legal_is_safe, orderly_is_safe,
+};
 pub use machine::{Happening, Relay, Says, Told};
 pub use part::Part;
