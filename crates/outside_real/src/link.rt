@@ -1,9 +1,8 @@
-ghost use Rattle.std.specs.Prelude.{◌≤◌};
-ghost use Rattle.relay_outside.specs.Told.{Rose};
-
-use relay_outside::{Addr, ControlLink, Failed, Ip, LinkCall, Taken};
+use crate::address::{addr_of, socket_addr};
+use crate::faults::Faults;
+use relay_outside::{Addr, ControlLink, Failed, LinkCall, Taken};
 use std::io::{self, ErrorKind};
-use std::net::{IpAddr, Net, SocketAddr, UdpSocket};
+use std::net::{Net, UdpSocket};
 use std::time::Duration;
 
 /// How long a take waits for a datagram, in milliseconds.
@@ -12,50 +11,20 @@ const WAIT_MILLIS: u64 = 20;
 /// A UDP socket as the control link. A take waits 20 ms at the most; the link never ends by itself. It
 /// tells nothing.
 #[derive(Drop)]
-pub(crate) struct UdpLink<'a, R: Net> {
+pub struct UdpLink<'a, R: Net> {
     net: &'a R,
     socket: Option<UdpSocket>,
-    faults: u64,
+    faults: Faults,
 }
 
 impl<'a, R: Net> UdpLink<'a, R> {
-    /// A link that is not bound yet.
-    pub(crate) fn new(net: &'a R) -> UdpLink<'a, R> {
+    /// A link that is not bound yet. Until it is, its takes and sends fail.
+    pub fn new(net: &'a R) -> UdpLink<'a, R> {
         UdpLink {
             net,
             socket: None,
-            faults: 0,
+            faults: Faults::new(),
         }
-    }
-
-    /// Counts a fault.
-    fn fault(&mut self) -> Failed
-        ensures rose { Rose self.old.faults self.new.faults }
-        ensures later { self.old.faults ≤ self.new.faults }
-    {
-        self.faults = self.faults.saturating_add(1);
-        Failed
-    }
-}
-
-/// The address of a socket of the system.
-fn socket_addr(at: Addr) -> SocketAddr {
-    let ip = match at.ip {
-        Ip::V4(bytes) => IpAddr::from(bytes),
-        Ip::V6(bytes) => IpAddr::from(bytes),
-    };
-    SocketAddr::new(ip, at.port)
-}
-
-/// The address that a socket of the system has.
-fn addr_of(address: SocketAddr) -> Addr {
-    let ip = match address.ip() {
-        IpAddr::V4(ip) => Ip::V4(ip.octets()),
-        IpAddr::V6(ip) => Ip::V6(ip.octets()),
-    };
-    Addr {
-        ip,
-        port: address.port(),
     }
 }
 
@@ -79,13 +48,13 @@ impl<'a, R: Net> ControlLink for UdpLink<'a, R> {
                 self.socket = Some(socket);
                 Ok(())
             }
-            Err(_) => Err(self.fault()),
+            Err(_) => Err(self.faults.count()),
         }
     }
 
     fn take(&mut self, buf: &mut [u8]) -> Result<Taken, Failed> {
         let Some(socket) = &self.socket else {
-            return Err(self.fault());
+            return Err(self.faults.count());
         };
         match socket.recv_from(buf) {
             Ok((len, from)) => Ok(Taken::Datagram {
@@ -96,18 +65,18 @@ impl<'a, R: Net> ControlLink for UdpLink<'a, R> {
                 ErrorKind::WouldBlock | ErrorKind::TimedOut | ErrorKind::Interrupted => Ok(
                     Taken::Nothing,
                 ),
-                _ => Err(self.fault()),
+                _ => Err(self.faults.count()),
             },
         }
     }
 
     fn send(&mut self, to: Addr, bytes: &[u8]) -> Result<(), Failed> {
         let Some(socket) = &self.socket else {
-            return Err(self.fault());
+            return Err(self.faults.count());
         };
         match socket.send_to(bytes, socket_addr(to)) {
             Ok(sent) if sent == bytes.len() => Ok(()),
-            _ => Err(self.fault()),
+            _ => Err(self.faults.count()),
         }
     }
 }

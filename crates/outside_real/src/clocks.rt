@@ -15,14 +15,14 @@ fn millis_since(clock: &impl rt::Clock, start: &Option<Instant>) -> u64 {
 
 /// The system's monotonic clock as a timer, in milliseconds since it was made. It tells nothing.
 #[derive(Drop)]
-pub(crate) struct SystemTimer<'a, R: rt::Clock> {
+pub struct SystemTimer<'a, R: rt::Clock> {
     clock: &'a R,
     start: Option<Instant>,
 }
 
 impl<'a, R: rt::Clock> SystemTimer<'a, R> {
     /// A timer that begins now.
-    pub(crate) fn new(clock: &'a R) -> SystemTimer<'a, R> {
+    pub fn new(clock: &'a R) -> SystemTimer<'a, R> {
         SystemTimer {
             clock,
             start: Instant::now(clock).ok(),
@@ -42,14 +42,14 @@ impl<'a, R: rt::Clock> Timer for SystemTimer<'a, R> {
 
 /// The system's monotonic clock, in milliseconds since this was made. It tells no range.
 #[derive(Drop)]
-pub(crate) struct SystemClock<'a, R: rt::Clock> {
+pub struct SystemClock<'a, R: rt::Clock> {
     clock: &'a R,
     start: Option<Instant>,
 }
 
 impl<'a, R: rt::Clock> SystemClock<'a, R> {
     /// A clock that begins now.
-    pub(crate) fn new(clock: &'a R) -> SystemClock<'a, R> {
+    pub fn new(clock: &'a R) -> SystemClock<'a, R> {
         SystemClock {
             clock,
             start: Instant::now(clock).ok(),
