@@ -1,13 +1,16 @@
 //! The steps of boxes and cells that the main hand makes while it holds the board's turn: each is one turn of its own place,
 //! and adds one entry to the hand's list, which belongs to the board's entry.
 //!
-//! Module `boxes` opens and shuts the box of a port pair. `puts` puts a turn back, one way for each kind of event. `nest` has
+//! Module `boxes` opens and shuts the box of a port pair, `cells` ends the call of a cell and
+//! asks it whether it is due. `puts` puts a turn back, one way for each kind of event. `nest` has
 //! the board's entry to which the steps belong. `specs/Nesting.antt` says who may make such steps and what a step tells.
 #![tactic(auto)]
 
 mod boxes;
+mod cells;
 mod nest;
 mod puts;
 
 pub use boxes::{open_box, shut_box};
+pub use cells::{end_cell, expire_cell};
 pub use nest::Nest;

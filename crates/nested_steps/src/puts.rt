@@ -1,11 +1,13 @@
 //! One way to put a turn for each kind of nested step. All data of the step are arguments, so that the proof of a call can pick
 //! it from them.
-ghost use Rattle.std.specs.Prelude.{◌≡◌};
+ghost use Rattle.std.specs.Prelude.{◌≡◌, max};
 ghost use Rattle.turn_table.specs.Hands.{IsHandOf, HasTurn, IsSameHand, IsMain, EndsTurn, place_of, front_of, state_of, taken_of};
 ghost use Rattle.port_pool.specs.Boxes.{Open, Close};
-ghost use Rattle.relay_core.specs.Entries.{Box};
+ghost use Rattle.call_cell.specs.Cells.{Expire, End};
+ghost use Rattle.relay_core.specs.Entries.{Box, Cell};
 ghost use Rattle.relay_core.specs.Steps.{Relates};
 ghost use Rattle.nested_steps.specs.Nesting.{nested};
+ghost use Rattle.nested_steps.specs.InCells.{moment_in};
 
 use crate::nest::Nest;
 use port_pool::Holder;
@@ -44,6 +46,41 @@ pub(crate) fn put_closing<I: InEnd, O: OutEnd, X: Says>(
     requires said { X.made ≡ nested nest.number nest.moment 0 (Box Close) }
     ensures same { IsSameHand hand.old hand.new }
     ensures entry { EndsTurn (place_of turn) (front_of turn) (nested nest.number nest.moment 0 (Box Close)) tt hand.old hand.new }
+{
+    turns.put::<Told<X>>(hand, turn);
+}
+
+/// The call of a cell ended.
+pub(crate) fn put_end<I: InEnd, O: OutEnd, X: Says>(
+    turns: &Turns<Relay<I, O>>,
+    hand: &mut Hand<Relay<I, O>>,
+    turn: Turn<Relay<I, O>>,
+    nest: Nest,
+)
+    requires table { IsHandOf turns.now hand.old × IsMain hand.old }
+    requires turn { HasTurn hand.old turn }
+    requires step { Relates I.told I.faults O.told O.faults (taken_of turn) (nested nest.number nest.moment (moment_in (taken_of turn)) (Cell End)) (state_of turn) }
+    requires said { X.made ≡ nested nest.number nest.moment (moment_in (taken_of turn)) (Cell End) }
+    ensures same { IsSameHand hand.old hand.new }
+    ensures entry { EndsTurn (place_of turn) (front_of turn) (nested nest.number nest.moment (moment_in (taken_of turn)) (Cell End)) tt hand.old hand.new }
+{
+    turns.put::<Told<X>>(hand, turn);
+}
+
+/// A cell was asked whether its call is due.
+pub(crate) fn put_expiry<I: InEnd, O: OutEnd, X: Says>(
+    turns: &Turns<Relay<I, O>>,
+    hand: &mut Hand<Relay<I, O>>,
+    turn: Turn<Relay<I, O>>,
+    nest: Nest,
+    due: bool,
+)
+    requires table { IsHandOf turns.now hand.old × IsMain hand.old }
+    requires turn { HasTurn hand.old turn }
+    requires step { Relates I.told I.faults O.told O.faults (taken_of turn) (nested nest.number nest.moment (max nest.moment (moment_in (taken_of turn))) (Cell (Expire due))) (state_of turn) }
+    requires said { X.made ≡ nested nest.number nest.moment (max nest.moment (moment_in (taken_of turn))) (Cell (Expire due)) }
+    ensures same { IsSameHand hand.old hand.new }
+    ensures entry { EndsTurn (place_of turn) (front_of turn) (nested nest.number nest.moment (max nest.moment (moment_in (taken_of turn))) (Cell (Expire due))) tt hand.old hand.new }
 {
     turns.put::<Told<X>>(hand, turn);
 }
