@@ -26,5 +26,15 @@ pub mod Stays
 pub mod Own
 pub mod Given
 pub mod Beginnings
+pub mod Rounded
+pub mod Suites
+pub mod Asks
+pub mod CallRounds
+pub mod Lasting
+pub mod Following
+pub mod Fronts
+pub mod Coming
+pub mod KeysOnce
+pub mod LegsHeld
 mod Example
 mod rows
