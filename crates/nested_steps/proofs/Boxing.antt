@@ -20,7 +20,7 @@ use Rattle.relay_core.specs.Steps.{Relates, IsReserved}
 use Rattle.relay_core.specs.Turning.{IsAbove, made_by}
 use Rattle.relay_core.proofs.Given.{given_box}
 use Rattle.nested_steps.proofs.Nesting.{above_rows}
-use Rattle.nested_steps.specs.Nesting.{MayNest, IsShut, IsOpen, Shuts}
+use Rattle.nested_steps.specs.Nesting.{MayNest, IsShut, IsOpen, Opens, Shuts}
 use Rattle.nested_steps.specs.Taken.{CanOpen, CanShut, HasEnds}
 
 -- a box without a holder has no ends
@@ -83,4 +83,24 @@ module _ {M I O T : Type 0} {g : _} (it : I → Option (List InCall)) (ic : I �
       → Gives hand found n x → Relates it ic ot oc now made y → HasEnds now ends → Shuts it ic ot oc hand place made ends
   shut_from hand found place n x now y made ends at same given relates has =
       shut_by hand place n now y made ends
+      (subst (λ (k : ℕ). Gives hand k n now) at (subst (λ (z : Part I O). Gives hand found n z) (sym same) given)) relates has
+
+  opened_by : (hand : Hand M (Part I O) Made T g) (place n : ℕ) (x y : Part I O) (made : Made) (ends : I × I) → Gives hand place n x
+      → Relates it ic ot oc x made y → HasEnds y ends → Opens it ic ot oc hand place made ends
+  opened_by hand place n (part.Pair old) (part.Pair new) made ends given relates has = record {
+    old = old;
+    new = new;
+    step = record { number = n; given = given; relates = relates };
+    ends_are = has;
+  }
+  opened_by hand place n x (part.Board new) made ends given relates has = absurd has
+  opened_by hand place n x (part.Cell new) made ends given relates has = absurd has
+  opened_by hand place n (part.Board old) (part.Pair new) made ends given relates has = absurd relates
+  opened_by hand place n (part.Cell old) (part.Pair new) made ends given relates has = absurd relates
+
+  -- the box that was opened has the ends that came
+  pub opened_from : (hand : Hand M (Part I O) Made T g) (found place n : ℕ) (x now y : Part I O) (made : Made) (ends : I × I) → found ≡ place → now ≡ x
+      → Gives hand found n x → Relates it ic ot oc now made y → HasEnds y ends → Opens it ic ot oc hand place made ends
+  opened_from hand found place n x now y made ends at same given relates has =
+      opened_by hand place n now y made ends
       (subst (λ (k : ℕ). Gives hand k n now) at (subst (λ (z : Part I O). Gives hand found n z) (sym same) given)) relates has

@@ -48,7 +48,7 @@ in_both [] ys i = inr i
 in_both (x ∷ xs) ys (table_lists.here q) = inl (table_lists.here q)
 in_both (x ∷ xs) ys (table_lists.there i) = elim (in_both xs ys i) [ inl a ↦ inl (table_lists.there a) | inr b ↦ inr b ]
 
-map_rows : {T : Type 0} (xs ys : List (table.Entry Made T)) → list_of (xs ++ ys) ≡ list_of xs ++ list_of ys
+pub map_rows : {T : Type 0} (xs ys : List (table.Entry Made T)) → list_of (xs ++ ys) ≡ list_of xs ++ list_of ys
 map_rows [] ys = refl
 map_rows (x ∷ xs) ys = ap (λ (zs : List Entry). entry_of x ∷ zs) (map_rows xs ys)
 
@@ -167,15 +167,25 @@ module _ {M I O T : Type 0} {g : _} where
       (ended.0 ∙ ap (λ (rows : List (table.Entry Made T)). rows ++ row (place_of turn) ∷ []) same.1
       ∙ ap (λ (k : ℕ). entries old ++ row k ∷ []) turned.0))
 
-  -- then the hand may make more nested steps
+  -- then the hand has the turns that it had
+  pub turn_same : (config : Config) (turns : Turns M (Part I O) Made T) (found : ℕ) (made : Made) (outcome : T)
+      (old mid new : Hand M (Part I O) Made T g) (turn : Turn M (Part I O) Made T) → MayNest config turns old → 1 ≤ found
+      → IsSameHand old mid × (entries mid ≡ entries old) → GainsTurn found turn old mid → IsSameHand mid new
+      → EndsTurn (place_of turn) (front_of turn) made outcome mid new → IsSameHand old new × SameTurns old new
+  turn_same config turns found made outcome old mid new turn may low same turned again ended =
+      let at : place_of turn ≡ found = turned.0 in
+      let but : SameTurnsBut found mid new = subst (λ (k : ℕ). SameTurnsBut k mid new) at ended.3 in
+      let lacks : LacksPlace new found = subst (λ (k : ℕ). LacksPlace new k) at ended.2 in (
+        same_again old mid new same.0 again,
+        held_again old mid new found (λ j has. let z = may.alone j has in omega (arith, z, low)) turned.5 but lacks,
+      )
+
+  -- and may make more nested steps
   pub turn_may : (config : Config) (turns : Turns M (Part I O) Made T) (number moment last place found : ℕ) (event : Event) (outcome : T)
       (old mid new : Hand M (Part I O) Made T g) (turn : Turn M (Part I O) Made T) → MayNest config turns old → 1 ≤ found
       → IsSameHand old mid × (entries mid ≡ entries old) → GainsTurn found turn old mid → IsSameHand mid new
       → EndsTurn (place_of turn) (front_of turn) (nested number moment last event) outcome mid new → GainsOne number moment place event old new
       → MayNest config turns new
   turn_may config turns number moment last place found event outcome old mid new turn may low same turned again ended gains =
-      let at : place_of turn ≡ found = turned.0 in
-      let but : SameTurnsBut found mid new = subst (λ (k : ℕ). SameTurnsBut k mid new) at ended.3 in
-      let lacks : LacksPlace new found = subst (λ (k : ℕ). LacksPlace new k) at ended.2 in
-      may_still config turns number moment ((record { place = place; event = event }) ∷ []) old new may (same_again old mid new same.0 again)
-      (held_again old mid new found (λ j has. let z = may.alone j has in omega (arith, z, low)) turned.5 but lacks) gains
+      let kept = turn_same config turns found (nested number moment last event) outcome old mid new turn may low same turned again ended in
+      may_still config turns number moment ((record { place = place; event = event }) ∷ []) old new may kept.0 kept.1 gains

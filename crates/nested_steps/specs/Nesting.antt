@@ -51,6 +51,13 @@ module _ {I O : Type 0} (in_told : I → Option (List InCall)) (in_faults : I �
     pub given : IsGiven (λ (a : Part I O) (m : Made) (o : T) (b : Part I O). Relates in_told in_faults out_told out_faults a m b) IsReserved hand place number old
     pub relates : Relates in_told in_faults out_told out_faults old made new
 
+  -- the box of the place was opened, and these are its ends
+  pub record Opens {M T : Type 0} {g : _} (hand : Hand M (Part I O) Made T g) (place : ℕ) (made : Made) (ends : I × I) : Type 0 where
+    pub old : PairBox I
+    pub new : PairBox I
+    pub step : IsStep hand place (part.Pair old) made (part.Pair new)
+    pub ends_are : ends_in new ≡ Some ends
+
   -- the box of the place was shut, and these were its ends
   pub record Shuts {M T : Type 0} {g : _} (hand : Hand M (Part I O) Made T g) (place : ℕ) (made : Made) (ends : I × I) : Type 0 where
     pub old : PairBox I

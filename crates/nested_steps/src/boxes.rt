@@ -8,7 +8,7 @@ ghost use Rattle.relay_core.specs.Entries.{Box, box_of};
 ghost use Rattle.relay_core.specs.Scripts.{opening};
 ghost use Rattle.relay_core.specs.Steps.{Relates};
 ghost use Rattle.relay_core.specs.Turning.{GainsNested, made_by};
-ghost use Rattle.nested_steps.specs.Nesting.{MayNest, nested, IsShut, IsOpen, closing_of, Shuts};
+ghost use Rattle.nested_steps.specs.Nesting.{MayNest, nested, IsShut, IsOpen, closing_of, Opens, Shuts};
 ghost use Rattle.nested_steps.specs.Taken.{CanOpen, CanShut, HasEnds};
 
 use crate::nest::Nest;
@@ -30,7 +30,8 @@ fn box_place(config: &Config, pair: u32) -> usize
 fn open_part<I: InEnd, O: OutEnd>(part: &mut Part<I, O>, holder: Holder, rtp_end: I, rtcp_end: I)
     requires shut { CanOpen holder part.old }
     requires ends { StartsEmpty (I.told rtp_end) × StartsEmpty (I.told rtcp_end) }
-    ensures { (number handed : ℕ) → Relates I.told I.faults O.told O.faults part.old (nested number handed 0 (Box (Open holder))) part.new }
+    ensures step { (number handed : ℕ) → Relates I.told I.faults O.told O.faults part.old (nested number handed 0 (Box (Open holder))) part.new }
+    ensures ends { HasEnds part.new (rtp_end, rtcp_end) }
 {
     match part {
         Part::Pair(pair) => pair.put_in(holder, rtp_end, rtcp_end),
@@ -71,6 +72,7 @@ pub fn open_box<I: InEnd, O: OutEnd, R: Wait>(
     ensures same { IsSameHand hand.old hand.new × SameTurns hand.old hand.new }
     ensures may { MayNest config.now turns.now hand.new }
     ensures gained { GainsNested nest.number nest.moment (opening config.now holder ∷ []) hand.old hand.new }
+    ensures ends { Opens I.told I.faults O.told O.faults hand.old (box_of config.now holder.pair) (nested nest.number nest.moment 0 (Box (Open holder))) (rtp_end, rtcp_end) }
 {
     let mut turn = turns.turn(rt, hand, box_place(config, holder.pair));
     open_part(turn.state(), holder, rtp_end, rtcp_end);

@@ -8,6 +8,7 @@ ghost use Rattle.relay_core.specs.Steps.{Relates};
 ghost use Rattle.relay_core.specs.Turning.{GainsNested, made_by};
 ghost use Rattle.nested_steps.specs.Nesting.{MayNest, nested};
 ghost use Rattle.nested_steps.specs.InCells.{HasNewKeys, in_cell_of, moment_in, Ends, Expires, EndsPart, ExpiresPart};
+ghost use Rattle.nested_steps.specs.Leaving.{AllWent};
 
 use crate::nest::Nest;
 use crate::puts::{put_end, put_expiry};
@@ -19,7 +20,7 @@ use std::sync::Wait;
 use turn_table::{Hand, Turns};
 
 /// The place of a cell, behind the board.
-fn cell_place(config: &Config, cell: u32) -> usize
+pub(crate) fn cell_place(config: &Config, cell: u32) -> usize
     requires { cell ≤ config.now.max_sessions }
     ensures { result ≡ cell }
 {
@@ -69,7 +70,8 @@ pub fn end_cell<I: InEnd, O: OutEnd, R: Wait>(
     ensures same { IsSameHand hand.old hand.new × SameTurns hand.old hand.new }
     ensures may { MayNest config.now turns.now hand.new }
     ensures gained { GainsNested nest.number nest.moment (in_cell_of cell End ∷ []) hand.old hand.new }
-    ensures went { Ends I.told I.faults O.told O.faults config.now hand.old cell gone.new }
+    ensures ended { Ends I.told I.faults O.told O.faults config.now hand.old cell gone.new }
+    ensures went { AllWent config.now (made_by hand.old) cell gone.new }
 {
     let mut turn = turns.turn(rt, hand, cell_place(config, cell));
     end_part(turn.state(), gone);

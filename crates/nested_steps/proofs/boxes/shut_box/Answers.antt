@@ -29,6 +29,7 @@ returns-clause-may g c =
 pub returns-clause-ends : goal.returns-clause-ends
 returns-clause-ends g c =
     let made = nested c.args.nest.number c.args.nest.moment 0 (Box Close) in
-    shut_from g.I.InEnd.told g.I.InEnd.faults g.O.OutEnd.told g.O.OutEnd.faults c.args.hand.now c.box_place.result (box_of c.args.config.now c.args.pair) _ _ c.state.result.now
-    _ made c.shut_part-ends.result c.box_place.ensures c.state.ensures.value c.turn-turn.ensures.turn.1
+    shut_from g.I.InEnd.told g.I.InEnd.faults g.O.OutEnd.told g.O.OutEnd.faults c.args.hand.now c.box_place.result (box_of c.args.config.now c.args.pair) c.turn-turn.result.front
+    c.turn-turn.result.state c.state.result.now
+    c.shut_part-ends.new.part made c.shut_part-ends.result c.box_place.ensures c.state.ensures.value c.turn-turn.ensures.turn.1
     (c.shut_part-ends.ensures.step c.args.nest.number c.args.nest.moment) c.shut_part-ends.ensures.ends
