@@ -26,5 +26,7 @@ pub mod Stays
 pub mod Own
 pub mod Given
 pub mod Beginnings
+pub mod Refilling
+pub mod Filling
 mod Example
 mod rows
