@@ -28,5 +28,6 @@ pub mod Given
 pub mod Beginnings
 pub mod Refilling
 pub mod Filling
+pub mod Filled
 mod Example
 mod rows

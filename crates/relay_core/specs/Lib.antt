@@ -9,3 +9,4 @@ pub mod Steps
 pub mod Beginning
 pub mod Standing
 pub mod Turning
+pub mod Handed
