@@ -9,7 +9,7 @@ use Rattle.port_pool.specs.Boxes.{BoxEvent, Take, Datagram, FitsBox}
 use Rattle.call_cell.specs.Cells.{CellEvent, CellEntry, Prepare, Commit, Relay, Expire, Read, End, Relayed, Receipt}
 use Rattle.call_cell.specs.Asked.{FitsCell}
 use Rattle.call_board.specs.Acts.{BoardEntry}
-use Rattle.relay_core.specs.Entries.{Event, Board, Cell, Box, Entry, history, board_entry, cell_history, box_history, box_of}
+use Rattle.relay_core.specs.Entries.{Event, Board, Cell, Box, Entry, history, board_entry, cell_entry, box_event, cell_history, box_history, box_of}
 use Rattle.relay_core.specs.Legal.{Fits, StandsAt, IsReceived, is_handed_own, is_handed_boards, last_moment, IsTimed, Orderly, Legal}
 use Rattle.relay_core.specs.Made.{told_cell, told_event, told, moment_of}
 use Rattle.relay_core.specs.Turning.{IsReceiving}
@@ -17,19 +17,19 @@ use Rattle.relay_core.proofs.Counts.{Stands, counted_if}
 use Rattle.relay_core.proofs.Refilling.{before_mapped, history_mapped, box_mapped, orderly_mapped, same_map}
 use Rattle.relay_core.proofs.Filling.{fill_cell, fill_history, fill_event, filled, filled_in, kept_by, filled_keeps, filled_history}
 
--- What is recorded is the event that the history of its place demands, filled in.
-abbrev pub FitsTold : Config → List Entry → (place number moment : ℕ) → Event → Type 0
-FitsTold config l place number moment (Board b) = Unit {0}
-FitsTold config l place number moment (Cell c) =
-    let h = fill_history config (cell_history l place number) in
+-- What is recorded is the event that what is recorded before it demands, filled in.
+abbrev pub FitsTold : Config → List Entry → ℕ → Event → Type 0
+FitsTold config past moment (Board b) = Unit {0}
+FitsTold config past moment (Cell c) =
+    let h = fill_history config (filter_map cell_entry past) in
     FitsCell config h (record { moment = moment; event = fill_cell config h c }) × (told_cell (fill_cell config h c) ≡ c)
-FitsTold config l place number moment (Box b) = FitsBox (box_history l place number) b
+FitsTold config past moment (Box b) = FitsBox (filter_map box_event past) b
 
 -- An entry of the recorded list, which was handed that moment
 pub record IsMadeRight (config : Config) (l : List Entry) (e : Entry) (handed : ℕ) : Type 0 where
   pub placed : StandsAt config e.place e.event
   pub counted : (i : ℕ) → i < e.number → Stands l e.place i
-  pub fits : FitsTold config l e.place e.number e.moment e.event
+  pub fits : FitsTold config (history l e.place e.number) e.moment e.event
   pub timed : e.moment ≡ moment_of e.event handed (last_moment l e)
   pub of_board : is_handed_boards e.event ≡ true → (b : Entry) → In b l → b.place ≡ 0 → b.number ≡ e.board → handed ≡ b.moment
 
@@ -39,13 +39,13 @@ pub record Made (config : Config) (l : List Entry) (e : Entry) : Type 0 where
 
 -- What it tells.
 
-told_filled_by : (config : Config) (l : List Entry) (place number moment : ℕ) (v : Event) → FitsTold config l place number moment v
+told_filled_by : (config : Config) (l : List Entry) (place number moment : ℕ) (v : Event) → FitsTold config (history l place number) moment v
     → told_event (fill_event config (fill_history config (cell_history l place number)) v) ≡ v
 told_filled_by config l place number moment (Board b) fits = refl
 told_filled_by config l place number moment (Cell c) fits = ap Cell fits.1
 told_filled_by config l place number moment (Box b) fits = refl
 
-told_filled : (config : Config) (l : List Entry) (e : Entry) → FitsTold config l e.place e.number e.moment e.event → told (filled config l e) ≡ e
+told_filled : (config : Config) (l : List Entry) (e : Entry) → FitsTold config (history l e.place e.number) e.moment e.event → told (filled config l e) ≡ e
 told_filled config l e fits =
     ap (λ (v : Event). record { place = e.place; number = e.number; moment = e.moment; board = e.board; event = v })
     (told_filled_by config l e.place e.number e.moment e.event fits)
@@ -67,7 +67,7 @@ filled_tells config l made =
 -- It fits.
 
 fits_by : (config : Config) (l : List Entry) → Orderly config l → (e : Entry) → In e l → (v : Event) → e.event ≡ v
-    → FitsTold config l e.place e.number e.moment v
+    → FitsTold config (history l e.place e.number) e.moment v
     → Fits config (filled_in config l) (record { place = e.place; number = e.number; moment = e.moment; board = e.board; event = fill_event config (fill_history config (cell_history l e.place e.number)) v })
 fits_by config l o e i (Board b) q fits =
     let keeps = filled_keeps config l in

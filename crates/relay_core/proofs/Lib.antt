@@ -29,5 +29,7 @@ pub mod Beginnings
 pub mod Refilling
 pub mod Filling
 pub mod Filled
+pub mod NewNumbers
+pub mod Joins
 mod Example
 mod rows
