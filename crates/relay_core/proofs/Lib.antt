@@ -31,5 +31,7 @@ pub mod Filling
 pub mod Filled
 pub mod NewNumbers
 pub mod Joins
+pub mod Placing
+pub mod Closed
 mod Example
 mod rows
