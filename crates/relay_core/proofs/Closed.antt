@@ -207,3 +207,16 @@ module _ {T I O : Type 0} (it : I → Option (List InCall)) (ic : I → ℕ) (ot
         = λ e i. let r = in_rows rows i in subst (λ (x : Entry). right.Made config (list_of rows) x) r.is (row_made handed r.row r.is_in) in
         let legal : Legal config (filled_in config (list_of rows)) = legal_filled config (list_of rows) orderly receiving made in
         (filled_in config (list_of rows), filled_tells config (list_of rows) made, legal, legal_safe config (filled_in config (list_of rows)) legal)
+
+-- What the close answers says so of the rows.
+module _ {T I O : Type 0} (it : I → Option (List InCall)) (ic : I → ℕ) (ot : O → Option (List OutCall)) (oc : O → ℕ) where
+  abbrev pub AreClosed : List (Part I O) → List (table.Entry Made T) → List (Part I O) → Type 0
+  AreClosed starts rows states =
+      (k : ℕ) (a : Part I O) → slice_get starts k ≡ Some a
+      → (past : List (table.Entry Made T)) × (x : Part I O) × (slice_get states k ≡ Some x) × Leaves (Steps it ic ot oc) a past x × IsHistory rows k past
+
+  pub whole_of : (starts : List (Part I O)) (rows : List (table.Entry Made T)) (states : List (Part I O)) → AreClosed starts rows states
+      → AreWhole it ic ot oc starts rows
+  whole_of starts rows states closed k a q =
+      let w = closed k a q in
+      record { past = w.0; last = w.1; leaves = w.3; is = w.4 }

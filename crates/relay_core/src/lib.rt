@@ -7,11 +7,13 @@
 #![tactic(auto)]
 
 mod beginning;
+mod closing;
 mod laws;
 mod machine;
 mod part;
 
 pub use beginning::parts;
+pub use closing::close_relay;
 pub use laws::{a_legal_list_exists, cells_are_apart, legal_is_safe, orderly_is_safe};
 pub use machine::{Happening, Relay, Says, Told};
 pub use part::Part;
