@@ -133,7 +133,7 @@ ended_begun config [] c fits ended = absurd (let e = ended in cc)
 ended_begun config (e ∷ h) c fits ended =
     has_case config h e c fits.1 fits.0 (ended_begun config h c fits.1) (has (map number_of (ended_by e)) c.number) refl ended
 
-next_open : (config : Config) (h : List BoardEntry) (c : Call) → IsFitting config h → c.number ≡ length (begun h) → (b : Bool) → has_ended h c ≡ b → has_ended h c ≡ false
+pub next_open : (config : Config) (h : List BoardEntry) (c : Call) → IsFitting config h → c.number ≡ length (begun h) → (b : Bool) → has_ended h c ≡ b → has_ended h c ≡ false
 next_open config h c fits is true ended = absurd (let below = ended_begun config h c fits ended in omega arith)
 next_open config h c fits is false ended = ended
 

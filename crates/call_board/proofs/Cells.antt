@@ -32,10 +32,10 @@ two_filters q r (x ∷ xs) = two_case q r x xs (two_filters q r xs) (q x) (r x) 
 abbrev ends : BoardEntry → Call → Bool
 ends e c = has (map (λ (d : Call). d.number) (ended_by e)) c.number
 
-abbrev still_live : BoardEntry → List BoardEntry → List Call
+abbrev pub still_live : BoardEntry → List BoardEntry → List Call
 still_live e h = filter (λ (c : Call). not (ends e c)) (live h)
 
-abbrev newly_live : BoardEntry → List BoardEntry → List Call
+abbrev pub newly_live : BoardEntry → List BoardEntry → List Call
 newly_live e h = filter (λ (c : Call). not (has_ended (e ∷ h) c)) (begun_by_act (act e))
 
 -- the live calls after an entry: those before it that it did not end, and the one that it began

@@ -17,14 +17,14 @@ use Rattle.call_board.proofs.Told.{IsOffer}
 abbrev as_one : Bool → ℕ
 as_one b = cond b 1 0
 
-abbrev count_of : Family → List NewLeg → ℕ
+abbrev pub count_of : Family → List NewLeg → ℕ
 count_of family legs = count_by (λ (leg : NewLeg). family_eq leg.family family) legs
 
 -- each family has as many pairs as there are legs of it
-abbrev AreEnough : (Family → List ℕ) → List NewLeg → Type 0
+abbrev pub AreEnough : (Family → List ℕ) → List NewLeg → Type 0
 AreEnough lists legs = (family : Family) → count_of family legs ≤ length (lists family)
 
-count_next : (family : Family) (leg : NewLeg) (legs : List NewLeg) → count_of family (leg ∷ legs) ≡ as_one (family_eq leg.family family) + count_of family legs
+pub count_next : (family : Family) (leg : NewLeg) (legs : List NewLeg) → count_of family (leg ∷ legs) ≡ as_one (family_eq leg.family family) + count_of family legs
 count_next family leg legs = let both = sum_by-append (λ (l : NewLeg). cond (family_eq l.family family) 1 0) (leg ∷ []) legs in omega (arith, both)
 
 not_short : (a b : Bool) → (a || b) ≡ false → (a ≡ false) × (b ≡ false)
@@ -34,7 +34,7 @@ not_short false b h = (refl, h)
 not_below : (m n : ℕ) → nat_lt m n ≡ false → n ≤ m
 not_below m n h = grind (arith, nat_tests)
 
-enough_of : (lists : Family → List ℕ) (legs : List NewLeg) → is_short lists legs ≡ false → AreEnough lists legs
+pub enough_of : (lists : Family → List ℕ) (legs : List NewLeg) → is_short lists legs ≡ false → AreEnough lists legs
 enough_of lists legs h V4 = not_below (length (lists V4)) (count_of V4 legs) (not_short (is_short_of lists legs V4) (is_short_of lists legs V6) h).0
 enough_of lists legs h V6 = not_below (length (lists V6)) (count_of V6 legs) (not_short (is_short_of lists legs V4) (is_short_of lists legs V6) h).1
 
@@ -59,7 +59,7 @@ first_length : (xs : List ℕ) → 1 ≤ length xs → length (first_of xs) ≡ 
 first_length [] h = absurd (omega arith)
 first_length (x ∷ xs) h = refl
 
-fronts_length : (lists : Family → List ℕ) (legs : List NewLeg) → AreEnough lists legs → length (fronts lists legs) ≡ length legs
+pub fronts_length : (lists : Family → List ℕ) (legs : List NewLeg) → AreEnough lists legs → length (fronts lists legs) ≡ length legs
 fronts_length lists [] enough = refl
 fronts_length lists (leg ∷ legs) enough =
     let rest = fronts_length (without_front lists leg.family) legs (enough_next lists leg legs enough) in

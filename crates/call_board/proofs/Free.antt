@@ -23,7 +23,7 @@ pair_of leg = leg.pair
 
 -- What was leased.
 
-legs_leased : (a : Holder) (x : Act) → In a (legs_of_act x) → In a.pair (leased_by_act x)
+pub legs_leased : (a : Holder) (x : Act) → In a (legs_of_act x) → In a.pair (leased_by_act x)
 legs_leased a (act.Offered o) i = maps pair_of o.legs i
 legs_leased a act.Repeated i = elim i [ ]
 legs_leased a act.Starved i = elim i [ ]
@@ -43,7 +43,7 @@ pub held_was_leased : (h : List BoardEntry) (a : Holder) → In a (held h) → I
 held_was_leased [] a i = elim i [ ]
 held_was_leased (e ∷ h) a i = was_leased_case h e a (held_was_leased h a) (held_split h e a i)
 
-undone_leased : (p : ℕ) (x : Act) → In p (undone_pairs x) → In p (leased_by_act x)
+pub undone_leased : (p : ℕ) (x : Act) → In p (undone_pairs x) → In p (leased_by_act x)
 undone_leased p (act.Undone code leases draws) i = i
 undone_leased p (act.Offered o) i = elim i [ ]
 undone_leased p act.Repeated i = elim i [ ]

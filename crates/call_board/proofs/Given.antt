@@ -10,7 +10,7 @@ use Rattle.call_board.specs.declared.board.Board.{Board}
 use Rattle.call_board.specs.Views.{View, with_returned}
 use Rattle.call_board.specs.Boards.{Shows, AreOut, pairs_in}
 
-has-behind : (xs : List ℕ) (p q : ℕ) → has xs q ≡ false → (p == q) ≡ false → has (xs ++ p ∷ []) q ≡ false
+pub has-behind : (xs : List ℕ) (p q : ℕ) → has xs q ≡ false → (p == q) ≡ false → has (xs ++ p ∷ []) q ≡ false
 has-behind [] p q e n = ap (λ (b : Bool). cond b true false) n
 has-behind (x ∷ xs) p q e n = go (x == q) refl e (has-behind xs p q)
   where
@@ -19,7 +19,7 @@ has-behind (x ∷ xs) p q e n = go (x == q) refl e (has-behind xs p q)
     go true is e more = absurd (let f : true ≡ false = sym (ap (λ (b : Bool). cond b true (has xs q)) is) ∙ e in cc)
     go false is e more = ap (λ (b : Bool). cond b true (has (xs ++ p ∷ []) q)) is ∙ more (sym (ap (λ (b : Bool). cond b true (has xs q)) is) ∙ e) n
 
-differs : (p q : ℕ) (qs : List ℕ) → has (q ∷ qs) p ≡ false → (p == q) ≡ false
+pub differs : (p q : ℕ) (qs : List ℕ) → has (q ∷ qs) p ≡ false → (p == q) ≡ false
 differs p q qs e = go (p == q) refl
   where
     go : (b : Bool) → (p == q) ≡ b → (p == q) ≡ false
@@ -28,7 +28,7 @@ differs p q qs e = go (p == q) refl
         absurd (let f : true ≡ false = sym (ap (λ (b : Bool). cond b true (has qs p)) (equal q p (sym same))) ∙ e in cc)
     go false is = is
 
-later : (p q : ℕ) (qs : List ℕ) → has (q ∷ qs) p ≡ false → has qs p ≡ false
+pub later : (p q : ℕ) (qs : List ℕ) → has (q ∷ qs) p ≡ false → has qs p ≡ false
 later p q qs e = go (q == p) refl
   where
     go : (b : Bool) → (q == p) ≡ b → has qs p ≡ false

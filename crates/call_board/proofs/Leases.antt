@@ -36,7 +36,7 @@ length_some : (x : ℕ) (xs : List ℕ) → In x xs → 1 ≤ length xs
 length_some x [] i = elim i [ ]
 length_some x (y ∷ ys) i = omega arith
 
-counted : (p : ℕ) (xs : List ℕ) → In p xs → 1 ≤ count_by (λ q. q == p) xs
+pub counted : (p : ℕ) (xs : List ℕ) → In p xs → 1 ≤ count_by (λ q. q == p) xs
 counted p xs i =
     let some = length_some p (filter (λ q. q == p) xs) (keeps (λ q. q == p) xs i (equal p p refl)) in
     let count = length-filter (λ q. q == p) xs in omega (arith, some, count)

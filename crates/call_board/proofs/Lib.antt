@@ -28,3 +28,11 @@ pub mod Leased
 pub mod Given
 pub mod Ended
 pub mod Applies
+pub mod Sieves
+pub mod FreeAfter
+pub mod CallsAfter
+pub mod Entries
+pub mod Bounds
+pub mod Found
+pub mod Outs
+pub mod Dues

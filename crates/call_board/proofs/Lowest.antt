@@ -62,7 +62,7 @@ lowest_case taken (Some m) is =
 pub lowest_is : (taken : List ℕ) → IsLowest taken (lowest_but taken)
 lowest_is taken = lowest_case taken (first (filter (λ n. not (has taken n)) (numbers 1 (greatest taken + 1)))) refl
 
-length_numbers : (n count : ℕ) → length (numbers n count) ≡ count
+pub length_numbers : (n count : ℕ) → length (numbers n count) ≡ count
 length_numbers n zero = refl
 length_numbers n (suc count) = let rest = length_numbers (suc n) count in omega arith
 

@@ -69,7 +69,7 @@ or_two : (a b : Bool) → (a || b) ≡ false → b ≡ false
 or_two true b q = absurd (let f = q in cc)
 or_two false b q = q
 
-none_first : (config : Config) (p : LiveCall → Bool) (q : CallView → Bool) (calls : List LiveCall) (cs : List CallView) → Asks config p q → CallsFor config calls cs →
+pub none_first : (config : Config) (p : LiveCall → Bool) (q : CallView → Bool) (calls : List LiveCall) (cs : List CallView) → Asks config p q → CallsFor config calls cs →
     list_any p calls ≡ false → first (filter q cs) ≡ None
 none_first config p q [] [] alike s e = refl
 none_first config p q [] (c ∷ cs) alike s e = elim s [ ]

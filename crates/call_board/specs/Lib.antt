@@ -11,3 +11,5 @@ pub mod Views
 pub mod Boards
 pub mod Planned
 pub mod Applied
+pub mod Whole
+pub mod Returns

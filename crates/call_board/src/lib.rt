@@ -7,7 +7,8 @@
 //! Module `board` has the board, `live_call` a live call. `planning` plans offers and `answering` answers as a `BoardPlan`,
 //! `leasing` leases the pairs that it demands and takes them back, `applying` takes it in, `ending` ends a call.
 //! `specs/Views.antt` says what the board keeps of its history, and what each call changes of that; `specs/Boards.antt` that it
-//! keeps it, `specs/Planned.antt` what an offer or an answer is answered, `specs/Applied.antt` what a plan makes of the board.
+//! keeps it, `specs/Planned.antt` what an offer or an answer is answered, `specs/Applied.antt` what a plan makes of the board,
+//! `specs/Whole.antt` what the calls of an entry's turn make together, and `law` that this is the entry.
 #![tactic(auto)]
 
 mod answering;
@@ -16,6 +17,7 @@ mod board;
 mod board_plan;
 mod ending;
 mod fault;
+mod law;
 mod leasing;
 mod live_call;
 mod planning;
@@ -25,3 +27,4 @@ mod tests;
 pub use board::Board;
 pub use board_plan::BoardPlan;
 pub use fault::BoardFault;
+pub use law::changes_are_entries;

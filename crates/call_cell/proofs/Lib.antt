@@ -38,3 +38,6 @@ pub mod Few
 pub mod Boxed
 pub mod KeysEqual
 pub mod Ends
+pub mod Again
+pub mod Nested
+pub mod NewKeys

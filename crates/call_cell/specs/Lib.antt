@@ -14,3 +14,5 @@ pub mod Committing
 pub mod Parting
 pub mod Preparing
 pub mod Expiring
+pub mod Lasting
+pub mod Numbers

@@ -29,7 +29,7 @@ use Rattle.relay_core.proofs.Counts as counts
 use Rattle.relay_core.proofs.Own.{IsOwn, own_history, IsRow, rows_in, in_rows, onto_last}
 use Rattle.relay_core.proofs.Stays.{Steps, onto, stands_onto}
 use Rattle.relay_core.proofs.Given.{begins_as}
-use Rattle.relay_core.proofs.NewNumbers.{brings_new}
+use Rattle.relay_core.proofs.KeysOnce.{keys_once}
 use Rattle.relay_core.proofs.Filling.{filled_in}
 use Rattle.relay_core.proofs.Filled as right
 use Rattle.relay_core.proofs.Filled.{legal_filled, filled_tells}
@@ -110,7 +110,7 @@ module _ {T I O : Type 0} (it : I → Option (List InCall)) (ic : I → ℕ) (ot
     new_keys : (k : ℕ) (a : Part I O) → (w : IsWhole it ic ot oc rows k a) → (n : ℕ) → n ≤ length w.past
         → BringsNewKeys (filter_map cell_entry (onto (take n w.past) []))
     new_keys k a w n within =
-        subst (λ (h : List Entry). BringsNewKeys (filter_map cell_entry h)) (sym (past_is k a w n within)) (brings_new config (list_of rows) orderly k n)
+        subst (λ (h : List Entry). BringsNewKeys (filter_map cell_entry h)) (sym (past_is k a w n within)) (keys_once config (list_of rows) orderly k n)
 
     begins : (row : table.Entry Made T) → (p : Place row) → KindAt config row.place p.start × Stands config p.start []
     begins row p =

@@ -27,6 +27,7 @@ use Rattle.call_board.specs.declared.board.Board as board
 use Rattle.call_board.specs.Acts.{BoardEntry}
 use Rattle.call_board.specs.Boards.{BoardFor}
 use Rattle.call_board.specs.Fits.{IsFitting}
+use Rattle.call_cell.proofs.NewKeys.{none_since}
 use Rattle.relay_core.specs.declared.part.Part.{Part}
 use Rattle.relay_core.specs.declared.part.Part.TheVariants as part
 use Rattle.relay_core.specs.Entries.{Event, Board, Cell, Box, Entry, board_at, cell_at, box_in, board_entry, cell_entry, box_event}
@@ -49,66 +50,12 @@ told_keys_in [] = refl
 told_keys_in (e ∷ h) =
     ap (λ (ks : List NewKey). ks ++ keys_in (map told_entry h)) (told_keys e.event) ∙ ap (λ (ks : List NewKey). keys_of e.event ++ ks) (told_keys_in h)
 
--- what stands in front of an entry has no key that the whole has not
-front_cons : (p : NewKey → Bool) (key : NewKey) (xs ys : List NewKey) → (first (filter p (xs ++ ys)) ≡ None → first (filter p xs) ≡ None)
-    → (t : Bool) → p key ≡ t → first (filter p ((key ∷ xs) ++ ys)) ≡ None → first (filter p (key ∷ xs)) ≡ None
-front_cons p key xs ys rest true t none =
-    let P : Bool → Type 0 = λ b. first (cond b (key ∷ filter p (xs ++ ys)) (filter p (xs ++ ys))) ≡ None in
-    absurd (let n : Some key ≡ None = subst P t none in cc)
-front_cons p key xs ys rest false t none =
-    let P : Bool → Type 0 = λ b. first (cond b (key ∷ filter p (xs ++ ys)) (filter p (xs ++ ys))) ≡ None in
-    let Q : Bool → Type 0 = λ b. first (cond b (key ∷ filter p xs) (filter p xs)) ≡ None in
-    subst Q (sym t) (rest (subst P t none))
-
-front_none : (p : NewKey → Bool) (xs ys : List NewKey) → first (filter p (xs ++ ys)) ≡ None → first (filter p xs) ≡ None
-front_none p [] ys none = refl
-front_none p (key ∷ xs) ys none = front_cons p key xs ys (front_none p xs ys) (p key) refl none
-
-back_none : (p : NewKey → Bool) (xs ys : List NewKey) → first (filter p (xs ++ ys)) ≡ None → first (filter p ys) ≡ None
-back_none p [] ys none = none
-back_none p (key ∷ xs) ys none =
-    let P : Bool → Type 0 = λ b. first (cond b (key ∷ filter p (xs ++ ys)) (filter p (xs ++ ys))) ≡ None in
-    let by : (t : Bool) → p key ≡ t → first (filter p ys) ≡ None
-    = λ t. elim t as (λ (v : Bool). p key ≡ v → first (filter p ys) ≡ None) [
-      | true ↦ (λ q. absurd (let n : Some key ≡ None = subst P q none in cc))
-      | false ↦ (λ q. back_none p xs ys (subst P q none))
-    ] in
-    by (p key) refl
-
-both_none : (p : NewKey → Bool) (xs ys zs : List NewKey) → first (filter p (xs ++ ys)) ≡ None
-    → (first (filter p ys) ≡ None → first (filter p zs) ≡ None) → first (filter p (xs ++ zs)) ≡ None
-both_none p [] ys zs none rest = rest none
-both_none p (key ∷ xs) ys zs none rest =
-    let P : Bool → Type 0 = λ b. first (cond b (key ∷ filter p (xs ++ ys)) (filter p (xs ++ ys))) ≡ None in
-    let Q : Bool → Type 0 = λ b. first (cond b (key ∷ filter p (xs ++ zs)) (filter p (xs ++ zs))) ≡ None in
-    let by : (t : Bool) → p key ≡ t → first (filter p ((key ∷ xs) ++ zs)) ≡ None
-    = λ t. elim t as (λ (v : Bool). p key ≡ v → first (filter p ((key ∷ xs) ++ zs)) ≡ None) [
-      | true ↦ (λ q. absurd (let n : Some key ≡ None = subst P q none in cc))
-      | false ↦ (λ q. subst Q (sym q) (both_none p xs ys zs (subst P q none) rest))
-    ] in
-    by (p key) refl
-
-since_case : (number : ℕ) (e : CellEntry) (h : List CellEntry)
-    → (key_numbered h number ≡ None → key_numbered (since_end h) number ≡ None)
-    → (t : Bool) → is_end e ≡ t → key_numbered (e ∷ h) number ≡ None → key_numbered (since_end (e ∷ h)) number ≡ None
-since_case number e h rest true t none =
-    let Q : Bool → Type 0 = λ b. key_numbered (cond b [] (e ∷ since_end h)) number ≡ None in
-    subst Q (sym t) refl
-since_case number e h rest false t none =
-    let Q : Bool → Type 0 = λ b. key_numbered (cond b [] (e ∷ since_end h)) number ≡ None in
-    subst Q (sym t) (both_none (λ (key : NewKey). key.number == number) (keys_of e.event) (keys_in h) (keys_in (since_end h)) none rest)
-
--- a number that no key has, no key since the last End has
-pub none_since : (number : ℕ) (h : List CellEntry) → key_numbered h number ≡ None → key_numbered (since_end h) number ≡ None
-none_since number [] none = none
-none_since number (e ∷ h) none = since_case number e h (none_since number h) (is_end e) refl none
-
 -- so what is recorded tells which keys are new
 pub new_recorded : (history recorded : List CellEntry) (keys : List NewKey) → map told_entry history ≡ recorded
     → ((key : NewKey) → In key keys → key_numbered recorded key.number ≡ None) → AreNew history keys
 new_recorded history recorded keys is new key i =
     let P : List NewKey → Type 0 = λ (ks : List NewKey). first (filter (λ (k : NewKey). k.number == key.number) ks) ≡ None in
-    none_since key.number history
+    none_since history key.number
     (subst P (ap (λ (h : List CellEntry). keys_in h) (sym is) ∙ told_keys_in history) (new key i))
 
 -- One step.

@@ -4,10 +4,9 @@ use Rattle.relay_outside.specs.declared.settings.Config.{Config}
 use Rattle.port_pool.specs.Boxes.{BoxEvent, FitsBox}
 use Rattle.port_pool.specs.PairBoxes.{BoxFor, cells_of, holder_in}
 use Rattle.call_cell.specs.declared.cell.Cell as cell
-use Rattle.histories.specs.Words.{In}
 use Rattle.port_pool.specs.declared.holder.Holder.{Holder}
-use Rattle.port_pool.specs.Signals.{NewKey}
-use Rattle.call_cell.specs.Cells.{CellEntry, keys_of, key_numbered}
+use Rattle.call_cell.specs.Cells.{CellEntry}
+pub use Rattle.call_cell.specs.Numbers.{BringsNewKeys}
 use Rattle.call_cell.specs.Good.{FittingCell}
 use Rattle.call_cell.specs.CellStanding.{CellFor}
 use Rattle.call_board.specs.Acts.{BoardEntry}
@@ -32,11 +31,6 @@ pub record CellStands {O : Type 0} (config : Config) (cell : cell.Cell O) (recor
   pub is_recorded : map told_entry history ≡ recorded
   pub fitting : FittingCell config history
   pub stands : CellFor config cell history
-
--- each key that an entry of a cell's history brings has a number that no earlier key has
-abbrev pub BringsNewKeys : List CellEntry → Type 0
-BringsNewKeys [] = Unit {0}
-BringsNewKeys (e ∷ h) = ((key : NewKey) → In key (keys_of e.event) → key_numbered h key.number ≡ None) × BringsNewKeys h
 
 module _ {I O : Type 0} where
   -- the state stands for what is recorded of its place, the latest first

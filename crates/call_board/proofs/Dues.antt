@@ -1,0 +1,302 @@
+-- What the board plans is what is due: the answer to an offer or an answer by its plan, and the legs of an offer by its leases.
+use Rattle.std.proofs.Common.{◌≡◌, ◌≢◌, ◌∙◌, refl, sym, ap, subst, ℕ, ◌+◌, ◌<◌, List, [], ◌∷◌, map, take, length, Bool, true, false, cond, Option, Some, None, Ok, Err, arith}
+use Rattle.std.specs.Prelude.{◌&&◌, ◌||◌, nat_le, nat_lt, option_map}
+use Rattle.std.specs.List.{flat_map}
+use Rattle.std.proofs.lemmas.List.{length-map}
+use Rattle.std.proofs.lemmas.Simd.{map-map}
+use Rattle.std.proofs.lemmas.Bool.Decides.{nat_tests}
+use Rattle.relay_outside.specs.declared.settings.Config.{Config}
+use Rattle.relay_outside.specs.declared.address.Family.TheVariants.{V4, V6}
+use Rattle.ng_command.specs.declared.command.AnswerIn.{AnswerIn}
+use Rattle.ng_reply.specs.declared.code.ErrorCode.{ErrorCode}
+use Rattle.ng_reply.specs.declared.code.ErrorCode.TheVariants.{E9, E13, E14}
+use Rattle.histories.specs.Words.{In}
+use Rattle.offer_answer.specs.Rounds.{Round, OfferAsk, AnswerAsk, NewLeg}
+use Rattle.offer_answer.specs.Demands.{legs_for, new_active_sections}
+use Rattle.offer_answer.specs.Plan as plan
+use Rattle.offer_answer.specs.Plan.{demand}
+use Rattle.offer_answer.specs.Answering.{AsksAnswer}
+use Rattle.call_board.specs.Acts as act
+use Rattle.call_board.specs.Acts.{Call, BoardEntry, Given}
+use Rattle.call_board.specs.Calls.{begun, live, find_call, new_call, rounds, lowest_but}
+use Rattle.call_board.specs.Pairs.{family_eq, free, free_in, is_short, is_short_of, lease_of, new_legs}
+use Rattle.call_board.specs.Replies.{Described}
+use Rattle.call_board.specs.Answers.{Answering, failing, leased_pairs, offer_leased, offer_planned, offer_unless, offer_to, answer_unless, answer_to}
+use Rattle.call_board.specs.Views.{View, CallView, call_view, view_of, times_leased, call_of_id, with_calls, goes_on}
+use Rattle.call_board.specs.Boards.{lease_at, leases_of, pairs_in}
+use Rattle.call_board.specs.Planned.{Target, target, target_by, shortage, refusal, fault_or, code_of, BeginsFor, PlansOffer, PlansAnswer, AnswerPlanFor}
+use Rattle.call_board.specs.Applied.{IsNext, taken_in}
+use Rattle.call_board.specs.Whole.{legs_of, with_first, with_more}
+use Rattle.call_board.specs.declared.fault.BoardFault.{BoardFault}
+use Rattle.call_board.specs.declared.fault.BoardFault.TheVariants as faults
+use Rattle.call_board.specs.declared.board_plan.BoardPlan.{BoardPlan}
+use Rattle.call_board.specs.declared.board_plan.NewCall.{NewCall}
+use Rattle.call_board.proofs.Lowest.{lowest_is, lowest_bound}
+use Rattle.call_board.proofs.Calls.{found_live}
+use Rattle.call_board.proofs.Demands.{count_of, count_next}
+use Rattle.call_board.proofs.FreeAfter.{AreV4, fronts_are, free_v4, pairs_leased}
+use Rattle.call_board.proofs.Found.{found_by_id}
+use Rattle.call_board.proofs.Outs.{lease_pairs}
+
+-- The pairs of an offer.
+
+legs_v4 : (rounds : List Round) (ask : OfferAsk) (sections : List ℕ) → AreV4 (flat_map (legs_for rounds ask) sections)
+legs_v4 rounds ask [] = tt
+legs_v4 rounds ask (section ∷ sections) = (refl, (refl, legs_v4 rounds ask sections))
+
+-- all legs that an offer demands pairs for are of IPv4
+pub demand_v4 : (rounds : List Round) (ask : OfferAsk) → AreV4 (demand rounds ask).pairs
+unfolding demand
+demand_v4 rounds ask = legs_v4 rounds ask (new_active_sections rounds ask)
+
+-- it leases the front of the free pairs
+pub leased_are : (config : Config) (h : List BoardEntry) (rounds : List Round) (ask : OfferAsk) → leased_pairs config h (demand rounds ask) ≡ take (length (demand rounds ask).pairs) (free config h)
+leased_are config h rounds ask =
+    fronts_are (free_in config h) (demand rounds ask).pairs (demand_v4 rounds ask) ∙ ap (take (length (demand rounds ask).pairs)) (free_v4 config h)
+
+v4_count : (legs : List NewLeg) → AreV4 legs → count_of V4 legs ≡ length legs
+v4_count [] all = refl
+v4_count (leg ∷ legs) all =
+    let rest = v4_count legs all.1 in
+    let next = count_next V4 leg legs in
+    let here : cond (family_eq leg.family V4) 1 0 ≡ 1 = ap {B = ℕ} (λ f. cond (family_eq f V4) 1 0) all.0 in omega (arith, rest, next, here)
+
+v6_count : (legs : List NewLeg) → AreV4 legs → count_of V6 legs ≡ 0
+v6_count [] all = refl
+v6_count (leg ∷ legs) all =
+    let rest = v6_count legs all.1 in
+    let next = count_next V6 leg legs in
+    let here : cond (family_eq leg.family V6) 1 0 ≡ 0 = ap {B = ℕ} (λ f. cond (family_eq f V6) 1 0) all.0 in omega (arith, rest, next, here)
+
+not_below_none : (n : ℕ) → nat_lt n 0 ≡ false
+not_below_none n = grind (arith, nat_tests)
+
+or_false : (a b : Bool) → b ≡ false → (a || b) ≡ a
+or_false true b e = refl
+or_false false b e = e
+
+-- pairs are short where fewer are free than the offer demands
+pub short_is : (config : Config) (h : List BoardEntry) (rounds : List Round) (ask : OfferAsk) →
+    is_short (free_in config h) (demand rounds ask).pairs ≡ nat_lt (length (free config h)) (length (demand rounds ask).pairs)
+short_is config h rounds ask =
+    let legs = (demand rounds ask).pairs in
+    or_false (is_short_of (free_in config h) legs V4) (is_short_of (free_in config h) legs V6)
+    (ap (nat_lt (length (free_in config h V6))) (v6_count legs (demand_v4 rounds ask)) ∙ not_below_none (length (free_in config h V6)))
+    ∙ ap (nat_lt (length (free_in config h V4))) (v4_count legs (demand_v4 rounds ask))
+    ∙ ap (λ (ps : List ℕ). nat_lt (length ps) (length legs)) (free_v4 config h)
+
+-- The call of an offer.
+
+-- the call that an offer of this call-id begins, or the live one that it goes on with
+abbrev pub target_in : List BoardEntry → List ℕ → Option Call → Target
+target_in h id None = record { of = new_call h id; begins = true; rounds = [] }
+target_in h id (Some of) = record { of = of; begins = false; rounds = rounds h of.number }
+
+cells_are : (h : List BoardEntry) → map (λ (c : CallView). c.of.cell) (map (call_view h) (live h)) ≡ map (λ (c : Call). c.cell) (live h)
+cells_are h = map-map (λ (c : CallView). c.of.cell) (call_view h) (live h)
+
+target_case : (config : Config) (h : List BoardEntry) (id : List ℕ) (o : Option Call) → target_by (view_of config h) id (option_map (call_view h) o) ≡ target_in h id o
+target_case config h id None =
+    ap (λ (cells : List ℕ). record { of = record { number = length (begun h); cell = lowest_but cells; id = id }; begins = true; rounds = [] }) (cells_are h)
+target_case config h id (Some of) = refl
+
+-- the board's call of an offer is that of the history
+pub target_is : (config : Config) (h : List BoardEntry) (id : List ℕ) → target (view_of config h) id ≡ target_in h id (find_call h id)
+target_is config h id = ap (target_by (view_of config h) id) (found_by_id config h id) ∙ target_case config h id (find_call h id)
+
+to_case : (config : Config) (h : List BoardEntry) (given : Given) (id : List ℕ) (ask : OfferAsk) (o : Option Call) → offer_to config h given id ask o
+    ≡ offer_unless config h given ask (target_in h id o).of (target_in h id o).begins (target_in h id o).rounds (plan.offer_fault (target_in h id o).rounds ask)
+to_case config h given id ask None = refl
+to_case config h given id ask (Some of) = refl
+
+-- an offer, by the board's call of it
+to_target : (config : Config) (h : List BoardEntry) (given : Given) (id : List ℕ) (ask : OfferAsk) → offer_to config h given id ask (find_call h id)
+    ≡ offer_unless config h given ask (target (view_of config h) id).of (target (view_of config h) id).begins (target (view_of config h) id).rounds (plan.offer_fault (target (view_of config h) id).rounds ask)
+to_target config h given id ask =
+    to_case config h given id ask (find_call h id) ∙ ap (λ (t : Target). offer_unless config h given ask t.of t.begins t.rounds (plan.offer_fault t.rounds ask)) (sym (target_is config h id))
+
+-- What is due to an offer.
+
+-- what an offer without a fault is answered, by what is short
+planned_by : (config : Config) (h : List BoardEntry) (given : Given) (ask : OfferAsk) (of : Call) (new : Bool) (before : List Round) → offer_planned config h given ask of new before
+    ≡ cond (new && nat_le config.max_sessions (length (map (call_view h) (live h)))) (failing E14)
+    (cond (nat_lt (length (free config h)) (length (demand before ask).pairs)) (failing E13) (offer_leased config h given ask of new before (leased_pairs config h (demand before ask))))
+planned_by config h given ask of new before =
+    let due = offer_leased config h given ask of new before (leased_pairs config h (demand before ask)) in
+    ap (λ n. cond (new && nat_le config.max_sessions n) (failing E14) (cond (is_short (free_in config h) (demand before ask).pairs) (failing E13) due)) (sym (length-map (live h) (call_view h)))
+    ∙ ap (λ b. cond (new && nat_le config.max_sessions (length (map (call_view h) (live h)))) (failing E14) (cond b (failing E13) due)) (short_is config h before ask)
+
+-- the code of a shortage, or what else is due
+abbrev due_or : Option ErrorCode → Answering → Answering
+due_or None due = due
+due_or (Some code) due = failing code
+
+short_case : (over short : Bool) (due : Answering) → cond over (failing E14) (cond short (failing E13) due) ≡ due_or (cond over (Some E14) (cond short (Some E13) None)) due
+short_case true short due = refl
+short_case false true due = refl
+short_case false false due = refl
+
+fault_case : (config : Config) (h : List BoardEntry) (given : Given) (ask : OfferAsk) (of : Call) (new : Bool) (before : List Round) (fault : Option ErrorCode) →
+    offer_unless config h given ask of new before fault
+    ≡ due_or (fault_or fault (shortage config (view_of config h) new before ask)) (offer_leased config h given ask of new before (leased_pairs config h (demand before ask)))
+fault_case config h given ask of new before (Some code) = refl
+fault_case config h given ask of new before None =
+    planned_by config h given ask of new before
+    ∙ short_case (new && nat_le config.max_sessions (length (map (call_view h) (live h)))) (nat_lt (length (free config h)) (length (demand before ask).pairs))
+    (offer_leased config h given ask of new before (leased_pairs config h (demand before ask)))
+
+-- an offer is refused as the board refuses it, or it leases its pairs
+due_by : (config : Config) (h : List BoardEntry) (given : Given) (id : List ℕ) (ask : OfferAsk) (t : Target) → t ≡ target (view_of config h) id → offer_to config h given id ask (find_call h id)
+    ≡ due_or (refusal config (view_of config h) t.begins t.rounds ask) (offer_leased config h given ask t.of t.begins t.rounds (leased_pairs config h (demand t.rounds ask)))
+due_by config h given id ask t is =
+    to_target config h given id ask
+    ∙ ap (λ (t : Target). offer_unless config h given ask t.of t.begins t.rounds (plan.offer_fault t.rounds ask)) (sym is)
+    ∙ fault_case config h given ask t.of t.begins t.rounds (plan.offer_fault t.rounds ask)
+
+known : (fault : BoardFault) (code : ErrorCode) → code_of fault ≡ Some code → fault ≢ faults.OutOfMemory
+known fault code is e = let wrong : None ≡ Some code = ap code_of (sym e) ∙ is in cc
+
+-- an offer that the board refuses fails by the code of its fault
+pub offer_fails : (config : Config) (h : List BoardEntry) (given : Given) (id : List ℕ) (ask : OfferAsk) (fault : BoardFault) (code : ErrorCode) →
+    PlansOffer config (view_of config h) id ask (Err fault) → code_of fault ≡ Some code → offer_to config h given id ask (find_call h id) ≡ failing code
+offer_fails config h given id ask fault code refused is =
+    let t = target (view_of config h) id in
+    due_by config h given id ask t refl
+    ∙ ap (λ (o : Option ErrorCode). due_or o (offer_leased config h given ask t.of t.begins t.rounds (leased_pairs config h (demand t.rounds ask))))
+    (refused (known fault code is) ∙ is)
+
+-- an offer that the board plans leases the front of the free pairs, for the call of its plan
+pub offer_leases : (config : Config) (h : List BoardEntry) (given : Given) (id : List ℕ) (ask : OfferAsk) (p : BoardPlan) → PlansOffer config (view_of config h) id ask (Ok p) →
+    offer_to config h given id ask (find_call h id)
+    ≡ offer_leased config h given ask (target (view_of config h) id).of (target (view_of config h) id).begins (target (view_of config h) id).rounds
+    (take (length (demand (target (view_of config h) id).rounds ask).pairs) (free config h))
+offer_leases config h given id ask p planned =
+    let t = target (view_of config h) id in
+    due_by config h given id ask t refl
+    ∙ ap (λ (o : Option ErrorCode). due_or o (offer_leased config h given ask t.of t.begins t.rounds (leased_pairs config h (demand t.rounds ask)))) planned.0
+    ∙ ap (offer_leased config h given ask t.of t.begins t.rounds) (leased_are config h t.rounds ask)
+
+-- What is due to an answer.
+
+-- what an answer asks is known where its call is live
+abbrev pub AsksOf : List BoardEntry → AnswerIn → List (List ℕ) → AnswerAsk → Option Call → Type 0
+AsksOf h input lines ask None = Unit {0}
+AsksOf h input lines ask (Some of) = AsksAnswer input lines (rounds h of.number) ask
+
+answer_case : (config : Config) (h : List BoardEntry) (input : AnswerIn) (lines : List (List ℕ)) (ask : AnswerAsk) (fault : BoardFault) (code : ErrorCode) (o : Option Call) →
+    PlansAnswer config input lines (option_map (call_view h) o) (Err fault) → AsksOf h input lines ask o → code_of fault ≡ Some code → answer_to config h ask o ≡ failing code
+answer_case config h input lines ask fault code None refused asks is =
+    let unknown : fault ≡ faults.UnknownCall = (let e = refused in cc) in
+    let same : Some E9 ≡ Some code = ap code_of (sym unknown) ∙ is in
+    let which : E9 ≡ code = (let e = same in cc) in ap failing which
+answer_case config h input lines ask fault code (Some of) refused asks is =
+    ap (answer_unless config ask of (rounds h of.number)) (refused ask asks (known fault code is) ∙ is)
+
+-- an answer that the board refuses fails by the code of its fault
+pub answer_fails : (config : Config) (h : List BoardEntry) (input : AnswerIn) (lines : List (List ℕ)) (id : List ℕ) (ask : AnswerAsk) (fault : BoardFault) (code : ErrorCode) →
+    PlansAnswer config input lines (call_of_id (view_of config h) id) (Err fault) → AsksOf h input lines ask (find_call h id) → code_of fault ≡ Some code →
+    answer_to config h ask (find_call h id) ≡ failing code
+answer_fails config h input lines id ask fault code refused asks is =
+    answer_case config h input lines ask fault code (find_call h id)
+    (subst (λ (o : Option CallView). PlansAnswer config input lines o (Err fault)) (found_by_id config h id) refused) asks is
+
+-- an answer that the board plans is accepted, for the live call of its plan
+pub record IsAnswerDue (config : Config) (h : List BoardEntry) (lines : List (List ℕ)) (ask : AnswerAsk) (p : BoardPlan) (o : Option Call) : Type 0 where
+  pub of : Call
+  pub found : o ≡ Some of
+  pub plan_for : AnswerPlanFor config (call_view h of) ask lines p
+  pub due : answer_to config h ask o ≡ record {
+    reply = Described (plan.answer_text config (rounds h of.number) ask);
+    act = act.Answered (record { of = of; ask = ask; signal = plan.signal (rounds h of.number) ask });
+  }
+
+due_case : (config : Config) (h : List BoardEntry) (input : AnswerIn) (lines : List (List ℕ)) (ask : AnswerAsk) (p : BoardPlan) (o : Option Call) →
+    PlansAnswer config input lines (option_map (call_view h) o) (Ok p) → AsksOf h input lines ask o → IsAnswerDue config h lines ask p o
+due_case config h input lines ask p None planned asks = absurd (let e = planned in cc)
+due_case config h input lines ask p (Some of) planned asks =
+    let made = planned ask asks in record { of = of; found = refl; plan_for = made.1; due = ap (answer_unless config ask of (rounds h of.number)) made.0 }
+
+pub answer_due : (config : Config) (h : List BoardEntry) (input : AnswerIn) (lines : List (List ℕ)) (id : List ℕ) (ask : AnswerAsk) (p : BoardPlan) →
+    PlansAnswer config input lines (call_of_id (view_of config h) id) (Ok p) → AsksOf h input lines ask (find_call h id) → IsAnswerDue config h lines ask p (find_call h id)
+answer_due config h input lines id ask p planned asks =
+    due_case config h input lines ask p (find_call h id)
+    (subst (λ (o : Option CallView). PlansAnswer config input lines o (Ok p)) (found_by_id config h id) planned) asks
+
+-- The legs of an offer, by its leases.
+
+legs_by : (config : Config) (h : List BoardEntry) (of : Call) (pairs : List ℕ) (legs : List NewLeg) → new_legs h of pairs legs ≡ legs_of of (map (lease_at config (times_leased h)) pairs) legs
+legs_by config h of [] legs = refl
+legs_by config h of (p ∷ pairs) [] = refl
+legs_by config h of (p ∷ pairs) (leg ∷ legs) =
+    ap (λ rest. record { cell = of.cell; call = of.number; section = leg.section; side = leg.side; pair = p; generation = times_leased h p + 1 } ∷ rest) (legs_by config h of pairs legs)
+
+-- the new legs are made of the leases, leg by leg
+pub legs_leased_are : (config : Config) (h : List BoardEntry) (of : Call) (count : ℕ) (legs : List NewLeg) →
+    new_legs h of (take count (free config h)) legs ≡ legs_of of (leases_of config (view_of config h) count) legs
+legs_leased_are config h of count legs = legs_by config h of (take count (free config h)) legs
+
+-- the pairs that an offer that is undone gives back are those of its leases
+pub undone_pairs_are : (config : Config) (h : List BoardEntry) (count : ℕ) →
+    map (λ (lease : act.Lease). lease.pair) (map (lease_of h) (take count (free config h))) ≡ pairs_in (leases_of config (view_of config h) count)
+undone_pairs_are config h count = pairs_leased h (take count (free config h)) ∙ sym (lease_pairs config (times_leased h) (take count (free config h)))
+
+-- Taking a plan in.
+
+-- what the board becomes by its plan is what the entry makes of it
+pub taken_is : (config : Config) (v : View) (t : Target) (tag : List ℕ) (made : Round) (now : ℕ) (p : BoardPlan) (new : Option NewCall) → p.call ≡ t.of.number → BeginsFor config t tag new →
+    taken_in v t.of made now p new ≡ cond t.begins (with_first t.of made now v) (with_more t.of made now v)
+taken_is config v t tag made now p None call old =
+    ap (λ n. with_calls v (goes_on n made now v.calls)) call ∙ sym (ap (λ b. cond b (with_first t.of made now v) (with_more t.of made now v)) old)
+taken_is config v t tag made now p (Some call) number new = sym (ap (λ b. cond b (with_first t.of made now v) (with_more t.of made now v)) new.0)
+
+has_room : (full short : Bool) → cond full (Some E14) (cond short (Some E13) None) ≡ None → full ≡ false
+has_room true short e = absurd (let f = e in cc)
+has_room false short e = refl
+
+no_fault : (fault other : Option ErrorCode) → fault_or fault other ≡ None → other ≡ None
+no_fault None other e = e
+no_fault (Some code) other e = absurd (let f = e in cc)
+
+below_limit : (limit count : ℕ) → nat_le limit count ≡ false → count < limit
+below_limit limit count h = grind (arith, nat_tests)
+
+-- a call that an offer may begin is the board's next one
+pub next_is : (config : Config) (h : List BoardEntry) (v : View) (id : List ℕ) (ask : OfferAsk) → refusal config (view_of config h) true [] ask ≡ None → v.begun ≡ length (begun h) → IsNext config v (new_call h id)
+next_is config h v id ask fine begun_is =
+    let short = no_fault (plan.offer_fault [] ask) (shortage config (view_of config h) true [] ask) fine in
+    let room = below_limit config.max_sessions (length (map (call_view h) (live h)))
+    (has_room (nat_le config.max_sessions (length (map (call_view h) (live h)))) (nat_lt (length (free config h)) (length (demand [] ask).pairs)) short) in
+    let cells = map (λ (c : Call). c.cell) (live h) in
+    let least = (lowest_is cells).positive in
+    let most = lowest_bound cells in
+    let calls : length (map (call_view h) (live h)) ≡ length (live h) = length-map (live h) (call_view h) in
+    let count : length cells ≡ length (live h) = length-map (live h) (λ (c : Call). c.cell) in
+    record { number_is = sym begun_is; cell_is_one = least; cell_is_there = omega (arith, room, most, calls, count) }
+
+-- A live call that an offer goes on with.
+pub record GoesOn (h : List BoardEntry) (id : List ℕ) (t : Target) : Type 0 where
+  pub found : find_call h id ≡ Some t.of
+  pub is_live : In t.of (live h)
+  pub rounds_are : t.rounds ≡ rounds h t.of.number
+
+-- a call that an offer begins
+pub record BeginsNew (h : List BoardEntry) (id : List ℕ) (t : Target) : Type 0 where
+  pub none : find_call h id ≡ None
+  pub of_is : t.of ≡ new_call h id
+  pub no_rounds : t.rounds ≡ []
+
+on_case : (h : List BoardEntry) (id : List ℕ) (o : Option Call) → find_call h id ≡ o → (target_in h id o).begins ≡ false → GoesOn h id (target_in h id o)
+on_case h id None is old = absurd (let e = old in cc)
+on_case h id (Some of) is old = record { found = is; is_live = found_live h id of is; rounds_are = refl }
+
+new_case : (h : List BoardEntry) (id : List ℕ) (o : Option Call) → find_call h id ≡ o → (target_in h id o).begins ≡ true → BeginsNew h id (target_in h id o)
+new_case h id None is new = record { none = is; of_is = refl; no_rounds = refl }
+new_case h id (Some of) is new = absurd (let e = new in cc)
+
+pub goes_on_with : (config : Config) (h : List BoardEntry) (id : List ℕ) → (target (view_of config h) id).begins ≡ false → GoesOn h id (target (view_of config h) id)
+goes_on_with config h id old =
+    subst (λ (t : Target). t.begins ≡ false → GoesOn h id t) (sym (target_is config h id)) (on_case h id (find_call h id) refl) old
+
+pub begins_new : (config : Config) (h : List BoardEntry) (id : List ℕ) → (target (view_of config h) id).begins ≡ true → BeginsNew h id (target (view_of config h) id)
+begins_new config h id new =
+    subst (λ (t : Target). t.begins ≡ true → BeginsNew h id t) (sym (target_is config h id)) (new_case h id (find_call h id) refl) new
