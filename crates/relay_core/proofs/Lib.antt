@@ -42,5 +42,11 @@ pub mod KeysOnce
 pub mod LegStays
 pub mod OneLeg
 pub mod LegsHeld
+pub mod Refilling
+pub mod Filling
+pub mod Filled
+pub mod Joins
+pub mod Placing
+pub mod Closed
 mod Example
 mod rows

@@ -1,0 +1,222 @@
+-- What the close of the table tells of the list of the hand that closes it.
+use Rattle.std.proofs.Common.{◌≡◌, ◌∙◌, sym, ap, subst, refl, ℕ, zero, suc, ◌+◌, ◌<◌, ◌≤◌, max, List, [], ◌∷◌, ◌++◌, Bool, true, false, cond, Option, Some, None, map, length, filter, arith, slice_get, take, get_or}
+use Rattle.std.specs.Prelude.{◌&&◌, ◌==◌, eqb}
+use Rattle.std.specs.List.{filter_map, cons_option}
+use Rattle.std.proofs.Math.Seq.{take-suc}
+use Rattle.std.proofs.lemmas.Option.{slice_get_within, slice_get-get_or, get_or_from_slice_get}
+use Rattle.relay_outside.specs.declared.ports.InCall.{InCall}
+use Rattle.relay_outside.specs.declared.ports.OutCall.{OutCall}
+use Rattle.relay_outside.specs.declared.settings.Config.{Config}
+use Rattle.turn_table.specs.declared.machine.Entry as table
+use Rattle.turn_table.specs.Histories.{Leaves, IsHistory, times, total, one_if, below}
+use Rattle.turn_table.specs.Histories as table_lists
+use Rattle.turn_table.proofs.Lists.{below_in}
+use Rattle.histories.specs.Words.{In, here, there, greatest}
+use Rattle.call_cell.specs.Cells.{CellEntry}
+use Rattle.relay_core.specs.declared.part.Part.{Part}
+use Rattle.relay_core.specs.Entries.{Event, Entry, is_at, history, cell_entry, cell_history}
+use Rattle.relay_core.specs.Legal.{StandsAt, is_handed_boards, Orderly, Legal}
+use Rattle.relay_core.specs.Made.{Made, entry_of, list_of, told, moment_of}
+use Rattle.relay_core.specs.Safe.{Safe}
+use Rattle.relay_core.specs.Beginning.{AreParts}
+use Rattle.relay_core.specs.Standing.{BringsNewKeys, Stands, IsCellPart}
+use Rattle.relay_core.specs.Turning.{Numbered, IsReceiving}
+use Rattle.relay_core.specs.Handed.{IsHanded}
+use Rattle.relay_core.proofs.Histories.{in_history}
+use Rattle.relay_core.proofs.Safety.{legal_safe}
+use Rattle.relay_core.proofs.Turns.{filter_every}
+use Rattle.relay_core.proofs.Counts as counts
+use Rattle.relay_core.proofs.Own.{IsOwn, own_history, IsRow, rows_in, in_rows, onto_last}
+use Rattle.relay_core.proofs.Stays.{Steps, onto, stands_onto}
+use Rattle.relay_core.proofs.Given.{begins_as}
+use Rattle.relay_core.proofs.KeysOnce.{keys_once}
+use Rattle.relay_core.proofs.Filling.{filled_in}
+use Rattle.relay_core.proofs.Filled as right
+use Rattle.relay_core.proofs.Filled.{legal_filled, filled_tells}
+use Rattle.relay_core.proofs.Placing.{IsStepAt, step_at, KindAt, begins_kind, begins_stands, kind_stays, IsPlaced, ArePlaced, IsRight, moments, step_placed, step_right}
+
+module _ {T I O : Type 0} (it : I → Option (List InCall)) (ic : I → ℕ) (ot : O → Option (List OutCall)) (oc : O → ℕ) where
+  -- of the place with this number, which began so, the rows have the whole history
+  pub record IsWhole (rows : List (table.Entry Made T)) (k : ℕ) (a : Part I O) : Type 0 where
+    pub past : List (table.Entry Made T)
+    pub last : Part I O
+    pub leaves : Leaves (Steps it ic ot oc) a past last
+    pub is : IsHistory rows k past
+
+  -- of each place
+  abbrev pub AreWhole : List (Part I O) → List (table.Entry Made T) → Type 0
+  AreWhole starts rows = (k : ℕ) (a : Part I O) → slice_get starts k ≡ Some a → IsWhole rows k a
+
+module _ {T I O : Type 0} where
+  -- the rows stand at places that there are
+  abbrev pub InRange : List (Part I O) → List (table.Entry Made T) → Type 0
+  InRange starts rows = (e : table.Entry Made T) → table_lists.In e rows → e.place < length starts
+
+-- Each place and number stands once.
+
+count_case : {T : Type 0} (k i : ℕ) (row : table.Entry Made T) (rows : List (table.Entry Made T)) (n : ℕ) → length (filter (is_at k i) (list_of rows)) ≡ n
+    → (t : Bool) → length (cond t (entry_of row ∷ filter (is_at k i) (list_of rows)) (filter (is_at k i) (list_of rows))) ≡ one_if t + n
+count_case k i row rows n rest true = omega (arith, rest)
+count_case k i row rows n rest false = omega (arith, rest)
+
+count_is : {T : Type 0} (k i : ℕ) (rows : List (table.Entry Made T)) → length (filter (is_at k i) (list_of rows)) ≡ times k i rows
+count_is k i [] = refl
+count_is k i (row ∷ rows) = count_case k i row rows (times k i rows) (count_is k i rows) ((row.place == k) && (row.number == i))
+
+in_range : {A : Type 0} (starts : List A) (k : ℕ) → k < length starts → (a : A) × (slice_get starts k ≡ Some a)
+in_range [] k within = absurd (omega (arith, within))
+in_range (a ∷ starts) zero within = (a, refl)
+in_range (a ∷ starts) (suc k) within = in_range starts k (omega (arith, within))
+
+module _ {T I O : Type 0} (it : I → Option (List InCall)) (ic : I → ℕ) (ot : O → Option (List OutCall)) (oc : O → ℕ)
+    (starts : List (Part I O)) (rows : List (table.Entry Made T)) (range : InRange starts rows) (whole : AreWhole it ic ot oc starts rows) where
+  -- where a row stands in the history of its place
+  record Place (row : table.Entry Made T) : Type 0 where
+    start : Part I O
+    starts_so : slice_get starts row.place ≡ Some start
+    history_of : IsWhole it ic ot oc rows row.place start
+    at : slice_get history_of.past row.number ≡ Some row
+    within : row.number < length history_of.past
+
+  place_of : (row : table.Entry Made T) → table_lists.In row rows → Place row
+  place_of row i =
+      let a = in_range starts row.place (range row i) in
+      let w = whole row.place a.0 a.1 in
+      let at = w.is.own row i refl in
+      record { start = a.0; starts_so = a.1; history_of = w; at = at; within = slice_get_within w.past row.number row at }
+
+  numbered_row : (row : table.Entry Made T) → table_lists.In row rows → length (filter (is_at row.place row.number) (list_of rows)) ≡ 1
+  numbered_row row i =
+      let p = place_of row i in
+      count_is row.place row.number rows ∙ p.history_of.is.once row.number ∙ below_in row.number (length p.history_of.past) p.within
+
+  -- at the close each place and number stands once in the list
+  pub closed_numbered : Numbered (list_of rows)
+  closed_numbered e i =
+      let r = in_rows rows i in
+      subst (λ (x : Entry). length (filter (is_at x.place x.number) (list_of rows)) ≡ 1) r.is (numbered_row r.row r.is_in)
+
+  module _ (config : Config) (are : AreParts config starts) (orderly : Orderly config (list_of rows)) where
+    -- the history of a place, up to a number, is the list's
+    past_is : (k : ℕ) (a : Part I O) → (w : IsWhole it ic ot oc rows k a) → (n : ℕ) → n ≤ length w.past
+        → onto (take n w.past) [] ≡ history (list_of rows) k n
+    past_is k a w n within =
+        sym (filter_every (λ (e : Entry). true) (onto (take n w.past) []) (λ e i. refl))
+        ∙ own_history (λ (e : Entry). true) k rows w.past
+        (record { numbered = orderly.numbered; named = w.is.named; own = w.is.own; all = λ i e q t. w.is.all i e q }) n within
+        ∙ filter_every (λ (e : Entry). true) (history (list_of rows) k n) (λ e i. refl)
+
+    -- its keys are new
+    new_keys : (k : ℕ) (a : Part I O) → (w : IsWhole it ic ot oc rows k a) → (n : ℕ) → n ≤ length w.past
+        → BringsNewKeys (filter_map cell_entry (onto (take n w.past) []))
+    new_keys k a w n within =
+        subst (λ (h : List Entry). BringsNewKeys (filter_map cell_entry h)) (sym (past_is k a w n within)) (keys_once config (list_of rows) orderly k n)
+
+    begins : (row : table.Entry Made T) → (p : Place row) → KindAt config row.place p.start × Stands config p.start []
+    begins row p =
+        let b = begins_as config starts are row.place p.start p.starts_so in
+        (begins_kind config row.place p.start b, begins_stands config row.place p.start b)
+
+    -- each row is of its place's kind
+    row_placed : (row : table.Entry Made T) → table_lists.In row rows → IsPlaced config row.place row.event.moment row.event.event
+    row_placed row i =
+        let p = place_of row i in
+        let w = p.history_of in
+        let s = step_at (Steps it ic ot oc) p.start w.last w.past w.leaves row.number row p.at in
+        step_placed it ic ot oc config row.place s.old s.new row.event row.outcome s.step
+        (kind_stays it ic ot oc config row.place p.start s.old (take row.number w.past) s.before (begins row p).0)
+
+    past_placed : (k n : ℕ) → ArePlaced config k (history (list_of rows) k n)
+    past_placed k n e j =
+        let h = in_history (list_of rows) k n j in
+        let r = in_rows rows h.is_in in
+        subst (λ (place : ℕ). IsPlaced config place e.moment e.event) h.at
+        (subst (λ (x : Entry). IsPlaced config x.place x.moment x.event) r.is (row_placed r.row r.is_in))
+
+    -- with the row behind it
+    next_is : (row : table.Entry Made T) → (p : Place row)
+        → onto (take (suc row.number) p.history_of.past) [] ≡ entry_of row ∷ history (list_of rows) row.place row.number
+    next_is row p =
+        let past = p.history_of.past in
+        let within = p.within in
+        let taken : take (suc row.number) past ≡ take row.number past ++ row ∷ []
+        = take-suc past row.number row within ∙ ap (λ (x : table.Entry Made T). take row.number past ++ x ∷ []) (get_or_from_slice_get past row.number row row p.at) in
+        ap (λ (xs : List (table.Entry Made T)). onto xs []) taken
+        ∙ onto_last (take row.number past) row []
+        ∙ ap (λ (h : List Entry). entry_of row ∷ h) (past_is row.place p.start p.history_of row.number (omega (arith, within)))
+
+    -- each row is what its place's history demands, at the moment that it was handed
+    row_right : (row : table.Entry Made T) → table_lists.In row rows
+        → IsRight config (history (list_of rows) row.place row.number) row.event row.event.event
+    row_right row i =
+        let p = place_of row i in
+        let w = p.history_of in
+        let within = p.within in
+        let b = begins row p in
+        let s = step_at (Steps it ic ot oc) p.start w.last w.past w.leaves row.number row p.at in
+        let low : row.number ≤ length w.past = omega (arith, within) in
+        let high : suc row.number ≤ length w.past = omega (arith, within) in
+        let old : Stands config s.old (history (list_of rows) row.place row.number)
+        = subst (λ (h : List Entry). Stands config s.old h) (past_is row.place p.start w row.number low)
+        (stands_onto it ic ot oc config p.start s.old (take row.number w.past) [] s.before (λ is. new_keys row.place p.start w row.number low) b.1) in
+        let new : Stands config s.new (entry_of row ∷ history (list_of rows) row.place row.number)
+        = subst (λ (h : List Entry). Stands config s.new h) (next_is row p)
+        (stands_onto it ic ot oc config p.start s.new (take (suc row.number) w.past) [] s.after (λ is. new_keys row.place p.start w (suc row.number) high) b.1) in
+        let keys : BringsNewKeys (filter_map cell_entry (entry_of row ∷ history (list_of rows) row.place row.number))
+        = subst (λ (h : List Entry). BringsNewKeys (filter_map cell_entry h)) (next_is row p) (new_keys row.place p.start w (suc row.number) high) in
+        step_right it ic ot oc config row.place s.old s.new row (history (list_of rows) row.place row.number) (λ is. keys) s.step old new
+        (past_placed row.place row.number) (kind_stays it ic ot oc config row.place p.start s.old (take row.number w.past) s.before b.0)
+
+    -- below each row no number of its place is left out
+    row_counted : (row : table.Entry Made T) → table_lists.In row rows → (i : ℕ) → i < row.number → counts.Stands (list_of rows) row.place i
+    row_counted row r i low =
+        let p = place_of row r in
+        let w = p.history_of in
+        let within = p.within in
+        let x = get_or w.past i row in
+        let at : slice_get w.past i ≡ Some x = slice_get-get_or w.past i row (omega (arith, within, low)) in
+        let named = w.is.named i x at in
+        record { entry = entry_of x; is_in = rows_in rows (w.is.all i x at); at = named.0; number_is = named.1 }
+
+    row_made : IsHanded rows → (row : table.Entry Made T) → table_lists.In row rows → right.Made config (list_of rows) (entry_of row)
+    row_made handed row i =
+        let r = row_right row i in
+        record {
+          handed = row.event.handed;
+          right = record {
+            placed = (row_placed row i).0;
+            counted = row_counted row i;
+            fits = r.0;
+            timed = r.1;
+            of_board = λ t b j p q. of_board row i t b j p q;
+          };
+        }
+      where
+        of_board : (row : table.Entry Made T) → table_lists.In row rows → is_handed_boards row.event.event ≡ true → (b : Entry) → In b (list_of rows)
+            → b.place ≡ 0 → b.number ≡ row.event.board → row.event.handed ≡ b.moment
+        of_board row i t b j p q =
+            let x = in_rows rows j in
+            handed row i t x.row x.is_in (ap (λ (y : Entry). y.place) x.is ∙ p) (ap (λ (y : Entry). y.number) x.is ∙ q)
+            ∙ ap (λ (y : Entry). y.moment) x.is
+
+    -- the list that is recorded, filled in, is legal, and so safe
+    pub closed_legal : IsReceiving config (list_of rows) → IsHanded rows
+        → (l : List Entry) × (map told l ≡ list_of rows) × Legal config l × Safe config l
+    closed_legal receiving handed =
+        let made : (e : Entry) → In e (list_of rows) → right.Made config (list_of rows) e
+        = λ e i. let r = in_rows rows i in subst (λ (x : Entry). right.Made config (list_of rows) x) r.is (row_made handed r.row r.is_in) in
+        let legal : Legal config (filled_in config (list_of rows)) = legal_filled config (list_of rows) orderly receiving made in
+        (filled_in config (list_of rows), filled_tells config (list_of rows) made, legal, legal_safe config (filled_in config (list_of rows)) legal)
+
+-- What the close answers says so of the rows.
+module _ {T I O : Type 0} (it : I → Option (List InCall)) (ic : I → ℕ) (ot : O → Option (List OutCall)) (oc : O → ℕ) where
+  abbrev pub AreClosed : List (Part I O) → List (table.Entry Made T) → List (Part I O) → Type 0
+  AreClosed starts rows states =
+      (k : ℕ) (a : Part I O) → slice_get starts k ≡ Some a
+      → (past : List (table.Entry Made T)) × (x : Part I O) × (slice_get states k ≡ Some x) × Leaves (Steps it ic ot oc) a past x × IsHistory rows k past
+
+  pub whole_of : (starts : List (Part I O)) (rows : List (table.Entry Made T)) (states : List (Part I O)) → AreClosed starts rows states
+      → AreWhole it ic ot oc starts rows
+  whole_of starts rows states closed k a q =
+      let w = closed k a q in
+      record { past = w.0; last = w.1; leaves = w.3; is = w.4 }

@@ -1,0 +1,37 @@
+//! The close of the table: the list of the hand that closes it is legal.
+
+ghost use Rattle.std.specs.Prelude.{◌≡◌, List, map, length};
+ghost use Rattle.turn_table.specs.Hands.{IsHandOf, HasNoTurn, parts, starts, entries};
+ghost use Rattle.relay_outside.specs.declared.settings.Config.{Config};
+ghost use Rattle.relay_core.specs.Entries.{Entry};
+ghost use Rattle.relay_core.specs.Legal.{Orderly, Legal};
+ghost use Rattle.relay_core.specs.Safe.{Safe};
+ghost use Rattle.relay_core.specs.Made.{told};
+ghost use Rattle.relay_core.specs.Beginning.{AreParts};
+ghost use Rattle.relay_core.specs.Turning.{Numbered, IsReceiving, made_by};
+ghost use Rattle.relay_core.specs.Handed.{IsHanded};
+
+use crate::machine::Relay;
+use crate::part::Part;
+use relay_outside::{InEnd, OutEnd};
+use turn_table::{Hand, Turns};
+
+/// Closes the table of a relay by the hand that has all its parts, and answers what its places hold, in order. It takes no
+/// memory.
+///
+/// The hand's list is then the list of all steps of all places. Where the main hand's part of it is orderly, each relay is of
+/// a take before it, and nested steps were handed their board entry's moment, it is a legal list, and so a safe one, once
+/// what each relay noted, protected and sent is told beside its outcome.
+pub fn close_relay<I: InEnd, O: OutEnd>(
+    turns: Turns<Relay<I, O>>,
+    hand: Hand<Relay<I, O>>,
+) -> Vec<Part<I, O>>
+    requires table { IsHandOf turns hand }
+    requires all { parts hand ≡ 1024 }
+    requires idle { HasNoTurn hand }
+    ensures length { length result.items ≡ length (starts hand) }
+    ensures numbered { Numbered (made_by hand) }
+    ensures legal { (config : Config) → AreParts config (starts hand) → Orderly config (made_by hand) → IsReceiving config (made_by hand) → IsHanded (entries hand) → (l : List Entry) × (map told l ≡ made_by hand) × Legal config l × Safe config l }
+{
+    turns.close(hand)
+}
