@@ -1,5 +1,5 @@
 -- The changes that the calls of the board make together are a whole entry of its history.
-use Rattle.std.proofs.Common.{◌≡◌, ◌∙◌, refl, sym, ap, ℕ, zero, suc, ◌+◌, ◌≤◌, ◌<◌, List, [], ◌∷◌, ◌++◌, map, filter, drop, take, length, Bool, true, false, cond, not, ◌==◌, Some, None, arith, append_assoc, append-nil, length-append}
+use Rattle.std.proofs.Common.{◌≡◌, ◌∙◌, refl, sym, ap, subst, ℕ, zero, suc, ◌+◌, ◌≤◌, ◌<◌, List, [], ◌∷◌, ◌++◌, map, filter, drop, take, length, Bool, true, false, cond, not, ◌==◌, Some, None, arith, append_assoc, append-nil, length-append}
 use Rattle.std.specs.Prelude.{count_by, max}
 use Rattle.std.specs.List.{flat_map, cons_option}
 use Rattle.std.proofs.lemmas.List.{map-append, length-map}
@@ -21,6 +21,8 @@ use Rattle.call_board.specs.Pairs.{closed_of, leased, leased_by_act, free, drawn
 use Rattle.call_board.specs.Kept.{is_kept, keeping_at, keepings}
 use Rattle.call_board.specs.Fits.{FitsBoard, FitsAt, IsFitting}
 use Rattle.call_board.specs.Views.{View, CallView, call_view, last_moment, times_leased, view_of, at_moment, one_drawn, with_leases, with_returned, without, goes_on, with_round}
+use Rattle.call_board.specs.Boards.{Shows, BoardFor}
+use Rattle.call_board.specs.declared.board.Board.{Board}
 use Rattle.call_board.specs.Whole.{with_draws, with_reply, with_closed, with_more, with_first, with_ended, after, IsMomentOf, IsTimely}
 use Rattle.call_board.proofs.Once.{Once}
 use Rattle.call_board.proofs.Sieves.{filter_whole}
@@ -424,3 +426,7 @@ whole config h e old fits timely = happened config h e.moment e.event old fits t
 -- a moment that was handed in, raised to the last one where it is earlier
 pub raised_is_late : (h : List BoardEntry) (now moment : ℕ) → moment ≡ max now (last_moment h) → last_moment h ≤ moment
 raised_is_late h now moment is = omega (arith, is)
+
+-- a board that keeps what the entry makes stands for the history with it
+pub entry_stands : (config : Config) (board : Board) (h : List BoardEntry) (e : BoardEntry) → IsFitting config h → FitsBoard config h e → IsTimely h e → Shows config board (after h e (view_of config h)) → BoardFor config board (e ∷ h)
+entry_stands config board h e old fits timely s = subst (Shows config board) (sym (whole config h e old fits timely)) s
