@@ -1,5 +1,5 @@
 -- Of each place: its steps are of its kind, are those that its history demands, and have the moments that they were handed.
-use Rattle.std.proofs.Common.{◌≡◌, ◌∙◌, sym, ap, subst, refl, ℕ, zero, suc, ◌+◌, ◌<◌, ◌≤◌, max, List, [], ◌∷◌, ◌++◌, Bool, true, false, cond, Option, Some, None, map, length, filter, arith, slice_get, take}
+use Rattle.std.proofs.Common.{◌≡◌, ◌∙◌, sym, ap, subst, refl, ℕ, zero, suc, ◌<◌, ◌≤◌, List, [], ◌∷◌, Option, Some, None, map, arith, slice_get, take}
 use Rattle.std.specs.List.{filter_map, cons_option}
 use Rattle.relay_outside.specs.declared.ports.InCall.{InCall}
 use Rattle.relay_outside.specs.declared.ports.OutCall.{OutCall}
@@ -9,7 +9,6 @@ use Rattle.turn_table.specs.Histories.{Leaves}
 use Rattle.histories.specs.Words.{In, here, there, greatest}
 use Rattle.port_pool.specs.declared.boxes.PairBox.{PairBox}
 use Rattle.port_pool.specs.Signals.{NewKey}
-use Rattle.port_pool.specs.Boxes.{BoxEvent, FitsBox}
 use Rattle.port_pool.specs.PairBoxes.{BoxFor}
 use Rattle.call_cell.specs.declared.cell.Cell as cell
 use Rattle.call_cell.specs.Cells.{CellEvent, CellEntry, Prepare, Commit, Relay, Expire, Read, End, keys_of, key_numbered}
@@ -17,20 +16,19 @@ use Rattle.call_cell.specs.Asked.{FitsCell}
 use Rattle.call_cell.specs.Good.{FittingCell, empty, longer}
 use Rattle.call_cell.specs.CellStanding as cells
 use Rattle.call_board.specs.declared.board.Board as board
-use Rattle.call_board.specs.Acts.{BoardEvent, BoardEntry}
+use Rattle.call_board.specs.Acts.{BoardEntry}
 use Rattle.call_board.specs.Boards.{BoardFor}
-use Rattle.call_board.specs.Views as views
 use Rattle.call_board.specs.Fits.{IsFitting}
 use Rattle.relay_core.specs.declared.part.Part.{Part}
 use Rattle.relay_core.specs.declared.part.Part.TheVariants as part
-use Rattle.relay_core.specs.Entries.{Event, Board, Cell, Box, Entry, board_at, cell_at, box_in, board_entry, cell_entry, box_event}
+use Rattle.relay_core.specs.Entries.{Event, Board, Cell, Box, Entry, board_at, cell_at, board_entry, cell_entry, box_event}
 use Rattle.relay_core.specs.Legal.{StandsAt}
-use Rattle.relay_core.specs.Made.{Made, entry_of, told_cell, moment_of}
+use Rattle.relay_core.specs.Made.{Made, entry_of, moment_of}
 use Rattle.relay_core.specs.Steps.{BoardSteps, BoxSteps, CellStepsBy, CellSteps}
 use Rattle.relay_core.specs.Beginning.{BeginsAs}
-use Rattle.relay_core.specs.Standing.{told_entry, FittingBox, CellStands, BringsNewKeys, Stands, IsCellPart}
+use Rattle.relay_core.specs.Standing.{told_entry, CellStands, BringsNewKeys, Stands, IsCellPart}
 use Rattle.relay_core.proofs.Stays.{Steps, new_recorded}
-use Rattle.relay_core.proofs.Filling.{fill_cell, fill_history, CellFills, cell_fills}
+use Rattle.relay_core.proofs.Filling.{cell_fills}
 use Rattle.relay_core.proofs.Filled.{FitsTold}
 
 -- The state before and after the step with this number.
@@ -197,8 +195,7 @@ cell_right ot oc config k old new made (Cell c) past fresh step for next placed 
     let f = cell_fills config new (cons_option (cell_at made.moment (Cell c)) (filter_map cell_entry past)) next in
     let timed = cell_timed ot oc config old new made c (filter_map cell_entry past) fresh.0 step for in
     let same : map (λ (e : CellEntry). e.moment) for.history ≡ moments past
-    = sym (told_moments for.history) ∙ ap (λ (h : List CellEntry). map (λ (e : CellEntry). e.moment) h) for.is_recorded ∙ cell_moments config k past placed is in
-    (
+    = sym (told_moments for.history) ∙ ap (λ (h : List CellEntry). map (λ (e : CellEntry). e.moment) h) for.is_recorded ∙ cell_moments config k past placed is in (
       (fits_head f.fitting, ap (λ (h : List CellEntry). head_event c h) f.is_recorded),
       timed ∙ ap (λ (ms : List ℕ). moment_of (Cell c) made.handed (greatest ms)) same,
     )
