@@ -25,7 +25,7 @@ use Rattle.relay_core.specs.Beginning.{AreParts}
 use Rattle.relay_core.specs.Standing.{BringsNewKeys, Stands}
 use Rattle.relay_core.specs.Turning.{Numbered, IsAbove, IsReceiving}
 use Rattle.relay_core.specs.Handed.{IsHanded}
-use Rattle.relay_core.specs.Joining.{TakesOwnPairs, IsSound, AreStanding}
+use Rattle.relay_core.specs.Joining.{TakesOwnPairs, IsSound, IsAtPlace, AreStanding}
 use Rattle.relay_core.proofs.Histories.{in_history, at_place}
 use Rattle.relay_core.proofs.Safety.{legal_safe}
 use Rattle.relay_core.proofs.Turns.{filter_every, filter_none, false_if}
@@ -39,7 +39,7 @@ use Rattle.relay_core.proofs.KeysOnce.{keys_once}
 use Rattle.relay_core.proofs.Filling.{filled_in}
 use Rattle.relay_core.proofs.Filled as right
 use Rattle.relay_core.proofs.Filled.{legal_filled, filled_tells}
-use Rattle.relay_core.proofs.Placing.{step_at, KindAt, begins_kind, begins_stands, kind_stays, IsPlaced, ArePlaced, IsRight, step_placed, step_right}
+use Rattle.relay_core.proofs.Placing.{step_at, begins_kind, begins_stands, kind_stays, IsPlaced, ArePlaced, IsRight, step_placed, step_right}
 
 module _ {T I O : Type 0} (it : I → Option (List InCall)) (ic : I → ℕ) (ot : O → Option (List OutCall)) (oc : O → ℕ) where
   -- of the place with this number, which began so, the rows have the whole history
@@ -118,7 +118,7 @@ module _ {T I O : Type 0} (it : I → Option (List InCall)) (ic : I → ℕ) (ot
     new_keys k a w n within =
         subst (λ (h : List Entry). BringsNewKeys (filter_map cell_entry h)) (sym (past_is k a w n within)) (keys_once config (list_of rows) orderly k n)
 
-    begins : (row : table.Entry Made T) → (p : Place row) → KindAt config row.place p.start × Stands config p.start []
+    begins : (row : table.Entry Made T) → (p : Place row) → IsAtPlace config row.place p.start × Stands config p.start []
     begins row p =
         let b = begins_as config starts are row.place p.start p.starts_so in
         (begins_kind config row.place p.start b, begins_stands config row.place p.start b)
@@ -271,14 +271,16 @@ module _ {T I O : Type 0} (it : I → Option (List InCall)) (ic : I → ℕ) (ot
 
     -- what a place holds in the end is what its whole history leaves
     pub closed_stands : (k : ℕ) (a : Part I O) → slice_get starts k ≡ Some a → (w : IsWhole it ic ot oc rows k a) → (n : ℕ) → IsAbove (list_of rows) k n
-        → Stands config w.last (history (list_of rows) k n)
+        → IsAtPlace config k w.last × Stands config w.last (history (list_of rows) k n)
     closed_stands k a q w n above =
         let b = begins_as config starts are k a q in
-        let same = whole_past k a w n above in
-        subst (λ (h : List Entry). Stands config w.last h) same
-        (stands_onto it ic ot oc config a w.last w.past [] w.leaves
-        (λ is. subst (λ (h : List Entry). BringsNewKeys (filter_map cell_entry h)) (sym same) (keys_once config (list_of rows) orderly k n))
-        (begins_stands config k a b))
+        let same = whole_past k a w n above in (
+          kind_stays it ic ot oc config k a w.last w.past w.leaves (begins_kind config k a b),
+          subst (λ (h : List Entry). Stands config w.last h) same
+              (stands_onto it ic ot oc config a w.last w.past [] w.leaves
+              (λ is. subst (λ (h : List Entry). BringsNewKeys (filter_map cell_entry h)) (sym same) (keys_once config (list_of rows) orderly k n))
+              (begins_stands config k a b)),
+        )
 
     -- the list that is recorded, filled in, is legal, and so safe
     pub closed_legal : IsReceiving config (list_of rows) → IsHanded rows
@@ -319,5 +321,5 @@ module _ {T I O : Type 0} (it : I → Option (List InCall)) (ic : I → ℕ) (ot
       let h = closed k a.0 a.1 in
       let w : IsWhole it ic ot oc rows k a.0 = record { past = h.0; last = h.1; leaves = h.3; is = h.4 } in
       let same : h.1 ≡ x = let e : Some h.1 ≡ Some x = sym h.2 ∙ q in cc in
-      subst (λ (y : Part I O). Stands config y (history (list_of rows) k n)) same
+      subst (λ (y : Part I O). IsAtPlace config k y × Stands config y (history (list_of rows) k n)) same
       (closed_stands it ic ot oc starts rows range (whole_of starts rows states closed) config are orderly k a.0 a.1 w n above)

@@ -1,5 +1,5 @@
 -- What is known of the rows of the main hand, and of those of lanes, when they are joined and the table is closed.
-use Rattle.std.specs.Prelude.{◌≡◌, ℕ, List, Some, slice_get}
+use Rattle.std.specs.Prelude.{◌≡◌, ◌<◌, ◌≤◌, ℕ, List, Some, slice_get}
 use Rattle.relay_outside.specs.declared.address.Addr.{Addr}
 use Rattle.relay_outside.specs.declared.settings.Config.{Config}
 use Rattle.rtp_packet.specs.declared.head.Half.{Half}
@@ -9,6 +9,7 @@ use Rattle.histories.specs.Words.{In}
 use Rattle.port_pool.specs.declared.holder.Holder.{Holder}
 use Rattle.port_pool.specs.Boxes.{Take, Datagram}
 use Rattle.relay_core.specs.declared.part.Part.{Part}
+use Rattle.relay_core.specs.declared.part.Part.TheVariants as part
 use Rattle.relay_core.specs.Entries.{Box, Entry, history, box_of}
 use Rattle.relay_core.specs.Legal.{Orderly}
 use Rattle.relay_core.specs.Made.{Made, list_of}
@@ -35,7 +36,14 @@ module _ {T : Type 0} where
     pub handed : Numbered (list_of rows) → IsHanded rows
     pub receiving : Numbered (list_of rows) → TakesOwnPairs config (list_of rows) → IsReceiving config (list_of rows)
 
--- the parts stand, place by place, for all that the list has of their places
-abbrev pub AreStanding : {I O : Type 0} → Config → List (Part I O) → List Entry → Type 0
-AreStanding {I} {O} config parts l =
-    (k n : ℕ) (x : Part I O) → slice_get parts k ≡ Some x → IsAbove l k n → Stands config x (history l k n)
+module _ {I O : Type 0} where
+  -- the place with this number holds a part of its kind
+  abbrev pub IsAtPlace : Config → ℕ → Part I O → Type 0
+  IsAtPlace config k (part.Board board) = k ≡ 0
+  IsAtPlace config k (part.Cell cell) = (1 ≤ k) × (k ≤ config.max_sessions)
+  IsAtPlace config k (part.Pair box) = config.max_sessions < k
+
+  -- each part is of its place's kind, and stands for all that the list has of its place
+  abbrev pub AreStanding : Config → List (Part I O) → List Entry → Type 0
+  AreStanding config parts l =
+      (k n : ℕ) (x : Part I O) → slice_get parts k ≡ Some x → IsAbove l k n → IsAtPlace config k x × Stands config x (history l k n)
