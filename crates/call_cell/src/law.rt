@@ -1,16 +1,17 @@
-ghost use Rattle.std.specs.Prelude.{◌≡◌, ℕ, Bool, List, Some};
+ghost use Rattle.std.specs.Prelude.{◌≡◌, ℕ, Bool, List, Some, None};
 ghost use Rattle.relay_outside.specs.declared.settings.Config.{Config};
 ghost use Rattle.histories.specs.Words.{In};
 ghost use Rattle.port_pool.specs.declared.signal.SectionSignal.{SectionSignal};
 ghost use Rattle.port_pool.specs.Signals.{NewKey};
 ghost use Rattle.call_cell.specs.declared.prepare.Prepare.{Prepare};
 ghost use Rattle.call_cell.specs.declared.cell.Cell.{Cell};
-ghost use Rattle.call_cell.specs.Cells.{CellEntry, Receipt, Shield, since_end};
+ghost use Rattle.call_cell.specs.Cells.{CellEntry, Receipt, Shield, since_end, key_numbered};
 ghost use Rattle.call_cell.specs.Keyed.{protected};
 ghost use Rattle.call_cell.specs.Deeds.{deed};
 ghost use Rattle.call_cell.specs.Good.{GoodCell};
+ghost use Rattle.call_cell.specs.Lasting.{kept};
 ghost use Rattle.call_cell.specs.CellStanding.{CellFor};
-ghost use Rattle.call_cell.specs.Committing.{contexts_due, contexts_due_after};
+ghost use Rattle.call_cell.specs.Committing.{NamesKeys, contexts_due, contexts_due_after};
 ghost use Rattle.call_cell.specs.Preparing.{PrepareFor, CanCome, FitsPlaces};
 
 /// A law, and no work: no packet is protected under an index that an earlier packet of its key, half and source had.
@@ -29,4 +30,30 @@ pub fn legs_find_places<O>()
 pub fn contexts_are_counted<O>()
     ensures { (config : Config) (cell : Cell O) (h : List CellEntry) (signal : List SectionSignal) → CellFor config cell h →
         contexts_due signal cell.legs.items ≡ contexts_due_after (since_end h) signal }
+{}
+
+/// A law, and no work: what can come after one history for which a cell stands can come after each other one, where its keys
+/// have new numbers there too.
+pub fn offers_come_after_each_history<O>()
+    ensures { (config : Config) (cell : Cell O) (h k : List CellEntry) (signal : Prepare O) (call : ℕ) (keys : List NewKey) (dropped : List ℕ) →
+        CellFor config cell h → CellFor config cell k → CanCome config (since_end h) signal call keys dropped →
+        ((key : NewKey) → In key keys → key_numbered (since_end k) key.number ≡ None) → CanCome config (since_end k) signal call keys dropped }
+{}
+
+/// A law, and no work: what names keys of the legs after one history for which a cell stands names keys of them after each
+/// other one.
+pub fn answers_name_keys_after_each_history<O>()
+    ensures { (config : Config) (cell : Cell O) (h k : List CellEntry) (signal : List SectionSignal) →
+        CellFor config cell h → CellFor config cell k → NamesKeys (since_end h) signal → NamesKeys (since_end k) signal }
+{}
+
+/// A law, and no work: after two histories with the same offers, answers and ends, whatever packets were relayed between them,
+/// the same can come, the same names keys of the legs, and an answer makes as many inbound contexts.
+pub fn packets_change_no_condition<O>()
+    ensures offers { (config : Config) (h k : List CellEntry) (signal : Prepare O) (call : ℕ) (keys : List NewKey) (dropped : List ℕ) →
+        kept h ≡ kept k → CanCome config (since_end h) signal call keys dropped → CanCome config (since_end k) signal call keys dropped }
+    ensures answers { (h k : List CellEntry) (signal : List SectionSignal) →
+        kept h ≡ kept k → NamesKeys (since_end h) signal → NamesKeys (since_end k) signal }
+    ensures contexts { (h k : List CellEntry) (signal : List SectionSignal) →
+        kept h ≡ kept k → contexts_due_after (since_end h) signal ≡ contexts_due_after (since_end k) signal }
 {}

@@ -1,31 +1,32 @@
--- The key that is in force on a leg is there: its Prepare stands among the entries since the cell's last End.
+-- Where the key that is in force on a leg comes from: its Prepare stands among the entries since the cell's last End.
 use Rattle.std.proofs.Common.{◌≡◌, ◌∙◌, sym, ap, subst, refl, ℕ, suc, ◌<◌, ◌≤◌, ◌⊎◌, inl, inr, List, Bool, true, false, Some, arith}
 use Rattle.relay_outside.specs.declared.settings.Config.{Config}
 use Rattle.histories.specs.Words.{In}
 use Rattle.port_pool.specs.declared.holder.Holder.{Holder}
 use Rattle.port_pool.specs.declared.signal.LegSignal.{LegSignal}
+use Rattle.port_pool.specs.declared.signal.SectionSignal.{SectionSignal}
 use Rattle.port_pool.specs.Signals.{NewKey, signal_at}
 use Rattle.offer_answer.specs.Plan as plan
-use Rattle.offer_answer.proofs.Drawn.{signal-names-drawn}
-use Rattle.call_cell.specs.Cells.{CellEntry, Prepare, Commit, End, is_end, since_end, in_force, keys_in, key_numbered}
+use Rattle.offer_answer.specs.Laws.{IsDrawnInLife}
+use Rattle.offer_answer.proofs.Drawn.{names_drawn_keys}
+use Rattle.offer_answer.proofs.Lives.{drawn_for-call}
+use Rattle.call_cell.specs.Cells.{CellEntry, Prepare, Commit, End, is_end, since_end, in_force}
 use Rattle.call_board.specs.Acts as act
 use Rattle.call_board.specs.Acts.{Call, BoardEntry}
 use Rattle.call_board.specs.Calls.{live, rounds}
-use Rattle.relay_core.specs.Entries.{Event, Cell, Entry, is_nested, board_entry, board_history, cell_entry, cell_history}
+use Rattle.relay_core.specs.Entries.{Cell, Entry, is_nested, board_entry, board_history, cell_entry, cell_history}
 use Rattle.relay_core.specs.Scripts.{Owed, in_cell}
 use Rattle.relay_core.specs.Legal.{Orderly}
-use Rattle.relay_core.specs.Safe.{HasKey, keys_by}
-use Rattle.relay_core.proofs.Histories.{good_history, same_at, since_entry, entry_since}
+use Rattle.relay_core.proofs.Histories.{good_history, same_at}
 use Rattle.relay_core.proofs.Scripts.{has_prepare, is_made}
 use Rattle.relay_core.proofs.Boards.{is_moment, moment}
-use Rattle.relay_core.proofs.Keys.{keys_apart}
-use Rattle.relay_core.proofs.Commits.{event_of, entry_of, end_event, commit_of}
+use Rattle.relay_core.proofs.Commits.{event_of, end_event, commit_of}
 use Rattle.relay_core.proofs.Lives.{not_after, live_same, no_end_in, no_end_of}
+use Rattle.relay_core.proofs.LegEntries.{adds, behind}
 use Rattle.call_board.proofs.Tells.{answer_told}
 use Rattle.call_board.proofs.Calls.{live_begun, offered_live}
 use Rattle.call_board.proofs.Keys.{drawn_for_drew}
-use Rattle.call_cell.proofs.Committed.{in_force_committed, commit_is_in}
-use Rattle.call_cell.proofs.Keys.{key_brought, key_is_in, finds_key}
+use Rattle.call_cell.proofs.Committed.{in_force_committed}
 
 -- What is in force on a leg was committed by an answer of a call that was live then.
 pub record IsInForce (config : Config) (l : List Entry) (place n : ℕ) (leg : Holder) (s : LegSignal) : Type 0 where
@@ -33,9 +34,14 @@ pub record IsInForce (config : Config) (l : List Entry) (place n : ℕ) (leg : H
   pub is_in : In commit l
   pub at : commit.place ≡ place
   pub below : commit.number < n
+  pub signal : List SectionSignal
+  pub event : commit.event ≡ Cell (Commit signal)
   pub nested : is_nested commit.event ≡ true
   pub none_later : (f : Entry) (d : CellEntry) → In f l → f.place ≡ place → commit.number < f.number → f.number < n
       → cell_entry f ≡ Some d → is_end d ≡ false
+  -- no later entry adds the leg
+  pub adds_none : (f : Entry) (d : CellEntry) → In f l → f.place ≡ place → commit.number < f.number → f.number < n
+      → cell_entry f ≡ Some d → adds leg d ≡ false
   pub board : Entry
   pub entry : BoardEntry
   pub board_in : In board l
@@ -52,7 +58,7 @@ pub is_in_force : (config : Config) (l : List Entry) → Orderly config l → (p
 is_in_force config l o place n leg s q =
     let h = since_end (cell_history l place n) in
     let c = in_force_committed h leg s q in
-    let e = since_entry l o.numbered place n c.entry (commit_is_in h leg s c) in
+    let e = behind l o.numbered place n c.newer c.older c.entry c.splits in
     let event : e.entry.event ≡ Cell (Commit c.signal) = event_of e.entry c.entry e.is ∙ ap Cell c.is_commit in
     let k = commit_of config l o e.entry e.is_in c.signal event in
     let b = k.nested in
@@ -63,8 +69,11 @@ is_in_force config l o place n leg s q =
       is_in = e.is_in;
       at = e.at;
       below = e.below;
+      signal = c.signal;
+      event = event;
       nested = ap is_nested event;
-      none_later = e.none_later;
+      none_later = λ f d i p later before q. (e.later_in f d i p later before q).1;
+      adds_none = λ f d i p later before q. c.adds_none d (e.later_in f d i p later before q).0;
       board = b.board;
       entry = b.entry;
       board_in = b.is_in;
@@ -92,19 +101,22 @@ pub record IsDrawn (config : Config) (l : List Entry) (n : ℕ) (call : Call) (l
   pub acts : act.act entry ≡ act.Offered offer
   pub has_key : In key offer.keys
   pub of_call : offer.of.number ≡ call.number
+  -- in the life that the leg's section has at that answer
+  pub in_life : IsDrawnInLife (rounds (board_history l n) call.number) leg.section key
 
 pub is_drawn : (config : Config) (l : List Entry) → Orderly config l → (place n : ℕ) (leg : Holder) (s : LegSignal) (number : ℕ)
     → (f : IsInForce config l place n leg s) → s.outbound ≡ Some number → IsDrawn config l f.board.number f.answer.of leg number
 is_drawn config l o place n leg s number f q =
     let hb = board_history l f.board.number in
-    let k = signal-names-drawn (rounds hb f.answer.of.number) f.answer.ask leg.section leg.side s number f.says q in
-    let d = drawn_for_drew hb f.answer.of.number k.0 k.1 in
+    let rs = rounds hb f.answer.of.number in
+    let k = names_drawn_keys rs f.answer.ask leg.section leg.side s number f.says q in
+    let d = drawn_for_drew hb f.answer.of.number k.key (drawn_for-call rs leg.section k.key k.is_drawn) in
     let m = is_moment config l o f.board.number d.entry d.before d.late in
     record {
-      key = k.0;
-      number_is = k.2;
-      for_section = k.3;
-      for_side = k.4;
+      key = k.key;
+      number_is = k.number_is;
+      for_section = k.for_section;
+      for_side = k.for_side;
       board = m.entry;
       entry = d.entry;
       board_in = m.is_in;
@@ -114,6 +126,7 @@ is_drawn config l o place n leg s number f q =
       acts = d.acts;
       has_key = d.has_key;
       of_call = d.of_call;
+      in_life = k.is_drawn;
     }
 
 -- The offer's call is the one that was answered.
@@ -137,7 +150,7 @@ pub record IsBrought (config : Config) (l : List Entry) (place n : ℕ) (board :
   pub event : entry.event ≡ Cell (Prepare offer.of.number offer.legs offer.keys offer.dropped)
   pub has_key : In key offer.keys
 
-is_brought : (config : Config) (l : List Entry) → Orderly config l → (place n : ℕ) (leg : Holder) (s : LegSignal) (number : ℕ)
+pub is_brought : (config : Config) (l : List Entry) → Orderly config l → (place n : ℕ) (leg : Holder) (s : LegSignal) (number : ℕ)
     → (f : IsInForce config l place n leg s) → (d : IsDrawn config l f.board.number f.answer.of leg number) → IsBrought config l place n d.board d.key
 is_brought config l o place n leg s number f d =
     let w = in_cell d.offer.of (Prepare d.offer.of.number d.offer.legs d.offer.keys d.offer.dropped) in
@@ -158,7 +171,7 @@ pub less : (a b : ℕ) → (a < b) ⊎ (b ≤ a)
 less a b = grind arith
 
 -- it stands before the commit
-before_commit : (config : Config) (l : List Entry) → Orderly config l → (place n : ℕ) (leg : Holder) (s : LegSignal) (number : ℕ)
+pub before_commit : (config : Config) (l : List Entry) → Orderly config l → (place n : ℕ) (leg : Holder) (s : LegSignal) (number : ℕ)
     → (f : IsInForce config l place n leg s) → (d : IsDrawn config l f.board.number f.answer.of leg number)
     → (p : IsBrought config l place n d.board d.key) → (p.entry.number < f.commit.number) ⊎ (f.commit.number ≤ p.entry.number) → p.entry.number < f.commit.number
 before_commit config l o place n leg s number f d p (inl h) = h
@@ -205,7 +218,7 @@ module _ (config : Config) (l : List Entry) (o : Orderly config l) (place n : �
           no_end_of config l o f.board f.entry (act.Answered f.answer) f.board_in f.is f.acts refl (λ t. let k = t in cc) g i event (omega (arith, b, high))
 
 -- and no End stands since
-no_end_since : (config : Config) (l : List Entry) → (o : Orderly config l) → (place n : ℕ) (leg : Holder) (s : LegSignal) (number : ℕ)
+pub no_end_since : (config : Config) (l : List Entry) → (o : Orderly config l) → (place n : ℕ) (leg : Holder) (s : LegSignal) (number : ℕ)
     → (f : IsInForce config l place n leg s) → (d : IsDrawn config l f.board.number f.answer.of leg number)
     → (p : IsBrought config l place n d.board d.key)
     → (g : Entry) (c : CellEntry) → In g l → g.place ≡ place → p.entry.number < g.number → g.number < n → cell_entry g ≡ Some c
@@ -233,38 +246,3 @@ no_end_since config l o place n leg s number f d p g c i at low high q true t = 
     end_case : (f.commit.number < g.number) ⊎ (g.number ≤ f.commit.number) → ⊥
     end_case (inl k) = let a = f.none_later g c i at k high q in let b = t in cc
     end_case (inr k) = before (less g.number f.commit.number) k
-
--- the key that a leg's signal names is among those that the cell got since its last End, for this leg
-pub has_key : (config : Config) (l : List Entry) → Orderly config l → (place n : ℕ) (leg : Holder) (s : LegSignal) (number : ℕ)
-    → in_force (since_end (cell_history l place n)) leg ≡ Some s → s.outbound ≡ Some number → HasKey (since_end (cell_history l place n)) leg number
-has_key config l o place n leg s number q out =
-    let f = is_in_force config l o place n leg s q in
-    let d = is_drawn config l o place n leg s number f out in
-    let p = is_brought config l o place n leg s number f d in
-    let h = since_end (cell_history l place n) in
-    let c : CellEntry = record { moment = p.entry.moment; event = Prepare p.offer.of.number p.offer.legs p.offer.keys p.offer.dropped } in
-    let is : cell_entry p.entry ≡ Some c = entry_of p.entry.moment p.entry.event c.event p.event in
-    let first : p.entry.number < f.commit.number = before_commit config l o place n leg s number f d p (less p.entry.number f.commit.number) in
-    let below : f.commit.number < n = f.below in
-    let here : In c h = entry_since l o.numbered place n c (record {
-      entry = p.entry;
-      is_in = p.is_in;
-      at = p.at;
-      below = omega (arith, first, below);
-      is = is;
-      no_end = refl;
-      none_later = λ g x i at low high k. no_end_since config l o place n leg s number f d p g x i at low high k (is_end x) refl;
-    }) in
-    let key_in : In d.key (keys_in h) = key_is_in h here p.has_key in
-    let only : (other : NewKey) → In other (keys_in h) → other.number ≡ d.key.number → other ≡ d.key = λ other j m.
-    other_key config l o place n d.key p.entry p.is_in (subst (λ (v : Event). In d.key (keys_by v)) (sym p.event) p.has_key) other j m in
-    let found = finds_key h d.key key_in only in
-    record { key = d.key; is_there = subst (λ m. key_numbered h m ≡ Some d.key) d.number_is found; for_section = d.for_section; for_side = d.for_side }
-  where
-    other_key : (config : Config) (l : List Entry) → Orderly config l → (place n : ℕ) (key : NewKey) (e : Entry) → In e l → In key (keys_by e.event)
-        → (other : NewKey) → In other (keys_in (since_end (cell_history l place n))) → other.number ≡ key.number → other ≡ key
-    other_key config l o place n key e i k other j m =
-        let b = key_brought (since_end (cell_history l place n)) j in
-        let t = since_entry l o.numbered place n b.0 b.1 in
-        let v : t.entry.event ≡ Cell b.0.event = event_of t.entry b.0 t.is in
-        (keys_apart config l o t.entry e other key t.is_in i (subst (λ (x : Event). In other (keys_by x)) (sym v) b.2) k m).1

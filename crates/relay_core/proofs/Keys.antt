@@ -146,7 +146,7 @@ one_prepare_of config l o b x of i q a e f j k p r s t =
     (keeps (λ (d : Entry). prepares_it (owed_by d)) nested (keeps (belongs_to b.number) l j p) s)
     (keeps (λ (d : Entry). prepares_it (owed_by d)) nested (keeps (belongs_to b.number) l k r) t)
 
-belongs : (n : ℕ) (e : Entry) → is_nested e.event ≡ true → e.board ≡ n → belongs_to n e ≡ true
+pub belongs : (n : ℕ) (e : Entry) → is_nested e.event ≡ true → e.board ≡ n → belongs_to n e ≡ true
 belongs n e t q = and_true (is_nested e.event) (Rattle.std.specs.Prelude.◌==◌ e.board n) t (equal e.board n q)
 
 -- no key number enters two legs, or one leg twice

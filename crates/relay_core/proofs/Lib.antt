@@ -4,7 +4,10 @@ pub mod Boards
 pub mod Keys
 pub mod Commits
 pub mod Lives
+pub mod LegEntries
+pub mod KeyRounds
 pub mod Keyed
+pub mod KeyLives
 pub mod Shields
 pub mod Relays
 pub mod Leases
@@ -14,6 +17,7 @@ pub mod Generations
 pub mod Sends
 pub mod Replies
 pub mod Safety
+pub mod Learned
 pub mod Elsewhere
 pub mod Turns
 pub mod Gains
@@ -35,6 +39,8 @@ pub mod Following
 pub mod Fronts
 pub mod Coming
 pub mod KeysOnce
+pub mod LegStays
+pub mod OneLeg
 pub mod LegsHeld
 pub mod Refilling
 pub mod Filling

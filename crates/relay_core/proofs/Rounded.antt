@@ -246,7 +246,7 @@ unrejected true q = refl
 unrejected false q = absurd (let e = q in cc)
 
 -- a section keeps its pairs, if an offer doesn't drop it
-pairs_offer : (rounds : List Round) (ask : OfferAsk) (new : List Holder) (keys : List NewKey) (section : ℕ) → IsOfferRound rounds ask new keys
+pub pairs_offer : (rounds : List Round) (ask : OfferAsk) (new : List Holder) (keys : List NewKey) (section : ℕ) → IsOfferRound rounds ask new keys
     → section < most_sections → has_pairs rounds section ≡ true → has (demand rounds ask).dropped section ≡ false
     → has_pairs (Offered ask new keys ∷ rounds) section ≡ true
 pairs_offer rounds ask new keys section r low had stays =
@@ -254,7 +254,7 @@ pairs_offer rounds ask new keys section r low had stays =
     (sym stays ∙ drops_what_goes rounds ask new keys section low (leases_none rounds ask new keys r section had)) had
 
 -- or an answer doesn't reject it
-pairs_answer : (rounds : List Round) (ask : AnswerAsk) (section : ℕ) → AreRounds rounds → IsAnswerRound rounds ask
+pub pairs_answer : (rounds : List Round) (ask : AnswerAsk) (section : ℕ) → AreRounds rounds → IsAnswerRound rounds ask
     → has_pairs rounds section ≡ true → is_rejected (signal rounds ask) section ≡ false → has_pairs (Answered ask ∷ rounds) section ≡ true
 pairs_answer rounds ask section rs r had stays =
     let w = within rounds rs section in
@@ -262,7 +262,7 @@ pairs_answer rounds ask section rs r had stays =
     let low = w.paired had in
     unrejected (has_pairs (Answered ask ∷ rounds) section) (sym stays ∙ rejects_what_goes rounds ask section (omega (arith, long, low)))
 
-pairs_new : (ask : OfferAsk) (new : List Holder) (keys : List NewKey) (rounds : List Round) (leg : Holder) → In leg new
+pub pairs_new : (ask : OfferAsk) (new : List Holder) (keys : List NewKey) (rounds : List Round) (leg : Holder) → In leg new
     → has_pairs (Offered ask new keys ∷ rounds) leg.section ≡ true
 pairs_new ask new keys rounds leg i = let l = leases_its ask new keys leg i in rw l refl
 

@@ -12,7 +12,8 @@ use Rattle.relay_core.proofs.Histories.{good_history}
 use Rattle.relay_core.proofs.Holders.{pairs_apart, box_is_held, held_is_box}
 use Rattle.relay_core.proofs.Shutting.{opens_shut, closes_open}
 use Rattle.relay_core.proofs.Keys.{keys_apart}
-use Rattle.relay_core.proofs.Keyed.{has_key}
+use Rattle.relay_core.proofs.KeyLives.{has_key}
+use Rattle.relay_core.proofs.OneLeg.{one_leg}
 use Rattle.relay_core.proofs.Shields.{deed_is, shields_apart}
 use Rattle.relay_core.proofs.Sends.{sent_right, sent_sends, protected_by}
 use Rattle.relay_core.proofs.Replies.{bodies_are, lines_are, replies_are, repeated, offers_answered}
@@ -26,6 +27,7 @@ board_is_safe config l o = record {
   opens_shut = opens_shut config l o;
   closes_open = λ e i q. let h = closes_open config l o e i q in subst (λ (x : Option Holder). IsSome x) (sym h.1) refl;
   keys_apart = keys_apart config l o;
+  one_leg = λ e f a b number i j. one_leg config l o e f a b number;
   bodies_are = bodies_are config l o;
   lines_are = lines_are config l o;
   replies_are = replies_are config l o;
@@ -41,7 +43,7 @@ legal_safe config l g = record {
   sent_sends = sent_sends config l g;
   shields_apart = shields_apart config l g;
   protected_by = protected_by config l g;
-  keys_are_there = λ e leg s number i j q out. has_key config l g.orderly e.place e.number leg s number q out;
+  keys_are_there = λ e leg s number i j q out. has_key config l g.orderly e.place e.number leg s number j q out;
 }
 
 pub isolated : (config : Config) → IsIsolated config

@@ -13,8 +13,9 @@ use Rattle.relay_core.specs.Legal.{Legal}
 use Rattle.relay_core.specs.Safe.{IsSentRight, IsProtectedBy}
 use Rattle.relay_core.proofs.Generations.{held_at_take, holder_is_leg}
 use Rattle.relay_core.proofs.Relays.{call_of_leg}
-use Rattle.relay_core.proofs.Keyed.{has_key}
+use Rattle.relay_core.proofs.KeyLives.{has_key}
 use Rattle.relay_core.proofs.Shields.{deed_is, protecting}
+use Rattle.call_cell.proofs.Legs.{opposite_is}
 use Rattle.call_cell.proofs.Sends.{sends, sent}
 
 pub sent_right : (config : Config) (l : List Entry) → Legal config l → (e : Entry) (x : Relayed) (w : Sending) → In e l → e.event ≡ Cell (Relay x)
@@ -62,5 +63,5 @@ protected_by config l g e x s i q t =
     record {
       other = p.other;
       is_opposite = subst (λ (a : Holder). opposite h a ≡ Some p.other) leg p.is_opposite;
-      has_key = has_key config l g.orderly e.place e.number p.other p.signal s.key p.is_in_force p.outbound;
+      has_key = has_key config l g.orderly e.place e.number p.other p.signal s.key (opposite_is h p.leg p.other p.is_opposite).is_leg p.is_in_force p.outbound;
     }

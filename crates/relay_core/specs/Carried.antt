@@ -1,5 +1,5 @@
 -- What a list has that carries a call from its offer to its end, and then another one.
-use Rattle.std.specs.Prelude.{◌≡◌, ℕ, ◌+◌, false, true, List, [], ◌∷◌, length, Some}
+use Rattle.std.specs.Prelude.{◌≡◌, ℕ, ◌+◌, ◌<◌, false, true, List, [], ◌∷◌, length, Some}
 use Rattle.relay_outside.specs.declared.settings.Config.{Config}
 use Rattle.srtp_sources.specs.Notes.{Note}
 use Rattle.srtp_context.specs.Packets as srtp
@@ -14,12 +14,22 @@ use Rattle.call_cell.specs.declared.outcome.Outcome.TheVariants.{Refused, Sent}
 use Rattle.call_cell.specs.declared.outcome.Refused.TheVariants.{Stale}
 use Rattle.call_cell.specs.Cells.{Relay, Expire, End, Relayed, Shield, Sending}
 use Rattle.call_board.specs.Acts as act
-use Rattle.call_board.specs.Acts.{Control, Turn, Tick}
+use Rattle.call_board.specs.Acts.{Call, Control, Turn, Tick}
 use Rattle.relay_core.specs.Entries.{Event, Board, Cell, Box, Entry, box_of}
 
 -- an entry of the list, at this place, has this event
 abbrev pub Occurs : List Entry → ℕ → Event → Type 0
 Occurs l place event = (e : Entry) × In e l × (e.place ≡ place) × (e.event ≡ event)
+
+-- one that belongs to the board entry of this number
+abbrev pub OccursOf : List Entry → ℕ → ℕ → Event → Type 0
+OccursOf l board place event = (e : Entry) × In e l × (e.place ≡ place) × (e.event ≡ event) × (e.board ≡ board)
+
+-- each number is below the next
+abbrev pub Rises : List ℕ → Type 0
+Rises [] = Unit {0}
+Rises (a ∷ []) = Unit {0}
+Rises (a ∷ b ∷ ns) = (a < b) × Rises (b ∷ ns)
 
 -- a packet is taken for one leg, and another leg's port sends it on
 pub record CarriesPacket (config : Config) (l : List Entry) (from to : Holder) : Type 0 where
@@ -50,12 +60,14 @@ pub record CarriesCalls (config : Config) (l : List Entry) : Type 0 where
   pub answer : act.Answer
   pub accepts_answer : answer_turn.act ≡ act.Answered answer
   pub answers_offer : answer.of ≡ offer.of
-  pub is_asked : Occurs l offer.of.cell (Cell (Expire false))
+  pub ticked : List Call
+  pub is_ticked : Occurs l 0 (Board (Tick ticked))
+  pub is_asked : OccursOf l is_ticked.0.number offer.of.cell (Cell (Expire false))
   pub delete_turn : Control
   pub is_deleted : Occurs l 0 (Board (Turn delete_turn))
   pub accepts_delete : delete_turn.act ≡ act.Deleted offer.of
-  pub ends : Occurs l offer.of.cell (Cell End)
-  pub closes : (leg : Holder) → In leg offer.legs → Occurs l (box_of config leg.pair) (Box Close)
+  pub ends : OccursOf l is_deleted.0.number offer.of.cell (Cell End)
+  pub closes : (leg : Holder) → In leg offer.legs → OccursOf l is_deleted.0.number (box_of config leg.pair) (Box Close)
   -- the two legs of a section
   pub leg_a : Holder
   pub leg_b : Holder
@@ -94,3 +106,8 @@ pub record CarriesCalls (config : Config) (l : List Entry) : Type 0 where
   pub for_former : late.packet.holder ≡ leg_a
   pub is_stale : late.deed.outcome ≡ Refused Stale
   pub times_out : Occurs l 0 (Board (Tick (next.of ∷ [])))
+  -- one after the other: the entries of the board, and those of the cell, which both calls have
+  pub in_turn : Rises (is_offered.0.number ∷ is_repeated.0.number ∷ is_answered.0.number ∷ is_ticked.0.number ∷ is_deleted.0.number
+      ∷ is_offered_next.0.number ∷ times_out.0.number ∷ [])
+  pub in_cell : Rises (to_b.is_relayed.0.number ∷ to_a.is_relayed.0.number ∷ is_asked.0.number ∷ ends.0.number ∷ is_late.0.number ∷ [])
+  pub same_cell : next.of.cell ≡ offer.of.cell

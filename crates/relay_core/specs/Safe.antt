@@ -3,7 +3,7 @@ use Rattle.std.specs.Prelude.{◌≡◌, ℕ, suc, ◌&&◌, nat_lt, true, false
 use Rattle.relay_outside.specs.declared.address.Addr.{Addr}
 use Rattle.relay_outside.specs.declared.settings.Config.{Config}
 use Rattle.ng_command.specs.Said as said
-use Rattle.ng_reply.specs.declared.code.ErrorCode.TheVariants.{E13, E14, E15, E16}
+use Rattle.ng_reply.specs.declared.code.ErrorCode.TheVariants.{E13, E14, E15, E16, E17}
 use Rattle.histories.specs.Words.{In, Before}
 use Rattle.port_pool.specs.declared.holder.Holder.{Holder}
 use Rattle.port_pool.specs.declared.signal.LegSignal.{LegSignal}
@@ -15,6 +15,7 @@ use Rattle.offer_answer.specs.Rounds.{OfferAsk}
 use Rattle.call_cell.specs.declared.outcome.Outcome.TheVariants.{Sent}
 use Rattle.call_cell.specs.Cells.{CellEvent, CellEntry, Relay, Relayed, Sending, Shield, call, legs, opposite, in_force, keys_of, key_numbered}
 use Rattle.call_cell.specs.Keyed.{shield_of_relay}
+use Rattle.call_cell.specs.LegKeys.{keys_for}
 use Rattle.call_cell.specs.Learning.{endpoint}
 use Rattle.call_cell.specs.Deeds.{deed, way, transform}
 use Rattle.call_cell.specs.Cells as cells
@@ -24,6 +25,7 @@ use Rattle.call_board.specs.Calls.{live, rounds, find_call, rounds_of_call}
 use Rattle.call_board.specs.Pairs.{Once, held, free, free_in, is_short, drawn}
 use Rattle.call_board.specs.Kept.{kept}
 use Rattle.call_board.specs.Asked.{Reads, asked}
+use Rattle.call_board.specs.Replies.{Fault, reply_text}
 use Rattle.call_board.specs.Answers.{answering_unless, offering, spelled}
 use Rattle.call_board.specs.Fits.{is_read, is_heard, Hears, answer_of}
 use Rattle.relay_core.specs.Entries.{Event, Board, Cell, Box, Entry, is_nested, history, front, box_event, board_history, cell_before, box_history, box_of}
@@ -62,14 +64,13 @@ shield_by _ = None
 abbrev pub shield_at : Entry → Option Shield
 shield_at e = shield_by e.event
 
--- the cell got the key since its last End, for this leg
+-- the cell got the key for this leg, in the leg's life: since the leg was added, or together with it
 pub record HasKey (h : List CellEntry) (leg : Holder) (number : ℕ) : Type 0 where
   pub key : NewKey
   pub is_there : key_numbered h number ≡ Some key
-  pub for_section : key.section ≡ leg.section
-  pub for_side : key.side ≡ leg.side
+  pub in_life : In key (keys_for h leg)
 
--- a packet is protected under a key that the cell got for the leg by which the packet leaves
+-- a packet is protected under a key that the cell got for the leg by which the packet leaves, in that leg's life
 pub record IsProtectedBy (l : List Entry) (e : Entry) (x : Relayed) (s : Shield) : Type 0 where
   pub other : Holder
   pub is_opposite : opposite (cell_before l e) x.packet.holder ≡ Some other
@@ -111,16 +112,19 @@ pub record IsValidOffer (config : Config) (h : List BoardEntry) (c : Control) (n
   pub is_heard : ask.chosen ≡ c.chosen
   pub no_fault : plan.offer_fault (rounds_of_call h (find_call h id)) ask ≡ None
 
--- it is answered well, or for want of something
+-- it is answered well, or with the error of what it is in want of
 pub data IsOfferReply (config : Config) (h : List BoardEntry) (c : Control) (id : List ℕ) (ask : OfferAsk) : Type 0 where
   well : (o : act.Offer) → c.act ≡ act.Offered o → o.ask ≡ ask
       → c.reply ≡ (spelled config (offering config (rounds_of_call h (find_call h id)) o)).bytes → IsOfferReply config h c id ask
-  no_pair : c.act ≡ act.Failed E13
+  no_pair : c.reply ≡ reply_text config (Fault E13) → c.act ≡ act.Failed E13
       → is_short (free_in config h) (plan.demand (rounds_of_call h (find_call h id)) ask).pairs ≡ true → IsOfferReply config h c id ask
-  session_limit : c.act ≡ act.Failed E14 → find_call h id ≡ None → length (live h) ≡ config.max_sessions → IsOfferReply config h c id ask
-  port_fault : (leases : List act.Lease) → c.act ≡ act.Undone E15 leases [] → In false c.given.opens → IsOfferReply config h c id ask
-  key_fault : (leases : List act.Lease) → c.act ≡ act.Undone E16 leases c.given.draws → c.given.draw_failed ≡ true → IsOfferReply config h c id ask
-  no_memory : c.act ≡ act.Starved → IsOfferReply config h c id ask
+  session_limit : c.reply ≡ reply_text config (Fault E14) → c.act ≡ act.Failed E14
+      → find_call h id ≡ None → length (live h) ≡ config.max_sessions → IsOfferReply config h c id ask
+  port_fault : (leases : List act.Lease) → c.reply ≡ reply_text config (Fault E15) → c.act ≡ act.Undone E15 leases []
+      → In false c.given.opens → IsOfferReply config h c id ask
+  key_fault : (leases : List act.Lease) → c.reply ≡ reply_text config (Fault E16) → c.act ≡ act.Undone E16 leases c.given.draws
+      → c.given.draw_failed ≡ true → IsOfferReply config h c id ask
+  no_memory : c.reply ≡ reply_text config (Fault E17) → c.act ≡ act.Starved → IsOfferReply config h c id ask
 
 -- What an orderly list has, whatever the lanes do
 pub record BoardSafe (config : Config) (l : List Entry) : Type 0 where
@@ -132,8 +136,11 @@ pub record BoardSafe (config : Config) (l : List Entry) : Type 0 where
   -- a box is opened only where it has no holder, and closed only where it has one
   pub opens_shut : (e : Entry) (leg : Holder) → In e l → e.event ≡ Box (Open leg) → holder (box_history l e.place e.number) ≡ None
   pub closes_open : (e : Entry) → In e l → e.event ≡ Box Close → IsSome (holder (box_history l e.place e.number))
-  -- each key number enters one leg, once
+  -- each key number comes once, for one section and side of one call
   pub keys_apart : (e f : Entry) (k j : NewKey) → In e l → In f l → In k (keys_at e) → In j (keys_at f) → k.number ≡ j.number → (e ≡ f) × (k ≡ j)
+  -- and it belongs to one leg, which is one lease of a pair, in whatever cells and at whatever times legs have it
+  pub one_leg : (e f : Entry) (a b : Holder) (number : ℕ) → In e l → In f l → In a (legs (cell_before l e)) → In b (legs (cell_before l f))
+      → HasKey (cell_before l e) a number → HasKey (cell_before l f) b number → a ≡ b
   -- what is read of a datagram is what its body spells, and the lines that are chosen are those of its description
   pub bodies_are : (e : Entry) (c : Control) → In e l → e.event ≡ Board (Turn c) → is_read c ≡ true → Reads c.body c.pairs
   pub lines_are : (e : Entry) (c : Control) → In e l → e.event ≡ Board (Turn c) → is_heard c.act ≡ true

@@ -1,9 +1,13 @@
 ghost use Rattle.std.specs.Prelude.{List};
 ghost use Rattle.relay_outside.specs.declared.settings.Config.{Config};
+ghost use Rattle.rtp_packet.specs.declared.head.Half.{Half};
+ghost use Rattle.port_pool.specs.declared.holder.Holder.{Holder};
+ghost use Rattle.call_cell.specs.Cells.{CellEntry};
 ghost use Rattle.relay_core.specs.Entries.{Entry};
 ghost use Rattle.relay_core.specs.Legal.{Orderly, Legal};
 ghost use Rattle.relay_core.specs.Carried.{CarriesCalls};
 ghost use Rattle.relay_core.specs.Safe.{BoardSafe, Safe, IsIsolated};
+ghost use Rattle.relay_core.specs.Learned.{IsOneLearning};
 
 /// A legal list is safe, for every configuration and every list: every packet sent is the transform of one received packet,
 /// sent once, to the opposite side's endpoint in that moment's state of the call that held the receiving port at receipt; no
@@ -19,7 +23,8 @@ pub fn cells_are_apart()
     ensures { (config : Config) → IsIsolated config }
 {}
 
-/// What the list of the hand of the control loop tells by itself between its turns, whatever the lanes do.
+/// What an orderly list tells by itself, whatever else stands beside it: it is what the list of the control loop's own hand is to
+/// have between its turns, whatever the lanes do.
 pub fn orderly_is_safe()
     ensures { (config : Config) (l : List Entry) → Orderly config l → BoardSafe config l }
 {}
@@ -29,4 +34,10 @@ pub fn orderly_is_safe()
 /// and one that is opened and sent in the clear; and then another call at the same ports, which times out.
 pub fn a_legal_list_exists()
     ensures { (config : Config) × (l : List Entry) × Legal config l × CarriesCalls config l }
+{}
+
+/// What a cell says of learning is what a learner says of the signals and sources in the leg's life: the same source is
+/// learned for each leg and half, packets go to the same address, and the same sources are wrong.
+pub fn learning_is_one()
+    ensures { (h : List CellEntry) (leg : Holder) (half : Half) → IsOneLearning h leg half }
 {}

@@ -3,7 +3,12 @@
 //!
 //! Module `laws` states that. `specs/Entries.antt` has the entries and the histories of places, `specs/Scripts.antt` what an entry of the board owes,
 //! `specs/Legal.antt` when a list is legal, `specs/Safe.antt` what is then promised, `specs/Carried.antt` what the list has that
-//! shows that legal lists exist.
+//! shows that legal lists exist, `specs/Learned.antt` that a cell learns as a learner does.
+//!
+//! `part` is what a place holds, `beginning` what the places hold at first, and `machine` says which steps of the turn table the
+//! events are (`specs/Made.antt`, `Steps.antt`). `closing` closes the table: the list of the hand that closes it is legal.
+//! `specs/Standing.antt` says for which history a state stands, `specs/Turning.antt` what a hand's list gains, `specs/Joining.antt`
+//! and `Handed.antt` what holds of the lists of hands that are joined.
 #![tactic(auto)]
 
 mod beginning;
@@ -14,6 +19,8 @@ mod part;
 
 pub use beginning::parts;
 pub use closing::close_relay;
-pub use laws::{a_legal_list_exists, cells_are_apart, legal_is_safe, orderly_is_safe};
+pub use laws::{
+    a_legal_list_exists, cells_are_apart, learning_is_one, legal_is_safe, orderly_is_safe,
+};
 pub use machine::{Happening, Relay, Says, Told};
 pub use part::Part;

@@ -1,20 +1,18 @@
 //! The media proxy as a program: it makes the real devices, hands them with its words to `relay_app::run`,
-//! and ends with the number of the status that this answers. What the adapters of `udp.rt`, `system.rt`
-//! and `output.rt` take and pass on is trusted; all that is proved is over these devices.
+//! and ends with the number of the status that this answers. What the devices of `outside_real` take and
+//! pass on is trusted; all that is proved is over these devices.
 #![tactic(auto)]
 
-mod output;
-mod system;
-mod udp;
+mod seed;
 mod words;
 
-use crate::output::StdSink;
-use crate::system::{SystemClock, SystemTimer};
-use crate::udp::UdpLink;
+use crate::seed::read_seed;
 use crate::words::{Words, read_words};
+use outside_real::{ChaChaKeys, StdLines, StdSink, SystemClock, SystemTimer, UdpLink, UdpMaker};
 use relay_app::{Status, run};
-use relay_outside::{OpenGate, SteadyKeys, SteadyLines, SteadyMaker};
+use relay_outside::OpenGate;
 use std::alloc::Global;
+use std::io::BufReader;
 use std::process::ExitCode;
 
 fn main(rt: HostRuntime) -> ExitCode {
@@ -27,8 +25,9 @@ fn main(rt: HostRuntime) -> ExitCode {
     ExitCode::from(status.number())
 }
 
-/// Makes the devices and runs the relay. No command opens ports, draws keys or reads a script yet: for
-/// these the devices are in memory.
+/// Makes the devices and runs the relay: sockets, the system's clock, keys from a seed of the runtime's
+/// random source, standard input and output. Without a seed nothing is run, and the answer is that of a
+/// run that got no memory.
 fn start(rt: &HostRuntime, alloc: Global, words: &Vec<String>) -> Status {
     let mut texts = Vec::new(alloc);
     for word in words {
@@ -36,17 +35,23 @@ fn start(rt: &HostRuntime, alloc: Global, words: &Vec<String>) -> Status {
             return Status::OutOfMemory;
         }
     }
+    let Ok(seed) = read_seed(rt) else {
+        return Status::OutOfMemory;
+    };
+    let Ok(input) = BufReader::new(alloc, rt.reader()) else {
+        return Status::OutOfMemory;
+    };
     run(
         rt,
         alloc,
         texts.as_slice(),
         &mut UdpLink::new(rt),
-        &mut SteadyMaker::new(alloc, Vec::new(alloc)),
-        &mut SteadyKeys::new(alloc),
+        &mut UdpMaker::new(rt),
+        &mut ChaChaKeys::from_seed(seed),
         &mut SystemTimer::new(rt),
         &SystemClock::new(rt),
         &OpenGate::new(),
-        &mut SteadyLines::new(alloc, Vec::new(alloc)),
+        &mut StdLines::new(input),
         &mut StdSink::new(rt.stdout()),
     )
 }

@@ -1,23 +1,23 @@
 -- What the list of the worked calls has.
-use Rattle.std.proofs.Common.{refl}
+use Rattle.std.proofs.Common.{refl, [], arith}
 use Rattle.rtp_packet.specs.declared.head.Half.TheVariants.{Rtp}
 use Rattle.histories.specs.Words.{here, there}
 use Rattle.port_pool.specs.declared.holder.Holder.{Holder}
 use Rattle.port_pool.specs.Boxes.{Close}
 use Rattle.relay_core.specs.Entries.{Box, box_of}
-use Rattle.relay_core.specs.Carried.{Occurs, CarriesPacket, CarriesCalls}
+use Rattle.relay_core.specs.Carried.{OccursOf, CarriesPacket, CarriesCalls}
 use Rattle.relay_core.proofs.Example.Datagrams.{config, leg_a, leg_b, legs, key_80, line, next_leg_a}
 use Rattle.relay_core.proofs.Example.Board.{accepted_offer, accepted_answer, offer_turn, repeat_turn, answer_turn, delete_turn, accepted_next, next_turn}
 use Rattle.relay_core.proofs.Example.Cell.{relayed, sending, relayed_back, sending_back, reply_note, is_wire, refused_late}
 use Rattle.relay_core.proofs.Example.Members.{Each, none_left, ◌&◌, of_each, at_place}
-use Rattle.relay_core.proofs.Example.Entries.{entries, offered, repeated, answered, taken, sent, taken_back, sent_back, asked, ended, closed_b, closed_a, deleted, offered_next, relayed_late, timed_out}
+use Rattle.relay_core.proofs.Example.Entries.{entries, offered, repeated, answered, taken, sent, taken_back, sent_back, asked, ticked, ended, closed_b, closed_a, deleted, offered_next, relayed_late, timed_out}
 
 -- the box of the leg closes
 abbrev Closes : Holder → Type 0
-Closes leg = Occurs entries (box_of config leg.pair) (Box Close)
+Closes leg = OccursOf entries deleted.number (box_of config leg.pair) (Box Close)
 
 boxes_close : Each Closes legs
-boxes_close = (closed_b, at_place entries 15 refl, refl, refl) & (closed_a, at_place entries 16 refl, refl, refl) & none_left
+boxes_close = (closed_b, at_place entries 15 refl, refl, refl, refl) & (closed_a, at_place entries 16 refl, refl, refl, refl) & none_left
 
 to_b : CarriesPacket config entries leg_a leg_b
 to_b = record {
@@ -56,11 +56,13 @@ carries = record {
   answer = accepted_answer;
   accepts_answer = refl;
   answers_offer = refl;
-  is_asked = (asked, at_place entries 12 refl, refl, refl);
+  ticked = [];
+  is_ticked = (ticked, at_place entries 13 refl, refl, refl);
+  is_asked = (asked, at_place entries 12 refl, refl, refl, refl);
   delete_turn = delete_turn;
   is_deleted = (deleted, at_place entries 17 refl, refl, refl);
   accepts_delete = refl;
-  ends = (ended, at_place entries 14 refl, refl, refl);
+  ends = (ended, at_place entries 14 refl, refl, refl, refl);
   closes = of_each Closes legs boxes_close;
   leg_a = leg_a;
   leg_b = leg_b;
@@ -96,4 +98,7 @@ carries = record {
   for_former = refl;
   is_stale = refl;
   times_out = (timed_out, at_place entries 27 refl, refl, refl);
+  in_turn = (omega arith, (omega arith, (omega arith, (omega arith, (omega arith, (omega arith, tt))))));
+  in_cell = (omega arith, (omega arith, (omega arith, (omega arith, tt))));
+  same_cell = refl;
 }

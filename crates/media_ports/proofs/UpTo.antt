@@ -1,0 +1,180 @@
+-- Openings one after another, up to one that fails, and their undoing.
+use Rattle.std.proofs.Common.{◌≡◌, ◌∙◌, ◌↔◌, ap, sym, subst, refl, ℕ, zero, suc, ◌+◌, ◌*◌, ◌<◌, ◌≤◌, Bool, true, false, List, [], ◌∷◌, ◌++◌, ◌⊎◌, inl, inr, Option, Some, None, map, length, take, drop, replicate, append_assoc, append-nil, take-append-drop, arith}
+use Rattle.std.specs.Prelude.{slice_get}
+use Rattle.std.specs.List.{AllZip}
+use Rattle.std.proofs.Math.Seq.{append_snoc}
+use Rattle.std.proofs.lemmas.List.{replicate-append-replicate, length-map, length-append, length-take-le}
+use Rattle.std.proofs.lemmas.Option.{slice_get_within}
+use Rattle.relay_outside.specs.declared.address.Addr.{Addr}
+use Rattle.relay_outside.specs.declared.address.Ip.{Ip}
+use Rattle.relay_outside.specs.declared.ports.InCall.{InCall}
+use Rattle.relay_outside.specs.declared.ports.OutCall.{OutCall}
+use Rattle.relay_outside.specs.declared.ports.PortCall.{PortCall}
+use Rattle.relay_outside.specs.declared.ports.PortCall.TheVariants.{Open}
+use Rattle.relay_outside.specs.Ports.{IsOpen}
+use Rattle.relay_outside.specs.Told.{Gained, WhereTold}
+use Rattle.relay_outside.proofs.Telling.{gained_both}
+use Rattle.histories.specs.Words.{In, here, there}
+use Rattle.port_pool.specs.declared.pairs.Lease.{Lease}
+use Rattle.media_ports.specs.Addresses.{port_at, ports_of, addresses_of, ArePorts}
+use Rattle.media_ports.specs.Calls.{openings, OpensAll, OpensHalf, OpensUpTo, ClosesUncalled, NoneOpen, AllOpen, SameOpen}
+use Rattle.media_ports.specs.declared.opening.HalfOpened.{HalfOpened}
+use Rattle.media_ports.specs.declared.ends.PairEnds.{PairEnds}
+use Rattle.media_ports.specs.Ends.{half_count, IsUncalled, AreUncalled}
+use Rattle.media_ports.proofs.Telling.{told_after}
+use Rattle.media_ports.proofs.Opened.{open_anew, open_still, open_before}
+use Rattle.media_ports.proofs.Closed.{closes_uncalled, still_open, open_since, open_beside, not_open}
+use Rattle.media_ports.proofs.Apart.{none_open_after}
+use Rattle.media_ports.proofs.Leased.{take_next, drop_next, later_ports, addresses_of-append, length-ports_of}
+
+-- openings of first and then of more addresses
+pub openings-append : (front back : List Addr) (answers : List Bool) → openings (front ++ back) (replicate (length front) true ++ answers) ≡ openings front (replicate (length front) true) ++ openings back answers
+openings-append [] back answers = refl
+openings-append (at ∷ front) back answers = ap (λ (calls : List PortCall). Open at true ∷ calls) (openings-append front back answers)
+
+pub opens_more : (front back : List Addr) (xs ys : List PortCall) → OpensAll front xs → OpensAll back ys → OpensAll (front ++ back) (xs ++ ys)
+opens_more front back xs ys these those =
+    ap (λ (calls : List PortCall). calls ++ ys) these
+    ∙ ap (λ (calls : List PortCall). openings front (replicate (length front) true) ++ calls) those
+    ∙ sym (openings-append front back (replicate (length back) true))
+    ∙ ap (openings (front ++ back)) (replicate-append-replicate (length front) (length back) true ∙ ap (λ n. replicate n true) (sym (length-append front back)))
+
+-- one lease more
+pub opens_next : (interface : Ip) (leases : List Lease) (i : ℕ) (lease : Lease) (xs ys : List PortCall) → slice_get leases i ≡ Some lease →
+    OpensAll (addresses_of interface (take i leases)) xs → OpensAll (addresses_of interface (lease ∷ [])) ys → OpensAll (addresses_of interface (take (i + 1) leases)) (xs ++ ys)
+opens_next interface leases i lease xs ys is these those =
+    subst (λ (ats : List Addr). OpensAll ats (xs ++ ys)) (sym (ap (addresses_of interface) (take_next leases i lease is) ∙ addresses_of-append interface (take i leases) (lease ∷ [])))
+    (opens_more (addresses_of interface (take i leases)) (addresses_of interface (lease ∷ [])) xs ys these those)
+
+pub none_open_here : (interface : Ip) (leases : List Lease) (i : ℕ) (lease : Lease) (calls : List PortCall) → slice_get leases i ≡ Some lease →
+    NoneOpen (addresses_of interface (drop i leases)) calls → NoneOpen (addresses_of interface (lease ∷ [])) calls
+none_open_here interface leases i lease calls is none =
+    let these = subst (λ (ls : List Lease). NoneOpen (addresses_of interface ls) calls) (drop_next leases i lease is) none in
+    (these.0, (these.1.0, tt))
+
+pub none_open_later : (interface : Ip) (leases : List Lease) (i : ℕ) (lease : Lease) (calls more : List PortCall) → slice_get leases i ≡ Some lease → ArePorts (ports_of leases) →
+    NoneOpen (addresses_of interface (drop i leases)) calls → OpensAll (addresses_of interface (lease ∷ [])) more → NoneOpen (addresses_of interface (drop (i + 1) leases)) (calls ++ more)
+none_open_later interface leases i lease calls more is are none opens =
+    let these = subst (λ (ls : List Lease). NoneOpen (addresses_of interface ls) calls) (drop_next leases i lease is) none in
+    let ports = subst (λ (ls : List Lease). ArePorts (ports_of ls)) (drop_next leases i lease is) (later_ports leases i are) in
+    subst (λ (those : List PortCall). NoneOpen (addresses_of interface (drop (i + 1) leases)) (calls ++ those)) (sym opens)
+    (none_open_after interface (ports_of (lease ∷ [])) (ports_of (drop (i + 1) leases)) (true ∷ true ∷ []) calls ports these.1.1)
+
+-- The opening that fails.
+
+short : (a b : Addr) (rest : List Addr) (k : ℕ) → k ≤ 1 → openings (a ∷ b ∷ rest) (replicate k true ++ false ∷ []) ≡ openings (a ∷ b ∷ []) (replicate k true ++ false ∷ [])
+short a b rest zero within = refl
+short a b [] (suc zero) within = refl
+short a b (at ∷ rest) (suc zero) within = refl
+short a b rest (suc (suc k)) within = absurd (omega (arith, within))
+
+pub fails_next : (interface : Ip) (leases : List Lease) (i k : ℕ) (lease : Lease) (xs ys : List PortCall) → slice_get leases i ≡ Some lease → k ≤ 1 →
+    OpensAll (addresses_of interface (take i leases)) xs → OpensHalf (addresses_of interface (lease ∷ [])) k ys → OpensHalf (addresses_of interface leases) (2 * i + k) (xs ++ ys)
+fails_next interface leases i k lease xs ys is few these those =
+    let within = slice_get_within leases i lease is in
+    let front = addresses_of interface (take i leases) in
+    let rest = addresses_of interface (drop (i + 1) leases) in
+    let rtp = port_at interface lease.rtp_port in
+    let rtcp = port_at interface (lease.rtp_port + 1) in
+    let answers = replicate k true ++ false ∷ [] in
+    let many : length front ≡ 2 * i = length-map (ports_of (take i leases)) (port_at interface) ∙ length-ports_of (take i leases) ∙ ap (λ n. 2 * n) (length-take-le i leases (omega (arith, within))) in
+    let all : addresses_of interface leases ≡ front ++ rtp ∷ rtcp ∷ rest =
+    ap (addresses_of interface) (sym (take-append-drop i leases) ∙ ap (λ (ls : List Lease). take i leases ++ ls) (drop_next leases i lease is)) ∙ addresses_of-append interface (take i leases) (lease ∷ drop (i + 1) leases) in
+    let told : replicate (2 * i + k) true ++ false ∷ [] ≡ replicate (length front) true ++ answers =
+    ap (λ (bs : List Bool). bs ++ false ∷ []) (sym (replicate-append-replicate (2 * i) k true)) ∙ append_assoc (replicate (2 * i) true) (replicate k true) (false ∷ []) ∙ ap (λ n. replicate n true ++ answers) (sym many) in
+    ap (λ (calls : List PortCall). calls ++ ys) these
+    ∙ ap (λ (calls : List PortCall). openings front (replicate (length front) true) ++ calls) (those ∙ sym (short rtp rtcp rest k few))
+    ∙ sym (openings-append front (rtp ∷ rtcp ∷ rest) answers)
+    ∙ ap (λ (bs : List Bool). openings (front ++ rtp ∷ rtcp ∷ rest) bs) (sym told)
+    ∙ ap (λ (ats : List Addr). openings ats (replicate (2 * i + k) true ++ false ∷ [])) (sym all)
+
+shifted : (calls more : List PortCall) (call : PortCall) (ats : List Addr) → AllOpen ats ((calls ++ call ∷ []) ++ more) → AllOpen ats (calls ++ call ∷ more)
+shifted calls more call ats open_ = subst (AllOpen ats) (append_snoc calls call more) open_
+
+-- those before it are open then
+pub all_open_upto : (ats : List Addr) (n : ℕ) (calls : List PortCall) → AllOpen (take n ats) (calls ++ openings ats (replicate n true ++ false ∷ []))
+all_open_upto ats zero calls = tt
+all_open_upto [] (suc n) calls = tt
+all_open_upto (at ∷ ats) (suc n) calls =
+    let answers = replicate n true ++ false ∷ [] in
+    let first = still_open ats answers (calls ++ Open at true ∷ []) at (open_anew calls at) in (
+      subst (λ (these : List PortCall). IsOpen these at) (append_snoc calls (Open at true) (openings ats answers)) first,
+      shifted calls (openings ats answers) (Open at true) (take n ats) (all_open_upto ats n (calls ++ Open at true ∷ [])),
+    )
+
+-- and only those that were open before
+open_upto : (ats : List Addr) (n : ℕ) (calls : List PortCall) (at : Addr) → IsOpen (calls ++ openings ats (replicate n true ++ false ∷ [])) at → IsOpen calls at ⊎ In at (take n ats)
+open_upto [] n calls at o = inl (subst (λ (these : List PortCall). IsOpen these at) (append-nil calls ∙ refl) (nothing n o))
+  where
+    nothing : (n : ℕ) → IsOpen (calls ++ openings [] (replicate n true ++ false ∷ [])) at → IsOpen (calls ++ []) at
+    nothing n o = o
+open_upto (a ∷ ats) zero calls at o =
+    elim (open_before calls (Open a false) at (subst (λ (these : List PortCall). IsOpen (calls ++ Open a false ∷ these) at) (none ats) o)) [
+      | inl is ↦ absurd (let f = is in cc)
+      | inr both ↦ inl both.0
+    ]
+  where
+    none : (ats : List Addr) → openings ats [] ≡ []
+    none [] = refl
+    none (b ∷ ats) = refl
+open_upto (a ∷ ats) (suc n) calls at o =
+    let answers = replicate n true ++ false ∷ [] in
+    elim (open_upto ats n (calls ++ Open a true ∷ []) at (subst (λ (these : List PortCall). IsOpen these at) (sym (append_snoc calls (Open a true) (openings ats answers))) o)) [
+      | inl before ↦ elim (open_before calls (Open a true) at before) [
+        | inl is ↦ inr (here (let same : at ≡ a = cc in same))
+        | inr both ↦ inl both.0
+      ]
+      | inr among ↦ inr (there among)
+    ]
+
+in_first : (n : ℕ) (ats : List Addr) (at : Addr) → In at (take n ats) → In at ats
+in_first zero ats at among = elim among [ ]
+in_first (suc n) [] at among = elim among [ ]
+in_first (suc n) (a ∷ ats) at (here same) = here same
+in_first (suc n) (a ∷ ats) at (there more) = there (in_first n ats at more)
+
+-- after the undoing the same addresses are open as before
+pub same_open : (ats : List Addr) (n : ℕ) (before more : List PortCall) → NoneOpen ats before → OpensUpTo ats n more → SameOpen before (before ++ more)
+same_open ats n before more none upto at =
+    let opens = openings ats (replicate n true ++ false ∷ []) in
+    let all : before ++ more ≡ (before ++ opens) ++ upto.closes = ap (λ (calls : List PortCall). before ++ calls) upto.then_fails ∙ sym (append_assoc before opens upto.closes) in
+    let closed = closes_uncalled (take n ats) upto.closes upto.closed in (
+      λ o.
+          let since = open_since (take n ats) upto.closes (before ++ opens) at closed (subst (λ (calls : List PortCall). IsOpen calls at) all o) in
+          elim (open_upto ats n before at since.0) [ inl was ↦ was | inr among ↦ absurd (since.1 among) ],
+      λ o.
+          let still = still_open ats (replicate n true ++ false ∷ []) before at o in
+          subst (λ (calls : List PortCall). IsOpen calls at) (sym all)
+          (open_beside (take n ats) upto.closes (before ++ opens) at closed (λ among. not_open ats before at none (in_first n ats at among) o) still),
+    )
+
+-- the whole: what was opened up to the fault, and what was closed again
+pub undone : (ats : List Addr) (n : ℕ) (xs ys : List PortCall) → OpensHalf ats n xs → AllZip ClosesUncalled (take n ats) ys → OpensUpTo ats n (xs ++ ys)
+undone ats n xs ys opens closed = record { closes = ys; then_fails = ap (λ (calls : List PortCall). calls ++ ys) opens; closed = closed }
+
+-- the same of the lists that are told
+pub gained_failing : (interface : Ip) (leases : List Lease) (i k : ℕ) (lease : Lease) (old mid new : Option (List PortCall)) → slice_get leases i ≡ Some lease → k ≤ 1 →
+    Gained old mid (OpensAll (addresses_of interface (take i leases))) → Gained mid new (OpensHalf (addresses_of interface (lease ∷ [])) k) →
+    Gained old new (OpensHalf (addresses_of interface leases) (2 * i + k))
+gained_failing interface leases i k lease old mid new is few opens fails =
+    gained_both old mid new (OpensAll (addresses_of interface (take i leases))) (OpensHalf (addresses_of interface (lease ∷ [])) k) (OpensHalf (addresses_of interface leases) (2 * i + k))
+    (λ xs ys these those. fails_next interface leases i k lease xs ys is few these those) opens fails
+
+pub gained_undone : (ats : List Addr) (n : ℕ) (old mid new : Option (List PortCall)) → Gained old mid (OpensHalf ats n) → Gained mid new (AllZip ClosesUncalled (take n ats)) → Gained old new (OpensUpTo ats n)
+gained_undone ats n old mid new opens closes =
+    gained_both old mid new (OpensHalf ats n) (AllZip ClosesUncalled (take n ats)) (OpensUpTo ats n) (λ xs ys these those. undone ats n xs ys these those) opens closes
+
+pub told_open_upto : (ats : List Addr) (n : ℕ) (old new : Option (List PortCall)) (Q : List PortCall → Type 0) → WhereTold old Q → Gained old new (OpensHalf ats n) → WhereTold new (AllOpen (take n ats))
+told_open_upto ats n old new Q held opens =
+    told_after old new (OpensHalf ats n) Q (AllOpen (take n ats))
+    (λ before more h is. subst (λ (calls : List PortCall). AllOpen (take n ats) (before ++ calls)) (sym is) (all_open_upto ats n before)) held opens
+
+pub half_few : {I O : Type 0} (half : Option (HalfOpened I O)) → half_count half ≤ 1
+half_few None = omega arith
+half_few (Some ends) = omega arith
+
+-- the ends of one pair more
+pub uncalled_more : {I O : Type 0} (taken : I → Option (List InCall)) (sent : O → Option (List OutCall)) (pairs : List (PairEnds I O)) (ends : PairEnds I O) →
+    AreUncalled taken sent pairs → IsUncalled taken sent ends → AreUncalled taken sent (pairs ++ ends ∷ [])
+uncalled_more taken sent [] ends those this = (this, tt)
+uncalled_more taken sent (first ∷ pairs) ends those this = (those.0, uncalled_more taken sent pairs ends those.1 this)

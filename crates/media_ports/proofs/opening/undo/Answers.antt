@@ -1,0 +1,82 @@
+use Rattle.std.proofs.Common.{◌≡◌, ◌∙◌, ◌+◌, ◌*◌, ◌<◌, ◌≤◌, ◌++◌, [], ◌∷◌, ap, sym, subst, refl, ℕ, length, take, List, Option, Some, None, Fits, w64, arith}
+use Rattle.std.specs.Prelude.{slice_get}
+use Rattle.std.specs.List.{AllZip}
+use Rattle.relay_outside.specs.declared.address.Addr.{Addr}
+use Rattle.relay_outside.specs.declared.ports.PortCall.{PortCall}
+use Rattle.relay_outside.specs.declared.ports.PortCall.TheVariants.{Close}
+use Rattle.relay_outside.specs.Told.{StartsEmpty, Gained}
+use Rattle.relay_outside.specs.Ports.{IsOpen}
+use Rattle.relay_outside.proofs.Telling.{gained_one, gained_both, gained_less}
+use Rattle.media_ports.specs.Addresses.{port_at, addresses_of}
+use Rattle.media_ports.specs.Calls.{ClosesUncalled, AllOpen}
+use Rattle.media_ports.specs.Ends.{IsHalfUncalled, half_count}
+use Rattle.media_ports.proofs.Telling.{told_after, told_less}
+use Rattle.media_ports.proofs.Closed.{zip-append}
+use Rattle.media_ports.proofs.Leased.{take_addresses, take_half, all_open_first, half_open, few_leases}
+use Rattle.media_ports.proofs.opening.undo.Goals as goal
+
+pub close_opened-requires-clause-open : goal.close_opened-requires-clause-open
+close_opened-requires-clause-open g c =
+    let n = length c.args.opened.now.list in
+    let ats = addresses_of c.args.interface c.args.leases.now.list in
+    told_less (g.P.PortMaker.told c.args.ports.now) (AllOpen (take (2 * n + half_count c.args.half) ats)) (AllOpen (addresses_of c.args.interface (take n c.args.leases.now.list)))
+    (λ calls open_. subst (λ (these : List Addr). AllOpen these calls) (take_addresses c.args.interface c.args.leases.now.list n) (all_open_first ats (2 * n) (half_count c.args.half) calls open_))
+    c.requires.open
+
+pub overflow_mul-result : goal.overflow_mul-result
+overflow_mul-result g c = let few = few_leases c.args.leases.now.list c.requires.ports in omega (arith, few)
+
+pub close-requires : goal.close-requires
+close-requires g c =
+    let told = g.P.PortMaker.told in
+    let interface = c.args.interface in
+    let leases = c.args.leases.now.list in
+    let n = length c.args.opened.now.list in
+    let lease = c.get.result.now in
+    let is : slice_get leases n ≡ Some lease = ap (slice_get leases) (sym c.len-pairs.ensures) ∙ c.get.ensures in
+    let at : c.address_of.result ≡ port_at interface lease.rtp_port = c.address_of.ensures ∙ ap (port_at interface) c.rtp_port-port.ensures in
+    let closed = AllZip ClosesUncalled (addresses_of interface (take n leases)) in
+    told_after (told c.args.ports.now) (told c.close_opened.new.ports) closed (AllOpen (take (2 * n + half_count c.args.half) (addresses_of interface leases))) (λ calls. IsOpen calls c.address_of.result)
+    (λ calls more open_ those.
+    let one = subst (λ (k : ℕ). AllOpen (take (2 * n + k) (addresses_of interface leases)) calls) (ap half_count c.in-Some.is) open_ in
+    subst (IsOpen (calls ++ more)) (sym at) (half_open interface leases n lease calls more is c.requires.ports one those))
+    c.requires.open c.close_opened.ensures.closes
+
+pub overflow_mul-result-in-Some : goal.overflow_mul-result-in-Some
+overflow_mul-result-in-Some g c = let few = few_leases c.args.leases.now.list c.requires.ports in omega (arith, few)
+
+pub overflow_add-result : goal.overflow_add-result
+overflow_add-result g c = let few = few_leases c.args.leases.now.list c.requires.ports in omega (arith, few)
+
+pub returns-in-None-clause-closes : goal.returns-in-None-clause-closes
+returns-in-None-clause-closes g c =
+    let told = g.P.PortMaker.told in
+    let interface = c.args.interface in
+    let leases = c.args.leases.now.list in
+    let n = length c.args.opened.now.list in
+    let all : addresses_of interface (take n leases) ≡ take (2 * n + half_count c.args.half) (addresses_of interface leases) =
+    sym (take_addresses interface leases n)
+    ∙ ap (λ (k : ℕ). take k (addresses_of interface leases)) (let none = ap half_count c.in-None.is in let e : 2 * n ≡ 2 * n + half_count c.args.half = omega (arith, none) in e) in
+    subst (λ (ats : List Addr). Gained (told c.args.ports.now) (told c.close_opened.new.ports) (AllZip ClosesUncalled ats)) all c.close_opened.ensures.closes
+
+pub returns-in-Some-clause-closes : goal.returns-in-Some-clause-closes
+returns-in-Some-clause-closes g c =
+    let told = g.P.PortMaker.told in
+    let taken = g.P.In.InEnd.told in
+    let sent = g.P.Out.OutEnd.told in
+    let interface = c.args.interface in
+    let leases = c.args.leases.now.list in
+    let n = length c.args.opened.now.list in
+    let lease = c.get.result.now in
+    let is : slice_get leases n ≡ Some lease = ap (slice_get leases) (sym c.len-pairs.ensures) ∙ c.get.ensures in
+    let at : c.address_of.result ≡ port_at interface lease.rtp_port = c.address_of.ensures ∙ ap (port_at interface) c.rtp_port-port.ensures in
+    let front = addresses_of interface (take n leases) in
+    let ends = subst (IsHalfUncalled taken sent) c.in-Some.is c.requires.half_uncalled in
+    let last = gained_one (told c.close_opened.new.ports) (told c.close.new.self) (Close c.address_of.result (taken c.in-Some.field-0.receiving) (sent c.in-Some.field-0.sending)) (AllZip ClosesUncalled (port_at interface lease.rtp_port ∷ [])) c.close.ensures.told ((at, ends.0, ends.1), tt) in
+    let all : front ++ port_at interface lease.rtp_port ∷ [] ≡ take (2 * n + half_count c.args.half) (addresses_of interface leases) =
+    sym (take_half interface leases n lease is)
+    ∙ ap (λ (k : ℕ). take (2 * n + k) (addresses_of interface leases)) (sym (ap half_count c.in-Some.is)) in
+    gained_both (told c.args.ports.now) (told c.close_opened.new.ports) (told c.close.new.self) (AllZip ClosesUncalled front) (AllZip ClosesUncalled (port_at interface lease.rtp_port ∷ []))
+    (AllZip ClosesUncalled (take (2 * n + half_count c.args.half) (addresses_of interface leases)))
+    (λ xs ys those one. subst (λ (ats : List Addr). AllZip ClosesUncalled ats (xs ++ ys)) all (zip-append ClosesUncalled front (port_at interface lease.rtp_port ∷ []) xs ys those one))
+    c.close_opened.ensures.closes last

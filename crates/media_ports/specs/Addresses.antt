@@ -1,0 +1,44 @@
+-- The ports of leased pairs, and their addresses.
+use Rattle.std.specs.Prelude.{◌≡◌, ℕ, ◌+◌, ◌^◌, ◌<◌, false, List, [], ◌∷◌, map}
+use Rattle.relay_outside.specs.declared.address.Addr.{Addr}
+use Rattle.relay_outside.specs.declared.address.Ip.{Ip}
+use Rattle.relay_outside.specs.declared.settings.Config.{Config}
+use Rattle.rtp_packet.specs.declared.head.Half.{Half}
+use Rattle.histories.specs.Words.{has}
+use Rattle.port_pool.specs.declared.pairs.Lease.{Lease}
+use Rattle.port_pool.specs.Ports.{pair_count, pair_port, half_port}
+use Rattle.port_pool.specs.Pools.{AreFree}
+
+-- a port of an interface
+abbrev pub port_at : Ip → ℕ → Addr
+port_at interface port = record { ip = interface; port = port }
+
+-- the address of the port of a pair's half, on the configuration's interface
+abbrev pub port_address : Config → (pair : ℕ) → Half → Addr
+port_address config pair half = port_at config.interface (half_port config pair half)
+
+-- the ports of leased pairs, in the order of leases, that for RTP before that for RTCP
+abbrev pub ports_of : List Lease → List ℕ
+ports_of [] = []
+ports_of (lease ∷ leases) = lease.rtp_port ∷ (lease.rtp_port + 1) ∷ ports_of leases
+
+abbrev pub addresses_of : Ip → List Lease → List Addr
+addresses_of interface leases = map (port_at interface) (ports_of leases)
+
+-- each is a port (16 bits, RFC 768), and stands once
+abbrev pub ArePorts : List ℕ → Type 0
+ArePorts [] = Unit {0}
+ArePorts (port ∷ ports) = (port < 2 ^ 16) × (has ports port ≡ false) × ArePorts ports
+
+abbrev pub pairs_of : List Lease → List ℕ
+pairs_of leases = map (λ (lease : Lease). lease.pair) leases
+
+-- each lease has the even port of its pair
+abbrev pub HavePorts : Config → List Lease → Type 0
+HavePorts config [] = Unit {0}
+HavePorts config (lease ∷ leases) = (lease.rtp_port ≡ pair_port config lease.pair) × HavePorts config leases
+
+-- the leases are of different pairs of the configuration
+pub record AreLeased (config : Config) (leases : List Lease) : Type 0 where
+  pub differ : AreFree (pair_count config) (pairs_of leases)
+  pub ports : HavePorts config leases

@@ -1,0 +1,5 @@
+pub mod Addresses
+pub mod Calls
+pub mod Draws
+pub mod Ends
+pub mod Held

@@ -1,0 +1,21 @@
+//! The ports of leased pairs, and drawn keys: what an offer asks of the port maker and of the key source.
+//!
+//! Module `opening` opens the ports of an offer's leases pair by pair, RTP first, and closes them again after a fault;
+//! `closing` closes the ports of a pair; `ends` has the ends of opened pairs in order, `address` the address of a port;
+//! `drawing` draws keys into a list. `specs/Calls.antt` and `specs/Draws.antt` say what that adds to the lists of the port
+//! maker and of the key source, `specs/Addresses.antt` has the addresses, `specs/Held.antt` which ports are open.
+#![tactic(auto)]
+
+mod address;
+mod closing;
+mod drawing;
+mod ends;
+mod opening;
+#[cfg(test)]
+mod tests;
+
+pub use address::address_of;
+pub use closing::close_pair;
+pub use drawing::{DrawnList, KeyFault, draw_keys};
+pub use ends::{OpenedPairs, PairEnds};
+pub use opening::{PortFault, open_pairs};

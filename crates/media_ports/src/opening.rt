@@ -1,0 +1,173 @@
+ghost use Rattle.std.specs.Prelude.{◌≡◌, ◌≤◌, ◌<◌, ◌+◌, ◌*◌, ◌^◌, true, false, [], ◌∷◌, length, take, IfOk, IfErr, OnOk, OnErr};
+ghost use Rattle.std.specs.List.{AllZip};
+ghost use Rattle.relay_outside.specs.Told.{Gained, HasCause, StartsEmpty, WhereTold};
+ghost use Rattle.media_ports.specs.Addresses.{addresses_of, ports_of, ArePorts};
+ghost use Rattle.media_ports.specs.Calls.{OpensAll, OpensHalf, OpensUpTo, ClosesUncalled, AllOpen, NoneOpen, SameOpen, WhereBothTold};
+ghost use Rattle.media_ports.specs.Ends.{IsUncalled, AreUncalled, IsHalfUncalled, half_count};
+
+use crate::address::address_of;
+use crate::closing::close_pair;
+use crate::ends::{OpenedPairs, PairEnds};
+use port_pool::{Lease, Leases};
+use relay_outside::{Ip, PortMaker};
+
+/// A port could not be opened. Those that were opened before it are closed again.
+#[derive(Clone, Copy, PartialEq, Eq, Debug)]
+pub struct PortFault {
+    /// How many ports were opened before it.
+    pub opened: usize,
+}
+
+/// The ends of a port for RTP whose neighbour for RTCP could not be opened.
+struct HalfOpened<I, O> {
+    receiving: I,
+    sending: O,
+}
+
+/// Opens the ports of a leased pair, that for RTP first. `Err`: a port could not be opened, that for RTCP where the port for
+/// RTP is open.
+fn open_pair<P: PortMaker>(
+    ports: &mut P,
+    interface: Ip,
+    lease: &Lease,
+) -> Result<PairEnds<P::In, P::Out>, Option<HalfOpened<P::In, P::Out>>>
+    requires port { lease.now.rtp_port + 1 < 2 ^ 16 }
+    requires closed { WhereTold (P.told ports.old) (NoneOpen (addresses_of interface (lease.now ∷ []))) }
+    ensures opens { OnOk result (Gained (P.told ports.old) (P.told ports.new) (OpensAll (addresses_of interface (lease.now ∷ [])))) }
+    ensures uncalled { IfOk result (IsUncalled P.In.told P.Out.told) }
+    ensures then_fails { IfErr result (λ half. Gained (P.told ports.old) (P.told ports.new) (OpensHalf (addresses_of interface (lease.now ∷ [])) (half_count half))) }
+    ensures half_uncalled { IfErr result (IsHalfUncalled P.In.told P.Out.told) }
+    ensures cause { HasCause (P.faults ports.old) (P.faults ports.new) result }
+{
+    let port = lease.rtp_port();
+    let Ok((rtp_in, rtp_out)) = ports.open(address_of(interface, port)) else {
+        return Err(None);
+    };
+    match ports.open(address_of(interface, port + 1)) {
+        Ok((rtcp_in, rtcp_out)) => Ok(PairEnds {
+            rtp_in,
+            rtp_out,
+            rtcp_in,
+            rtcp_out,
+        }),
+        Err(_) => Err(Some(HalfOpened {
+            receiving: rtp_in,
+            sending: rtp_out,
+        })),
+    }
+}
+
+/// Closes the earliest of the opened pairs, which is that of the lease.
+fn close_first<P: PortMaker>(
+    ports: &mut P,
+    interface: Ip,
+    lease: &Lease,
+    opened: &mut OpenedPairs<P::In, P::Out>,
+)
+    requires some { 0 < length opened.old.list }
+    requires port { lease.now.rtp_port + 1 < 2 ^ 16 }
+    requires open { WhereTold (P.told ports.old) (AllOpen (addresses_of interface (lease.now ∷ []))) }
+    requires uncalled { AreUncalled P.In.told P.Out.told opened.old.list }
+    ensures closes { Gained (P.told ports.old) (P.told ports.new) (AllZip ClosesUncalled (addresses_of interface (lease.now ∷ []))) }
+    ensures fewer { length opened.new.list + 1 ≡ length opened.old.list }
+    ensures uncalled { AreUncalled P.In.told P.Out.told opened.new.list }
+    ensures room { opened.new.room ≡ opened.old.room }
+    ensures later { P.faults ports.old ≤ P.faults ports.new }
+{
+    if let Some(ends) = opened.pop() {
+        close_pair(ports, interface, lease, ends);
+    }
+}
+
+/// Closes the opened pairs, which are those of the first leases, in their order.
+fn close_opened<P: PortMaker>(
+    ports: &mut P,
+    interface: Ip,
+    leases: &Leases,
+    opened: &mut OpenedPairs<P::In, P::Out>,
+)
+    requires within { length opened.old.list ≤ length leases.now.list }
+    requires ports { ArePorts (ports_of leases.now.list) }
+    requires open { WhereTold (P.told ports.old) (AllOpen (addresses_of interface (take (length opened.old.list) leases.now.list))) }
+    requires uncalled { AreUncalled P.In.told P.Out.told opened.old.list }
+    ensures closes { Gained (P.told ports.old) (P.told ports.new) (AllZip ClosesUncalled (addresses_of interface (take (length opened.old.list) leases.now.list))) }
+    ensures none { opened.new.list ≡ [] }
+    ensures room { opened.new.room ≡ opened.old.room }
+    ensures later { P.faults ports.old ≤ P.faults ports.new }
+{
+    for index in 0..opened.len() {
+        close_first(ports, interface, leases.get(index), opened);
+    }
+}
+
+/// Closes what was opened, in the order of the openings: the opened pairs, which are those of the first leases, and the port
+/// for RTP of the next lease, where that is open.
+fn undo<P: PortMaker>(
+    ports: &mut P,
+    interface: Ip,
+    leases: &Leases,
+    opened: &mut OpenedPairs<P::In, P::Out>,
+    half: Option<HalfOpened<P::In, P::Out>>,
+) -> PortFault
+    requires within { length opened.old.list < length leases.now.list }
+    requires ports { ArePorts (ports_of leases.now.list) }
+    requires open { WhereTold (P.told ports.old) (AllOpen (take (2 * length opened.old.list + half_count half) (addresses_of interface leases.now.list))) }
+    requires uncalled { AreUncalled P.In.told P.Out.told opened.old.list }
+    requires half_uncalled { IsHalfUncalled P.In.told P.Out.told half }
+    ensures count { result.opened ≡ 2 * length opened.old.list + half_count half }
+    ensures closes { Gained (P.told ports.old) (P.told ports.new) (AllZip ClosesUncalled (take (2 * length opened.old.list + half_count half) (addresses_of interface leases.now.list))) }
+    ensures none { opened.new.list ≡ [] }
+    ensures room { opened.new.room ≡ opened.old.room }
+    ensures later { P.faults ports.old ≤ P.faults ports.new }
+{
+    let pairs = opened.len();
+    close_opened(ports, interface, leases, opened);
+    match half {
+        None => PortFault { opened: 2 * pairs },
+        Some(HalfOpened { receiving, sending }) => {
+            let port = leases.get(pairs).rtp_port();
+            ports.close(address_of(interface, port), receiving, sending);
+            PortFault {
+                opened: 2 * pairs + 1,
+            }
+        }
+    }
+}
+
+/// Opens the ports of leased pairs, in the order of leases and that for RTP before that for RTCP, and takes their ends into
+/// an empty list with room for them. It takes no memory. No two leases have a port in common, and none of their ports is
+/// open.
+///
+/// After a fault the ports that were opened are closed again, in the order of their openings, and the list is empty.
+pub fn open_pairs<P: PortMaker>(
+    ports: &mut P,
+    interface: Ip,
+    leases: &Leases,
+    opened: &mut OpenedPairs<P::In, P::Out>,
+) -> Result<(), PortFault>
+    requires none { opened.old.list ≡ [] }
+    requires room { length leases.now.list ≤ opened.old.room }
+    requires ports { ArePorts (ports_of leases.now.list) }
+    requires closed { WhereTold (P.told ports.old) (NoneOpen (addresses_of interface leases.now.list)) }
+
+    // Two openings for each lease, and the ends of each pair.
+    ensures opens { OnOk result (Gained (P.told ports.old) (P.told ports.new) (OpensAll (addresses_of interface leases.now.list))) }
+    ensures pairs { OnOk result (length opened.new.list ≡ length leases.now.list) }
+    ensures uncalled { OnOk result (AreUncalled P.In.told P.Out.told opened.new.list) }
+
+    // After a fault everything is closed again.
+    ensures then_fails { IfErr result (λ fault. Gained (P.told ports.old) (P.told ports.new) (OpensUpTo (addresses_of interface leases.now.list) fault.opened)) }
+    ensures some_are_left { IfErr result (λ fault. fault.opened < 2 * length leases.now.list) }
+    ensures same { OnErr result (WhereBothTold (P.told ports.old) (P.told ports.new) SameOpen) }
+    ensures none { OnErr result (opened.new.list ≡ []) }
+    ensures room { opened.new.room ≡ opened.old.room }
+    ensures cause { HasCause (P.faults ports.old) (P.faults ports.new) result }
+{
+    for index in 0..leases.len() {
+        match open_pair(ports, interface, leases.get(index)) {
+            Ok(ends) => opened.push(ends),
+            Err(half) => return Err(undo(ports, interface, leases, opened, half)),
+        }
+    }
+    Ok(())
+}

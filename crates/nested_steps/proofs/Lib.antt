@@ -1,0 +1,6 @@
+pub mod Nesting
+pub mod Boxing
+pub mod Celling
+pub mod Signalling
+pub mod After
+pub mod Leaving

@@ -1,0 +1,200 @@
+-- What an offer and an answer make of a cell.
+use Rattle.std.proofs.Common.{◌≡◌, refl, sym, ◌∙◌, ap, subst, ℕ, ◌≤◌, max, true, List, [], ◌∷◌, Option, Some, None, arith}
+use Rattle.relay_outside.specs.declared.settings.Config.{Config}
+use Rattle.relay_outside.specs.declared.ports.InCall.{InCall}
+use Rattle.relay_outside.specs.declared.ports.OutCall.{OutCall}
+use Rattle.turn_table.specs.declared.hands.Hand.{Hand}
+use Rattle.turn_table.specs.Hands.{EndsTurn}
+use Rattle.port_pool.specs.declared.pairs.Lease.{Lease}
+use Rattle.port_pool.specs.declared.signal.SectionSignal.{SectionSignal}
+use Rattle.port_pool.specs.Signals.{NewKey}
+use Rattle.call_cell.specs.declared.prepare.Prepare as prepared
+use Rattle.call_cell.specs.declared.cell.Cell as cell
+use Rattle.call_cell.specs.Cells.{CellEvent, CellEntry, Prepare, Commit, Relay, Expire, Read, End, since_end}
+use Rattle.call_cell.specs.Lasting.{kept}
+use Rattle.call_cell.specs.CellStanding.{CellFor}
+use Rattle.call_cell.specs.Committing.{NamesKeys, CellCommits, contexts_due, contexts_due_after}
+use Rattle.call_cell.specs.Preparing.{PrepareFor, CanCome, CellPrepares, FitsPlaces, added}
+use Rattle.call_cell.proofs.Again.{can_come_again, names_keys_again}
+use Rattle.call_cell.proofs.Callers.{places_fit, due_is}
+use Rattle.call_cell.proofs.Nested.{entry_at, can_come_kept, names_keys_kept, due_kept}
+use Rattle.relay_core.specs.declared.part.Part.{Part}
+use Rattle.relay_core.specs.declared.part.Part.TheVariants as part
+use Rattle.relay_core.specs.Entries.{Cell, cell_history}
+use Rattle.relay_core.specs.Made.{Made}
+use Rattle.relay_core.specs.Standing.{CellIs, nested_of}
+use Rattle.relay_core.specs.Steps.{Relates}
+use Rattle.relay_core.specs.Turning.{made_by}
+use Rattle.nested_steps.specs.Nesting.{nested}
+use Rattle.nested_steps.specs.InCells.{moment_in, OfferComes, AnswerComes, TakesOffer, TakesAnswer, PreparesPart, CommitsPart, Prepares, Commits}
+use Rattle.nested_steps.proofs.Boxing.{Gives}
+
+-- Offers, answers and ends are nested.
+
+kept_event : (moment : ℕ) (event : CellEvent) (h : List CellEntry) → kept (nested_of h) ≡ kept h
+    → kept (nested_of (entry_at moment event ∷ h)) ≡ kept (entry_at moment event ∷ h)
+kept_event moment (Prepare call legs keys dropped) h rest = ap (λ (l : List CellEntry). entry_at moment (Prepare call legs keys dropped) ∷ l) rest
+kept_event moment (Commit signal) h rest = ap (λ (l : List CellEntry). entry_at moment (Commit signal) ∷ l) rest
+kept_event moment (Relay r) h rest = rest
+kept_event moment (Expire due) h rest = rest
+kept_event moment (Read told) h rest = rest
+kept_event moment End h rest = ap (λ (l : List CellEntry). entry_at moment End ∷ l) rest
+
+kept_nested : (h : List CellEntry) → kept (nested_of h) ≡ kept h
+kept_nested [] = refl
+kept_nested (e ∷ h) = kept_event e.moment e.event h (kept_nested h)
+
+-- two histories with the same nested entries have the same lasting ones
+pub same_lasting : (h k : List CellEntry) → nested_of h ≡ nested_of k → kept h ≡ kept k
+same_lasting h k same = sym (kept_nested h) ∙ ap (λ (l : List CellEntry). kept l) same ∙ kept_nested k
+
+-- What a cell that is given takes.
+
+module _ {I O : Type 0} where
+  pub takes_offer : (config : Config) (x : Part I O) (own : List CellEntry) (signal : prepared.Prepare O) (call : ℕ) (keys : List NewKey) (dropped : List ℕ)
+      → CellIs config x (nested_of own) → PrepareFor signal keys dropped → CanCome config (since_end own) signal call keys dropped
+      → TakesOffer x signal call keys dropped
+  takes_offer config (part.Board b) own signal call keys dropped is tells comes = absurd is
+  takes_offer config (part.Pair b) own signal call keys dropped is tells comes = absurd is
+  takes_offer config (part.Cell c) own signal call keys dropped is tells comes = record {
+    config = config;
+    history = is.0;
+    stands = is.2;
+    tells = tells;
+    comes = can_come_kept config own is.0 signal call keys dropped (same_lasting own is.0 (sym is.1)) comes;
+  }
+
+  pub takes_answer : (config : Config) (x : Part I O) (own : List CellEntry) (signal : List SectionSignal) (contexts : ℕ)
+      → CellIs config x (nested_of own) → NamesKeys (since_end own) signal → contexts_due_after (since_end own) signal ≤ contexts
+      → TakesAnswer x signal contexts
+  takes_answer config (part.Board b) own signal contexts is names room = absurd is
+  takes_answer config (part.Pair b) own signal contexts is names room = absurd is
+  takes_answer config (part.Cell c) own signal contexts is names room =
+      let same = same_lasting own is.0 (sym is.1) in
+      let due = due_kept own is.0 signal same in
+      record {
+        config = config;
+        history = is.0;
+        stands = is.2;
+        names = names_keys_kept own is.0 signal same names;
+        room = omega (arith, due, room);
+      }
+
+  offer_of : (x : Part I O) (c : cell.Cell O) (signal : prepared.Prepare O) (call : ℕ) (keys : List NewKey) (dropped : List ℕ) → x ≡ part.Cell c
+      → TakesOffer x signal call keys dropped → OfferComes c signal call keys dropped
+  offer_of x c signal call keys dropped is takes = subst (λ (z : Part I O). TakesOffer z signal call keys dropped) is takes
+
+  answer_of : (x : Part I O) (c : cell.Cell O) (signal : List SectionSignal) (contexts : ℕ) → x ≡ part.Cell c → TakesAnswer x signal contexts
+      → AnswerComes c signal contexts
+  answer_of x c signal contexts is takes = subst (λ (z : Part I O). TakesAnswer z signal contexts) is takes
+
+  -- the legs find places
+  pub offer_fits : (x : Part I O) (c : cell.Cell O) (signal : prepared.Prepare O) (call : ℕ) (keys : List NewKey) (dropped : List ℕ) → x ≡ part.Cell c
+      → TakesOffer x signal call keys dropped → FitsPlaces c signal
+  offer_fits x c signal call keys dropped is takes =
+      let o = offer_of x c signal call keys dropped is takes in
+      places_fit o.config c o.history signal call keys dropped o.stands o.tells o.comes
+
+  -- and the inbound contexts room
+  pub answer_fits : (x : Part I O) (c : cell.Cell O) (signal : List SectionSignal) (contexts : ℕ) → x ≡ part.Cell c → TakesAnswer x signal contexts
+      → contexts_due signal c.legs.items ≤ contexts
+  answer_fits x c signal contexts is takes =
+      let a = answer_of x c signal contexts is takes in
+      let due = due_is a.config c a.history signal a.stands in
+      let room = a.room in
+      omega (arith, due, room)
+
+module _ {I O : Type 0} where
+  pub prepares_part : (x : Part I O) (old new : cell.Cell O) (signal : prepared.Prepare O) (call : ℕ) (keys : List NewKey) (dropped : List ℕ) (now : ℕ)
+      (gone : List (Lease × O × O)) → x ≡ part.Cell old → TakesOffer x signal call keys dropped
+      → ((config : Config) (h : List CellEntry) (k : List NewKey) (d : List ℕ) → CellFor config old h → PrepareFor signal k d → CanCome config (since_end h) signal call k d
+      → CellPrepares config old new h signal call k d now gone)
+      → PreparesPart x (part.Cell new) signal call keys dropped now gone
+  prepares_part x old new signal call keys dropped now gone is takes steps =
+      let o = offer_of x old signal call keys dropped is takes in
+      subst (λ (z : Part I O). PreparesPart z (part.Cell new) signal call keys dropped now gone) (sym is)
+      (λ config h for comes. steps config h keys dropped for o.tells comes)
+
+module _ {I O : Type 0} (it : I → Option (List InCall)) (ic : I → ℕ) (ot : O → Option (List OutCall)) (oc : O → ℕ) where
+  pub prepare_relates : (x : Part I O) (old new : cell.Cell O) (signal : prepared.Prepare O) (call : ℕ) (keys : List NewKey) (dropped : List ℕ) (now : ℕ)
+      (gone : List (Lease × O × O)) (number : ℕ) → x ≡ part.Cell old → TakesOffer x signal call keys dropped
+      → ((config : Config) (h : List CellEntry) (k : List NewKey) (d : List ℕ) → CellFor config old h → PrepareFor signal k d → CanCome config (since_end h) signal call k d
+      → CellPrepares config old new h signal call k d now gone)
+      → Relates it ic ot oc x (nested number now (max now (moment_in x)) (Cell (Prepare call (added signal) keys dropped))) (part.Cell new)
+  prepare_relates x old new signal call keys dropped now gone number is takes steps =
+      let o = offer_of x old signal call keys dropped is takes in
+      let at : (config : Config) (h : List CellEntry) → CellFor config old h → o.config ≡ config = λ config h for. sym o.stands.config_is ∙ for.config_is in
+      subst (λ (z : Part I O). Relates it ic ot oc z (nested number now (max now (moment_in z)) (Cell (Prepare call (added signal) keys dropped))) (part.Cell new)) (sym is)
+      (record {
+        signal = signal;
+        legs_are = refl;
+        gone = gone;
+        steps = λ config h for new_keys. (
+          ap (λ (m : ℕ). max now m) for.moment,
+          steps config h keys dropped for o.tells
+              (can_come_again config old o.history h signal call keys dropped
+              (subst (λ (k : Config). CellFor k old o.history) (at config h for) o.stands) for
+              (subst (λ (k : Config). CanCome k (since_end o.history) signal call keys dropped) (at config h for) o.comes) new_keys),
+        );
+      })
+
+  pub commit_relates : (x : Part I O) (old new : cell.Cell O) (signal : List SectionSignal) (contexts now : ℕ) (gone : List (Lease × O × O)) (number : ℕ)
+      → x ≡ part.Cell old → TakesAnswer x signal contexts
+      → ((config : Config) (h : List CellEntry) → CellFor config old h → NamesKeys (since_end h) signal → CellCommits config old new h signal now gone)
+      → Relates it ic ot oc x (nested number now (max now (moment_in x)) (Cell (Commit signal))) (part.Cell new)
+  commit_relates x old new signal contexts now gone number is takes steps =
+      let a = answer_of x old signal contexts is takes in
+      subst (λ (z : Part I O). Relates it ic ot oc z (nested number now (max now (moment_in z)) (Cell (Commit signal))) (part.Cell new)) (sym is)
+      (record {
+        gone = gone;
+        steps = λ config h for. (
+          ap (λ (m : ℕ). max now m) for.moment,
+          steps config h for
+              (names_keys_again config old a.history h signal (subst (λ (k : Config). CellFor k old a.history) (sym a.stands.config_is ∙ for.config_is) a.stands) for a.names),
+        );
+      })
+
+module _ {M I O T : Type 0} {g : _} (it : I → Option (List InCall)) (ic : I → ℕ) (ot : O → Option (List OutCall)) (oc : O → ℕ) where
+  pub prepares_by : (config : Config) (hand : Hand M (Part I O) Made T g) (place n : ℕ) (signal : prepared.Prepare O) (call : ℕ) (keys : List NewKey)
+      (dropped : List ℕ) (now : ℕ) (x y : Part I O) (gone : List (Lease × O × O))
+      → Gives it ic ot oc hand place n x × CellIs config x (nested_of (cell_history (made_by hand) place n))
+      → CanCome config (since_end (cell_history (made_by hand) place n)) signal call keys dropped → PreparesPart x y signal call keys dropped now gone
+      → Prepares it ic ot oc config hand place signal call keys dropped now gone
+  prepares_by config hand place n signal call keys dropped now (part.Cell old) (part.Cell new) gone is comes does = record {
+    old = old;
+    new = new;
+    history = is.1.0;
+    was = record { number = n; given = is.0; nested_is = is.1.1; stands = is.1.2 };
+    prepares = does config is.1.0 is.1.2
+        (can_come_kept config (cell_history (made_by hand) place n) is.1.0 signal call keys dropped
+        (same_lasting (cell_history (made_by hand) place n) is.1.0 (sym is.1.1)) comes);
+  }
+  prepares_by config hand place n signal call keys dropped now (part.Board b) y gone is comes does = absurd does
+  prepares_by config hand place n signal call keys dropped now (part.Pair b) y gone is comes does = absurd does
+  prepares_by config hand place n signal call keys dropped now (part.Cell old) (part.Board b) gone is comes does = absurd does
+  prepares_by config hand place n signal call keys dropped now (part.Cell old) (part.Pair b) gone is comes does = absurd does
+
+  pub commits_by : (config : Config) (hand : Hand M (Part I O) Made T g) (place n : ℕ) (signal : List SectionSignal) (now : ℕ) (x y : Part I O)
+      (gone : List (Lease × O × O)) → Gives it ic ot oc hand place n x × CellIs config x (nested_of (cell_history (made_by hand) place n))
+      → NamesKeys (since_end (cell_history (made_by hand) place n)) signal → CommitsPart x y signal now gone
+      → Commits it ic ot oc config hand place signal now gone
+  commits_by config hand place n signal now (part.Cell old) (part.Cell new) gone is names does = record {
+    old = old;
+    new = new;
+    history = is.1.0;
+    was = record { number = n; given = is.0; nested_is = is.1.1; stands = is.1.2 };
+    commits = does config is.1.0 is.1.2
+        (names_keys_kept (cell_history (made_by hand) place n) is.1.0 signal (same_lasting (cell_history (made_by hand) place n) is.1.0 (sym is.1.1)) names);
+  }
+  commits_by config hand place n signal now (part.Board b) y gone is names does = absurd does
+  commits_by config hand place n signal now (part.Pair b) y gone is names does = absurd does
+  commits_by config hand place n signal now (part.Cell old) (part.Board b) gone is names does = absurd does
+  commits_by config hand place n signal now (part.Cell old) (part.Pair b) gone is names does = absurd does
+
+module _ {M S T O : Type 0} {g : _} where
+  -- the step tells the legs of what was prepared
+  pub tells_legs : (place n number moment last call : ℕ) (told signal : prepared.Prepare O) (keys : List NewKey) (dropped : List ℕ) (outcome : T) (old new : Hand M S Made T g)
+      → told ≡ signal → EndsTurn place n (nested number moment last (Cell (Prepare call (added told) keys dropped))) outcome old new
+      → EndsTurn place n (nested number moment last (Cell (Prepare call (added signal) keys dropped))) outcome old new
+  tells_legs place n number moment last call told signal keys dropped outcome old new same ended =
+      subst (λ (s : prepared.Prepare O). EndsTurn place n (nested number moment last (Cell (Prepare call (added s) keys dropped))) outcome old new) same ended

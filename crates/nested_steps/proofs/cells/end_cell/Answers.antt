@@ -1,0 +1,42 @@
+use Rattle.std.proofs.Common.{arith, max}
+use Rattle.call_cell.specs.Cells.{End}
+use Rattle.relay_core.specs.Entries.{Cell}
+use Rattle.nested_steps.specs.InCells.{moment_in}
+use Rattle.nested_steps.proofs.Nesting.{above_rows, turn_gained, turn_may}
+use Rattle.nested_steps.proofs.Celling.{is_cell, cell_given, ends_by}
+use Rattle.nested_steps.proofs.Leaving.{ended_went}
+use Rattle.nested_steps.proofs.cells.end_cell.Goals as goal
+
+pub end_part-requires-clause-cell : goal.end_part-requires-clause-cell
+end_part-requires-clause-cell g c =
+    let is = cell_given g.I.InEnd.told g.I.InEnd.faults g.O.OutEnd.told g.O.OutEnd.faults c.args.config.now c.args.turns.now c.args.hand.now c.args.cell c.cell_place.result
+    c.turn-turn.result.front _ c.state.result.now c.requires.may c.requires.cell.0 c.requires.cell.1 c.requires.keys c.cell_place.ensures c.state.ensures.value
+    c.turn-turn.ensures.turn.1 in
+    is_cell c.args.config.now c.state.result.now _ is.1
+
+pub returns-clause-gained : goal.returns-clause-gained
+returns-clause-gained g c =
+    let given = c.turn-turn.ensures.turn.1 in
+    turn_gained c.args.nest.number c.args.nest.moment (moment_in c.turn-turn.result.taken.value) c.args.cell c.cell_place.result (Cell End) tt c.args.hand.now
+    c.turn-turn.new.hand c.put_end.new.hand c.turn-turn.result c.cell_place.ensures (above_rows _ _ _ given.above) c.turn-turn.ensures.same
+    c.turn-turn.ensures.turn.0 c.put_end.ensures.entry
+
+pub returns-clause-may : goal.returns-clause-may
+returns-clause-may g c =
+    let at = c.cell_place.ensures in
+    let low = c.requires.cell.0 in
+    turn_may c.args.config.now c.args.turns.now c.args.nest.number c.args.nest.moment (moment_in c.turn-turn.result.taken.value) c.args.cell c.cell_place.result (Cell End) tt
+    c.args.hand.now c.turn-turn.new.hand c.put_end.new.hand c.turn-turn.result c.requires.may (omega (arith, at, low)) c.turn-turn.ensures.same c.turn-turn.ensures.turn.0
+    c.put_end.ensures.same c.put_end.ensures.entry (returns-clause-gained g c)
+
+pub returns-clause-ended : goal.returns-clause-ended
+returns-clause-ended g c =
+    ends_by g.I.InEnd.told g.I.InEnd.faults g.O.OutEnd.told g.O.OutEnd.faults c.args.config.now c.args.hand.now c.args.cell c.turn-turn.result.front c.state.result.now
+    c.end_part.new.part c.end_part.new.gone
+    (cell_given g.I.InEnd.told g.I.InEnd.faults g.O.OutEnd.told g.O.OutEnd.faults c.args.config.now c.args.turns.now c.args.hand.now c.args.cell c.cell_place.result
+    c.turn-turn.result.front _ c.state.result.now c.requires.may c.requires.cell.0 c.requires.cell.1 c.requires.keys c.cell_place.ensures c.state.ensures.value
+    c.turn-turn.ensures.turn.1)
+    c.end_part.ensures.ends
+
+pub returns-clause-went : goal.returns-clause-went
+returns-clause-went g c = ended_went g.I.InEnd.told g.I.InEnd.faults g.O.OutEnd.told g.O.OutEnd.faults c.args.config.now c.args.hand.now c.args.cell c.end_part.new.gone (returns-clause-ended g c)

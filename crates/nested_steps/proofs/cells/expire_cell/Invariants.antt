@@ -1,0 +1,10 @@
+use Rattle.std.specs.Prelude.{max}
+use Rattle.turn_table.specs.Hands.{taken_of}
+use Rattle.call_cell.specs.Cells.{Expire}
+use Rattle.relay_core.specs.Entries.{Cell}
+use Rattle.nested_steps.specs.Nesting.{nested}
+use Rattle.nested_steps.specs.InCells.{moment_in}
+use Rattle.nested_steps.proofs.cells.expire_cell.Given as goal
+
+abbrev pub ghosts-put_expiry : goal.ghosts-put_expiry
+ghosts-put_expiry g a = record { made = nested a.nest.number a.nest.moment (max a.nest.moment (moment_in (taken_of a.turn))) (Cell (Expire a.due)) }

@@ -1,0 +1,61 @@
+use Rattle.std.proofs.Common.{arith, max, sym, subst}
+use Rattle.call_cell.specs.Cells.{Prepare}
+use Rattle.call_cell.specs.Preparing.{added}
+use Rattle.relay_core.specs.Entries.{Cell}
+use Rattle.nested_steps.specs.Bringing.{brought_keys, brought_dropped}
+use Rattle.nested_steps.specs.InCells.{moment_in}
+use Rattle.nested_steps.proofs.Nesting.{above_rows, turn_gained, turn_same, turn_may}
+use Rattle.nested_steps.proofs.Celling.{cell_given}
+use Rattle.nested_steps.proofs.Signalling.{takes_offer, prepares_by, tells_legs}
+use Rattle.nested_steps.proofs.Leaving.{prepared_went}
+use Rattle.nested_steps.proofs.signals.prepare_cell.Goals as goal
+
+pub prepare_part-requires-clause-takes : goal.prepare_part-requires-clause-takes
+prepare_part-requires-clause-takes g c =
+    let is = cell_given g.I.InEnd.told g.I.InEnd.faults g.O.OutEnd.told g.O.OutEnd.faults c.args.config.now c.args.turns.now c.args.hand.now c.args.cell c.cell_place.result
+    c.turn-turn.result.front _ c.state.result.now c.requires.may c.requires.cell.0 c.requires.cell.1 c.requires.keys c.cell_place.ensures c.state.ensures.value
+    c.turn-turn.ensures.turn.1 in
+    let above = above_rows _ c.args.cell c.turn-turn.result.front is.0.above in
+    takes_offer c.args.config.now c.state.result.now _ c.args.signal c.args.call (brought_keys c.args.brought.now) (brought_dropped c.args.brought.now) is.1 c.requires.tells
+    (c.requires.comes c.turn-turn.result.front above)
+
+pub returns-clause-gained : goal.returns-clause-gained
+returns-clause-gained g c =
+    let given = c.turn-turn.ensures.turn.1 in
+    turn_gained c.args.nest.number c.args.nest.moment (max c.args.nest.moment (moment_in c.turn-turn.result.taken.value)) c.args.cell c.cell_place.result
+    (Cell (Prepare c.args.call (added c.args.signal) (brought_keys c.args.brought.now) (brought_dropped c.args.brought.now))) tt c.args.hand.now
+    c.turn-turn.new.hand c.put_prepare.new.hand c.turn-turn.result c.cell_place.ensures (above_rows _ _ _ given.above) c.turn-turn.ensures.same
+    c.turn-turn.ensures.turn.0 (tells_legs c.turn-turn.result.place c.turn-turn.result.front c.args.nest.number c.args.nest.moment
+    (max c.args.nest.moment (moment_in c.turn-turn.result.taken.value)) c.args.call c.of-legs.result.value c.args.signal (brought_keys c.args.brought.now)
+    (brought_dropped c.args.brought.now) tt c.turn-turn.new.hand c.put_prepare.new.hand c.of-legs.ensures c.put_prepare.ensures.entry)
+
+pub returns-clause-may : goal.returns-clause-may
+returns-clause-may g c =
+    let at = c.cell_place.ensures in
+    let low = c.requires.cell.0 in
+    turn_may c.args.config.now c.args.turns.now c.args.nest.number c.args.nest.moment (max c.args.nest.moment (moment_in c.turn-turn.result.taken.value)) c.args.cell
+    c.cell_place.result (Cell (Prepare c.args.call (added c.args.signal) (brought_keys c.args.brought.now) (brought_dropped c.args.brought.now))) tt
+    c.args.hand.now c.turn-turn.new.hand c.put_prepare.new.hand c.turn-turn.result c.requires.may (omega (arith, at, low)) c.turn-turn.ensures.same
+    c.turn-turn.ensures.turn.0 c.put_prepare.ensures.same (tells_legs c.turn-turn.result.place c.turn-turn.result.front c.args.nest.number c.args.nest.moment
+    (max c.args.nest.moment (moment_in c.turn-turn.result.taken.value)) c.args.call c.of-legs.result.value c.args.signal (brought_keys c.args.brought.now)
+    (brought_dropped c.args.brought.now) tt c.turn-turn.new.hand c.put_prepare.new.hand c.of-legs.ensures c.put_prepare.ensures.entry) (returns-clause-gained g c)
+
+pub returns-clause-prepared : goal.returns-clause-prepared
+returns-clause-prepared g c =
+    let is = cell_given g.I.InEnd.told g.I.InEnd.faults g.O.OutEnd.told g.O.OutEnd.faults c.args.config.now c.args.turns.now c.args.hand.now c.args.cell c.cell_place.result
+    c.turn-turn.result.front _ c.state.result.now c.requires.may c.requires.cell.0 c.requires.cell.1 c.requires.keys c.cell_place.ensures c.state.ensures.value
+    c.turn-turn.ensures.turn.1 in
+    let above = above_rows _ c.args.cell c.turn-turn.result.front is.0.above in
+    prepares_by g.I.InEnd.told g.I.InEnd.faults g.O.OutEnd.told g.O.OutEnd.faults c.args.config.now c.args.hand.now c.args.cell c.turn-turn.result.front c.args.signal
+    c.args.call (brought_keys c.args.brought.now) (brought_dropped c.args.brought.now) c.args.nest.moment c.state.result.now c.prepare_part.new.part c.prepare_part.new.gone is
+    (c.requires.comes c.turn-turn.result.front above) c.prepare_part.ensures.prepares
+
+pub returns-clause-went : goal.returns-clause-went
+returns-clause-went g c = prepared_went g.I.InEnd.told g.I.InEnd.faults g.O.OutEnd.told g.O.OutEnd.faults c.args.config.now c.args.hand.now c.args.cell c.args.signal c.args.call (brought_keys c.args.brought.now) (brought_dropped c.args.brought.now) c.args.nest.moment c.prepare_part.new.gone (returns-clause-prepared g c)
+
+pub returns-clause-same : goal.returns-clause-same
+returns-clause-same g c =
+    let at = c.cell_place.ensures in
+    let low = c.requires.cell.0 in
+    turn_same c.args.config.now c.args.turns.now c.cell_place.result _ tt c.args.hand.now c.turn-turn.new.hand c.put_prepare.new.hand c.turn-turn.result c.requires.may
+    (omega (arith, at, low)) c.turn-turn.ensures.same c.turn-turn.ensures.turn.0 c.put_prepare.ensures.same c.put_prepare.ensures.entry

@@ -1,0 +1,5 @@
+pub mod Nesting
+pub mod Taken
+pub mod InCells
+pub mod Bringing
+pub mod Leaving

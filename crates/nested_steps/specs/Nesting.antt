@@ -1,0 +1,66 @@
+-- Who may make nested steps, and what such a step tells.
+use Rattle.std.specs.Prelude.{◌≡◌, ◌<◌, ◌≤◌, ℕ, List, [], ◌∷◌, Option, Some, None, IsSome}
+use Rattle.relay_outside.specs.declared.settings.Config.{Config}
+use Rattle.relay_outside.specs.declared.ports.InCall.{InCall}
+use Rattle.relay_outside.specs.declared.ports.OutCall.{OutCall}
+use Rattle.turn_table.specs.declared.hands.Turns.{Turns}
+use Rattle.turn_table.specs.declared.hands.Hand.{Hand}
+use Rattle.turn_table.specs.Hands.{IsHandOf, IsMain, HasPlace, IsGiven, starts}
+use Rattle.port_pool.specs.declared.boxes.PairBox.{PairBox}
+use Rattle.port_pool.specs.Boxes.{Close, holder}
+use Rattle.port_pool.specs.PairBoxes.{ends_in}
+use Rattle.relay_core.specs.declared.part.Part.{Part}
+use Rattle.relay_core.specs.declared.part.Part.TheVariants as part
+use Rattle.relay_core.specs.Entries.{Event, Box, Entry, box_history, box_of}
+use Rattle.relay_core.specs.Scripts.{Owed}
+use Rattle.relay_core.specs.Made.{Made}
+use Rattle.relay_core.specs.Steps.{Relates, IsReserved}
+use Rattle.relay_core.specs.Beginning.{AreParts}
+use Rattle.relay_core.specs.Turning.{Numbered, IsAbove, made_by}
+
+-- The hand is the main hand of this table, which began with the parts of the configuration; it has no turn but the board's, if
+-- any, and its list has each entry once
+pub record MayNest {M I O T : Type 0} {g : _} (config : Config) (turns : Turns M (Part I O) Made T) (hand : Hand M (Part I O) Made T g) : Type 0 where
+  pub of_table : IsHandOf turns hand
+  pub main : IsMain hand
+  pub alone : (k : ℕ) → HasPlace hand k → k ≡ 0
+  pub parts : AreParts config (starts hand)
+  pub numbered : Numbered (made_by hand)
+
+-- a step that was handed this moment, as the table records it
+abbrev pub nested : (number handed moment : ℕ) → Event → Made
+nested number handed moment event = record { handed = handed; moment = moment; board = number; event = event }
+
+-- Boxes.
+
+-- by the list, the box of the place is shut, or open
+abbrev pub IsShut : List Entry → ℕ → Type 0
+IsShut l place = (n : ℕ) → IsAbove l place n → holder (box_history l place n) ≡ None
+
+abbrev pub IsOpen : List Entry → ℕ → Type 0
+IsOpen l place = (n : ℕ) → IsAbove l place n → IsSome (holder (box_history l place n))
+
+-- the closing of a pair's box
+abbrev pub closing_of : Config → ℕ → Owed
+closing_of config pair = record { place = box_of config pair; event = Box Close }
+
+module _ {I O : Type 0} (in_told : I → Option (List InCall)) (in_faults : I → ℕ) (out_told : O → Option (List OutCall)) (out_faults : O → ℕ) where
+  -- at the place, the step was made from this state, which is what the entries there before it leave, to that one
+  pub record IsStep {M T : Type 0} {g : _} (hand : Hand M (Part I O) Made T g) (place : ℕ) (old : Part I O) (made : Made) (new : Part I O) : Type 0 where
+    pub number : ℕ
+    pub given : IsGiven (λ (a : Part I O) (m : Made) (o : T) (b : Part I O). Relates in_told in_faults out_told out_faults a m b) IsReserved hand place number old
+    pub relates : Relates in_told in_faults out_told out_faults old made new
+
+  -- the box of the place was opened, and these are its ends
+  pub record Opens {M T : Type 0} {g : _} (hand : Hand M (Part I O) Made T g) (place : ℕ) (made : Made) (ends : I × I) : Type 0 where
+    pub old : PairBox I
+    pub new : PairBox I
+    pub step : IsStep hand place (part.Pair old) made (part.Pair new)
+    pub ends_are : ends_in new ≡ Some ends
+
+  -- the box of the place was shut, and these were its ends
+  pub record Shuts {M T : Type 0} {g : _} (hand : Hand M (Part I O) Made T g) (place : ℕ) (made : Made) (ends : I × I) : Type 0 where
+    pub old : PairBox I
+    pub new : PairBox I
+    pub step : IsStep hand place (part.Pair old) made (part.Pair new)
+    pub ends_are : ends_in old ≡ Some ends

@@ -1,0 +1,103 @@
+//! The box of a port pair, opened and shut.
+ghost use Rattle.std.specs.Prelude.{◌≡◌, ◌≤◌, ◌<◌, ℕ, [], ◌∷◌};
+ghost use Rattle.relay_outside.specs.Told.{StartsEmpty};
+ghost use Rattle.turn_table.specs.Hands.{IsSameHand, SameTurns};
+ghost use Rattle.port_pool.specs.Boxes.{Open, Close};
+ghost use Rattle.port_pool.specs.Ports.{pair_count};
+ghost use Rattle.relay_core.specs.Entries.{Box, box_of};
+ghost use Rattle.relay_core.specs.Scripts.{opening};
+ghost use Rattle.relay_core.specs.Steps.{Relates};
+ghost use Rattle.relay_core.specs.Turning.{GainsNested, made_by};
+ghost use Rattle.nested_steps.specs.Nesting.{MayNest, nested, IsShut, IsOpen, closing_of, Opens, Shuts};
+ghost use Rattle.nested_steps.specs.Taken.{CanOpen, CanShut, HasEnds};
+
+use crate::nest::Nest;
+use crate::puts::{put_closing, put_opening};
+use port_pool::Holder;
+use relay_core::{Part, Relay};
+use relay_outside::{Config, InEnd, OutEnd};
+use std::marker::Brand;
+use std::sync::Wait;
+use turn_table::{Hand, Turns};
+
+/// The place of a pair's box, behind the board and the cells.
+fn box_place(config: &Config, pair: u32) -> usize
+    ensures { result ≡ box_of config.now pair }
+{
+    config.max_sessions as usize + 1 + pair as usize
+}
+
+fn open_part<I: InEnd, O: OutEnd>(part: &mut Part<I, O>, holder: Holder, rtp_end: I, rtcp_end: I)
+    requires shut { CanOpen holder part.old }
+    requires ends { StartsEmpty (I.told rtp_end) × StartsEmpty (I.told rtcp_end) }
+    ensures step { (number handed : ℕ) → Relates I.told I.faults O.told O.faults part.old (nested number handed 0 (Box (Open holder))) part.new }
+    ensures ends { HasEnds part.new (rtp_end, rtcp_end) }
+{
+    match part {
+        Part::Pair(pair) => pair.put_in(holder, rtp_end, rtcp_end),
+        Part::Board(_) => unreachable!(),
+        Part::Cell(_) => unreachable!(),
+    }
+}
+
+fn shut_part<I: InEnd, O: OutEnd>(part: &mut Part<I, O>) -> (I, I)
+    requires { CanShut part.old }
+    ensures step { (number handed : ℕ) → Relates I.told I.faults O.told O.faults part.old (nested number handed 0 (Box Close)) part.new }
+    ensures ends { HasEnds part.old result }
+{
+    match part {
+        Part::Pair(pair) => pair.shut().unwrap(),
+        Part::Board(_) => unreachable!(),
+        Part::Cell(_) => unreachable!(),
+    }
+}
+
+/// Opens the box of a leg's pair for the leg, with the in ends of the pair's ports for RTP and for RTCP, which have not been
+/// called. The box is shut.
+pub fn open_box<I: InEnd, O: OutEnd, R: Wait>(
+    rt: &R,
+    turns: &Turns<Relay<I, O>>,
+    hand: &mut Hand<Relay<I, O>>,
+    config: &Config,
+    nest: Nest,
+    holder: Holder,
+    rtp_end: I,
+    rtcp_end: I,
+)
+    requires may { MayNest config.now turns.now hand.old }
+    requires pair { holder.pair < pair_count config.now }
+    requires cell { (1 ≤ holder.cell) × (holder.cell ≤ config.now.max_sessions) }
+    requires shut { IsShut (made_by hand.old) (box_of config.now holder.pair) }
+    requires ends { StartsEmpty (I.told rtp_end) × StartsEmpty (I.told rtcp_end) }
+    ensures same { IsSameHand hand.old hand.new × SameTurns hand.old hand.new }
+    ensures may { MayNest config.now turns.now hand.new }
+    ensures gained { GainsNested nest.number nest.moment (opening config.now holder ∷ []) hand.old hand.new }
+    ensures ends { Opens I.told I.faults O.told O.faults hand.old (box_of config.now holder.pair) (nested nest.number nest.moment 0 (Box (Open holder))) (rtp_end, rtcp_end) }
+{
+    let mut turn = turns.turn(rt, hand, box_place(config, holder.pair));
+    open_part(turn.state(), holder, rtp_end, rtcp_end);
+    put_opening::<I, O, Brand>(turns, hand, turn, nest, holder);
+}
+
+/// Shuts the box of a pair and gives its ends back, that for RTP first. The box is open.
+pub fn shut_box<I: InEnd, O: OutEnd, R: Wait>(
+    rt: &R,
+    turns: &Turns<Relay<I, O>>,
+    hand: &mut Hand<Relay<I, O>>,
+    config: &Config,
+    nest: Nest,
+    pair: u32,
+) -> (I, I)
+    requires may { MayNest config.now turns.now hand.old }
+    requires pair { pair < pair_count config.now }
+    requires open { IsOpen (made_by hand.old) (box_of config.now pair) }
+    ensures same { IsSameHand hand.old hand.new × SameTurns hand.old hand.new }
+    ensures may { MayNest config.now turns.now hand.new }
+    ensures gained { GainsNested nest.number nest.moment (closing_of config.now pair ∷ []) hand.old hand.new }
+    ensures ends { Shuts I.told I.faults O.told O.faults hand.old (box_of config.now pair) (nested nest.number nest.moment 0 (Box Close)) result }
+{
+    let mut turn = turns.turn(rt, hand, box_place(config, pair));
+    let ends = shut_part(turn.state());
+    put_closing::<I, O, Brand>(turns, hand, turn, nest);
+    ends
+}

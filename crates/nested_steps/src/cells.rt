@@ -1,0 +1,103 @@
+//! The cell of a call: asked whether its call is due, and ended.
+ghost use Rattle.std.specs.Prelude.{◌≡◌, ◌≤◌, ℕ, [], ◌∷◌, max};
+ghost use Rattle.turn_table.specs.Hands.{IsSameHand, SameTurns};
+ghost use Rattle.call_cell.specs.Cells.{Expire, End};
+ghost use Rattle.relay_core.specs.Entries.{Cell};
+ghost use Rattle.relay_core.specs.Standing.{IsCellPart};
+ghost use Rattle.relay_core.specs.Steps.{Relates};
+ghost use Rattle.relay_core.specs.Turning.{GainsNested, made_by};
+ghost use Rattle.nested_steps.specs.Nesting.{MayNest, nested};
+ghost use Rattle.nested_steps.specs.InCells.{HasNewKeys, in_cell_of, moment_in, Ends, Expires, EndsPart, ExpiresPart};
+ghost use Rattle.nested_steps.specs.Leaving.{AllWent};
+
+use crate::nest::Nest;
+use crate::puts::{put_end, put_expiry};
+use call_cell::Gone;
+use relay_core::{Part, Relay};
+use relay_outside::{Config, InEnd, OutEnd};
+use std::marker::Brand;
+use std::sync::Wait;
+use turn_table::{Hand, Turns};
+
+/// The place of a cell, behind the board.
+pub(crate) fn cell_place(config: &Config, cell: u32) -> usize
+    requires { cell ≤ config.now.max_sessions }
+    ensures { result ≡ cell }
+{
+    prove!(cell <= config.max_sessions);
+    cell as usize
+}
+
+fn end_part<I: InEnd, O: OutEnd>(part: &mut Part<I, O>, gone: &mut Gone<O>)
+    requires cell { IsCellPart part.old }
+    requires empty { gone.old ≡ [] }
+    ensures step { (number handed : ℕ) → Relates I.told I.faults O.told O.faults part.old (nested number handed (moment_in part.old) (Cell End)) part.new }
+    ensures ends { EndsPart part.old part.new gone.new }
+{
+    match part {
+        Part::Cell(cell) => cell.end(gone),
+        Part::Board(_) => unreachable!(),
+        Part::Pair(_) => unreachable!(),
+    }
+}
+
+fn expire_part<I: InEnd, O: OutEnd>(part: &mut Part<I, O>, now: u64) -> bool
+    requires { IsCellPart part.old }
+    ensures step { (number : ℕ) → Relates I.told I.faults O.told O.faults part.old (nested number now (max now (moment_in part.old)) (Cell (Expire result))) part.new }
+    ensures expires { ExpiresPart part.old part.new now result }
+{
+    match part {
+        Part::Cell(cell) => cell.expire(now),
+        Part::Board(_) => unreachable!(),
+        Part::Pair(_) => unreachable!(),
+    }
+}
+
+/// Ends the call of a cell: the legs that it had go to `gone`, which is empty. Cells are numbered from 1.
+pub fn end_cell<I: InEnd, O: OutEnd, R: Wait>(
+    rt: &R,
+    turns: &Turns<Relay<I, O>>,
+    hand: &mut Hand<Relay<I, O>>,
+    config: &Config,
+    nest: Nest,
+    cell: u32,
+    gone: &mut Gone<O>,
+)
+    requires may { MayNest config.now turns.now hand.old }
+    requires cell { (1 ≤ cell) × (cell ≤ config.now.max_sessions) }
+    requires keys { HasNewKeys (made_by hand.old) cell }
+    requires empty { gone.old ≡ [] }
+    ensures same { IsSameHand hand.old hand.new × SameTurns hand.old hand.new }
+    ensures may { MayNest config.now turns.now hand.new }
+    ensures gained { GainsNested nest.number nest.moment (in_cell_of cell End ∷ []) hand.old hand.new }
+    ensures ended { Ends I.told I.faults O.told O.faults config.now hand.old cell gone.new }
+    ensures went { AllWent config.now (made_by hand.old) cell gone.new }
+{
+    let mut turn = turns.turn(rt, hand, cell_place(config, cell));
+    end_part(turn.state(), gone);
+    put_end::<I, O, Brand>(turns, hand, turn, nest);
+}
+
+/// Whether the call of a cell is due to end at the moment of the board's entry. Nothing changes but the cell's last moment.
+/// Cells are numbered from 1.
+pub fn expire_cell<I: InEnd, O: OutEnd, R: Wait>(
+    rt: &R,
+    turns: &Turns<Relay<I, O>>,
+    hand: &mut Hand<Relay<I, O>>,
+    config: &Config,
+    nest: Nest,
+    cell: u32,
+) -> bool
+    requires may { MayNest config.now turns.now hand.old }
+    requires cell { (1 ≤ cell) × (cell ≤ config.now.max_sessions) }
+    requires keys { HasNewKeys (made_by hand.old) cell }
+    ensures same { IsSameHand hand.old hand.new × SameTurns hand.old hand.new }
+    ensures may { MayNest config.now turns.now hand.new }
+    ensures gained { GainsNested nest.number nest.moment (in_cell_of cell (Expire result) ∷ []) hand.old hand.new }
+    ensures asked { Expires I.told I.faults O.told O.faults config.now hand.old cell nest.moment result }
+{
+    let mut turn = turns.turn(rt, hand, cell_place(config, cell));
+    let due = expire_part(turn.state(), nest.moment);
+    put_expiry::<I, O, Brand>(turns, hand, turn, nest, due);
+    due
+}

@@ -1,0 +1,133 @@
+//! One way to put a turn for each kind of nested step. All data of the step are arguments, so that the proof of a call can pick
+//! it from them.
+ghost use Rattle.std.specs.Prelude.{◌≡◌, max};
+ghost use Rattle.turn_table.specs.Hands.{IsHandOf, HasTurn, IsSameHand, IsMain, EndsTurn, place_of, front_of, state_of, taken_of};
+ghost use Rattle.port_pool.specs.Boxes.{Open, Close};
+ghost use Rattle.call_cell.specs.Cells.{Commit, Expire, End};
+ghost use Rattle.call_cell.specs.Preparing.{added};
+ghost use Rattle.relay_core.specs.Entries.{Box, Cell};
+ghost use Rattle.relay_core.specs.Steps.{Relates};
+ghost use Rattle.nested_steps.specs.Nesting.{nested};
+ghost use Rattle.nested_steps.specs.InCells.{moment_in, preparing};
+ghost use Rattle.nested_steps.specs.Bringing.{brought_keys, brought_dropped};
+
+use crate::brought::Brought;
+use crate::nest::Nest;
+use call_cell::Prepare;
+use port_pool::{Holder, Signal};
+use relay_core::{Relay, Says, Told};
+use relay_outside::{InEnd, OutEnd};
+use std::snapshot::Snapshot;
+use turn_table::{Hand, Turn, Turns};
+
+/// A box was opened for a leg.
+pub(crate) fn put_opening<I: InEnd, O: OutEnd, X: Says>(
+    turns: &Turns<Relay<I, O>>,
+    hand: &mut Hand<Relay<I, O>>,
+    turn: Turn<Relay<I, O>>,
+    nest: Nest,
+    holder: Holder,
+)
+    requires table { IsHandOf turns.now hand.old × IsMain hand.old }
+    requires turn { HasTurn hand.old turn }
+    requires step { Relates I.told I.faults O.told O.faults (taken_of turn) (nested nest.number nest.moment 0 (Box (Open holder))) (state_of turn) }
+    requires said { X.made ≡ nested nest.number nest.moment 0 (Box (Open holder)) }
+    ensures same { IsSameHand hand.old hand.new }
+    ensures entry { EndsTurn (place_of turn) (front_of turn) (nested nest.number nest.moment 0 (Box (Open holder))) tt hand.old hand.new }
+{
+    turns.put::<Told<X>>(hand, turn);
+}
+
+/// A box was shut.
+pub(crate) fn put_closing<I: InEnd, O: OutEnd, X: Says>(
+    turns: &Turns<Relay<I, O>>,
+    hand: &mut Hand<Relay<I, O>>,
+    turn: Turn<Relay<I, O>>,
+    nest: Nest,
+)
+    requires table { IsHandOf turns.now hand.old × IsMain hand.old }
+    requires turn { HasTurn hand.old turn }
+    requires step { Relates I.told I.faults O.told O.faults (taken_of turn) (nested nest.number nest.moment 0 (Box Close)) (state_of turn) }
+    requires said { X.made ≡ nested nest.number nest.moment 0 (Box Close) }
+    ensures same { IsSameHand hand.old hand.new }
+    ensures entry { EndsTurn (place_of turn) (front_of turn) (nested nest.number nest.moment 0 (Box Close)) tt hand.old hand.new }
+{
+    turns.put::<Told<X>>(hand, turn);
+}
+
+/// The call of a cell ended.
+pub(crate) fn put_end<I: InEnd, O: OutEnd, X: Says>(
+    turns: &Turns<Relay<I, O>>,
+    hand: &mut Hand<Relay<I, O>>,
+    turn: Turn<Relay<I, O>>,
+    nest: Nest,
+)
+    requires table { IsHandOf turns.now hand.old × IsMain hand.old }
+    requires turn { HasTurn hand.old turn }
+    requires step { Relates I.told I.faults O.told O.faults (taken_of turn) (nested nest.number nest.moment (moment_in (taken_of turn)) (Cell End)) (state_of turn) }
+    requires said { X.made ≡ nested nest.number nest.moment (moment_in (taken_of turn)) (Cell End) }
+    ensures same { IsSameHand hand.old hand.new }
+    ensures entry { EndsTurn (place_of turn) (front_of turn) (nested nest.number nest.moment (moment_in (taken_of turn)) (Cell End)) tt hand.old hand.new }
+{
+    turns.put::<Told<X>>(hand, turn);
+}
+
+/// A cell was asked whether its call is due.
+pub(crate) fn put_expiry<I: InEnd, O: OutEnd, X: Says>(
+    turns: &Turns<Relay<I, O>>,
+    hand: &mut Hand<Relay<I, O>>,
+    turn: Turn<Relay<I, O>>,
+    nest: Nest,
+    due: bool,
+)
+    requires table { IsHandOf turns.now hand.old × IsMain hand.old }
+    requires turn { HasTurn hand.old turn }
+    requires step { Relates I.told I.faults O.told O.faults (taken_of turn) (nested nest.number nest.moment (max nest.moment (moment_in (taken_of turn))) (Cell (Expire due))) (state_of turn) }
+    requires said { X.made ≡ nested nest.number nest.moment (max nest.moment (moment_in (taken_of turn))) (Cell (Expire due)) }
+    ensures same { IsSameHand hand.old hand.new }
+    ensures entry { EndsTurn (place_of turn) (front_of turn) (nested nest.number nest.moment (max nest.moment (moment_in (taken_of turn))) (Cell (Expire due))) tt hand.old hand.new }
+{
+    turns.put::<Told<X>>(hand, turn);
+}
+
+/// A cell was prepared by an offer, with these legs.
+pub(crate) fn put_prepare<I: InEnd, O: OutEnd, X: Says>(
+    turns: &Turns<Relay<I, O>>,
+    hand: &mut Hand<Relay<I, O>>,
+    turn: Turn<Relay<I, O>>,
+    nest: Nest,
+    call: u64,
+    legs: &Snapshot<Prepare<O>>,
+    brought: &Brought,
+)
+    requires table { IsHandOf turns.now hand.old × IsMain hand.old }
+    requires turn { HasTurn hand.old turn }
+    requires step { Relates I.told I.faults O.told O.faults (taken_of turn)
+        (nested nest.number nest.moment (max nest.moment (moment_in (taken_of turn))) (Cell (preparing call (added legs.now.value) (brought_keys brought.now) (brought_dropped brought.now)))) (state_of turn) }
+    requires said { X.made ≡ nested nest.number nest.moment (max nest.moment (moment_in (taken_of turn))) (Cell (preparing call (added legs.now.value) (brought_keys brought.now) (brought_dropped brought.now))) }
+    ensures same { IsSameHand hand.old hand.new }
+    ensures entry { EndsTurn (place_of turn) (front_of turn)
+        (nested nest.number nest.moment (max nest.moment (moment_in (taken_of turn))) (Cell (preparing call (added legs.now.value) (brought_keys brought.now) (brought_dropped brought.now)))) tt hand.old hand.new }
+{
+    turns.put::<Told<X>>(hand, turn);
+}
+
+/// A cell was committed by an answer.
+pub(crate) fn put_commit<I: InEnd, O: OutEnd, X: Says>(
+    turns: &Turns<Relay<I, O>>,
+    hand: &mut Hand<Relay<I, O>>,
+    turn: Turn<Relay<I, O>>,
+    nest: Nest,
+    signal: &Signal,
+)
+    requires table { IsHandOf turns.now hand.old × IsMain hand.old }
+    requires turn { HasTurn hand.old turn }
+    requires step { Relates I.told I.faults O.told O.faults (taken_of turn)
+        (nested nest.number nest.moment (max nest.moment (moment_in (taken_of turn))) (Cell (Commit signal.now))) (state_of turn) }
+    requires said { X.made ≡ nested nest.number nest.moment (max nest.moment (moment_in (taken_of turn))) (Cell (Commit signal.now)) }
+    ensures same { IsSameHand hand.old hand.new }
+    ensures entry { EndsTurn (place_of turn) (front_of turn)
+        (nested nest.number nest.moment (max nest.moment (moment_in (taken_of turn))) (Cell (Commit signal.now))) tt hand.old hand.new }
+{
+    turns.put::<Told<X>>(hand, turn);
+}

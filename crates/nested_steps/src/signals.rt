@@ -1,0 +1,131 @@
+//! The cell of a call: prepared by an offer, and committed by an answer.
+ghost use Rattle.std.specs.Prelude.{◌≡◌, ◌≤◌, ℕ, [], ◌∷◌, max};
+ghost use Rattle.turn_table.specs.Hands.{IsSameHand, SameTurns};
+ghost use Rattle.call_cell.specs.Cells.{Commit};
+ghost use Rattle.call_cell.specs.Preparing.{IsReady, PrepareFor, added};
+ghost use Rattle.relay_core.specs.Entries.{Cell};
+ghost use Rattle.relay_core.specs.Steps.{Relates};
+ghost use Rattle.relay_core.specs.Turning.{GainsNested, made_by};
+ghost use Rattle.nested_steps.specs.Nesting.{MayNest, nested};
+ghost use Rattle.nested_steps.specs.Bringing.{brought_keys, brought_dropped};
+ghost use Rattle.nested_steps.specs.InCells.{HasNewKeys, in_cell_of, moment_in, preparing, CanPrepare, CanCommit, HasRoom, TakesOffer, TakesAnswer, PreparesPart, CommitsPart, Prepares, Commits};
+ghost use Rattle.nested_steps.specs.Leaving.{DroppedWent, RejectedWent};
+
+use crate::brought::Brought;
+use crate::cells::cell_place;
+use crate::nest::Nest;
+use crate::puts::{put_commit, put_prepare};
+use call_cell::{Gone, InContexts, Prepare};
+use port_pool::Signal;
+use relay_core::{Part, Relay};
+use relay_outside::{Config, InEnd, OutEnd};
+use std::marker::Brand;
+use std::snapshot::Snapshot;
+use std::sync::Wait;
+use turn_table::{Hand, Turns};
+
+fn prepare_part<I: InEnd, O: OutEnd>(
+    part: &mut Part<I, O>,
+    call: u64,
+    signal: Prepare<O>,
+    brought: &Brought,
+    gone: &mut Gone<O>,
+    now: u64,
+)
+    requires takes { TakesOffer part.old signal call (brought_keys brought.now) (brought_dropped brought.now) }
+    requires ready { IsReady signal }
+    requires empty { gone.old ≡ [] }
+    ensures step { (number : ℕ) → Relates I.told I.faults O.told O.faults part.old
+        (nested number now (max now (moment_in part.old)) (Cell (preparing call (added signal) (brought_keys brought.now) (brought_dropped brought.now)))) part.new }
+    ensures prepares { PreparesPart part.old part.new signal call (brought_keys brought.now) (brought_dropped brought.now) now gone.new }
+{
+    match part {
+        Part::Cell(cell) => cell.prepare(call, signal, gone, now),
+        Part::Board(_) => unreachable!(),
+        Part::Pair(_) => unreachable!(),
+    }
+}
+
+fn commit_part<I: InEnd, O: OutEnd>(
+    part: &mut Part<I, O>,
+    signal: &Signal,
+    contexts: InContexts,
+    gone: &mut Gone<O>,
+    now: u64,
+)
+    requires takes { TakesAnswer part.old signal.now contexts }
+    requires empty { gone.old ≡ [] }
+    ensures step { (number : ℕ) → Relates I.told I.faults O.told O.faults part.old
+        (nested number now (max now (moment_in part.old)) (Cell (Commit signal.now))) part.new }
+    ensures commits { CommitsPart part.old part.new signal.now now gone.new }
+{
+    match part {
+        Part::Cell(cell) => cell.commit(signal, contexts, gone, now),
+        Part::Board(_) => unreachable!(),
+        Part::Pair(_) => unreachable!(),
+    }
+}
+
+/// Takes into a cell what an offer brings to the call with this number: its legs and keys, which `brought` tells too. The legs
+/// of the sections that it drops go to `gone`, which is empty. Cells are numbered from 1.
+pub fn prepare_cell<I: InEnd, O: OutEnd, R: Wait>(
+    rt: &R,
+    turns: &Turns<Relay<I, O>>,
+    hand: &mut Hand<Relay<I, O>>,
+    config: &Config,
+    nest: Nest,
+    cell: u32,
+    call: u64,
+    signal: Prepare<O>,
+    brought: &Brought,
+    gone: &mut Gone<O>,
+)
+    requires may { MayNest config.now turns.now hand.old }
+    requires cell { (1 ≤ cell) × (cell ≤ config.now.max_sessions) }
+    requires keys { HasNewKeys (made_by hand.old) cell }
+    requires tells { PrepareFor signal (brought_keys brought.now) (brought_dropped brought.now) }
+    requires comes { CanPrepare config.now (made_by hand.old) cell signal call (brought_keys brought.now) (brought_dropped brought.now) }
+    requires ready { IsReady signal }
+    requires empty { gone.old ≡ [] }
+    ensures same { IsSameHand hand.old hand.new × SameTurns hand.old hand.new }
+    ensures may { MayNest config.now turns.now hand.new }
+    ensures gained { GainsNested nest.number nest.moment
+        (in_cell_of cell (preparing call (added signal) (brought_keys brought.now) (brought_dropped brought.now)) ∷ []) hand.old hand.new }
+    ensures prepared { Prepares I.told I.faults O.told O.faults config.now hand.old cell signal call (brought_keys brought.now) (brought_dropped brought.now) nest.moment gone.new }
+    ensures went { DroppedWent config.now (made_by hand.old) cell (brought_dropped brought.now) gone.new }
+{
+    let legs = Snapshot::of(&signal);
+    let mut turn = turns.turn(rt, hand, cell_place(config, cell));
+    prepare_part(turn.state(), call, signal, brought, gone, nest.moment);
+    put_prepare::<I, O, Brand>(turns, hand, turn, nest, call, &legs, brought);
+}
+
+/// Commits in a cell what an answer says of the call's legs. The legs of the sections that it rejects go to `gone`, which is
+/// empty. `contexts` has room for each inbound key or suite other than the one in force. Cells are numbered from 1.
+pub fn commit_cell<I: InEnd, O: OutEnd, R: Wait>(
+    rt: &R,
+    turns: &Turns<Relay<I, O>>,
+    hand: &mut Hand<Relay<I, O>>,
+    config: &Config,
+    nest: Nest,
+    cell: u32,
+    signal: &Signal,
+    contexts: InContexts,
+    gone: &mut Gone<O>,
+)
+    requires may { MayNest config.now turns.now hand.old }
+    requires cell { (1 ≤ cell) × (cell ≤ config.now.max_sessions) }
+    requires keys { HasNewKeys (made_by hand.old) cell }
+    requires names { CanCommit (made_by hand.old) cell signal.now }
+    requires room { HasRoom (made_by hand.old) cell signal.now contexts }
+    requires empty { gone.old ≡ [] }
+    ensures same { IsSameHand hand.old hand.new × SameTurns hand.old hand.new }
+    ensures may { MayNest config.now turns.now hand.new }
+    ensures gained { GainsNested nest.number nest.moment (in_cell_of cell (Commit signal.now) ∷ []) hand.old hand.new }
+    ensures committed { Commits I.told I.faults O.told O.faults config.now hand.old cell signal.now nest.moment gone.new }
+    ensures went { RejectedWent config.now (made_by hand.old) cell signal.now gone.new }
+{
+    let mut turn = turns.turn(rt, hand, cell_place(config, cell));
+    commit_part(turn.state(), signal, contexts, gone, nest.moment);
+    put_commit::<I, O, Brand>(turns, hand, turn, nest, signal);
+}

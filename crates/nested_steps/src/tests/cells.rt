@@ -1,0 +1,107 @@
+ghost use Rattle.std.specs.Prelude.{◌≡◌, ◌∷◌, [], IfOk};
+ghost use Rattle.port_pool.specs.Signals.{NewKey};
+ghost use Rattle.call_cell.specs.Preparing.{IsReady, PrepareFor, added};
+ghost use Rattle.nested_steps.specs.Bringing.{brought_keys, brought_dropped};
+
+use super::{CONFIG, Mute, begin};
+use crate::{Brought, Nest, commit_cell, end_cell, expire_cell, prepare_cell};
+use call_cell::{Gone, InContexts, Prepare};
+use port_pool::{Side, Signal};
+use relay_outside::OutOfMemory;
+use sdes_lines::Suite;
+use srtp_keys::DrawnKey;
+use std::alloc::Global;
+use std::test::Fail;
+
+// An offer without a leg: a key, and a section that is dropped.
+fn offer(alloc: Global) -> Result<(Prepare<Mute>, Brought), OutOfMemory>
+    ensures tells { IfOk result (λ both. PrepareFor both.0 (brought_keys both.1) (brought_dropped both.1)) }
+    ensures ready { IfOk result (λ both. IsReady both.0 × (added both.0 ≡ [])) }
+    ensures keys { IfOk result (λ both. (key : NewKey) × (brought_keys both.1 ≡ key ∷ [])) }
+{
+    let mut signal = Prepare::reserve(alloc, 0, 1)?;
+    let mut brought = Brought::reserve(alloc, 1, 1)?;
+    let key = DrawnKey::from_draw(7, [9; 30]);
+    brought.add_key(0, Side::A, &key, Suite::Tag80);
+    signal.add_key(0, Side::A, key, Suite::Tag80);
+    brought.drop_section(3);
+    signal.drop_section(3);
+    Ok((signal, brought))
+}
+
+fn at(number: u64, moment: u64) -> Nest {
+    Nest { number, moment }
+}
+
+#[test]
+fn a_call_is_prepared_asked_and_ended(rt: HostRuntime) -> Result<(), Fail> {
+    let alloc = rt.alloc();
+    let (signal, brought) = offer(alloc)?;
+    let mut dropped = Gone::new(alloc)?;
+    let mut ended = Gone::new(alloc)?;
+    let Some((turns, mut hand)) = begin(alloc) else {
+        panic!(rt; "no memory");
+    };
+    prepare_cell(
+        &rt,
+        &turns,
+        &mut hand,
+        &CONFIG,
+        at(0, 5),
+        1,
+        0,
+        signal,
+        &brought,
+        &mut dropped,
+    );
+    let young = expire_cell(&rt, &turns, &mut hand, &CONFIG, at(1, 120_004), 1);
+    let old = expire_cell(&rt, &turns, &mut hand, &CONFIG, at(2, 120_005), 1);
+    end_cell(
+        &rt,
+        &turns,
+        &mut hand,
+        &CONFIG,
+        at(3, 120_006),
+        1,
+        &mut ended,
+    );
+    let gone = expire_cell(&rt, &turns, &mut hand, &CONFIG, at(4, 999_999), 1);
+    drop(turns.close(hand));
+    assert!(rt;
+        !young && old,
+        "it is due as long after its offer as the timeout"
+    );
+    assert!(rt; !gone, "no call is due where it ended");
+    assert!(rt;
+        dropped.pop().is_none() && ended.pop().is_none(),
+        "it had no leg"
+    );
+    Ok(())
+}
+
+#[test]
+fn a_committed_call_is_due_by_its_last_answer(rt: HostRuntime) -> Result<(), Fail> {
+    let alloc = rt.alloc();
+    let signal = Signal::new(alloc)?;
+    let contexts = InContexts::reserve(alloc, 0)?;
+    let mut rejected = Gone::new(alloc)?;
+    let Some((turns, mut hand)) = begin(alloc) else {
+        panic!(rt; "no memory");
+    };
+    commit_cell(
+        &rt,
+        &turns,
+        &mut hand,
+        &CONFIG,
+        at(0, 200_000),
+        2,
+        &signal,
+        contexts,
+        &mut rejected,
+    );
+    let young = expire_cell(&rt, &turns, &mut hand, &CONFIG, at(1, 259_999), 2);
+    let old = expire_cell(&rt, &turns, &mut hand, &CONFIG, at(2, 260_000), 2);
+    drop(turns.close(hand));
+    assert!(rt; !young && old && rejected.pop().is_none());
+    Ok(())
+}

@@ -1,0 +1,2 @@
+pub mod KeyStreams
+pub mod StreamLines

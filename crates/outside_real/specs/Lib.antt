@@ -1,0 +1,3 @@
+pub mod KeyStream
+pub mod Lines
+pub mod Written

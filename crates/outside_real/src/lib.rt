@@ -1,0 +1,25 @@
+//! The devices of a running program, behind the traits of `relay_outside`: UDP sockets, the system's clock,
+//! keys from a ChaCha20 stream, standard input and output.
+//! Sockets, clock and streams are the trusted edge: each is a few lines, counts its faults and tells nothing
+//! of what it takes and gives. It is proved which bytes of the seed's stream each key is, and which lines a
+//! stream of known bytes gives.
+#![tactic(auto)]
+
+mod address;
+mod clocks;
+mod faults;
+mod keys;
+mod lines;
+mod link;
+mod ports;
+mod sink;
+
+pub use clocks::{SystemClock, SystemTimer};
+pub use keys::ChaChaKeys;
+pub use lines::StdLines;
+pub use link::UdpLink;
+pub use ports::{UdpIn, UdpMaker, UdpOut};
+pub use sink::StdSink;
+
+#[cfg(test)]
+mod tests;

@@ -1,0 +1,114 @@
+use crate::address::{addr_of, socket_addr};
+use crate::faults::Faults;
+use relay_outside::{Addr, Failed, InCall, InEnd, OutCall, OutEnd, PortCall, PortMaker};
+use std::io::{self, ErrorKind};
+use std::net::{Net, UdpSocket};
+
+/// The receiving end of a UDP port. It tells nothing.
+///
+/// A take never waits. Each error of the system is a fault, but for the one that says that nothing is
+/// there; that an earlier datagram reached nobody (ICMP) is not told to a socket without a fixed peer.
+#[derive(Drop)]
+pub struct UdpIn {
+    socket: UdpSocket,
+    faults: Faults,
+}
+
+impl InEnd for UdpIn {
+    ghost use Rattle.std.specs.Prelude.{None};
+
+    ghost told = { λ end. None };
+
+    ghost faults = { λ end. end.faults };
+
+    fn take(&mut self, buf: &mut [u8]) -> Result<Option<(Addr, usize)>, Failed> {
+        match self.socket.recv_from(buf) {
+            Ok((len, from)) => Ok(Some((addr_of(from), len))),
+            Err(error) if error.kind() == ErrorKind::WouldBlock => Ok(None),
+            Err(_) => Err(self.faults.count()),
+        }
+    }
+}
+
+/// The sending end of a UDP port. It tells nothing.
+///
+/// A send never waits: where the system has no room for the datagram, that is a fault as any other error.
+#[derive(Drop)]
+pub struct UdpOut {
+    socket: UdpSocket,
+    faults: Faults,
+}
+
+impl OutEnd for UdpOut {
+    ghost use Rattle.std.specs.Prelude.{None};
+
+    ghost told = { λ end. None };
+
+    ghost faults = { λ end. end.faults };
+
+    fn send(&mut self, to: Addr, bytes: &[u8]) -> Result<(), Failed> {
+        match self.socket.send_to(bytes, socket_addr(to)) {
+            Ok(sent) if sent == bytes.len() => Ok(()),
+            _ => Err(self.faults.count()),
+        }
+    }
+}
+
+/// Opens UDP ports, of both families, each as two ends of one socket. It tells nothing.
+///
+/// An address that is in use, or is none of this host's, is a fault, and so is want of descriptors.
+#[derive(Drop)]
+pub struct UdpMaker<'a, R: Net> {
+    net: &'a R,
+    faults: Faults,
+}
+
+impl<'a, R: Net> UdpMaker<'a, R> {
+    /// A maker that has opened no port yet.
+    pub fn new(net: &'a R) -> UdpMaker<'a, R> {
+        UdpMaker {
+            net,
+            faults: Faults::new(),
+        }
+    }
+}
+
+/// The two ends of a socket that is bound here and never waits.
+fn open<R: Net>(net: &R, at: Addr) -> io::Result<(UdpIn, UdpOut)> {
+    let socket = UdpSocket::bind(net, socket_addr(at))?;
+    socket.set_nonblocking(true)?;
+    let sending = UdpOut {
+        socket: socket.try_clone()?,
+        faults: Faults::new(),
+    };
+    let receiving = UdpIn {
+        socket,
+        faults: Faults::new(),
+    };
+    Ok((receiving, sending))
+}
+
+impl<'a, R: Net> PortMaker for UdpMaker<'a, R> {
+    type In = UdpIn;
+
+    type Out = UdpOut;
+
+    ghost use Rattle.std.specs.Prelude.{None};
+
+    ghost told = { λ maker. None };
+
+    ghost faults = { λ maker. maker.faults };
+
+    fn open(&mut self, at: Addr) -> Result<(UdpIn, UdpOut), Failed> {
+        match open(self.net, at) {
+            Ok(ends) => Ok(ends),
+            Err(_) => Err(self.faults.count()),
+        }
+    }
+
+    /// The system closes the port where both ends are dropped, which is done here.
+    fn close(&mut self, _at: Addr, receiving: UdpIn, sending: UdpOut) {
+        drop(receiving);
+        drop(sending);
+    }
+}
