@@ -1,8 +1,8 @@
 -- What the close of the table tells of the list of the hand that closes it.
-use Rattle.std.proofs.Common.{◌≡◌, ◌∙◌, sym, ap, subst, refl, ℕ, zero, suc, ◌+◌, ◌<◌, ◌≤◌, max, List, [], ◌∷◌, ◌++◌, Bool, true, false, cond, Option, Some, None, map, length, filter, arith, slice_get, take, get_or}
-use Rattle.std.specs.Prelude.{◌&&◌, ◌==◌, eqb}
-use Rattle.std.specs.List.{filter_map, cons_option}
-use Rattle.std.proofs.Math.Seq.{take-suc}
+use Rattle.std.proofs.Common.{◌≡◌, ◌∙◌, sym, ap, subst, refl, ℕ, zero, suc, ◌+◌, ◌<◌, ◌≤◌, ◌⊎◌, inl, inr, List, [], ◌∷◌, ◌++◌, Bool, true, false, cond, Option, Some, None, map, length, filter, arith, slice_get, take, get_or}
+use Rattle.std.specs.Prelude.{◌&&◌, ◌==◌}
+use Rattle.std.specs.List.{filter_map}
+use Rattle.std.proofs.Math.Seq.{take-suc, take-length}
 use Rattle.std.proofs.lemmas.Option.{slice_get_within, slice_get-get_or, get_or_from_slice_get}
 use Rattle.relay_outside.specs.declared.ports.InCall.{InCall}
 use Rattle.relay_outside.specs.declared.ports.OutCall.{OutCall}
@@ -11,29 +11,35 @@ use Rattle.turn_table.specs.declared.machine.Entry as table
 use Rattle.turn_table.specs.Histories.{Leaves, IsHistory, times, total, one_if, below}
 use Rattle.turn_table.specs.Histories as table_lists
 use Rattle.turn_table.proofs.Lists.{below_in}
-use Rattle.histories.specs.Words.{In, here, there, greatest}
-use Rattle.call_cell.specs.Cells.{CellEntry}
+use Rattle.histories.specs.Words.{In}
+use Rattle.relay_outside.specs.declared.address.Addr.{Addr}
+use Rattle.rtp_packet.specs.declared.head.Half.{Half}
+use Rattle.port_pool.specs.declared.holder.Holder.{Holder}
+use Rattle.port_pool.specs.Boxes.{Take, Datagram, FitsTaken, holder}
 use Rattle.relay_core.specs.declared.part.Part.{Part}
-use Rattle.relay_core.specs.Entries.{Event, Entry, is_at, history, cell_entry, cell_history}
-use Rattle.relay_core.specs.Legal.{StandsAt, is_handed_boards, Orderly, Legal}
-use Rattle.relay_core.specs.Made.{Made, entry_of, list_of, told, moment_of}
+use Rattle.relay_core.specs.Entries.{Event, Box, Entry, is_at, history, cell_entry, box_event, box_history}
+use Rattle.relay_core.specs.Legal.{is_handed_boards, Orderly, Legal}
+use Rattle.relay_core.specs.Made.{Made, entry_of, list_of, told}
 use Rattle.relay_core.specs.Safe.{Safe}
 use Rattle.relay_core.specs.Beginning.{AreParts}
-use Rattle.relay_core.specs.Standing.{BringsNewKeys, Stands, IsCellPart}
-use Rattle.relay_core.specs.Turning.{Numbered, IsReceiving}
+use Rattle.relay_core.specs.Standing.{BringsNewKeys, Stands}
+use Rattle.relay_core.specs.Turning.{Numbered, IsAbove, IsReceiving}
 use Rattle.relay_core.specs.Handed.{IsHanded}
-use Rattle.relay_core.proofs.Histories.{in_history}
+use Rattle.relay_core.specs.Joining.{TakesOwnPairs, IsSound, IsAtPlace, AreStanding}
+use Rattle.relay_core.proofs.Histories.{in_history, at_place}
 use Rattle.relay_core.proofs.Safety.{legal_safe}
-use Rattle.relay_core.proofs.Turns.{filter_every}
+use Rattle.relay_core.proofs.Turns.{filter_every, filter_none, false_if}
+use Rattle.relay_core.proofs.Boards.{le_or_eq}
+use Rattle.relay_core.proofs.Generations.{holder_leased}
 use Rattle.relay_core.proofs.Counts as counts
-use Rattle.relay_core.proofs.Own.{IsOwn, own_history, IsRow, rows_in, in_rows, onto_last}
+use Rattle.relay_core.proofs.Own.{own_history, rows_in, in_rows, onto_last}
 use Rattle.relay_core.proofs.Stays.{Steps, onto, stands_onto}
 use Rattle.relay_core.proofs.Given.{begins_as}
 use Rattle.relay_core.proofs.KeysOnce.{keys_once}
 use Rattle.relay_core.proofs.Filling.{filled_in}
 use Rattle.relay_core.proofs.Filled as right
 use Rattle.relay_core.proofs.Filled.{legal_filled, filled_tells}
-use Rattle.relay_core.proofs.Placing.{IsStepAt, step_at, KindAt, begins_kind, begins_stands, kind_stays, IsPlaced, ArePlaced, IsRight, moments, step_placed, step_right}
+use Rattle.relay_core.proofs.Placing.{step_at, begins_kind, begins_stands, kind_stays, IsPlaced, ArePlaced, IsRight, step_placed, step_right}
 
 module _ {T I O : Type 0} (it : I → Option (List InCall)) (ic : I → ℕ) (ot : O → Option (List OutCall)) (oc : O → ℕ) where
   -- of the place with this number, which began so, the rows have the whole history
@@ -112,7 +118,7 @@ module _ {T I O : Type 0} (it : I → Option (List InCall)) (ic : I → ℕ) (ot
     new_keys k a w n within =
         subst (λ (h : List Entry). BringsNewKeys (filter_map cell_entry h)) (sym (past_is k a w n within)) (keys_once config (list_of rows) orderly k n)
 
-    begins : (row : table.Entry Made T) → (p : Place row) → KindAt config row.place p.start × Stands config p.start []
+    begins : (row : table.Entry Made T) → (p : Place row) → IsAtPlace config row.place p.start × Stands config p.start []
     begins row p =
         let b = begins_as config starts are row.place p.start p.starts_so in
         (begins_kind config row.place p.start b, begins_stands config row.place p.start b)
@@ -199,6 +205,83 @@ module _ {T I O : Type 0} (it : I → Option (List InCall)) (ic : I → ℕ) (ot
             handed row i t x.row x.is_in (ap (λ (y : Entry). y.place) x.is ∙ p) (ap (λ (y : Entry). y.number) x.is ∙ q)
             ∙ ap (λ (y : Entry). y.moment) x.is
 
+    taken_fits : (past : List Entry) (moment : ℕ) (v : Event) (half : Half) (leg : Holder) (source : Addr) (bytes : List ℕ)
+        → v ≡ Box (Take half (Datagram leg source bytes)) → right.FitsTold config past moment v → holder (filter_map box_event past) ≡ Some leg
+    taken_fits past moment v half leg source bytes q fits =
+        held (holder (filter_map box_event past)) refl (subst (λ (w : Event). right.FitsTold config past moment w) q fits)
+      where
+        held : (o : Option Holder) → holder (filter_map box_event past) ≡ o → FitsTaken o (Datagram leg source bytes) → holder (filter_map box_event past) ≡ Some leg
+        held None is f = absurd (let k = f in cc)
+        held (Some other) is f = is ∙ ap Some (sym f.0)
+
+    -- each take is of the box's own pair
+    pub closed_takes : TakesOwnPairs config (list_of rows)
+    closed_takes e half leg source bytes i q =
+        let r = in_rows rows i in
+        let fits = (row_right r.row r.is_in).0 in
+        let held : holder (box_history (list_of rows) r.row.place r.row.number) ≡ Some leg
+        = taken_fits (history (list_of rows) r.row.place r.row.number) r.row.event.moment r.row.event.event half leg source bytes
+        (ap (λ (x : Entry). x.event) r.is ∙ q) fits in
+        sym (ap (λ (x : Entry). x.place) r.is) ∙ (holder_leased config (list_of rows) orderly r.row.place r.row.number leg held).1
+
+    -- above all that a place has, its history is whole
+    whole_past : (k : ℕ) (a : Part I O) → (w : IsWhole it ic ot oc rows k a) → (n : ℕ) → IsAbove (list_of rows) k n
+        → onto w.past [] ≡ history (list_of rows) k n
+    whole_past k a w n above =
+        ap (λ (xs : List (table.Entry Made T)). onto xs []) (sym (take-length w.past))
+        ∙ past_is k a w (length w.past) (omega arith)
+        ∙ up_to k a w n (long k a w n above (length w.past) refl)
+      where
+        long : (k : ℕ) (a : Part I O) → (w : IsWhole it ic ot oc rows k a) → (n : ℕ) → IsAbove (list_of rows) k n → (m : ℕ) → length w.past ≡ m → m ≤ n
+        long k a w n above zero q = omega arith
+        long k a w n above (suc m) q =
+            let x = in_range w.past m (omega (arith, q)) in
+            let named = w.is.named m x.0 x.1 in
+            let low : x.0.number < n = above (entry_of x.0) (rows_in rows (w.is.all m x.0 x.1)) named.0 in
+            let number = named.1 in
+            omega (arith, low, number)
+
+        not_there : (k : ℕ) (a : Part I O) → (w : IsWhole it ic ot oc rows k a) → (n : ℕ) → length w.past ≤ n → (e : Entry) → In e (list_of rows)
+            → (e.place ≡ k) × (e.number ≡ n) → ⊥
+        not_there k a w n long e i at =
+            let r = in_rows rows i in
+            let has = w.is.own r.row r.is_in (ap (λ (x : Entry). x.place) r.is ∙ at.0) in
+            let low = slice_get_within w.past r.row.number r.row has in
+            let number = ap (λ (x : Entry). x.number) r.is in
+            let same = at.1 in
+            omega (arith, low, number, same, long)
+
+        nothing_at : (k : ℕ) (a : Part I O) → (w : IsWhole it ic ot oc rows k a) → (n : ℕ) → length w.past ≤ n
+            → filter (is_at k n) (list_of rows) ≡ []
+        nothing_at k a w n long =
+            filter_none (is_at k n) (list_of rows) (λ e i. false_if (is_at k n e) (λ t. not_there k a w n long e i (at_place k n e t)))
+
+        up_case : (k : ℕ) (a : Part I O) → (w : IsWhole it ic ot oc rows k a) → (n : ℕ)
+            → (length w.past ≤ n → history (list_of rows) k (length w.past) ≡ history (list_of rows) k n)
+            → (length w.past < suc n) ⊎ (length w.past ≡ suc n) → history (list_of rows) k (length w.past) ≡ history (list_of rows) k (suc n)
+        up_case k a w n rest (inl low) =
+            let within : length w.past ≤ n = omega (arith, low) in
+            rest within ∙ ap (λ (xs : List Entry). xs ++ history (list_of rows) k n) (sym (nothing_at k a w n within))
+        up_case k a w n rest (inr q) = ap (λ (m : ℕ). history (list_of rows) k m) q
+
+        up_to : (k : ℕ) (a : Part I O) → (w : IsWhole it ic ot oc rows k a) → (n : ℕ) → length w.past ≤ n
+            → history (list_of rows) k (length w.past) ≡ history (list_of rows) k n
+        up_to k a w zero low = let q : length w.past ≡ zero = omega (arith, low) in ap (λ (m : ℕ). history (list_of rows) k m) q
+        up_to k a w (suc n) low = up_case k a w n (up_to k a w n) (le_or_eq (length w.past) n low)
+
+    -- what a place holds in the end is what its whole history leaves
+    pub closed_stands : (k : ℕ) (a : Part I O) → slice_get starts k ≡ Some a → (w : IsWhole it ic ot oc rows k a) → (n : ℕ) → IsAbove (list_of rows) k n
+        → IsAtPlace config k w.last × Stands config w.last (history (list_of rows) k n)
+    closed_stands k a q w n above =
+        let b = begins_as config starts are k a q in
+        let same = whole_past k a w n above in (
+          kind_stays it ic ot oc config k a w.last w.past w.leaves (begins_kind config k a b),
+          subst (λ (h : List Entry). Stands config w.last h) same
+              (stands_onto it ic ot oc config a w.last w.past [] w.leaves
+              (λ is. subst (λ (h : List Entry). BringsNewKeys (filter_map cell_entry h)) (sym same) (keys_once config (list_of rows) orderly k n))
+              (begins_stands config k a b)),
+        )
+
     -- the list that is recorded, filled in, is legal, and so safe
     pub closed_legal : IsReceiving config (list_of rows) → IsHanded rows
         → (l : List Entry) × (map told l ≡ list_of rows) × Legal config l × Safe config l
@@ -207,6 +290,13 @@ module _ {T I O : Type 0} (it : I → Option (List InCall)) (ic : I → ℕ) (ot
         = λ e i. let r = in_rows rows i in subst (λ (x : Entry). right.Made config (list_of rows) x) r.is (row_made handed r.row r.is_in) in
         let legal : Legal config (filled_in config (list_of rows)) = legal_filled config (list_of rows) orderly receiving made in
         (filled_in config (list_of rows), filled_tells config (list_of rows) made, legal, legal_safe config (filled_in config (list_of rows)) legal)
+
+  -- so what is known of the main hand's rows, with those of lanes, makes them a legal list
+  pub sound_legal : (config : Config) → AreParts config starts → IsSound config rows
+      → (l : List Entry) × (map told l ≡ list_of rows) × Legal config l × Safe config l
+  sound_legal config are sound =
+      let orderly = sound.orderly closed_numbered in
+      closed_legal config are orderly (sound.receiving closed_numbered (closed_takes config are orderly)) (sound.handed closed_numbered)
 
 -- What the close answers says so of the rows.
 module _ {T I O : Type 0} (it : I → Option (List InCall)) (ic : I → ℕ) (ot : O → Option (List OutCall)) (oc : O → ℕ) where
@@ -220,3 +310,16 @@ module _ {T I O : Type 0} (it : I → Option (List InCall)) (ic : I → ℕ) (ot
   whole_of starts rows states closed k a q =
       let w = closed k a q in
       record { past = w.0; last = w.1; leaves = w.3; is = w.4 }
+
+  -- the parts that the close answers stand for all that the rows have of their places
+  pub closed_parts : (config : Config) (starts : List (Part I O)) (rows : List (table.Entry Made T)) (states : List (Part I O)) → AreParts config starts
+      → InRange starts rows → AreClosed starts rows states → length states ≡ length starts → Orderly config (list_of rows)
+      → AreStanding config states (list_of rows)
+  closed_parts config starts rows states are range closed long orderly k n x q above =
+      let low = slice_get_within states k x q in
+      let a = in_range starts k (omega (arith, low, long)) in
+      let h = closed k a.0 a.1 in
+      let w : IsWhole it ic ot oc rows k a.0 = record { past = h.0; last = h.1; leaves = h.3; is = h.4 } in
+      let same : h.1 ≡ x = let e : Some h.1 ≡ Some x = sym h.2 ∙ q in cc in
+      subst (λ (y : Part I O). IsAtPlace config k y × Stands config y (history (list_of rows) k n)) same
+      (closed_stands it ic ot oc starts rows range (whole_of starts rows states closed) config are orderly k a.0 a.1 w n above)

@@ -1,15 +1,15 @@
 -- The recorded list, filled in, is a legal list, where each entry was made as the history of its place demands.
-use Rattle.std.proofs.Common.{◌≡◌, ◌∙◌, sym, ap, subst, refl, ℕ, zero, suc, ◌<◌, ◌≤◌, max, List, [], ◌∷◌, ◌++◌, Bool, true, false, cond, Option, Some, None, map, length, filter, ◌==◌, arith}
-use Rattle.std.specs.Prelude.{◌||◌, count_by}
-use Rattle.std.specs.List.{filter_map, cons_option}
+use Rattle.std.proofs.Common.{◌≡◌, ◌∙◌, sym, ap, subst, refl, ℕ, ◌<◌, ◌≤◌, max, List, [], ◌∷◌, Bool, true, false, cond, Some, map, arith}
+use Rattle.std.specs.Prelude.{◌||◌}
+use Rattle.std.specs.List.{filter_map}
 use Rattle.relay_outside.specs.declared.settings.Config.{Config}
-use Rattle.histories.specs.Words.{In, Before, greatest}
+use Rattle.histories.specs.Words.{In, greatest}
 use Rattle.histories.proofs.Lists.{mapped, maps}
-use Rattle.port_pool.specs.Boxes.{BoxEvent, Take, Datagram, FitsBox}
+use Rattle.port_pool.specs.Boxes.{BoxEvent, FitsBox}
 use Rattle.call_cell.specs.Cells.{CellEvent, CellEntry, Prepare, Commit, Relay, Expire, Read, End, Relayed, Receipt}
 use Rattle.call_cell.specs.Asked.{FitsCell}
 use Rattle.call_board.specs.Acts.{BoardEntry}
-use Rattle.relay_core.specs.Entries.{Event, Board, Cell, Box, Entry, history, board_entry, cell_entry, box_event, cell_history, box_history, box_of}
+use Rattle.relay_core.specs.Entries.{Event, Board, Cell, Box, Entry, history, board_entry, cell_entry, box_event, cell_history}
 use Rattle.relay_core.specs.Legal.{Fits, StandsAt, IsReceived, is_handed_own, is_handed_boards, last_moment, IsTimed, Orderly, Legal}
 use Rattle.relay_core.specs.Made.{told_cell, told_event, told, moment_of}
 use Rattle.relay_core.specs.Turning.{IsReceiving}
@@ -129,7 +129,7 @@ timed_filled config l e made =
       else_last = λ p q.
           timed
           ∙ ap (λ (t : Bool). cond t (max made.handed (last_moment l e)) (last_moment l e))
-              (neither (is_handed_own e.event) (is_handed_boards e.event) (sym own ∙ p) (sym boards ∙ q))
+          (neither (is_handed_own e.event) (is_handed_boards e.event) (sym own ∙ p) (sym boards ∙ q))
           ∙ sym last;
     }
   where
@@ -206,8 +206,8 @@ legal_filled config l o receiving made = record {
   orderly = orderly_mapped g (filled_keeps config l) config l o;
   counted = counted_if (filled_in config l)
       (λ e i. let m = mapped g l i in
-          subst (λ (x : Entry). (n : ℕ) → n < x.number → Stands (filled_in config l) x.place n) m.makes
-          (λ n k. stands_filled config l m.from.place n ((made m.from m.is_in).right.counted n k)));
+      subst (λ (x : Entry). (n : ℕ) → n < x.number → Stands (filled_in config l) x.place n) m.makes
+      (λ n k. stands_filled config l m.from.place n ((made m.from m.is_in).right.counted n k)));
   fits = λ e i. let m = mapped g l i in
       subst (λ (x : Entry). Fits config (filled_in config l) x) m.makes
       (fits_by config l o m.from m.is_in m.from.event refl (made m.from m.is_in).right.fits);

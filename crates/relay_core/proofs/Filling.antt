@@ -1,24 +1,21 @@
 -- What each relay noted, protected and sent, filled in from the history of its cell.
-use Rattle.std.proofs.Common.{◌≡◌, ◌∙◌, sym, ap, subst, refl, ℕ, zero, suc, ◌<◌, List, [], ◌∷◌, ◌++◌, Bool, true, false, Option, Some, None, map, length, filter, arith}
+use Rattle.std.proofs.Common.{◌≡◌, ◌∙◌, sym, ap, subst, refl, ℕ, zero, suc, List, [], ◌∷◌, ◌++◌, Bool, true, false, Option, Some, None, map, length, filter}
 use Rattle.std.specs.List.{filter_map, cons_option}
 use Rattle.relay_outside.specs.declared.settings.Config.{Config}
 use Rattle.histories.specs.Words.{In}
-use Rattle.port_pool.specs.Boxes.{BoxEvent}
 use Rattle.call_cell.specs.declared.outcome.Outcome.{Outcome}
 use Rattle.call_cell.specs.declared.outcome.Outcome.TheVariants as outcomes
 use Rattle.call_cell.specs.declared.outcome.Lost.TheVariants as lost
 use Rattle.call_cell.specs.declared.cell.Cell as cell
 use Rattle.call_cell.specs.Cells.{CellEvent, CellEntry, Prepare, Commit, Relay, Expire, Read, End, Receipt, Relayed, Deed, Sending, since_end}
 use Rattle.call_cell.specs.Deeds.{deed, sent_outcome}
-use Rattle.call_cell.specs.Asked.{FitsAt, FitsCell, IsAnswered}
-use Rattle.call_cell.specs.Good.{FittingCell, empty, longer}
+use Rattle.call_cell.specs.Asked.{FitsAt, IsAnswered}
+use Rattle.call_cell.specs.Good.{FittingCell, longer}
 use Rattle.call_cell.specs.Standing.{sent_ok}
 use Rattle.call_cell.specs.CellStanding.{CellFor}
 use Rattle.call_cell.proofs.Sends.{send_failed, outcome_of_send}
-use Rattle.call_board.specs.Acts.{BoardEntry}
-use Rattle.relay_core.specs.Entries.{Event, Board, Cell, Box, Entry, is_nested, is_at, history, board_at, cell_at, box_in, board_entry, cell_entry, box_event, cell_history}
-use Rattle.relay_core.specs.Scripts.{Owed, owed_by}
-use Rattle.relay_core.specs.Made.{told_cell, told_event, told}
+use Rattle.relay_core.specs.Entries.{Event, Board, Cell, Box, Entry, is_nested, is_at, history, board_at, cell_at, box_in, cell_entry, cell_history}
+use Rattle.relay_core.specs.Made.{told_cell, told}
 use Rattle.relay_core.specs.Standing.{told_entry, CellStands}
 use Rattle.relay_core.proofs.Histories.{Step, nothing, single, step}
 use Rattle.relay_core.proofs.Refilling.{Keeps, history_mapped}

@@ -1,18 +1,19 @@
 -- A hand's list with that of a lane behind it.
-use Rattle.std.proofs.Common.{◌≡◌, ◌∙◌, sym, ap, subst, refl, ℕ, ◌+◌, ◌<◌, ◌≤◌, ◌⊎◌, inl, inr, List, [], ◌∷◌, ◌++◌, Bool, true, false, Option, Some, None, map, length, filter, length-append, arith}
+use Rattle.std.proofs.Common.{◌≡◌, ◌∙◌, sym, ap, subst, refl, ℕ, ◌+◌, ◌≤◌, ◌⊎◌, inl, inr, List, [], ◌∷◌, ◌++◌, true, false, length, filter, length-append, arith}
 use Rattle.std.proofs.lemmas.List.{map-append}
 use Rattle.relay_outside.specs.declared.settings.Config.{Config}
 use Rattle.turn_table.specs.declared.machine.Entry as table
 use Rattle.turn_table.specs.Histories as table_lists
 use Rattle.histories.specs.Words.{In, here, there, Before, begins, goes_on}
 use Rattle.histories.proofs.Lists.{in_append, in_left, in_right, keeps}
-use Rattle.call_cell.specs.Cells.{CellEvent, Prepare, Commit, Relay, Expire, Read, End, Relayed}
+use Rattle.call_cell.specs.Cells.{Prepare, Commit, Relay, Expire, Read, End, Relayed}
 use Rattle.port_pool.specs.Boxes.{Open, Take, Close}
 use Rattle.relay_core.specs.Entries.{Event, Board, Cell, Box, Entry, is_nested, is_at, box_of}
 use Rattle.relay_core.specs.Legal.{IsReceived, is_handed_boards, Orderly}
 use Rattle.relay_core.specs.Made.{Made, entry_of, list_of}
 use Rattle.relay_core.specs.Turning.{Numbered, IsOfLane, IsReceiving}
 use Rattle.relay_core.specs.Handed.{IsHanded}
+use Rattle.relay_core.specs.Joining.{TakesOwnPairs, IsLane, IsSound}
 use Rattle.relay_core.proofs.Histories.{same_at, is_there}
 use Rattle.relay_core.proofs.Turns.{filter_append, before_left, before_right, lanes_keep}
 use Rattle.relay_core.proofs.Own.{rows_in}
@@ -109,7 +110,7 @@ receiving_joined config l ls numbered first second = record {
 
 -- The rows of hands.
 
-row_append : {A : Type 0} {x : A} (xs ys : List A) → table_lists.In x (xs ++ ys) → table_lists.In x xs ⊎ table_lists.In x ys
+pub row_append : {A : Type 0} {x : A} (xs ys : List A) → table_lists.In x (xs ++ ys) → table_lists.In x xs ⊎ table_lists.In x ys
 row_append [] ys i = inr i
 row_append (z ∷ xs) ys (table_lists.here q) = inl (table_lists.here q)
 row_append (z ∷ xs) ys (table_lists.there i) =
@@ -127,7 +128,7 @@ lane_handed (Box (Open leg)) h = absurd h
 lane_handed (Box (Take half taken)) h = refl
 lane_handed (Box Close) h = absurd h
 
-boards_nested : (v : Event) → is_handed_boards v ≡ true → is_nested v ≡ true
+pub boards_nested : (v : Event) → is_handed_boards v ≡ true → is_nested v ≡ true
 boards_nested (Board b) t = absurd (let k = t in cc)
 boards_nested (Cell (Prepare call legs keys dropped)) t = refl
 boards_nested (Cell (Commit signal)) t = refl
@@ -139,7 +140,7 @@ boards_nested (Box b) t = absurd (let k = t in cc)
 
 module _ {T : Type 0} where
   -- the rows are takes and relays
-  abbrev pub AreOfLane : List (table.Entry Made T) → Type 0
+  abbrev AreOfLane : List (table.Entry Made T) → Type 0
   AreOfLane rows = (row : table.Entry Made T) → table_lists.In row rows → IsOfLane row.event.event
 
   handed_case : (config : Config) (rows others : List (table.Entry Made T)) → Orderly config (list_of rows) → AreOfLane others
@@ -153,27 +154,58 @@ module _ {T : Type 0} where
   handed_case config rows others o lanes numbered handed row t b p q (inr i) s =
       absurd (let k = lane_handed row.event.event (lanes row i) in cc)
 
-  -- What holds of the whole, where it holds of the main hand's rows and the lane has only takes and relays
-  pub record IsJoined (config : Config) (rows : List (table.Entry Made T)) : Type 0 where
-    pub orderly : Orderly config (list_of rows)
-    pub receiving : IsReceiving config (list_of rows)
-    pub handed : IsHanded rows
+  -- takes and relays behind them are handed no board entry's moment
+  pub handed_joined : (config : Config) (rows others : List (table.Entry Made T)) → Orderly config (list_of rows)
+      → ((row : table.Entry Made T) → table_lists.In row others → IsOfLane row.event.event)
+      → Numbered (list_of rows ++ list_of others) → IsHanded rows → IsHanded (rows ++ others)
+  handed_joined config rows others o lanes numbered handed row i t b j p q =
+      handed_case config rows others o lanes numbered handed row t b p q (row_append rows others i) (row_append rows others j)
 
-  joined_lanes : (rows others : List (table.Entry Made T)) → AreOfLane others → (e : Entry) → In e (list_of others) → IsOfLane e.event
-  joined_lanes rows [] lanes e i = elim i [ ]
-  joined_lanes rows (r ∷ others) lanes e (here q) = subst (λ (x : Entry). IsOfLane x.event) (sym q) (lanes r (table_lists.here refl))
-  joined_lanes rows (r ∷ others) lanes e (there i) = joined_lanes rows others (λ row j. lanes row (table_lists.there j)) e i
+  lane_entries : (others : List (table.Entry Made T)) → AreOfLane others → (e : Entry) → In e (list_of others) → IsOfLane e.event
+  lane_entries [] lanes e i = elim i [ ]
+  lane_entries (r ∷ others) lanes e (here q) = subst (λ (x : Entry). IsOfLane x.event) (sym q) (lanes r (table_lists.here refl))
+  lane_entries (r ∷ others) lanes e (there i) = lane_entries others (λ row j. lanes row (table_lists.there j)) e i
 
-  pub joined : (config : Config) (rows others : List (table.Entry Made T)) → Numbered (list_of (rows ++ others)) → IsJoined config rows → AreOfLane others
-      → IsReceiving config (list_of others) → IsJoined config (rows ++ others)
-  joined config rows others numbered main lanes receiving =
-      let same : list_of (rows ++ others) ≡ list_of rows ++ list_of others = map-append entry_of rows others in
-      let once : Numbered (list_of rows ++ list_of others) = subst Numbered same numbered in
-      record {
-        orderly = subst (λ (l : List Entry). Orderly config l) (sym same)
-            (lanes_keep config (list_of rows) (list_of others) main.orderly (joined_lanes rows others lanes) once);
-        receiving = subst (λ (l : List Entry). IsReceiving config l) (sym same)
-            (receiving_joined config (list_of rows) (list_of others) once main.receiving receiving);
-        handed = λ row i t b j p q.
-            handed_case config rows others main.orderly lanes once main.handed row t b p q (row_append rows others i) (row_append rows others j);
-      }
+  -- what is known of the main hand's rows is known of them with a lane's behind
+  pub joined : (config : Config) (rows others : List (table.Entry Made T)) → IsSound config rows → IsLane config others → IsSound config (rows ++ others)
+  joined config rows others sound lane = record {
+    orderly = λ numbered.
+        let once = subst Numbered same numbered in
+        subst (λ (l : List Entry). Orderly config l) (sym same)
+        (lanes_keep config (list_of rows) (list_of others) (sound.orderly (numbered_left (list_of rows) (list_of others) once))
+        (lane_entries others lane.of_lane) once);
+    handed = λ numbered.
+        let once = subst Numbered same numbered in
+        let left = numbered_left (list_of rows) (list_of others) once in
+        handed_joined config rows others (sound.orderly left) lane.of_lane once (sound.handed left);
+    receiving = λ numbered own.
+        let once = subst Numbered same numbered in
+        let owns = subst (λ (l : List Entry). TakesOwnPairs config l) same own in
+        subst (λ (l : List Entry). IsReceiving config l) (sym same)
+        (receiving_joined config (list_of rows) (list_of others) once
+        (sound.receiving (numbered_left (list_of rows) (list_of others) once) (λ e half leg source bytes i. owns e half leg source bytes (in_left (list_of rows) (list_of others) i)))
+        (lane.receiving (λ e half leg source bytes i. owns e half leg source bytes (in_right (list_of rows) (list_of others) i))));
+  }
+    where
+      same : list_of (rows ++ others) ≡ list_of rows ++ list_of others
+      same = map-append entry_of rows others
+
+  -- so is what is known of two lanes' rows
+  pub lanes_joined : (config : Config) (rows others : List (table.Entry Made T)) → Numbered (list_of rows ++ list_of others)
+      → IsLane config rows → IsLane config others → IsLane config (rows ++ others)
+  lanes_joined config rows others once first second = record {
+    of_lane = λ row i. either row (row_append rows others i);
+    receiving = λ own.
+        let owns = subst (λ (l : List Entry). TakesOwnPairs config l) same own in
+        subst (λ (l : List Entry). IsReceiving config l) (sym same)
+        (receiving_joined config (list_of rows) (list_of others) once
+        (first.receiving (λ e half leg source bytes i. owns e half leg source bytes (in_left (list_of rows) (list_of others) i)))
+        (second.receiving (λ e half leg source bytes i. owns e half leg source bytes (in_right (list_of rows) (list_of others) i))));
+  }
+    where
+      same : list_of (rows ++ others) ≡ list_of rows ++ list_of others
+      same = map-append entry_of rows others
+
+      either : (row : table.Entry Made T) → table_lists.In row rows ⊎ table_lists.In row others → IsOfLane row.event.event
+      either row (inl i) = first.of_lane row i
+      either row (inr i) = second.of_lane row i

@@ -219,8 +219,8 @@ pub ended_closes : (config : Config) (l : List Entry) → Orderly config l → (
 ended_closes config l o n k x of above_board above alive ends =
     closed_by (board_history l n) x of (legs (since_end (cell_history l of.cell k))) (λ leg. true) (cell_legs config l o n k of above_board alive above)
     (λ leg is. ap (λ (b : Bool). cond b true (closes_leg_act (act.act x) leg))
-      (ap (λ (m : ℕ). has (map (λ (c : Call). c.number) (ended_by x)) m) (equal_if leg.call of.number is)
-      ∙ it_has of.number (map (λ (c : Call). c.number) (ended_by x)) (maps (λ (c : Call). c.number) (ended_by x) ends)))
+    (ap (λ (m : ℕ). has (map (λ (c : Call). c.number) (ended_by x)) m) (equal_if leg.call of.number is)
+    ∙ it_has of.number (map (λ (c : Call). c.number) (ended_by x)) (maps (λ (c : Call). c.number) (ended_by x) ends)))
     ∙ filter_every (λ leg. true) (legs (since_end (cell_history l of.cell k))) (λ leg i. refl)
 
 -- an offer to a live call closes the legs of the sections that it drops
@@ -231,8 +231,8 @@ offer_closes config l o n k x p above_board above alive q ends =
     closed_by (board_history l n) x p.of (legs (since_end (cell_history l p.of.cell k))) (λ leg. has p.dropped leg.section)
     (cell_legs config l o n k p.of above_board alive above)
     (λ leg is. ap (λ (cs : List Call). cond (has (map (λ (c : Call). c.number) cs) leg.call) true (closes_leg_act (act.act x) leg)) ends
-      ∙ ap (λ (a : Act). closes_leg_act a leg) q
-      ∙ ap (λ (b : Bool). b && has p.dropped leg.section) (equal p.of.number leg.call (sym (equal_if leg.call p.of.number is))))
+    ∙ ap (λ (a : Act). closes_leg_act a leg) q
+    ∙ ap (λ (b : Bool). b && has p.dropped leg.section) (equal p.of.number leg.call (sym (equal_if leg.call p.of.number is))))
 
 -- an answer closes the legs of the sections that it rejects
 pub answer_closes : (config : Config) (l : List Entry) → Orderly config l → (n k : ℕ) (x : BoardEntry) (a : act.Answer) → IsAbove l 0 n → IsAbove l a.of.cell k
@@ -242,5 +242,5 @@ answer_closes config l o n k x a above_board above alive q ends =
     closed_by (board_history l n) x a.of (legs (since_end (cell_history l a.of.cell k))) (λ leg. is_rejected a.signal leg.section)
     (cell_legs config l o n k a.of above_board alive above)
     (λ leg is. ap (λ (cs : List Call). cond (has (map (λ (c : Call). c.number) cs) leg.call) true (closes_leg_act (act.act x) leg)) ends
-      ∙ ap (λ (d : Act). closes_leg_act d leg) q
-      ∙ ap (λ (b : Bool). b && is_rejected a.signal leg.section) (equal a.of.number leg.call (sym (equal_if leg.call a.of.number is))))
+    ∙ ap (λ (d : Act). closes_leg_act d leg) q
+    ∙ ap (λ (b : Bool). b && is_rejected a.signal leg.section) (equal a.of.number leg.call (sym (equal_if leg.call a.of.number is))))

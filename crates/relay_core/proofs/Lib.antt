@@ -46,6 +46,7 @@ pub mod Refilling
 pub mod Filling
 pub mod Filled
 pub mod Joins
+pub mod Handing
 pub mod Placing
 pub mod Closed
 mod Example

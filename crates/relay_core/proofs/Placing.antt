@@ -1,5 +1,5 @@
 -- Of each place: its steps are of its kind, are those that its history demands, and have the moments that they were handed.
-use Rattle.std.proofs.Common.{◌≡◌, ◌∙◌, sym, ap, subst, refl, ℕ, zero, suc, ◌+◌, ◌<◌, ◌≤◌, max, List, [], ◌∷◌, ◌++◌, Bool, true, false, cond, Option, Some, None, map, length, filter, arith, slice_get, take}
+use Rattle.std.proofs.Common.{◌≡◌, ◌∙◌, sym, ap, subst, refl, ℕ, zero, suc, ◌<◌, ◌≤◌, List, [], ◌∷◌, Option, Some, None, map, arith, slice_get, take}
 use Rattle.std.specs.List.{filter_map, cons_option}
 use Rattle.relay_outside.specs.declared.ports.InCall.{InCall}
 use Rattle.relay_outside.specs.declared.ports.OutCall.{OutCall}
@@ -9,7 +9,6 @@ use Rattle.turn_table.specs.Histories.{Leaves}
 use Rattle.histories.specs.Words.{In, here, there, greatest}
 use Rattle.port_pool.specs.declared.boxes.PairBox.{PairBox}
 use Rattle.port_pool.specs.Signals.{NewKey}
-use Rattle.port_pool.specs.Boxes.{BoxEvent, FitsBox}
 use Rattle.port_pool.specs.PairBoxes.{BoxFor}
 use Rattle.call_cell.specs.declared.cell.Cell as cell
 use Rattle.call_cell.specs.Cells.{CellEvent, CellEntry, Prepare, Commit, Relay, Expire, Read, End, keys_of, key_numbered}
@@ -17,20 +16,20 @@ use Rattle.call_cell.specs.Asked.{FitsCell}
 use Rattle.call_cell.specs.Good.{FittingCell, empty, longer}
 use Rattle.call_cell.specs.CellStanding as cells
 use Rattle.call_board.specs.declared.board.Board as board
-use Rattle.call_board.specs.Acts.{BoardEvent, BoardEntry}
+use Rattle.call_board.specs.Acts.{BoardEntry}
 use Rattle.call_board.specs.Boards.{BoardFor}
-use Rattle.call_board.specs.Views as views
 use Rattle.call_board.specs.Fits.{IsFitting}
 use Rattle.relay_core.specs.declared.part.Part.{Part}
 use Rattle.relay_core.specs.declared.part.Part.TheVariants as part
-use Rattle.relay_core.specs.Entries.{Event, Board, Cell, Box, Entry, board_at, cell_at, box_in, board_entry, cell_entry, box_event}
+use Rattle.relay_core.specs.Entries.{Event, Board, Cell, Box, Entry, board_at, cell_at, board_entry, cell_entry, box_event}
 use Rattle.relay_core.specs.Legal.{StandsAt}
-use Rattle.relay_core.specs.Made.{Made, entry_of, told_cell, moment_of}
+use Rattle.relay_core.specs.Made.{Made, entry_of, moment_of}
 use Rattle.relay_core.specs.Steps.{BoardSteps, BoxSteps, CellStepsBy, CellSteps}
 use Rattle.relay_core.specs.Beginning.{BeginsAs}
-use Rattle.relay_core.specs.Standing.{told_entry, FittingBox, CellStands, BringsNewKeys, Stands, IsCellPart}
+use Rattle.relay_core.specs.Joining.{IsAtPlace}
+use Rattle.relay_core.specs.Standing.{told_entry, CellStands, BringsNewKeys, Stands, IsCellPart}
 use Rattle.relay_core.proofs.Stays.{Steps, new_recorded}
-use Rattle.relay_core.proofs.Filling.{fill_cell, fill_history, CellFills, cell_fills}
+use Rattle.relay_core.proofs.Filling.{cell_fills}
 use Rattle.relay_core.proofs.Filled.{FitsTold}
 
 -- The state before and after the step with this number.
@@ -61,13 +60,7 @@ step_at relates a b (r ∷ rows) l (suc n) row q =
 -- The kinds of places.
 
 module _ {I O : Type 0} where
-  -- a place of this number holds a part of that kind
-  abbrev pub KindAt : Config → ℕ → Part I O → Type 0
-  KindAt config k (part.Board b) = k ≡ 0
-  KindAt config k (part.Cell c) = (1 ≤ k) × (k ≤ config.max_sessions)
-  KindAt config k (part.Pair b) = config.max_sessions < k
-
-  pub begins_kind : (config : Config) (k : ℕ) (a : Part I O) → BeginsAs config k a → KindAt config k a
+  pub begins_kind : (config : Config) (k : ℕ) (a : Part I O) → BeginsAs config k a → IsAtPlace config k a
   begins_kind config k (part.Board b) is = is.0
   begins_kind config k (part.Cell c) is = (is.0, is.1)
   begins_kind config k (part.Pair b) is = is.0
@@ -197,8 +190,7 @@ cell_right ot oc config k old new made (Cell c) past fresh step for next placed 
     let f = cell_fills config new (cons_option (cell_at made.moment (Cell c)) (filter_map cell_entry past)) next in
     let timed = cell_timed ot oc config old new made c (filter_map cell_entry past) fresh.0 step for in
     let same : map (λ (e : CellEntry). e.moment) for.history ≡ moments past
-    = sym (told_moments for.history) ∙ ap (λ (h : List CellEntry). map (λ (e : CellEntry). e.moment) h) for.is_recorded ∙ cell_moments config k past placed is in
-    (
+    = sym (told_moments for.history) ∙ ap (λ (h : List CellEntry). map (λ (e : CellEntry). e.moment) h) for.is_recorded ∙ cell_moments config k past placed is in (
       (fits_head f.fitting, ap (λ (h : List CellEntry). head_event c h) f.is_recorded),
       timed ∙ ap (λ (ms : List ℕ). moment_of (Cell c) made.handed (greatest ms)) same,
     )
@@ -208,18 +200,18 @@ cell_right ot oc config k old new made (Box e) past fresh step for next placed i
 -- Any place.
 
 module _ {T I O : Type 0} (it : I → Option (List InCall)) (ic : I → ℕ) (ot : O → Option (List OutCall)) (oc : O → ℕ) where
-  kind_step : (config : Config) (k : ℕ) (old new : Part I O) (made : Made) (o : T) → Steps it ic ot oc old made o new → KindAt config k old → KindAt config k new
+  kind_step : (config : Config) (k : ℕ) (old new : Part I O) (made : Made) (o : T) → Steps it ic ot oc old made o new → IsAtPlace config k old → IsAtPlace config k new
   kind_step config k (part.Board old) (part.Board new) made o step is = is
   kind_step config k (part.Cell old) (part.Cell new) made o step is = is
   kind_step config k (part.Pair old) (part.Pair new) made o step is = is
   kind_step config k _ _ made o step is = absurd step
 
   pub kind_stays : (config : Config) (k : ℕ) (a b : Part I O) (rows : List (table.Entry Made T)) → Leaves (Steps it ic ot oc) a rows b
-      → KindAt config k a → KindAt config k b
-  kind_stays config k a b [] same is = subst (λ (x : Part I O). KindAt config k x) same is
+      → IsAtPlace config k a → IsAtPlace config k b
+  kind_stays config k a b [] same is = subst (λ (x : Part I O). IsAtPlace config k x) same is
   kind_stays config k a b (row ∷ rows) l is = kind_stays config k l.0 b rows l.2 (kind_step config k a l.0 row.event row.outcome l.1 is)
 
-  pub step_placed : (config : Config) (k : ℕ) (old new : Part I O) (made : Made) (o : T) → Steps it ic ot oc old made o new → KindAt config k old
+  pub step_placed : (config : Config) (k : ℕ) (old new : Part I O) (made : Made) (o : T) → Steps it ic ot oc old made o new → IsAtPlace config k old
       → IsPlaced config k made.moment made.event
   step_placed config k (part.Board old) (part.Board new) made o step is = board_placed config k old new made made.event step is
   step_placed config k (part.Cell old) (part.Cell new) made o step is = cell_placed ot oc config k old new made made.event step is
@@ -228,7 +220,7 @@ module _ {T I O : Type 0} (it : I → Option (List InCall)) (ic : I → ℕ) (ot
 
   pub step_right : (config : Config) (k : ℕ) (old new : Part I O) (row : table.Entry Made T) (past : List Entry)
       → (IsCellPart old → BringsNewKeys (filter_map cell_entry (entry_of row ∷ past))) → Steps it ic ot oc old row.event row.outcome new
-      → Stands config old past → Stands config new (entry_of row ∷ past) → ArePlaced config k past → KindAt config k old
+      → Stands config old past → Stands config new (entry_of row ∷ past) → ArePlaced config k past → IsAtPlace config k old
       → IsRight config past row.event row.event.event
   step_right config k (part.Board old) (part.Board new) row past fresh step for next placed is =
       board_right config k old new row.event row.event.event past step for placed is

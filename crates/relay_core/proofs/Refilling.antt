@@ -1,12 +1,11 @@
 -- A list in which only relays were changed: it is as orderly as before.
-use Rattle.std.proofs.Common.{◌≡◌, ◌∙◌, sym, ap, subst, refl, ℕ, zero, suc, ◌<◌, ◌⊎◌, inl, inr, List, [], ◌∷◌, ◌++◌, Bool, true, false, cond, Option, Some, None, map, length, filter, ◌==◌, arith}
+use Rattle.std.proofs.Common.{◌≡◌, ◌∙◌, sym, ap, subst, refl, ℕ, zero, suc, ◌<◌, ◌⊎◌, inl, inr, List, [], ◌∷◌, ◌++◌, Bool, true, false, cond, Option, Some, map, length, filter, ◌==◌, arith}
 use Rattle.std.specs.Prelude.{◌&&◌}
 use Rattle.std.specs.List.{filter_map, cons_option}
 use Rattle.std.proofs.lemmas.List.{length-map, map-append}
 use Rattle.relay_outside.specs.declared.settings.Config.{Config}
 use Rattle.histories.specs.Words.{In, here, there, Before, begins, goes_on}
 use Rattle.histories.proofs.Lists.{mapped, maps, filtered}
-use Rattle.port_pool.specs.Boxes.{BoxEvent}
 use Rattle.call_board.specs.Acts.{BoardEntry}
 use Rattle.call_board.specs.Fits.{FitsBoard}
 use Rattle.relay_core.specs.Entries.{Entry, is_nested, is_at, belongs_to, history, board_entry, box_event, board_history, box_history}
@@ -99,8 +98,7 @@ module _ (g : Entry → Entry) (keeps : Keeps g) where
   fits_mapped : (config : Config) (l : List Entry) → Orderly config l → (b : Entry) (x : BoardEntry) → In b l → board_entry (g b) ≡ Some x
       → ((g b).place ≡ 0) × FitsBoard config (board_history (map g l) (g b).number) x
   fits_mapped config l o b x i h =
-      let f = o.board_fits b x i (sym (keeps.same_board b) ∙ h) in
-      (
+      let f = o.board_fits b x i (sym (keeps.same_board b) ∙ h) in (
         keeps.place_is b ∙ f.0,
         subst (λ (n : ℕ). FitsBoard config (board_history (map g l) n) x) (sym (keeps.number_is b))
             (subst (λ (h : List BoardEntry). FitsBoard config h x) (sym (board_mapped l b.number)) f.1),
@@ -158,11 +156,11 @@ module _ (g : Entry → Entry) (keeps : Keeps g) where
     board_fits = λ b x i h.
         let m = mapped g l i in
         subst (λ (y : Entry). (y.place ≡ 0) × FitsBoard config (board_history (map g l) y.number) x) m.makes
-            (fits_mapped config l o m.from x m.is_in (ap (λ (y : Entry). board_entry y) m.makes ∙ h));
+        (fits_mapped config l o m.from x m.is_in (ap (λ (y : Entry). board_entry y) m.makes ∙ h));
     scripted = λ b x i p h.
         let m = mapped g l i in
         subst (λ (y : Entry). map owed_by (filter (belongs_to y.number) (map g l)) ≡ script config (board_history (map g l) y.number) x) m.makes
-            (scripted_mapped config l o m.from x m.is_in (ap (λ (y : Entry). y.place) m.makes ∙ p) (ap (λ (y : Entry). board_entry y) m.makes ∙ h));
+        (scripted_mapped config l o m.from x m.is_in (ap (λ (y : Entry). y.place) m.makes ∙ p) (ap (λ (y : Entry). board_entry y) m.makes ∙ h));
     nested = λ e i t.
         let m = mapped g l i in
         subst (λ (y : Entry). BoardIn (map g l) y) m.makes (nested_mapped config l o m.from m.is_in (ap (λ (y : Entry). is_nested y.event) m.makes ∙ t));
@@ -170,9 +168,9 @@ module _ (g : Entry → Entry) (keeps : Keeps g) where
         let m = mapped g l i in
         let n = mapped g l j in
         subst (λ (a : Entry). InOrder (map g l) a f) m.makes
-            (subst (λ (b : Entry). InOrder (map g l) (g m.from) b) n.makes
-                (ordered_mapped config l o m.from n.from m.is_in n.is_in (ap (λ (a : Entry). is_nested a.event) m.makes ∙ x)
-                (ap (λ (b : Entry). is_nested b.event) n.makes ∙ y)
-                (ap (λ (a : Entry). a.place) m.makes ∙ p ∙ ap (λ (b : Entry). b.place) (sym n.makes))
-                (let a = ap (λ (z : Entry). z.number) m.makes in let b = ap (λ (z : Entry). z.number) n.makes in omega (arith, k, a, b))));
+        (subst (λ (b : Entry). InOrder (map g l) (g m.from) b) n.makes
+        (ordered_mapped config l o m.from n.from m.is_in n.is_in (ap (λ (a : Entry). is_nested a.event) m.makes ∙ x)
+        (ap (λ (b : Entry). is_nested b.event) n.makes ∙ y)
+        (ap (λ (a : Entry). a.place) m.makes ∙ p ∙ ap (λ (b : Entry). b.place) (sym n.makes))
+        (let a = ap (λ (z : Entry). z.number) m.makes in let b = ap (λ (z : Entry). z.number) n.makes in omega (arith, k, a, b))));
   }

@@ -11,3 +11,4 @@ pub mod Beginning
 pub mod Standing
 pub mod Turning
 pub mod Handed
+pub mod Joining

@@ -8,8 +8,8 @@ ghost use Rattle.relay_core.specs.Legal.{Orderly, Legal};
 ghost use Rattle.relay_core.specs.Safe.{Safe};
 ghost use Rattle.relay_core.specs.Made.{told};
 ghost use Rattle.relay_core.specs.Beginning.{AreParts};
-ghost use Rattle.relay_core.specs.Turning.{Numbered, IsReceiving, made_by};
-ghost use Rattle.relay_core.specs.Handed.{IsHanded};
+ghost use Rattle.relay_core.specs.Turning.{Numbered, made_by};
+ghost use Rattle.relay_core.specs.Joining.{IsSound, AreStanding};
 
 use crate::machine::Relay;
 use crate::part::Part;
@@ -19,9 +19,9 @@ use turn_table::{Hand, Turns};
 /// Closes the table of a relay by the hand that has all its parts, and answers what its places hold, in order. It takes no
 /// memory.
 ///
-/// The hand's list is then the list of all steps of all places. Where the main hand's part of it is orderly, each relay is of
-/// a take before it, and nested steps were handed their board entry's moment, it is a legal list, and so a safe one, once
-/// what each relay noted, protected and sent is told beside its outcome.
+/// The hand's list is then that of all steps of all places. Of a relay it has the packet and the outcome. With what each relay
+/// noted, protected and sent told beside it, it is a legal list, and so a safe one: where the main hand's own entries are
+/// orderly and its nested steps were handed their board entry's moment, and where each hand's relays are of takes of its own.
 pub fn close_relay<I: InEnd, O: OutEnd>(
     turns: Turns<Relay<I, O>>,
     hand: Hand<Relay<I, O>>,
@@ -31,7 +31,8 @@ pub fn close_relay<I: InEnd, O: OutEnd>(
     requires idle { HasNoTurn hand }
     ensures length { length result.items ≡ length (starts hand) }
     ensures numbered { Numbered (made_by hand) }
-    ensures legal { (config : Config) → AreParts config (starts hand) → Orderly config (made_by hand) → IsReceiving config (made_by hand) → IsHanded (entries hand) → (l : List Entry) × (map told l ≡ made_by hand) × Legal config l × Safe config l }
+    ensures states { (config : Config) → AreParts config (starts hand) → Orderly config (made_by hand) → AreStanding config result.items (made_by hand) }
+    ensures legal { (config : Config) → AreParts config (starts hand) → IsSound config (entries hand) → (l : List Entry) × (map told l ≡ made_by hand) × Legal config l × Safe config l }
 {
     turns.close(hand)
 }

@@ -1,5 +1,5 @@
 use Rattle.turn_table.specs.Hands.{starts, entries}
-use Rattle.relay_core.proofs.Closed.{closed_numbered, closed_legal, whole_of}
+use Rattle.relay_core.proofs.Closed.{closed_numbered, sound_legal, closed_parts, whole_of}
 use Rattle.relay_core.proofs.closing.close_relay.Goals as goal
 
 pub returns-clause-numbered : goal.returns-clause-numbered
@@ -7,8 +7,13 @@ returns-clause-numbered g c =
     closed_numbered g.I.InEnd.told g.I.InEnd.faults g.O.OutEnd.told g.O.OutEnd.faults (starts c.args.hand) (entries c.args.hand) c.close.ensures.range
     (whole_of g.I.InEnd.told g.I.InEnd.faults g.O.OutEnd.told g.O.OutEnd.faults (starts c.args.hand) (entries c.args.hand) c.close.result.items c.close.ensures.states)
 
+pub returns-clause-states : goal.returns-clause-states
+returns-clause-states g c = λ config are orderly.
+    closed_parts g.I.InEnd.told g.I.InEnd.faults g.O.OutEnd.told g.O.OutEnd.faults config (starts c.args.hand) (entries c.args.hand) c.close.result.items
+    are c.close.ensures.range c.close.ensures.states c.close.ensures.length orderly
+
 pub returns-clause-legal : goal.returns-clause-legal
-returns-clause-legal g c = λ config are orderly receiving handed.
-    closed_legal g.I.InEnd.told g.I.InEnd.faults g.O.OutEnd.told g.O.OutEnd.faults (starts c.args.hand) (entries c.args.hand) c.close.ensures.range
+returns-clause-legal g c = λ config are sound.
+    sound_legal g.I.InEnd.told g.I.InEnd.faults g.O.OutEnd.told g.O.OutEnd.faults (starts c.args.hand) (entries c.args.hand) c.close.ensures.range
     (whole_of g.I.InEnd.told g.I.InEnd.faults g.O.OutEnd.told g.O.OutEnd.faults (starts c.args.hand) (entries c.args.hand) c.close.result.items c.close.ensures.states)
-    config are orderly receiving handed
+    config are sound
