@@ -10,7 +10,11 @@ use Rattle.turn_table.specs.declared.machine.Entry as table
 use Rattle.port_pool.specs.declared.holder.Holder.{Holder}
 use Rattle.port_pool.specs.Signals.{NewKey}
 use Rattle.port_pool.specs.Boxes.{Open, Close, holder}
-use Rattle.call_cell.specs.Cells.{CellEvent, CellEntry, keys_of, key_numbered}
+use Rattle.port_pool.specs.declared.signal.SectionSignal.{SectionSignal}
+use Rattle.call_cell.specs.declared.prepare.Prepare as prepared
+use Rattle.call_cell.specs.Preparing.{CanCome}
+use Rattle.call_cell.specs.Committing.{NamesKeys, contexts_due_after}
+use Rattle.call_cell.specs.Cells.{since_end, CellEvent, CellEntry, keys_of, key_numbered}
 use Rattle.relay_core.specs.Entries.{Event, Cell, Box, Entry, is_at, history, cell_at, box_in, cell_entry, box_event, cell_history, box_history, box_of}
 use Rattle.relay_core.specs.Scripts.{Owed, owed_by, opening}
 use Rattle.relay_core.specs.Made.{Made, list_of}
@@ -21,7 +25,7 @@ use Rattle.relay_core.proofs.Histories.{at_place, is_there}
 use Rattle.relay_core.proofs.Shut.{same_history}
 use Rattle.relay_core.proofs.Turns.{filter_append, filter_none, filter_every, false_if, nothing_more}
 use Rattle.nested_steps.specs.Nesting.{IsShut, IsOpen, closing_of}
-use Rattle.nested_steps.specs.InCells.{HasNewKeys, in_cell_of}
+use Rattle.nested_steps.specs.InCells.{HasNewKeys, CanPrepare, CanCommit, HasRoom, in_cell_of}
 use Rattle.nested_steps.proofs.Nesting.{map_rows}
 
 -- Histories.
@@ -131,17 +135,15 @@ last_history l longer owed n s above =
     ∙ subst (λ (k : ℕ). history (l ++ e ∷ []) k n ≡ e ∷ history l k e.number) at (last_is l e n s.above low)
 
 -- a box that was opened is open, and one that was closed is shut
-pub opened : (config : Config) (l longer : List Entry) (leg : Holder) → IsLast l (opening config leg) longer → (n : ℕ) → IsAbove longer (box_of config leg.pair) n
-    → holder (box_history longer (box_of config leg.pair) n) ≡ Some leg
-opened config l longer leg s n above =
-    let place = box_of config leg.pair in
-    ap (λ (es : List Entry). holder (filter_map box_event es)) (last_history l longer (opening config leg) n s above)
+pub opened : (l longer : List Entry) (place : ℕ) (leg : Holder) → IsLast l (record { place = place; event = Box (Open leg) }) longer → (n : ℕ) → IsAbove longer place n
+    → holder (box_history longer place n) ≡ Some leg
+opened l longer place leg s n above =
+    ap (λ (es : List Entry). holder (filter_map box_event es)) (last_history l longer (record { place = place; event = Box (Open leg) }) n s above)
     ∙ ap (λ (v : Event). holder (cons_option (box_in v) (box_history l place s.entry.number))) (ap (λ (o : Owed). o.event) s.owes)
 
-pub closed : (config : Config) (l longer : List Entry) (pair : ℕ) → IsLast l (closing_of config pair) longer → IsShut longer (box_of config pair)
-closed config l longer pair s n above =
-    let place = box_of config pair in
-    ap (λ (es : List Entry). holder (filter_map box_event es)) (last_history l longer (closing_of config pair) n s above)
+pub closed : (l longer : List Entry) (place : ℕ) → IsLast l (record { place = place; event = Box Close }) longer → IsShut longer place
+closed l longer place s n above =
+    ap (λ (es : List Entry). holder (filter_map box_event es)) (last_history l longer (record { place = place; event = Box Close }) n s above)
     ∙ ap (λ (v : Event). holder (cons_option (box_in v) (box_history l place s.entry.number))) (ap (λ (o : Owed). o.event) s.owes)
 
 -- the history of a cell has the step behind what it had
@@ -198,6 +200,19 @@ still_open l longer place s held = still (λ (es : List Entry). IsSome (holder (
 
 pub still_new : (l longer : List Entry) (place : ℕ) → IsElsewhere l place longer → HasNewKeys l place → HasNewKeys longer place
 still_new l longer place s keys = still (λ (es : List Entry). BringsNewKeys (filter_map cell_entry es)) l longer place s keys
+
+pub still_comes : {O : Type 0} (config : Config) (l longer : List Entry) (place : ℕ) (signal : prepared.Prepare O) (call : ℕ) (keys : List NewKey) (dropped : List ℕ)
+    → IsElsewhere l place longer → CanPrepare config l place signal call keys dropped → CanPrepare config longer place signal call keys dropped
+still_comes config l longer place signal call keys dropped s comes =
+    still (λ (es : List Entry). CanCome config (since_end (filter_map cell_entry es)) signal call keys dropped) l longer place s comes
+
+pub still_names : (l longer : List Entry) (place : ℕ) (signal : List SectionSignal) → IsElsewhere l place longer → CanCommit l place signal → CanCommit longer place signal
+still_names l longer place signal s names = still (λ (es : List Entry). NamesKeys (since_end (filter_map cell_entry es)) signal) l longer place s names
+
+pub still_room : (l longer : List Entry) (place : ℕ) (signal : List SectionSignal) (contexts : ℕ) → IsElsewhere l place longer → HasRoom l place signal contexts
+    → HasRoom longer place signal contexts
+still_room l longer place signal contexts s room =
+    still (λ (es : List Entry). contexts_due_after (since_end (filter_map cell_entry es)) signal ≤ contexts) l longer place s room
 
 -- Steps of cells, by the hand's list.
 

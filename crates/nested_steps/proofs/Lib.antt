@@ -4,3 +4,4 @@ pub mod Celling
 pub mod Signalling
 pub mod After
 pub mod Leaving
+pub mod First

@@ -21,7 +21,8 @@ use Rattle.relay_core.specs.Made.{Made, entry_of, list_of}
 use Rattle.relay_core.specs.Beginning.{AreParts}
 use Rattle.relay_core.specs.Turning.{Numbered, IsAbove, Gained, GainsNested, made_by}
 use Rattle.relay_core.proofs.Own.{IsRow, in_rows}
-use Rattle.relay_core.proofs.Gains.{gained_one, gained_more, rising_numbered}
+use Rattle.relay_core.proofs.Gains.{gained_nothing, gained_one, gained_more, rising_numbered}
+use Rattle.relay_core.proofs.Turns.{nothing_more}
 use Rattle.nested_steps.specs.Nesting.{MayNest, nested}
 
 module _ {I O : Type 0} where
@@ -83,6 +84,15 @@ module _ {M S T : Type 0} {g : _} where
         gained = gained_one (made_by old) number (entry_of row) refl above;
         handed = λ r i. only_row row moment refl r i;
       }
+
+  -- nothing yet
+  pub gains_nothing : (number moment : ℕ) (hand : Hand M S Made T g) → GainsNested number moment [] hand hand
+  gains_nothing number moment hand = record {
+    rows = [];
+    list_is = sym (nothing_more (entries hand));
+    gained = gained_nothing (made_by hand) number;
+    handed = λ row i. elim i [ ];
+  }
 
   -- entries one after the other
   pub gains_more : (number moment : ℕ) (events more : List Owed) (old mid new : Hand M S Made T g) → GainsNested number moment events old mid

@@ -3,6 +3,7 @@ use Rattle.call_cell.specs.Cells.{Prepare}
 use Rattle.call_cell.specs.Preparing.{added}
 use Rattle.relay_core.specs.Entries.{Cell}
 use Rattle.nested_steps.specs.Bringing.{brought_keys, brought_dropped}
+use Rattle.nested_steps.specs.Nesting.{nested}
 use Rattle.nested_steps.specs.InCells.{moment_in}
 use Rattle.nested_steps.proofs.Nesting.{above_rows, turn_gained, turn_same, turn_may}
 use Rattle.nested_steps.proofs.Celling.{cell_given}
@@ -57,5 +58,7 @@ pub returns-clause-same : goal.returns-clause-same
 returns-clause-same g c =
     let at = c.cell_place.ensures in
     let low = c.requires.cell.0 in
-    turn_same c.args.config.now c.args.turns.now c.cell_place.result _ tt c.args.hand.now c.turn-turn.new.hand c.put_prepare.new.hand c.turn-turn.result c.requires.may
+    turn_same c.args.config.now c.args.turns.now c.cell_place.result
+    (nested c.args.nest.number c.args.nest.moment (max c.args.nest.moment (moment_in c.turn-turn.result.taken.value))
+    (Cell (Prepare c.args.call (added c.of-legs.result.value) (brought_keys c.args.brought.now) (brought_dropped c.args.brought.now)))) tt c.args.hand.now c.turn-turn.new.hand c.put_prepare.new.hand c.turn-turn.result c.requires.may
     (omega (arith, at, low)) c.turn-turn.ensures.same c.turn-turn.ensures.turn.0 c.put_prepare.ensures.same c.put_prepare.ensures.entry
