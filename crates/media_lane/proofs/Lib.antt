@@ -1,0 +1,5 @@
+pub mod Places
+pub mod Above
+pub mod Keeping
+pub mod Taken
+pub mod Relays

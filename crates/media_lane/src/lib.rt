@@ -1,0 +1,21 @@
+//! A lane of media: it takes datagrams from the boxes of port pairs, and relays each in the cell of the call that held the box.
+//!
+//! A lane has a hand of the turn table, and holds one turn at a time. `receive_try` and `relay_try` never wait and take no
+//! memory: each makes one compare-exchange, and is busy exactly where another hand has the turn of that very place.
+//!
+//! Module `receipt` has what a take gave, `answers` what the calls answer, `lane` the lane, `receiving` and `relaying` its two
+//! steps, `puts` the way to put each kind of turn. `specs/Receipts.antt` says what a receipt of a hand's list is, `specs/Starts.antt`
+//! what the places of a lane's table begin as, `specs/Lanes.antt` what a lane keeps, `specs/Taking.antt` and `specs/Relaying.antt`
+//! what a take and a relay add to the list of its hand.
+#![tactic(auto)]
+
+mod answers;
+mod lane;
+mod puts;
+mod receipt;
+mod receiving;
+mod relaying;
+
+pub use answers::{Received, Relayed};
+pub use lane::Lane;
+pub use receipt::Receipt;
