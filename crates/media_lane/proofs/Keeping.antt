@@ -157,3 +157,35 @@ pub relay_keeps : (config : Config) (l : List Entry) (e : Entry) (pair : ℕ) (p
     → y.packet ≡ p → e.place ≡ p.holder.cell → IsAbove l e.place e.number → KeepsList config l (l ++ e ∷ [])
 relay_keeps config l e pair p y rec is of place above =
     keeps_with config l e (subst (λ (x : Event). IsOfLane x) (sym is) tt) above (λ own r. relay_receiving config l e pair p y rec is of place own r)
+
+-- Receipts that are kept.
+
+-- A receipt stays one of a longer list, where what was added doesn't relay it
+pub receipt_stays : (config : Config) (l more : List Entry) (pair : ℕ) (p : Receipt) → IsReceiptOf config l pair p → (TakesOwnPairs config l → IsReceiving config l)
+    → (TakesOwnPairs config (l ++ more) → IsUnspent more p) → IsReceiptOf config (l ++ more) pair p
+receipt_stays config l more pair p rec receiving rest = record {
+  taking = rec.taking;
+  is_there = in_left l more rec.is_there;
+  at_box = rec.at_box;
+  with_number = rec.with_number;
+  gave = rec.gave;
+  for_cell = rec.for_cell;
+  unspent = λ own r e x i q pairs takes. either own e x q pairs takes (in_append l more i);
+}
+  where
+    either : TakesOwnPairs config (l ++ more) → (e : Entry) (x : Relayed) → e.event ≡ Cell (Relay x) → x.packet.holder.pair ≡ p.holder.pair → x.packet.take ≡ p.take
+        → In e l ⊎ In e more → ⊥
+    either own e x q pairs takes (inl i) =
+        let before : TakesOwnPairs config l = λ f half holder source bytes j s. own f half holder source bytes (in_left l more j) s in
+        rec.unspent before (receiving before) e x i q pairs takes
+    either own e x q pairs takes (inr i) = rest own e x i q pairs takes
+
+-- two receipts of different takes name different ones
+pub receipts_differ : (config : Config) (l : List Entry) (pair other : ℕ) (p q : Receipt) → IsReceiptOf config l pair p → IsReceiptOf config l other q
+    → (pair ≡ other → p.take ≡ q.take → ⊥) → TakesOwnPairs config l → q.holder.pair ≡ p.holder.pair → q.take ≡ p.take → ⊥
+receipts_differ config l pair other p q one two differ own pairs takes =
+    let a = own one.taking p.half p.holder p.source p.bytes one.is_there one.gave in
+    let b = own two.taking q.half q.holder q.source q.bytes two.is_there two.gave in
+    let c = one.at_box in
+    let d = two.at_box in
+    differ (omega (arith, a, b, c, d, pairs)) (sym takes)

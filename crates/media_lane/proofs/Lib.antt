@@ -3,3 +3,6 @@ pub mod Above
 pub mod Keeping
 pub mod Taken
 pub mod Relays
+pub mod Waiting
+pub mod Visiting
+pub mod Counting

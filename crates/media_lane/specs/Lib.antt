@@ -4,3 +4,5 @@ pub mod Lanes
 pub mod Busy
 pub mod Taking
 pub mod Relaying
+pub mod Visits
+pub mod Sweeping

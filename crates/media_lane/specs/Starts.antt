@@ -10,6 +10,7 @@ use Rattle.port_pool.specs.PairBoxes.{holder_in, cells_of}
 use Rattle.relay_core.specs.declared.part.Part.{Part}
 use Rattle.relay_core.specs.declared.part.Part.TheVariants as part
 use Rattle.relay_core.specs.Standing.{IsCellPart}
+use Rattle.relay_core.specs.Beginning.{AreParts}
 
 -- a box where there are so many cells, closed or held by a leg of one of them
 pub record HasCells {I : Type 0} (cells : ℕ) (box : PairBox I) : Type 0 where
@@ -43,5 +44,9 @@ module _ {I O : Type 0} where
   box_of_prop cells (part.Board board) prop = λ p q. absurd p
   box_of_prop cells (part.Cell cell) prop = λ p q. absurd p
   box_of_prop cells (part.Pair box) prop = prop box
+
+-- the parts of a configuration begin so
+abbrev pub PartsBeginLanes : Type 0 → Type 0 → Type 0
+PartsBeginLanes I O = (config : Config) (parts : List (Part I O)) → AreParts config parts → HasLaneStarts config parts
 
 pub ruleset starts_props = (props, cell_part_prop, box_of_prop)

@@ -32,3 +32,16 @@ pub enum Relayed {
         receipt: Receipt,
     },
 }
+
+/// What came of the datagrams that a lane took. A count that has reached 2^64 - 1 stays there.
+#[derive(Clone, Copy, PartialEq, Eq, Debug)]
+pub struct Totals {
+    /// The datagrams of at most 2,000 bytes that were taken.
+    pub taken: u64,
+    /// Those that were sent.
+    pub sent: u64,
+    /// Those that were not accepted.
+    pub refused: u64,
+    /// Those that were accepted and not sent.
+    pub lost: u64,
+}
