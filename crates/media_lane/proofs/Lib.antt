@@ -1,0 +1,8 @@
+pub mod Places
+pub mod Above
+pub mod Keeping
+pub mod Taken
+pub mod Relays
+pub mod Waiting
+pub mod Visiting
+pub mod Counting

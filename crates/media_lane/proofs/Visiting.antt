@@ -1,0 +1,147 @@
+-- A visit, from the take and the relay that it made.
+use Rattle.std.proofs.Common.{◌≡◌, refl, sym, ◌∙◌, ap, subst, ℕ, ◌+◌, ◌-◌, ◌^◌, Bool, true, false, cond, min, List, [], ◌∷◌, ◌++◌, Option, Some, None, filter, length, length-append, append_assoc, arith, inl, inr}
+use Rattle.relay_outside.specs.declared.settings.Config.{Config}
+use Rattle.relay_outside.specs.Told.{WhereInRange}
+use Rattle.rtp_packet.specs.declared.head.Half.{Half}
+use Rattle.histories.proofs.Lists.{in_left}
+use Rattle.turn_table.specs.declared.hands.Hand.{Hand}
+use Rattle.turn_table.specs.declared.machine.Entry as table
+use Rattle.turn_table.specs.Hands.{entries}
+use Rattle.turn_table.specs.Steps.{entry}
+use Rattle.port_pool.specs.Boxes as box
+use Rattle.port_pool.specs.Boxes.{Taken}
+use Rattle.call_cell.specs.declared.outcome.Outcome.{Outcome}
+use Rattle.call_cell.specs.Cells as cells
+use Rattle.relay_core.specs.Entries.{Entry, box_of}
+use Rattle.relay_core.specs.Made.{Made, entry_of, list_of}
+use Rattle.relay_core.specs.Turning.{made_by}
+use Rattle.relay_core.proofs.Turns.{filter_append}
+use Rattle.media_lane.specs.declared.receipt.Receipt.{Receipt}
+use Rattle.media_lane.specs.declared.answers.Received.{Received}
+use Rattle.media_lane.specs.declared.answers.Received.TheVariants as answer
+use Rattle.media_lane.specs.declared.answers.Totals.{Totals}
+use Rattle.media_lane.specs.Lanes.{packet_of}
+use Rattle.media_lane.specs.Receipts.{TakesOwnPairs, KeepsList}
+use Rattle.media_lane.specs.Taking.{take_made, IsOfTake, Tells}
+use Rattle.media_lane.specs.Visits.{Row, Visit, Passing, packet_by, relay_rows, rows_of, IsPassed, has_packet, is_there, ends_so, ends_with, is_sent, is_refused, is_lost, count, one_more, AreTotals, CountsRelay}
+use Rattle.media_lane.specs.Sweeping.{TakesOnce, RelaysOnce, VisitsOnce}
+
+-- One list after another.
+
+own_pairs_in : (config : Config) (l more : List Entry) → TakesOwnPairs config (l ++ more) → TakesOwnPairs config l
+own_pairs_in config l more own f half holder source bytes i q = own f half holder source bytes (in_left l more i) q
+
+pub keeps_both : (config : Config) (a b c more : List Entry) → c ≡ b ++ more → KeepsList config a b → KeepsList config b c → KeepsList config a c
+keeps_both config a b c more is first second = record {
+  numbered = λ n. second.numbered (first.numbered n);
+  orderly = λ o. second.orderly (first.orderly o);
+  receiving = λ own r. second.receiving own (first.receiving (own_pairs_in config b more (subst (TakesOwnPairs config) is own)) r);
+}
+
+list_append : {T : Type 0} (xs ys : List (table.Entry Made T)) → list_of (xs ++ ys) ≡ list_of xs ++ list_of ys
+list_append [] ys = refl
+list_append (x ∷ xs) ys = ap (λ (l : List Entry). entry_of x ∷ l) (list_append xs ys)
+
+pub keeps_visited : {M S : Type 0} {g : _} (config config' : Config) (range : Option (ℕ × ℕ)) (pair : ℕ) (half : Half) (first old new : Hand M S Made (Unit {0}) g) (s t : Totals)
+    → VisitsOnce config range pair half old new s t → config' ≡ config → KeepsList config (made_by first) (made_by old) → KeepsList config' (made_by old) (made_by new)
+    → KeepsList config (made_by first) (made_by new)
+keeps_visited config config' range pair half first old new s t v same before after =
+    keeps_both config (made_by first) (made_by old) (made_by new) (list_of (rows_of config v.visit))
+    (ap (λ (rows : List Row). list_of rows) v.list_is ∙ list_append (entries old) (rows_of config v.visit))
+    before (subst (λ (c : Config). KeepsList c (made_by old) (made_by new)) same after)
+
+-- Counts.
+
+capped_more : (n : ℕ) → min (n + 1) (2 ^ 64 - 1) ≡ one_more (min n (2 ^ 64 - 1))
+capped_more n = omega arith
+
+length_more : (p : Visit → Bool) (vs : List Visit) (v : Visit) (t : Bool) → p v ≡ t → length (filter p (vs ++ v ∷ [])) ≡ cond t (length (filter p vs) + 1) (length (filter p vs))
+length_more p vs v true q =
+    ap (λ (xs : List Visit). length xs) (filter_append p vs (v ∷ []))
+    ∙ length-append (filter p vs) (filter p (v ∷ []))
+    ∙ ap (λ (b : Bool). length (filter p vs) + length (cond b (v ∷ []) [])) q
+length_more p vs v false q =
+    ap (λ (xs : List Visit). length xs) (filter_append p vs (v ∷ []))
+    ∙ length-append (filter p vs) (filter p (v ∷ []))
+    ∙ ap (λ (b : Bool). length (filter p vs) + length (cond b (v ∷ []) [])) q
+    ∙ (omega arith)
+
+count_more : (p : Visit → Bool) (vs : List Visit) (v : Visit) (t : Bool) → p v ≡ t → count p (vs ++ v ∷ []) ≡ cond t (one_more (count p vs)) (count p vs)
+count_more p vs v true q = ap (λ (n : ℕ). min n (2 ^ 64 - 1)) (length_more p vs v true q) ∙ capped_more (length (filter p vs))
+count_more p vs v false q = ap (λ (n : ℕ). min n (2 ^ 64 - 1)) (length_more p vs v false q)
+
+same_totals : (vs : List Visit) (v : Visit) (t : Totals) → has_packet v ≡ false → v.passing ≡ None → AreTotals vs t → AreTotals (vs ++ v ∷ []) t
+same_totals vs v t none passing a = record {
+  taken = a.taken ∙ sym (count_more has_packet vs v false none);
+  sent = a.sent ∙ sym (count_more (ends_with is_sent) vs v false (ap (λ (o : Option Passing). ends_so is_sent o) passing));
+  refused = a.refused ∙ sym (count_more (ends_with is_refused) vs v false (ap (λ (o : Option Passing). ends_so is_refused o) passing));
+  lost = a.lost ∙ sym (count_more (ends_with is_lost) vs v false (ap (λ (o : Option Passing). ends_so is_lost o) passing));
+}
+
+counted_by : (p : Visit → Bool) (vs : List Visit) (v : Visit) (old new : ℕ) (t : Bool) → p v ≡ t → old ≡ count p vs → new ≡ cond t (one_more old) old → new ≡ count p (vs ++ v ∷ [])
+counted_by p vs v old new true q was now = now ∙ ap (λ (n : ℕ). one_more n) was ∙ sym (count_more p vs v true q)
+counted_by p vs v old new false q was now = now ∙ was ∙ sym (count_more p vs v false q)
+
+more_totals : (vs : List Visit) (v : Visit) (outcome : Outcome) (s t : Totals) → has_packet v ≡ true → ends_with is_sent v ≡ is_sent outcome → ends_with is_refused v ≡ is_refused outcome
+    → ends_with is_lost v ≡ is_lost outcome → CountsRelay outcome s t → AreTotals vs s → AreTotals (vs ++ v ∷ []) t
+more_totals vs v outcome s t packet sent refused lost c a = record {
+  taken = counted_by has_packet vs v s.taken t.taken true packet a.taken c.taken;
+  sent = counted_by (ends_with is_sent) vs v s.sent t.sent (is_sent outcome) sent a.sent c.sent;
+  refused = counted_by (ends_with is_refused) vs v s.refused t.refused (is_refused outcome) refused a.refused c.refused;
+  lost = counted_by (ends_with is_lost) vs v s.lost t.lost (is_lost outcome) lost a.lost c.lost;
+}
+
+-- The visit.
+
+taken_packet : (r : Receipt) (pair number : ℕ) (half : Half) (taken : Taken) → IsOfTake r pair number half taken → packet_by number half taken ≡ Some (packet_of r)
+taken_packet r pair number half taken t =
+    ap (λ (x : Taken). packet_by number half x) t.gave
+    ∙ ap (λ (n : ℕ). packet_by n half (box.Datagram (packet_of r).holder (packet_of r).source (packet_of r).bytes)) (sym t.number_is)
+    ∙ ap (λ (h : Half). packet_by (packet_of r).take h (box.Datagram (packet_of r).holder (packet_of r).source (packet_of r).bytes)) (sym t.half_is)
+
+nothing_taken : (result : Received) (pair number : ℕ) (half : Half) (taken : Taken) → ((r : Receipt) → result ≡ answer.Got r → ⊥) → Tells result pair number half taken
+    → packet_by number half taken ≡ None
+nothing_taken (answer.Got r) pair number half taken not_got tells = absurd (not_got r refl)
+nothing_taken answer.Nothing pair number half taken not_got tells =
+    elim tells [ inl q ↦ ap (λ (x : Taken). packet_by number half x) q | inr q ↦ ap (λ (x : Taken). packet_by number half x) q ]
+nothing_taken (answer.Busy front) pair number half taken not_got tells = absurd tells
+nothing_taken answer.TooLong pair number half taken not_got tells = ap (λ (x : Taken). packet_by number half x) tells.2
+nothing_taken answer.TakeFault pair number half taken not_got tells = ap (λ (x : Taken). packet_by number half x) tells
+
+module _ {M S : Type 0} {g : _} (config : Config) (range : Option (ℕ × ℕ)) (pair : ℕ) (half : Half) (old mid new : Hand M S Made (Unit {0}) g) where
+  take_row : (number : ℕ) (taken : Taken) → Row
+  take_row number taken = entry (box_of config pair) number (take_made half taken) (tt {0})
+
+  -- a visit that took no datagram
+  pub visits_nothing : (result : Received) (t : Totals) → ((r : Receipt) → result ≡ answer.Got r → ⊥) → TakesOnce config pair half result old new
+      → VisitsOnce config range pair half old new t t
+  visits_nothing result t not_got takes =
+      let none : packet_by takes.number half takes.taken ≡ None = nothing_taken result pair takes.number half takes.taken not_got takes.tells in
+      let v : Visit = record { pair = pair; half = half; number = takes.number; taken = takes.taken; passing = None } in record {
+        visit = v;
+        pair_is = refl;
+        half_is = refl;
+        list_is = takes.list_is
+            ∙ ap (λ (o : Option cells.Receipt). entries old ++ entry (box_of config pair) takes.number (take_made half takes.taken) (tt {0}) ∷ relay_rows o None) (sym none);
+        passed = subst (λ (o : Option cells.Receipt). IsPassed range o None) (sym none) (tt {0});
+        counted = λ vs a. same_totals vs v t (ap is_there none) refl a;
+      }
+
+  -- a visit that took a datagram and relayed it
+  pub visits_packet : (r : Receipt) (now : ℕ) (outcome : Outcome) (s t : Totals) → TakesOnce config pair half (answer.Got r) old mid → RelaysOnce (packet_of r) now outcome mid new
+      → WhereInRange range now → CountsRelay outcome s t → VisitsOnce config range pair half old new s t
+  visits_packet r now outcome s t takes relays within counts =
+      let is : packet_by takes.number half takes.taken ≡ Some (packet_of r) = taken_packet r pair takes.number half takes.taken takes.tells in
+      let passing : Passing = record { number = relays.number; handed = now; moment = relays.moment; outcome = outcome } in
+      let v : Visit = record { pair = pair; half = half; number = takes.number; taken = takes.taken; passing = Some passing } in
+      let row : Row = entry (box_of config pair) takes.number (take_made half takes.taken) (tt {0}) in record {
+        visit = v;
+        pair_is = refl;
+        half_is = refl;
+        list_is = relays.list_is
+            ∙ ap (λ (rows : List Row). rows ++ relay_rows (Some (packet_of r)) (Some passing)) takes.list_is
+            ∙ append_assoc (entries old) (row ∷ []) (relay_rows (Some (packet_of r)) (Some passing))
+            ∙ ap (λ (o : Option cells.Receipt). entries old ++ row ∷ relay_rows o (Some passing)) (sym is);
+        passed = subst (λ (o : Option cells.Receipt). IsPassed range o (Some passing)) (sym is) within;
+        counted = λ vs a. more_totals vs v outcome s t (ap is_there is) refl refl refl counts a;
+      }

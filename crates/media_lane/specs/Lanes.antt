@@ -1,0 +1,51 @@
+-- What contracts see in a lane and in a receipt.
+use Rattle.std.specs.Prelude.{◌≡◌, ℕ, List, take}
+use Rattle.relay_outside.specs.declared.settings.Config.{Config}
+use Rattle.turn_table.specs.declared.hands.Hand.{Hand}
+use Rattle.turn_table.specs.Hands.{IsSameHand}
+use Rattle.call_cell.specs.Cells as cells
+use Rattle.call_cell.specs.Standing as standing
+use Rattle.relay_core.specs.declared.part.Part.{Part}
+use Rattle.relay_core.specs.declared.machine.Relay.{Relay}
+use Rattle.relay_core.specs.Made.{Made}
+use Rattle.relay_core.specs.Entries.{Entry}
+use Rattle.relay_core.specs.Turning.{made_by}
+use Rattle.media_lane.specs.declared.receipt.Receipt.{Receipt}
+use Rattle.media_lane.specs.declared.lane.Lane.{Lane}
+
+-- the packet of a receipt: what was taken, by which take, and for which leg
+abbrev pub packet_of : Receipt → cells.Receipt
+packet_of r = standing.receipt_of r.take r.packet r.bytes
+
+-- the pair whose box it was taken from
+abbrev pub pair_of : Receipt → ℕ
+pair_of r = r.pair
+
+module _ {I O : Type 0} {gi : _} {go : _} {gm : _} where
+  abbrev pub hand_of : Lane I O gi go gm → Hand (Relay I O) (Part I O) Made (Unit {0}) gm
+  hand_of lane = lane.hand
+
+  -- the list of its hand, as entries of the relay
+  abbrev pub list_of : Lane I O gi go gm → List Entry
+  list_of lane = made_by lane.hand
+
+  abbrev pub config_of : Lane I O gi go gm → Config
+  config_of lane = lane.config
+
+  -- the lane's number, and how many lanes there are
+  abbrev pub index_of : Lane I O gi go gm → ℕ
+  index_of lane = lane.index
+
+  abbrev pub lanes_of : Lane I O gi go gm → ℕ
+  lanes_of lane = lane.lanes
+
+  -- the bytes that its last relay sent
+  abbrev pub sent_of : Lane I O gi go gm → List ℕ
+  sent_of lane = take lane.sent lane.packet
+
+  -- the same lane of the same table
+  pub record IsSameLane (old new : Lane I O gi go gm) : Type 0 where
+    pub hand : IsSameHand (hand_of old) (hand_of new)
+    pub config_is : config_of new ≡ config_of old
+    pub index_is : index_of new ≡ index_of old
+    pub lanes_is : lanes_of new ≡ lanes_of old

@@ -1,0 +1,75 @@
+ghost use Rattle.std.specs.Prelude.{◌≡◌, ◌<◌, ◌≤◌, ◌+◌};
+ghost use Rattle.turn_table.specs.Hands.{HasNoTurn, starts};
+ghost use Rattle.media_lane.specs.Starts.{HasLaneStarts, starts_props};
+
+use relay_core::{Happening, Part, Relay};
+use relay_outside::{Config, InEnd, OutEnd};
+use turn_table::{Hand, Machine};
+
+/// What a thread relays media with: a hand of the table, and room for a datagram that is taken and for one that is sent.
+#[derive(Drop)]
+pub struct Lane<I: InEnd, O: OutEnd>
+where
+    Relay<I, O>: Machine<State = Part<I, O>, Event = Happening, Outcome = ()>,
+{
+    pub(crate) hand: Hand<Relay<I, O>>,
+    /// What the relay is run with.
+    pub(crate) config: Config,
+    /// The lane's number, from 0.
+    pub(crate) index: u32,
+    /// How many lanes there are.
+    pub(crate) lanes: u32,
+    /// Room for a datagram that is taken.
+    pub(crate) taken: [u8; 2001],
+    /// The packet of the last relay, as it was sent.
+    pub(crate) packet: [u8; 2064],
+    /// How many bytes the last relay sent.
+    pub(crate) sent: usize,
+    ghost idle: { HasNoTurn hand },
+    ghost begins: { HasLaneStarts config (starts hand) } by { Prim.hlevel starts_props },
+    ghost one_of: { index < lanes },
+    ghost within: { sent ≤ 2064 },
+}
+
+impl<I: InEnd, O: OutEnd> Lane<I, O> {
+    ghost use Rattle.std.specs.Prelude.{[]};
+    ghost use Rattle.media_lane.specs.Lanes.{hand_of, config_of, index_of, lanes_of, sent_of};
+
+    /// The lane with this number, of so many lanes, on a hand that holds no turn. The hand's table began with as many places as
+    /// the parts of the configuration, each of its kind.
+    pub fn new(hand: Hand<Relay<I, O>>, index: u32, lanes: u32, config: &Config) -> Lane<I, O>
+        requires one_of { index < lanes }
+        requires idle { HasNoTurn hand }
+        requires begins { HasLaneStarts config.now (starts hand) }
+        ensures hand { hand_of result ≡ hand }
+        ensures config { config_of result ≡ config.now }
+        ensures number { (index_of result ≡ index) × (lanes_of result ≡ lanes) }
+        ensures nothing_sent { sent_of result ≡ [] }
+    {
+        Lane {
+            hand,
+            config: *config,
+            index,
+            lanes,
+            taken: [0; 2001],
+            packet: [0; 2064],
+            sent: 0,
+        }
+    }
+
+    /// The bytes that the last relay sent: none before the first, and where the last one's outcome was not `Sent`.
+    pub fn sent_bytes(&self) -> &[u8]
+        ensures { result.now ≡ sent_of self.now }
+    {
+        &self.packet[..self.sent]
+    }
+
+    /// The lane's hand, which holds no turn.
+    pub fn into_hand(self) -> Hand<Relay<I, O>>
+        ensures hand { result ≡ hand_of self }
+        ensures idle { HasNoTurn result }
+    {
+        let Lane { hand, .. } = self;
+        hand
+    }
+}

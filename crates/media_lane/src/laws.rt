@@ -1,0 +1,9 @@
+//! What the callers of a lane know.
+ghost use Rattle.media_lane.specs.Starts.{PartsBeginLanes};
+
+use relay_outside::{InEnd, OutEnd};
+
+/// A law, and no code: the parts of a configuration are what the table of a lane of that configuration may begin as.
+pub fn parts_begin_lanes<I: InEnd, O: OutEnd>()
+    ensures { PartsBeginLanes I O }
+{}

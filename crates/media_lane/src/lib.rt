@@ -1,0 +1,27 @@
+//! A lane of media: it takes datagrams from the boxes of port pairs, and relays each in the cell of the call that held the box.
+//!
+//! A lane has a hand of the turn table, and holds one turn at a time. `receive_try` and `relay_try` never wait and take no
+//! memory: each makes one compare-exchange, and is busy exactly where another hand has the turn of that very place.
+//!
+//! Module `receipt` has what a take gave, `answers` what the calls answer, `lane` the lane, `receiving` and `relaying` its two
+//! steps, `sweeping` a round over its pairs, which may wait, `puts` the way to put each kind of turn, `laws` what callers know.
+//!
+//! `specs/Starts.antt` says what the places of a lane's table begin as, `specs/Lanes.antt` what contracts see in a lane,
+//! `specs/Receipts.antt` what a receipt of a hand's list is, `specs/Busy.antt` what a busy call does, `specs/Taking.antt` and
+//! `specs/Relaying.antt` what a take and a relay add to the list of its hand, `specs/Visits.antt` and `specs/Sweeping.antt` what a
+//! sweep adds.
+#![tactic(auto)]
+
+mod answers;
+mod lane;
+mod laws;
+mod puts;
+mod receipt;
+mod receiving;
+mod relaying;
+mod sweeping;
+
+pub use answers::{Received, Relayed, Totals};
+pub use lane::Lane;
+pub use laws::parts_begin_lanes;
+pub use receipt::Receipt;

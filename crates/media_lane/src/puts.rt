@@ -1,0 +1,57 @@
+//! One way to put a turn for each kind of event. All data of the event are arguments, so that the proof of a call can pick the event from them.
+ghost use Rattle.std.specs.Prelude.{◌≡◌, ◌+◌};
+ghost use Rattle.turn_table.specs.Hands.{IsHandOf, HasTurn, IsSameHand, EndsTurn, tries, place_of, front_of, state_of, taken_of};
+ghost use Rattle.relay_core.specs.Steps.{Relates};
+ghost use Rattle.media_lane.specs.Taking.{box_take_made};
+ghost use Rattle.media_lane.specs.Lanes.{packet_of};
+ghost use Rattle.media_lane.specs.Relaying.{relay_by};
+
+use crate::receipt::Receipt;
+use call_cell::Outcome;
+use port_pool::BoxTake;
+use relay_core::{Relay, Says, Told};
+use relay_outside::{InEnd, OutEnd};
+use rtp_packet::Half;
+use turn_table::{Hand, Turn, Turns};
+
+/// A datagram was asked of a box, which answered so.
+pub(crate) fn put_take<I: InEnd, O: OutEnd, X: Says>(
+    turns: &Turns<Relay<I, O>>,
+    hand: &mut Hand<Relay<I, O>>,
+    turn: Turn<Relay<I, O>>,
+    half: Half,
+    given: &BoxTake,
+    buf: &[u8; 2001],
+) -> u64
+    requires table { IsHandOf turns.now hand.old }
+    requires turn { HasTurn hand.old turn }
+    requires step { Relates I.told I.faults O.told O.faults (taken_of turn) (box_take_made half given.now buf.now) (state_of turn) }
+    requires said { X.made ≡ box_take_made half given.now buf.now }
+    ensures same { IsSameHand hand.old hand.new }
+    ensures tried { tries hand.new ≡ tries hand.old }
+    ensures number { result ≡ front_of turn }
+    ensures entry { EndsTurn (place_of turn) (front_of turn) (box_take_made half given.now buf.now) tt hand.old hand.new }
+{
+    turns.put::<Told<X>>(hand, turn)
+}
+
+/// A packet was relayed in a cell, handed this moment, with this outcome.
+pub(crate) fn put_relay<I: InEnd, O: OutEnd, X: Says>(
+    turns: &Turns<Relay<I, O>>,
+    hand: &mut Hand<Relay<I, O>>,
+    turn: Turn<Relay<I, O>>,
+    receipt: &Receipt,
+    now: u64,
+    outcome: Outcome,
+) -> u64
+    requires table { IsHandOf turns.now hand.old }
+    requires turn { HasTurn hand.old turn }
+    requires step { Relates I.told I.faults O.told O.faults (taken_of turn) (relay_by (taken_of turn) (packet_of receipt.now) now outcome) (state_of turn) }
+    requires said { X.made ≡ relay_by (taken_of turn) (packet_of receipt.now) now outcome }
+    ensures same { IsSameHand hand.old hand.new }
+    ensures tried { tries hand.new ≡ tries hand.old }
+    ensures number { result ≡ front_of turn }
+    ensures entry { EndsTurn (place_of turn) (front_of turn) (relay_by (taken_of turn) (packet_of receipt.now) now outcome) tt hand.old hand.new }
+{
+    turns.put::<Told<X>>(hand, turn)
+}
