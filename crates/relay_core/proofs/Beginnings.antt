@@ -1,5 +1,5 @@
 -- Parts that are added one after the other.
-use Rattle.std.proofs.Common.{◌≡◌, refl, sym, ◌∙◌, ap, ℕ, zero, suc, ◌+◌, not, List, [], ◌∷◌, ◌++◌, length, filter, append_assoc, length-append, arith}
+use Rattle.std.proofs.Common.{◌≡◌, refl, sym, ◌∙◌, ap, ℕ, zero, suc, ◌+◌, not, List, [], ◌∷◌, ◌++◌, length, filter, append_assoc, length-append}
 use Rattle.histories.specs.Words.{has, numbers}
 use Rattle.port_pool.specs.Ports.{pair_count}
 use Rattle.call_board.specs.declared.board.Board as board

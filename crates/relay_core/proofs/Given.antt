@@ -1,5 +1,5 @@
 -- What is known of the state that a turn gives.
-use Rattle.std.proofs.Common.{◌≡◌, refl, sym, ◌∙◌, ap, subst, ℕ, zero, suc, ◌+◌, ◌<◌, ◌≤◌, ◌⊎◌, inl, inr, Bool, true, false, cond, List, [], ◌∷◌, ◌++◌, Option, Some, None, map, filter, length, ◌==◌, arith, slice_get}
+use Rattle.std.proofs.Common.{◌≡◌, refl, sym, ◌∙◌, ap, subst, ℕ, zero, suc, ◌<◌, ◌≤◌, ◌⊎◌, inl, inr, Bool, true, false, cond, List, [], ◌∷◌, ◌++◌, Option, Some, None, map, filter, length, ◌==◌, arith, slice_get}
 use Rattle.std.specs.List.{filter_map, cons_option}
 use Rattle.std.proofs.Math.Seq.{take-length}
 use Rattle.relay_outside.specs.declared.ports.InCall.{InCall}
@@ -9,22 +9,21 @@ use Rattle.turn_table.specs.declared.machine.Entry as table
 use Rattle.turn_table.specs.declared.view.View.{View}
 use Rattle.turn_table.specs.Steps.{Given}
 use Rattle.histories.specs.Words.{In, first}
-use Rattle.port_pool.specs.Ports.{pair_count}
 use Rattle.port_pool.specs.declared.holder.Holder.{Holder}
 use Rattle.port_pool.specs.Signals.{NewKey}
 use Rattle.port_pool.specs.Boxes.{BoxEvent, Open, Take, Close, holder}
-use Rattle.call_cell.specs.Cells.{CellEvent, CellEntry, Prepare, Commit, Relay, Expire, Read, End, keys_of, keys_in, key_numbered}
-use Rattle.call_cell.specs.Good.{FittingCell, empty}
+use Rattle.call_cell.specs.Cells.{CellEvent, CellEntry, Prepare, Commit, Relay, Expire, Read, End, keys_in, key_numbered}
+use Rattle.call_cell.specs.Good.{empty}
 use Rattle.call_board.specs.Acts.{BoardEntry}
 use Rattle.call_board.specs.Boards.{BoardFor}
 use Rattle.call_board.specs.Fits.{IsFitting}
 use Rattle.relay_core.specs.declared.part.Part.{Part}
 use Rattle.relay_core.specs.declared.part.Part.TheVariants as part
-use Rattle.relay_core.specs.Entries.{Event, Board, Cell, Box, Entry, is_nested_cell, is_at, history, board_at, cell_at, box_in, board_entry, cell_entry, box_event, board_history, cell_history, box_history}
-use Rattle.relay_core.specs.Made.{Made, entry_of, list_of, told_cell}
+use Rattle.relay_core.specs.Entries.{Event, Board, Cell, Box, Entry, is_at, history, board_at, cell_at, box_in, board_entry, cell_entry, box_event, board_history, cell_history, box_history}
+use Rattle.relay_core.specs.Made.{Made, list_of}
 use Rattle.relay_core.specs.Steps.{is_reserved, IsReserved}
 use Rattle.relay_core.specs.Beginning.{AreParts, AreCells, AreBoxes, IsCell, IsBox, BeginsAs}
-use Rattle.relay_core.specs.Standing.{told_entry, FittingBox, CellStands, BringsNewKeys, Stands, IsBoardPart, IsCellPart, IsBoxPart, nested_of, BoardIs, BoxIs, CellIs}
+use Rattle.relay_core.specs.Standing.{told_entry, BringsNewKeys, Stands, IsBoardPart, IsCellPart, IsBoxPart, nested_of, BoardIs, BoxIs, CellIs}
 use Rattle.relay_core.proofs.Stays.{onto, Steps, stands_onto, board_stays, cell_stays, box_stays}
 use Rattle.relay_core.proofs.Own.{IsOwn, own_history}
 

@@ -1,6 +1,5 @@
 -- What the main hand knows of a place by its own list: all steps of the place but takes and relays are in it.
-use Rattle.std.proofs.Common.{◌≡◌, refl, sym, ◌∙◌, ap, subst, ℕ, zero, suc, ◌<◌, ◌≤◌, ◌⊎◌, inl, inr, Bool, true, false, cond, List, [], ◌∷◌, ◌++◌, Option, Some, None, map, filter, length, arith, slice_get, take, get_or}
-use Rattle.std.specs.List.{filter_map, cons_option}
+use Rattle.std.proofs.Common.{◌≡◌, refl, sym, ◌∙◌, ap, subst, ℕ, zero, suc, ◌<◌, ◌≤◌, ◌⊎◌, inl, inr, Bool, true, false, cond, List, [], ◌∷◌, ◌++◌, Option, Some, None, filter, length, arith, slice_get, take, get_or}
 use Rattle.std.proofs.Math.Seq.{take-suc}
 use Rattle.std.proofs.lemmas.Option.{slice_get_cases}
 use Rattle.turn_table.specs.declared.machine.Entry as table
@@ -8,15 +7,8 @@ use Rattle.turn_table.specs.Histories.{Named}
 use Rattle.turn_table.specs.Histories as table_lists
 use Rattle.histories.specs.Words.{In, here, there}
 use Rattle.histories.proofs.Lists.{keeps}
-use Rattle.port_pool.specs.declared.holder.Holder.{Holder}
-use Rattle.port_pool.specs.Signals.{NewKey}
-use Rattle.port_pool.specs.Boxes.{BoxEvent, Open, Take, Close, holder}
-use Rattle.call_cell.specs.Cells.{CellEvent, CellEntry, Prepare, Commit, Relay, Expire, Read, End, keys_of, keys_in, key_numbered}
-use Rattle.call_board.specs.Acts.{BoardEntry}
-use Rattle.relay_core.specs.Entries.{Event, Board, Cell, Box, Entry, is_nested_cell, is_at, history, board_at, cell_at, box_in, board_entry, cell_entry, box_event, board_history, cell_history, box_history}
+use Rattle.relay_core.specs.Entries.{Entry, is_at, history}
 use Rattle.relay_core.specs.Made.{Made, entry_of, list_of}
-use Rattle.relay_core.specs.Steps.{is_reserved}
-use Rattle.relay_core.specs.Standing.{BringsNewKeys}
 use Rattle.relay_core.proofs.Histories.{same_at, is_there, Step, nothing, single, step}
 use Rattle.relay_core.proofs.Turns.{filter_append}
 use Rattle.relay_core.proofs.Stays.{onto}

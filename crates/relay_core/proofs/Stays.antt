@@ -1,20 +1,20 @@
 -- Each state of a place stands for what is recorded of the place.
-use Rattle.std.proofs.Common.{◌≡◌, ◌≢◌, refl, sym, ◌∙◌, ap, subst, ℕ, ◌+◌, ◌<◌, ◌≤◌, ◌==◌, Bool, true, false, cond, List, [], ◌∷◌, ◌++◌, Option, Some, None, map, filter, length, arith, slice_get, take}
+use Rattle.std.proofs.Common.{◌≡◌, refl, sym, ◌∙◌, ap, subst, ℕ, ◌==◌, List, [], ◌∷◌, ◌++◌, Option, Some, None, map, filter}
 use Rattle.std.specs.List.{filter_map, cons_option}
 use Rattle.relay_outside.specs.declared.ports.InCall.{InCall}
 use Rattle.relay_outside.specs.declared.ports.OutCall.{OutCall}
 use Rattle.relay_outside.specs.declared.settings.Config.{Config}
 use Rattle.turn_table.specs.declared.machine.Entry as table
 use Rattle.turn_table.specs.Histories.{Leaves}
-use Rattle.histories.specs.Words.{In, until, first}
+use Rattle.histories.specs.Words.{In, first}
 use Rattle.port_pool.specs.declared.boxes.PairBox.{PairBox}
 use Rattle.port_pool.specs.declared.holder.Holder.{Holder}
 use Rattle.port_pool.specs.Signals.{NewKey}
 use Rattle.port_pool.specs.Boxes.{BoxEvent}
 use Rattle.port_pool.specs.PairBoxes.{BoxFor, cells_of}
 use Rattle.call_cell.specs.declared.cell.Cell as cell
-use Rattle.call_cell.specs.Cells.{CellEvent, CellEntry, Prepare, Commit, Relay, Expire, Read, End, is_end, ends, since_end, keys_of, keys_in, key_numbered}
-use Rattle.call_cell.specs.Good.{FittingCell, empty, longer}
+use Rattle.call_cell.specs.Cells.{CellEvent, CellEntry, Prepare, Commit, Relay, Expire, Read, End, since_end, keys_of, keys_in, key_numbered}
+use Rattle.call_cell.specs.Good.{FittingCell, longer}
 use Rattle.call_cell.specs.declared.outcome.Outcome.{Outcome}
 use Rattle.call_cell.specs.Cells.{Relayed}
 use Rattle.call_cell.specs.Deeds.{deed}
@@ -22,7 +22,6 @@ use Rattle.call_cell.specs.Asked.{FitsCell}
 use Rattle.call_cell.specs.Standing.{sent_ok}
 use Rattle.call_cell.specs.Preparing.{added}
 use Rattle.call_cell.specs.CellStanding.{CellFor, relayed_at}
-use Rattle.call_cell.specs.CellStanding as cells
 use Rattle.call_board.specs.declared.board.Board as board
 use Rattle.call_board.specs.Acts.{BoardEntry}
 use Rattle.call_board.specs.Boards.{BoardFor}
@@ -32,7 +31,7 @@ use Rattle.relay_core.specs.declared.part.Part.{Part}
 use Rattle.relay_core.specs.declared.part.Part.TheVariants as part
 use Rattle.relay_core.specs.Entries.{Event, Board, Cell, Box, Entry, board_at, cell_at, box_in, board_entry, cell_entry, box_event}
 use Rattle.relay_core.specs.Made.{Made, entry_of, told_cell, told_relay}
-use Rattle.relay_core.specs.Steps.{BoardStep, BoardSteps, board_made, BoxSteps, CellStepsBy, CellSteps, CellRelayed, Relates, AreNew}
+use Rattle.relay_core.specs.Steps.{BoardStep, BoardSteps, BoxSteps, CellStepsBy, CellSteps, Relates, AreNew}
 use Rattle.relay_core.specs.Standing.{told_entry, FittingBox, CellStands, BringsNewKeys, Stands, IsBoardPart, IsCellPart, IsBoxPart}
 
 -- The keys that were brought.

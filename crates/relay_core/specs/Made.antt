@@ -1,11 +1,10 @@
 -- What the table of places records of a step, and the lists of entries that hands make.
-use Rattle.std.specs.Prelude.{ℕ, Bool, true, false, ◌||◌, max, List, [], ◌∷◌, None, map, if◌then◌else◌}
+use Rattle.std.specs.Prelude.{ℕ, ◌||◌, max, List, None, map, if◌then◌else◌}
 use Rattle.turn_table.specs.declared.machine.Entry as table
 use Rattle.call_cell.specs.declared.outcome.Outcome.{Outcome}
 use Rattle.call_cell.specs.Cells.{CellEvent, Relay, Receipt, Relayed, Deed}
 use Rattle.call_cell.specs.Standing.{sent_ok}
-use Rattle.port_pool.specs.Boxes.{BoxEvent, Take}
-use Rattle.relay_core.specs.Entries.{Event, Board, Cell, Box, Entry}
+use Rattle.relay_core.specs.Entries.{Event, Cell, Entry}
 use Rattle.relay_core.specs.Legal.{is_handed_own, is_handed_boards}
 
 -- A step as the table records it: the moment that it was handed, its moment, the number of the board entry that it belongs to, and

@@ -1,5 +1,5 @@
 -- For which history of its place a state stands.
-use Rattle.std.specs.Prelude.{◌≡◌, ℕ, List, [], ◌∷◌, map, filter, filter_map, Option, None}
+use Rattle.std.specs.Prelude.{◌≡◌, ℕ, List, [], ◌∷◌, map, filter, filter_map, Option}
 use Rattle.relay_outside.specs.declared.settings.Config.{Config}
 use Rattle.port_pool.specs.Boxes.{BoxEvent, FitsBox}
 use Rattle.port_pool.specs.PairBoxes.{BoxFor, cells_of, holder_in}

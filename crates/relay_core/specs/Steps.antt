@@ -1,6 +1,6 @@
 -- Which steps of the board, the cells and the boxes their events are: what the calls of each say, for every history that the old
 -- state stands for.
-use Rattle.std.specs.Prelude.{◌≡◌, ℕ, Bool, true, List, [], ◌∷◌, Option, Some, None}
+use Rattle.std.specs.Prelude.{◌≡◌, ℕ, Bool, true, List, ◌∷◌, Option, Some, None}
 use Rattle.relay_outside.specs.declared.ports.InCall.{InCall}
 use Rattle.relay_outside.specs.declared.ports.OutCall.{OutCall}
 use Rattle.relay_outside.specs.declared.settings.Config.{Config}
@@ -17,7 +17,6 @@ use Rattle.port_pool.specs.Taking.{EndsTaken}
 use Rattle.call_cell.specs.declared.prepare.Prepare as prepared
 use Rattle.call_cell.specs.declared.cell.Cell as cell
 use Rattle.call_cell.specs.Cells.{CellEvent, CellEntry, Prepare, Commit, Relay, Expire, Read, End, Relayed, since_end, key_numbered}
-use Rattle.call_cell.specs.Asked.{FitsCell}
 use Rattle.call_cell.specs.CellStanding.{CellFor, CellRelays}
 use Rattle.call_cell.specs.CellStanding as cells
 use Rattle.call_cell.specs.Preparing.{CellPrepares, added}
