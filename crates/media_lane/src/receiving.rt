@@ -22,7 +22,7 @@ use std::marker::Brand;
 use turn_table::Turns;
 
 /// Takes from a box.
-fn take_from<I: InEnd, O: OutEnd>(
+pub(crate) fn take_from<I: InEnd, O: OutEnd>(
     part: &mut Part<I, O>,
     half: Half,
     buf: &mut [u8; 2001],

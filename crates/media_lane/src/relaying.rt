@@ -19,7 +19,7 @@ use std::marker::Brand;
 use turn_table::Turns;
 
 /// Relays a packet in a cell, by way of the buffer.
-fn relay_in<I: InEnd, O: OutEnd>(
+pub(crate) fn relay_in<I: InEnd, O: OutEnd>(
     part: &mut Part<I, O>,
     receipt: &Receipt,
     buf: &mut [u8; 2064],

@@ -1,0 +1,13 @@
+use Rattle.std.proofs.Common.{sym, subst, rules}
+use Rattle.media_lane.specs.Starts.{HasLaneStarts}
+use Rattle.media_lane.specs.declared.tests.TheConstants.{CONFIG}
+use Rattle.media_lane.proofs.Places.{parts_begin}
+use Rattle.media_lane.proofs.tests.begin_closed.Goals as goal
+
+pub returns : goal.returns
+returns c = (
+  search rules,
+  search rules,
+  search rules,
+  subst (HasLaneStarts CONFIG) (sym c.in_ok-start.ensures.1.0) (parts_begin CONFIG c.in_ok-states.states.items c.in_ok-states.ensures),
+)

@@ -1,0 +1,10 @@
+use Rattle.std.proofs.Common.{sym, subst, arith}
+use Rattle.media_lane.specs.Starts.{IsPair}
+use Rattle.media_lane.specs.declared.tests.TheConstants.{CONFIG}
+use Rattle.media_lane.proofs.Places.{gives_box, is_pair}
+use Rattle.media_lane.proofs.tests.receive_beside.Goals as goal
+
+pub take_from-given-requires : goal.take_from-given-requires
+take_from-given-requires g c =
+    subst IsPair (sym c.state.ensures.value)
+    (is_pair 1 _ (gives_box g.I.InEnd.told g.I.InEnd.faults g.O.OutEnd.told g.O.OutEnd.faults CONFIG _ _ _ _ c.requires.begins.0 (omega arith) c.turn-turn.ensures.turn.1))

@@ -1,0 +1,298 @@
+ghost use Rattle.std.specs.Prelude.{◌≡◌, IfOk};
+ghost use Rattle.turn_table.specs.Hands.{IsHandOf, HasNoTurn, IsSameHand, starts, parts};
+ghost use Rattle.media_lane.specs.Starts.{HasCells, HasLaneStarts};
+ghost use Rattle.media_lane.specs.Lanes.{hand_of, list_of, config_of, sent_of, packet_of, pair_of, IsSameLane};
+ghost use Rattle.media_lane.specs.Receipts.{IsReceiptOf};
+ghost use Rattle.media_lane.specs.Relaying.{RelaysBy};
+
+use crate::puts::{put_relay, put_take};
+use crate::receiving::take_from;
+use crate::relaying::relay_in;
+use crate::{Lane, Receipt, Received, Relayed, Totals};
+use call_board::Board;
+use call_cell::{Cell, Incoming, Outcome, Refused};
+use port_pool::{Holder, PairBox, Side};
+use relay_core::{Part, Relay};
+use relay_outside::{
+    Addr, Arrivals, Config, HandClock, InEnd, Ip, OpenGate, OutEnd, Packet, PortMaker, SteadyIn,
+    SteadyMaker, SteadyOut,
+};
+use rtp_packet::Half;
+use std::alloc::Global;
+use std::marker::Brand;
+use std::sync::Wait;
+use std::test::Fail;
+use turn_table::{Hand, Turns};
+
+// One call and one pair: place 0 is the board, place 1 the call's cell, place 2 the pair's box.
+const CONFIG: Config = Config {
+    interface: Ip::V4([192, 0, 2, 1]),
+    interface6: None,
+    port_min: 30_000,
+    port_max: 30_001,
+    timeout_ms: 60_000,
+    offer_timeout_ms: 120_000,
+    max_sessions: 1,
+};
+
+const HOLDER: Holder = Holder {
+    cell: 1,
+    call: 7,
+    section: 0,
+    side: Side::A,
+    pair: 0,
+    generation: 1,
+};
+
+const AT: Addr = Addr {
+    ip: Ip::V4([192, 0, 2, 1]),
+    port: 30_000,
+};
+
+const SOURCE: Addr = Addr {
+    ip: Ip::V4([192, 0, 2, 10]),
+    port: 6000,
+};
+
+// An in end that gives so many datagrams of three bytes.
+fn in_end(alloc: Global, count: usize) -> Result<SteadyIn, Fail> {
+    let mut packets = Vec::new(alloc);
+    for _ in 0..count {
+        packets.push(Packet::datagram(alloc, SOURCE, &[1, 2, 3])?)?;
+    }
+    let arrivals = Vec::from_array(alloc, [Arrivals::new(AT, packets)])?;
+    let mut maker = SteadyMaker::new(alloc, arrivals);
+    let (receiving, _) = maker.open(AT)?;
+    Ok(receiving)
+}
+
+// A box that is held by the leg, whose port for RTP gives so many datagrams.
+fn held_box(alloc: Global, count: usize) -> Result<PairBox<SteadyIn>, Fail>
+    ensures { IfOk result (λ held. HasCells 1 held) }
+{
+    let rtp = in_end(alloc, count)?;
+    let rtcp = in_end(alloc, 0)?;
+    let mut held = PairBox::empty(1);
+    held.put_in(HOLDER, rtp, rtcp);
+    Ok(held)
+}
+
+// A table whose box gives so many datagrams, and whose cell has no call.
+fn begin(
+    alloc: Global,
+    count: usize,
+) -> Result<
+    (
+        Turns<Relay<SteadyIn, SteadyOut>>,
+        Hand<Relay<SteadyIn, SteadyOut>>,
+    ),
+    Fail,
+>
+    ensures { IfOk result (λ r. IsHandOf r.0 r.1 × HasNoTurn r.1 × (parts r.1 ≡ 1024) × HasLaneStarts CONFIG (starts r.1)) }
+{
+    let board = Part::Board(Board::new(alloc, &CONFIG)?);
+    let cell = Part::Cell(Cell::empty(alloc, &CONFIG));
+    let held = Part::Pair(held_box(alloc, count)?);
+    let states = Vec::from_array(alloc, [board, cell, held])?;
+    Ok(Turns::start(alloc, states)?)
+}
+
+fn is_nothing(received: Received) -> bool {
+    match received {
+        Received::Nothing => true,
+        _ => false,
+    }
+}
+
+#[test]
+#[tactic(auto, unfolding(port_pool::specs::Ports::pair_count))]
+fn a_packet_is_received_and_relayed_in_the_cell_of_its_leg(rt: HostRuntime) -> Result<(), Fail> {
+    let (turns, hand) = begin(rt.alloc(), 1)?;
+    let mut lane = Lane::new(hand, 0, 1, &CONFIG);
+    let Received::Got(receipt) = lane.receive_try(&turns, 0, Half::Rtp) else {
+        panic!(rt; "a datagram is there");
+    };
+    let outcome = match lane.relay_try(&turns, &OpenGate::new(), receipt, 5) {
+        Relayed::Done(outcome) => Some(outcome),
+        Relayed::Busy { .. } => None,
+    };
+    let is_empty = lane.sent_bytes().is_empty();
+    let rtp = lane.receive_try(&turns, 0, Half::Rtp);
+    let rtcp = lane.receive_try(&turns, 0, Half::Rtcp);
+    drop(turns.close(lane.into_hand()));
+    assert!(rt;
+        outcome == Some(Outcome::Refused(Refused::Stale)),
+        "the cell has no call"
+    );
+    assert!(rt; is_empty, "nothing was sent");
+    assert!(rt; is_nothing(rtp) && is_nothing(rtcp), "it was the only one");
+    Ok(())
+}
+
+#[test]
+#[tactic(auto, unfolding(port_pool::specs::Ports::pair_count))]
+fn a_closed_box_has_nothing(rt: HostRuntime) -> Result<(), Fail> {
+    let (turns, hand) = begin_closed(rt.alloc())?;
+    let mut lane = Lane::new(hand, 0, 1, &CONFIG);
+    assert!(rt;
+        is_nothing(lane.receive_try(&turns, 0, Half::Rtp)),
+        "the box is closed"
+    );
+    drop(turns.close(lane.into_hand()));
+    Ok(())
+}
+
+// A table before its first step.
+fn begin_closed(
+    alloc: Global,
+) -> Result<
+    (
+        Turns<Relay<SteadyIn, SteadyOut>>,
+        Hand<Relay<SteadyIn, SteadyOut>>,
+    ),
+    Fail,
+>
+    ensures { IfOk result (λ r. IsHandOf r.0 r.1 × HasNoTurn r.1 × (parts r.1 ≡ 1024) × HasLaneStarts CONFIG (starts r.1)) }
+{
+    let states = relay_core::parts(alloc, &CONFIG)?;
+    Ok(Turns::start(alloc, states)?)
+}
+
+// What a lane receives while another hand has the turn of the pair's box, which that hand ends by a take.
+#[tactic(auto, unfolding(port_pool::specs::Ports::pair_count))]
+fn receive_beside<I: InEnd, O: OutEnd, R: Wait>(
+    rt: &R,
+    turns: &Turns<Relay<I, O>>,
+    hand: &mut Hand<Relay<I, O>>,
+    lane: &mut Lane<I, O>,
+) -> Received
+    requires tables { IsHandOf turns.now hand.old × IsHandOf turns.now (hand_of lane.old) }
+    requires idle { HasNoTurn hand.old }
+    requires begins { HasLaneStarts CONFIG (starts hand.old) × (config_of lane.old ≡ CONFIG) }
+    ensures same { IsSameHand hand.old hand.new × IsSameLane lane.old lane.new }
+    ensures over { HasNoTurn hand.new }
+{
+    let mut turn = turns.turn(rt, hand, 2);
+    let received = lane.receive_try(turns, 0, Half::Rtp);
+    let mut buf = [0; 2001];
+    let given = take_from(turn.state(), Half::Rtcp, &mut buf);
+    put_take::<I, O, Brand>(turns, hand, turn, Half::Rtcp, &given, &buf);
+    received
+}
+
+#[test]
+#[tactic(auto, unfolding(port_pool::specs::Ports::pair_count))]
+fn a_box_is_busy_while_another_hand_has_its_turn(rt: HostRuntime) -> Result<(), Fail> {
+    let (turns, mut main) = begin(rt.alloc(), 1)?;
+    let mut lane = Lane::new(turns.split_hand(&mut main), 0, 1, &CONFIG);
+    let front = match receive_beside(&rt, &turns, &mut main, &mut lane) {
+        Received::Busy { front } => Some(front),
+        _ => None,
+    };
+    assert!(rt; front == Some(0), "the box had made no event");
+    let Received::Got(receipt) = lane.receive_try(&turns, 0, Half::Rtp) else {
+        panic!(rt; "nothing was taken meanwhile");
+    };
+    let number = receipt.take;
+    turns.join_hand(&mut main, lane.into_hand());
+    drop(turns.close(main));
+    assert!(rt; number == 1, "it was the box's second event");
+    Ok(())
+}
+
+// What becomes of a receipt while another hand has the turn of its cell, which that hand ends by the relay of a packet of no call.
+fn relay_beside<I: InEnd, O: OutEnd, R: Wait>(
+    rt: &R,
+    turns: &Turns<Relay<I, O>>,
+    hand: &mut Hand<Relay<I, O>>,
+    lane: &mut Lane<I, O>,
+    receipt: Receipt,
+) -> Relayed
+    requires tables { IsHandOf turns.now hand.old × IsHandOf turns.now (hand_of lane.old) }
+    requires idle { HasNoTurn hand.old }
+    requires begins { HasLaneStarts CONFIG (starts hand.old) }
+    requires receipt { IsReceiptOf (config_of lane.old) (list_of lane.old) (pair_of receipt) (packet_of receipt) }
+    ensures same { IsSameHand hand.old hand.new × IsSameLane lane.old lane.new }
+    ensures over { HasNoTurn hand.new }
+    ensures relayed { RelaysBy I.told I.faults O.told O.faults receipt 5 result (sent_of lane.old) (sent_of lane.new) (hand_of lane.old) (hand_of lane.new) }
+{
+    let mut turn = turns.turn(rt, hand, 1);
+    let relayed = lane.relay_try(turns, &OpenGate::new(), receipt, 5);
+    let packet = Incoming {
+        holder: HOLDER,
+        half: Half::Rtcp,
+        source: SOURCE,
+        len: 0,
+    };
+    let other = Receipt {
+        pair: 0,
+        take: 9,
+        packet,
+        bytes: [0; 2001],
+    };
+    let mut buf = [0; 2064];
+    let outcome = relay_in(turn.state(), &other, &mut buf, 3);
+    put_relay::<I, O, Brand>(turns, hand, turn, &other, 3, outcome);
+    relayed
+}
+
+#[test]
+#[tactic(auto, unfolding(port_pool::specs::Ports::pair_count))]
+fn a_receipt_comes_back_while_another_hand_has_the_turn_of_its_cell(
+    rt: HostRuntime,
+) -> Result<(), Fail> {
+    let (turns, mut main) = begin(rt.alloc(), 1)?;
+    let mut lane = Lane::new(turns.split_hand(&mut main), 0, 1, &CONFIG);
+    let Received::Got(receipt) = lane.receive_try(&turns, 0, Half::Rtp) else {
+        panic!(rt; "a datagram is there");
+    };
+    let Relayed::Busy { front, receipt } = relay_beside(&rt, &turns, &mut main, &mut lane, receipt)
+    else {
+        panic!(rt; "the cell is busy");
+    };
+    assert!(rt; front == 0, "the cell had made no event");
+    let done = match lane.relay_try(&turns, &OpenGate::new(), receipt, 5) {
+        Relayed::Done(outcome) => Some(outcome),
+        Relayed::Busy { .. } => None,
+    };
+    turns.join_hand(&mut main, lane.into_hand());
+    drop(turns.close(main));
+    assert!(rt;
+        done == Some(Outcome::Refused(Refused::Stale)),
+        "the cell has no call"
+    );
+    Ok(())
+}
+
+#[test]
+#[tactic(auto, unfolding(port_pool::specs::Ports::pair_count))]
+fn a_sweep_takes_once_of_each_half(rt: HostRuntime) -> Result<(), Fail> {
+    let (turns, mut main) = begin(rt.alloc(), 2)?;
+    let other = turns.split_hand(&mut main);
+    let mut lane = Lane::new(main, 0, 2, &CONFIG);
+    let mut beside = Lane::new(other, 1, 2, &CONFIG);
+    let clock = HandClock::new(5);
+    let none = beside.sweep(&rt, &turns, &OpenGate::new(), &clock);
+    let first = lane.sweep(&rt, &turns, &OpenGate::new(), &clock);
+    let second = lane.sweep(&rt, &turns, &OpenGate::new(), &clock);
+    let third = lane.sweep(&rt, &turns, &OpenGate::new(), &clock);
+    let mut main = lane.into_hand();
+    turns.join_hand(&mut main, beside.into_hand());
+    drop(turns.close(main));
+    let nothing = Totals {
+        taken: 0,
+        sent: 0,
+        refused: 0,
+        lost: 0,
+    };
+    let one = Totals {
+        taken: 1,
+        sent: 0,
+        refused: 1,
+        lost: 0,
+    };
+    assert!(rt; none == nothing, "the one pair is the other lane's");
+    assert!(rt; first == one && second == one, "one datagram a sweep");
+    assert!(rt; third == nothing, "nothing is left");
+    Ok(())
+}
