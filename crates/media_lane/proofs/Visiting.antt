@@ -14,6 +14,7 @@ use Rattle.call_cell.specs.declared.outcome.Outcome.{Outcome}
 use Rattle.call_cell.specs.Cells as cells
 use Rattle.relay_core.specs.Entries.{Entry, box_of}
 use Rattle.relay_core.specs.Made.{Made, entry_of, list_of}
+use Rattle.relay_core.specs.Joining.{TakesOwnPairs}
 use Rattle.relay_core.specs.Turning.{made_by}
 use Rattle.relay_core.proofs.Turns.{filter_append}
 use Rattle.media_lane.specs.declared.receipt.Receipt.{Receipt}
@@ -21,7 +22,7 @@ use Rattle.media_lane.specs.declared.answers.Received.{Received}
 use Rattle.media_lane.specs.declared.answers.Received.TheVariants as answer
 use Rattle.media_lane.specs.declared.answers.Totals.{Totals}
 use Rattle.media_lane.specs.Lanes.{packet_of}
-use Rattle.media_lane.specs.Receipts.{TakesOwnPairs, KeepsList}
+use Rattle.media_lane.specs.Receipts.{KeepsList}
 use Rattle.media_lane.specs.Taking.{take_made, IsOfTake, Tells}
 use Rattle.media_lane.specs.Visits.{Row, Visit, Passing, packet_by, relay_rows, rows_of, IsPassed, has_packet, is_there, ends_so, ends_with, is_sent, is_refused, is_lost, count, one_more, AreTotals, CountsRelay}
 use Rattle.media_lane.specs.Sweeping.{TakesOnce, RelaysOnce, VisitsOnce}

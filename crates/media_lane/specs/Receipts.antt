@@ -1,29 +1,22 @@
 -- What a receipt is of, by the list of entries of the hand that has it.
 use Rattle.std.specs.Prelude.{◌≡◌, ◌≤◌, ℕ, List}
-use Rattle.relay_outside.specs.declared.address.Addr.{Addr}
 use Rattle.relay_outside.specs.declared.settings.Config.{Config}
-use Rattle.rtp_packet.specs.declared.head.Half.{Half}
 use Rattle.histories.specs.Words.{In}
-use Rattle.port_pool.specs.declared.holder.Holder.{Holder}
 use Rattle.port_pool.specs.Boxes.{Take, Datagram}
 use Rattle.call_cell.specs.Cells.{Receipt, Relay, Relayed}
 use Rattle.relay_core.specs.Entries.{Cell, Box, Entry, box_of}
+use Rattle.relay_core.specs.Joining.{TakesOwnPairs}
 use Rattle.relay_core.specs.Legal.{Orderly}
 use Rattle.relay_core.specs.Turning.{Numbered, IsReceiving}
-
--- Each take of the list gave its datagram to a leg that holds the pair of its own box. So it is in each list whose boxes are opened
--- by the board's entries for the pairs that they lease. A lane sees no opening: it takes this as a premise.
-abbrev pub TakesOwnPairs : Config → List Entry → Type 0
-TakesOwnPairs config l =
-    (e : Entry) (half : Half) (holder : Holder) (source : Addr) (bytes : List ℕ) → In e l → e.event ≡ Box (Take half (Datagram holder source bytes))
-    → e.place ≡ box_of config holder.pair
 
 -- no relay of the list names the take of this packet
 abbrev pub IsUnspent : List Entry → Receipt → Type 0
 IsUnspent l p =
     (e : Entry) (x : Relayed) → In e l → e.event ≡ Cell (Relay x) → x.packet.holder.pair ≡ p.holder.pair → x.packet.take ≡ p.take → ⊥
 
--- The packet was taken at the box of this pair, by an entry of the list, and isn't relayed yet.
+-- The packet was taken at the box of this pair, by an entry of the list, and isn't relayed yet. That takes are of their own boxes'
+-- pairs is so in each list whose boxes are opened by the board's entries for the pairs that they lease. A lane sees no opening:
+-- it takes this as a premise.
 pub record IsReceiptOf (config : Config) (l : List Entry) (pair : ℕ) (p : Receipt) : Type 0 where
   pub taking : Entry
   pub is_there : In taking l

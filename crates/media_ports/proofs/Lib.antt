@@ -4,4 +4,3 @@ pub mod Closed
 pub mod Apart
 pub mod Leased
 pub mod UpTo
-pub mod Held
