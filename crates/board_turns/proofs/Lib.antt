@@ -1,0 +1,3 @@
+pub mod Lefts
+pub mod Closed
+pub mod Ended
