@@ -1,3 +1,4 @@
 pub mod Lefts
 pub mod Closed
 pub mod Ended
+pub mod Next
