@@ -1,35 +1,30 @@
 -- Legs that are closed one after the other.
-use Rattle.std.proofs.Common.{◌≡◌, ◌∙◌, refl, sym, ap, subst, ℕ, ◌+◌, ◌<◌, ◌≤◌, Bool, true, false, cond, not, ◌==◌, List, [], ◌∷◌, ◌++◌, Option, Some, None, map, append-nil, append_assoc, arith, IsSome}
+use Rattle.std.proofs.Common.{◌≡◌, ◌∙◌, refl, sym, ap, subst, ℕ, Bool, true, false, cond, not, ◌==◌, List, [], ◌∷◌, ◌++◌, Option, map, append-nil, arith, IsSome}
 use Rattle.std.specs.Prelude.{◌&&◌}
 use Rattle.std.proofs.lemmas.List.{map-append}
 use Rattle.std.specs.List.{filter_map}
 use Rattle.relay_outside.specs.declared.address.Ip.{Ip}
-use Rattle.relay_outside.specs.declared.ports.InCall.{InCall}
 use Rattle.relay_outside.specs.declared.ports.OutCall.{OutCall}
 use Rattle.relay_outside.specs.declared.ports.PortCall.{PortCall}
-use Rattle.relay_outside.specs.declared.ports.PortCall.TheVariants.{Close}
 use Rattle.relay_outside.specs.declared.settings.Config.{Config}
 use Rattle.relay_outside.specs.Told.{WhereTold}
 use Rattle.turn_table.specs.declared.hands.Hand.{Hand}
 use Rattle.turn_table.specs.declared.machine.Entry as table
 use Rattle.turn_table.specs.Hands.{entries}
 use Rattle.histories.specs.Words.{In, here, there, has}
-use Rattle.histories.proofs.Lists.{in_left, in_append, maps, equal_if, it_has}
+use Rattle.histories.proofs.Lists.{in_left, maps, equal_if, it_has}
 use Rattle.port_pool.specs.Boxes.{holder}
-use Rattle.port_pool.specs.Ports.{pair_count, pair_port, first_port}
 use Rattle.port_pool.specs.declared.pairs.Lease.{Lease}
 use Rattle.call_board.specs.declared.board.Board.{Board}
 use Rattle.call_board.specs.Views.{View, with_returned}
-use Rattle.call_board.specs.Boards.{Shows, IsOut, pairs_in}
-use Rattle.call_board.specs.Returns.{MayReturnAll}
-use Rattle.call_board.proofs.Outs.{returns_out, returns_next}
-use Rattle.relay_core.specs.Entries.{Entry, history, box_event, box_history, box_of}
+use Rattle.call_board.specs.Boards.{Shows, pairs_in}
+use Rattle.call_board.proofs.Outs.{returns_next}
+use Rattle.relay_core.specs.Entries.{Entry, box_event, box_of}
 use Rattle.relay_core.specs.Scripts.{Owed, owed_by}
 use Rattle.relay_core.specs.Made.{Made, entry_of, list_of}
-use Rattle.relay_core.specs.Turning.{IsAbove, GainsNested, made_by}
+use Rattle.relay_core.specs.Turning.{GainsNested, made_by}
 use Rattle.relay_core.proofs.Gains.{gained_nothing}
 use Rattle.relay_core.proofs.Shut.{same_history}
-use Rattle.media_ports.specs.Addresses.{port_at, HavePorts}
 use Rattle.media_ports.specs.Held.{OpensHeld}
 use Rattle.nested_steps.specs.Nesting.{IsOpen, closing_of}
 use Rattle.board_turns.specs.Closing.{CanClose, leases_of, closings_of, ClosesLegs, pairs_left}

@@ -1,5 +1,5 @@
 -- Pairs without some of them, and which ports are open then.
-use Rattle.std.proofs.Common.{◌≡◌, ◌∙◌, ◌↔◌, refl, sym, ap, subst, ℕ, ◌+◌, ◌*◌, ◌<◌, Bool, true, false, cond, not, ◌==◌, List, [], ◌∷◌, ◌++◌, Option, Some, None, filter, arith}
+use Rattle.std.proofs.Common.{◌≡◌, ◌∙◌, ◌↔◌, refl, sym, ap, subst, ℕ, ◌+◌, ◌<◌, Bool, true, false, cond, not, ◌==◌, List, [], ◌∷◌, ◌++◌, Option, Some, None, arith}
 use Rattle.std.specs.Prelude.{◌&&◌}
 use Rattle.relay_outside.specs.declared.address.Addr.{Addr}
 use Rattle.relay_outside.specs.declared.settings.Config.{Config}
@@ -10,7 +10,7 @@ use Rattle.rtp_packet.specs.declared.head.Half.{Half}
 use Rattle.rtp_packet.specs.declared.head.Half.TheVariants.{Rtp, Rtcp}
 use Rattle.histories.specs.Words.{In, here, there, has}
 use Rattle.histories.proofs.Lists.{equal, equal_if}
-use Rattle.port_pool.specs.Ports.{pair_count, pair_port, half_port}
+use Rattle.port_pool.specs.Ports.{pair_count, pair_port}
 use Rattle.port_pool.specs.declared.pairs.Lease.{Lease}
 use Rattle.media_ports.specs.Addresses.{port_at, port_address, addresses_of}
 use Rattle.media_ports.specs.Calls.{AllOpen, LeavesOpen, WhereBothTold}

@@ -1,5 +1,5 @@
 -- The next call may be ended, while calls end one after the other in a turn of the board.
-use Rattle.std.proofs.Common.{◌≡◌, ◌∙◌, refl, sym, ap, subst, ℕ, ◌+◌, ◌<◌, ◌≤◌, ◌⊎◌, inl, inr, Bool, true, false, not, ◌==◌, List, [], ◌∷◌, ◌++◌, Option, Some, None, map, arith, IsSome}
+use Rattle.std.proofs.Common.{◌≡◌, ◌∙◌, refl, sym, ap, subst, ℕ, Bool, true, false, not, List, [], ◌∷◌, ◌++◌, Option, map, arith, IsSome}
 use Rattle.std.specs.Prelude.{◌&&◌}
 use Rattle.std.specs.List.{filter_map, flat_map}
 use Rattle.relay_outside.specs.declared.ports.PortCall.{PortCall}
@@ -7,10 +7,9 @@ use Rattle.relay_outside.specs.declared.settings.Config.{Config}
 use Rattle.relay_outside.specs.Told.{WhereTold}
 use Rattle.histories.specs.Words.{In, here, there, has}
 use Rattle.histories.proofs.Lists.{in_left, maps, mapped, spread, it_has, has_it}
-use Rattle.port_pool.specs.Boxes.{holder}
 use Rattle.port_pool.specs.declared.pairs.Lease.{Lease}
 use Rattle.port_pool.specs.declared.holder.Holder.{Holder}
-use Rattle.call_cell.specs.Cells.{End, since_end, legs}
+use Rattle.call_cell.specs.Cells.{since_end, legs}
 use Rattle.call_cell.specs.Numbers.{BringsNewKeys}
 use Rattle.call_board.specs.Acts.{Call, BoardEntry}
 use Rattle.call_board.specs.Calls.{live, ended_by}
@@ -22,12 +21,11 @@ use Rattle.call_board.specs.Boards.{Shows}
 use Rattle.call_board.specs.Returns.{leg_lease, MayReturnAll}
 use Rattle.call_board.specs.Whole.{with_ended}
 use Rattle.call_board.proofs.Cells.{live_cells, live_cell}
-use Rattle.call_board.proofs.Calls.{live_numbers}
 use Rattle.call_board.proofs.Held.{closed_of_held}
 use Rattle.call_board.proofs.Found.{found_while_ending, cells_while_ending}
 use Rattle.call_board.proofs.Outs.{ended_return}
-use Rattle.relay_core.specs.Entries.{Entry, history, cell_entry, cell_history, board_history, box_of}
-use Rattle.relay_core.specs.Scripts.{Owed, owed_by, in_cell, closing, ending}
+use Rattle.relay_core.specs.Entries.{Entry, cell_entry, board_history, box_of}
+use Rattle.relay_core.specs.Scripts.{Owed, owed_by, closing, ending}
 use Rattle.relay_core.specs.Legal.{Orderly}
 use Rattle.relay_core.specs.Turning.{IsAbove}
 use Rattle.relay_core.proofs.Histories.{good_history}
@@ -35,7 +33,6 @@ use Rattle.relay_core.proofs.Shut.{same_history, closed_open, closed_apart}
 use Rattle.relay_core.proofs.LegsHeld.{ended_closes}
 use Rattle.relay_core.proofs.KeysOnce.{keys_once}
 use Rattle.media_ports.specs.Held.{OpensHeld}
-use Rattle.nested_steps.specs.Leaving.{legs_in}
 use Rattle.board_turns.specs.Closing.{pairs_left}
 use Rattle.board_turns.specs.Ending.{CanEnd, leg_pairs}
 use Rattle.board_turns.proofs.Closed.{placed_by, open_elsewhere}

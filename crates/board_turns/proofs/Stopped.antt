@@ -1,22 +1,21 @@
 -- The live calls in order, of which the first so many have ended.
-use Rattle.std.proofs.Common.{◌≡◌, ◌∙◌, refl, sym, ap, subst, ℕ, zero, suc, ◌+◌, ◌<◌, ◌≤◌, Bool, true, false, not, List, [], ◌∷◌, ◌++◌, Option, Some, None, map, filter, take, drop, length, arith, append-nil, append_assoc}
+use Rattle.std.proofs.Common.{◌≡◌, ◌∙◌, refl, sym, ap, subst, ℕ, zero, suc, ◌+◌, ◌<◌, Bool, true, false, not, List, [], ◌∷◌, ◌++◌, Option, Some, map, filter, take, drop, length, arith, append-nil, append_assoc}
 use Rattle.std.specs.Prelude.{slice_get}
 use Rattle.std.specs.List.{flat_map}
-use Rattle.std.proofs.lemmas.List.{length-map, take-map, map-append}
+use Rattle.std.proofs.lemmas.List.{length-map, take-map}
 use Rattle.relay_outside.specs.declared.settings.Config.{Config}
 use Rattle.relay_outside.specs.declared.ports.PortCall.{PortCall}
 use Rattle.relay_outside.specs.Told.{WhereTold}
 use Rattle.turn_table.specs.declared.hands.Hand.{Hand}
 use Rattle.histories.specs.Words.{In, here, there, has}
-use Rattle.histories.proofs.Lists.{filtered, it_has, maps}
-use Rattle.port_pool.specs.declared.holder.Holder.{Holder}
+use Rattle.histories.proofs.Lists.{filtered, it_has}
 use Rattle.call_board.specs.Acts.{Call, BoardEntry}
 use Rattle.call_board.specs.Calls.{live}
-use Rattle.call_board.specs.Pairs.{Once, held, closed_of}
+use Rattle.call_board.specs.Pairs.{closed_of}
 use Rattle.call_board.specs.Fits.{IsFitting}
 use Rattle.call_board.specs.declared.board.Board.{Board}
 use Rattle.call_board.specs.declared.live_call.LiveCall.{LiveCall}
-use Rattle.call_board.specs.Views.{View, CallView, call_view, view_of}
+use Rattle.call_board.specs.Views.{CallView, call_view, view_of}
 use Rattle.call_board.specs.Boards.{Shows, CallsFor}
 use Rattle.call_board.specs.Whole.{with_ended}
 use Rattle.call_board.proofs.Found.{filter_map_is, ended_calls}
@@ -30,7 +29,7 @@ use Rattle.relay_core.specs.Turning.{IsAbove, GainsNested, made_by}
 use Rattle.relay_core.proofs.Histories.{good_history}
 use Rattle.media_ports.specs.Held.{OpensHeld}
 use Rattle.media_ports.proofs.Leased.{drop_next}
-use Rattle.board_turns.specs.Ending.{CanEnd, leg_pairs}
+use Rattle.board_turns.specs.Ending.{CanEnd}
 use Rattle.board_turns.specs.Stopping.{stop_entry, still_held}
 use Rattle.board_turns.proofs.Closed.{list_gained}
 use Rattle.board_turns.proofs.Next.{next_can}

@@ -1,5 +1,4 @@
-use Rattle.std.proofs.Common.{◌≡◌, ◌∙◌, ◌+◌, ◌++◌, refl, sym, ap, subst, ℕ, List, [], ◌∷◌, append_assoc, append-nil, arith}
-use Rattle.relay_outside.specs.declared.settings.Config.{Config}
+use Rattle.std.proofs.Common.{◌∙◌, ◌++◌, refl, sym, ap, subst, ℕ, List, [], ◌∷◌, append_assoc, append-nil, arith}
 use Rattle.relay_outside.specs.declared.ports.PortCall.{PortCall}
 use Rattle.relay_outside.specs.Told.{WhereTold}
 use Rattle.relay_outside.proofs.Telling.{gained_none, gained_both}

@@ -1,20 +1,18 @@
-use Rattle.std.proofs.Common.{◌≡◌, ◌∙◌, ◌++◌, sym, ap, subst, ℕ, List, [], ◌∷◌, map}
-use Rattle.relay_outside.specs.declared.settings.Config.{Config}
+use Rattle.std.proofs.Common.{◌≡◌, ◌∙◌, ap, subst, ℕ, List, [], ◌∷◌}
 use Rattle.relay_outside.specs.declared.ports.PortCall.{PortCall}
 use Rattle.relay_outside.specs.Told.{WhereTold}
 use Rattle.relay_outside.proofs.Telling.{gained_less}
 use Rattle.turn_table.specs.Hands.{entries}
 use Rattle.call_cell.specs.Cells.{End}
-use Rattle.call_board.specs.Boards.{Shows, pairs_in}
+use Rattle.call_board.specs.Boards.{Shows}
 use Rattle.call_board.specs.Views.{with_returned, without_call}
 use Rattle.call_board.proofs.Found.{found_is_live}
-use Rattle.relay_core.specs.Entries.{Cell}
-use Rattle.relay_core.specs.Scripts.{Owed, closing}
+use Rattle.relay_core.specs.Scripts.{Owed}
 use Rattle.relay_core.specs.Turning.{GainsNested, made_by}
 use Rattle.media_ports.specs.Held.{OpensHeld}
 use Rattle.nested_steps.specs.InCells.{in_cell_of}
 use Rattle.nested_steps.proofs.Nesting.{above_rows, gains_more}
-use Rattle.board_turns.specs.Closing.{ClosesLegs, leases_of, closings_of, pairs_left}
+use Rattle.board_turns.specs.Closing.{ClosesLegs, closings_of, pairs_left}
 use Rattle.board_turns.specs.Ending.{ClosesTheirs, ending_of}
 use Rattle.board_turns.proofs.Ended.{cell_is, went_are, pairs_are, closings_are, can_close}
 use Rattle.board_turns.proofs.ending.end_call.Goals as goal

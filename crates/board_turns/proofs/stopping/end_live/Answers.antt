@@ -6,8 +6,8 @@ use Rattle.relay_outside.specs.declared.ports.PortCall.{PortCall}
 use Rattle.relay_outside.specs.Told.{WhereTold}
 use Rattle.histories.specs.Words.{has}
 use Rattle.port_pool.specs.declared.holder.Holder.{Holder}
-use Rattle.call_board.specs.Acts.{Call, BoardEntry}
-use Rattle.call_board.specs.Boards.{Shows, BoardFor}
+use Rattle.call_board.specs.Acts.{Call}
+use Rattle.call_board.specs.Boards.{Shows}
 use Rattle.call_board.specs.Calls.{live}
 use Rattle.call_board.specs.Pairs.{held, closed_of}
 use Rattle.call_board.specs.Views.{View, call_view, view_of}
