@@ -1,0 +1,90 @@
+use Rattle.std.proofs.Common.{◌≡◌, ◌∙◌, ap, subst, ℕ, List, [], ◌∷◌}
+use Rattle.relay_outside.specs.declared.ports.PortCall.{PortCall}
+use Rattle.relay_outside.specs.Told.{WhereTold}
+use Rattle.relay_outside.proofs.Telling.{gained_less}
+use Rattle.turn_table.specs.Hands.{entries}
+use Rattle.call_cell.specs.Cells.{End}
+use Rattle.call_board.specs.Boards.{Shows}
+use Rattle.call_board.specs.Views.{with_returned, without_call}
+use Rattle.call_board.proofs.Found.{found_is_live}
+use Rattle.relay_core.specs.Scripts.{Owed}
+use Rattle.relay_core.specs.Turning.{GainsNested, made_by}
+use Rattle.media_ports.specs.Held.{OpensHeld}
+use Rattle.nested_steps.specs.InCells.{in_cell_of}
+use Rattle.nested_steps.proofs.Nesting.{above_rows, gains_more}
+use Rattle.board_turns.specs.Closing.{ClosesLegs, closings_of, pairs_left}
+use Rattle.board_turns.specs.Ending.{ClosesTheirs, ending_of}
+use Rattle.board_turns.proofs.Ended.{cell_is, went_are, pairs_are, closings_are, can_close}
+use Rattle.board_turns.proofs.ending.end_call.Goals as goal
+
+pub end_call-cell-requires : goal.end_call-cell-requires
+end_call-cell-requires g c =
+    let can = c.requires.can.2 in
+    found_is_live c.args.config.now c.args.board.now can.view c.args.call can.seen can.shows can.found
+
+pub close_legs-requires-clause-can : goal.close_legs-requires-clause-can
+close_legs-requires-clause-can g c =
+    let of = c.requires.can.0 in
+    let legs = c.requires.can.1 in
+    let can = c.requires.can.2 in
+    let told = g.P.PortMaker.told c.args.ports.now in
+    let l = made_by c.args.hand.now in
+    let is = cell_is c.args.config.now l c.args.board.now told c.args.call of legs c.end_call-cell.result can c.end_call-cell.ensures.cell in
+    let was = c.end_cell.ensures.ended.was in
+    let are = went_are c.args.config.now l c.args.board.now told c.args.call of legs c.end_call-cell.result was.number c.end_cell.new.gone can is c.end_cell.ensures.went
+    (above_rows (entries c.args.hand.now) c.end_call-cell.result was.number was.given.above) in
+    can_close c.args.config.now c.args.nest.number c.args.nest.moment c.args.hand.now c.end_cell.new.hand c.args.board.now c.end_call-cell.new.self told c.args.call of legs
+    c.end_call-cell.result c.end_cell.new.gone can is c.end_cell.ensures.gained c.end_call-cell.ensures.shows are
+
+pub returns-clause-gained : goal.returns-clause-gained
+returns-clause-gained g c of legs can =
+    let told = g.P.PortMaker.told c.args.ports.now in
+    let l = made_by c.args.hand.now in
+    let config = c.args.config.now in
+    let cell = c.end_call-cell.result in
+    let is = cell_is config l c.args.board.now told c.args.call of legs cell can c.end_call-cell.ensures.cell in
+    let was = c.end_cell.ensures.ended.was in
+    let are = went_are config l c.args.board.now told c.args.call of legs cell was.number c.end_cell.new.gone can is c.end_cell.ensures.went
+    (above_rows (entries c.args.hand.now) cell was.number was.given.above) in
+    let all = gains_more c.args.nest.number c.args.nest.moment (in_cell_of cell End ∷ []) (closings_of config c.end_cell.new.gone) c.args.hand.now c.end_cell.new.hand
+    c.close_legs.new.hand c.end_cell.ensures.gained c.close_legs.ensures.gained in
+    let same : in_cell_of cell End ∷ closings_of config c.end_cell.new.gone ≡ ending_of config of legs
+    = ap (λ (k : ℕ). in_cell_of k End ∷ closings_of config c.end_cell.new.gone) is
+    ∙ ap (λ (ws : List Owed). in_cell_of of.cell End ∷ ws) (closings_are config c.end_cell.new.gone legs are) in
+    subst (λ (ws : List Owed). GainsNested c.args.nest.number c.args.nest.moment ws c.args.hand.now c.close_legs.new.hand) same all
+
+pub returns-clause-ended : goal.returns-clause-ended
+returns-clause-ended g c of legs can config v shows apart =
+    let told = g.P.PortMaker.told c.args.ports.now in
+    let l = made_by c.args.hand.now in
+    let cell = c.end_call-cell.result in
+    let is = cell_is c.args.config.now l c.args.board.now told c.args.call of legs cell can c.end_call-cell.ensures.cell in
+    let was = c.end_cell.ensures.ended.was in
+    let are = went_are c.args.config.now l c.args.board.now told c.args.call of legs cell was.number c.end_cell.new.gone can is c.end_cell.ensures.went
+    (above_rows (entries c.args.hand.now) cell was.number was.given.above) in
+    subst (λ (ps : List ℕ). Shows config c.close_legs.new.board (with_returned (without_call v c.args.call) ps)) (pairs_are c.args.config.now c.end_cell.new.gone legs are)
+    (c.close_legs.ensures.returned config (without_call v c.args.call) (c.end_call-cell.ensures.shows config v shows apart))
+
+pub returns-clause-closes : goal.returns-clause-closes
+returns-clause-closes g c of legs can =
+    let told = g.P.PortMaker.told c.args.ports.now in
+    let l = made_by c.args.hand.now in
+    let cell = c.end_call-cell.result in
+    let is = cell_is c.args.config.now l c.args.board.now told c.args.call of legs cell can c.end_call-cell.ensures.cell in
+    let was = c.end_cell.ensures.ended.was in
+    let are = went_are c.args.config.now l c.args.board.now told c.args.call of legs cell was.number c.end_cell.new.gone can is c.end_cell.ensures.went
+    (above_rows (entries c.args.hand.now) cell was.number was.given.above) in
+    gained_less told (g.P.PortMaker.told c.close_legs.new.ports) (ClosesLegs g.P.Out.OutEnd.told c.args.config.now.interface c.end_cell.new.gone)
+    (ClosesTheirs g.P.Out.OutEnd.told c.args.config.now legs) (λ calls closes. (c.end_cell.new.gone, are, closes)) c.close_legs.ensures.closes
+
+pub returns-clause-open : goal.returns-clause-open
+returns-clause-open g c of legs can held opens =
+    let told = g.P.PortMaker.told c.args.ports.now in
+    let l = made_by c.args.hand.now in
+    let cell = c.end_call-cell.result in
+    let is = cell_is c.args.config.now l c.args.board.now told c.args.call of legs cell can c.end_call-cell.ensures.cell in
+    let was = c.end_cell.ensures.ended.was in
+    let are = went_are c.args.config.now l c.args.board.now told c.args.call of legs cell was.number c.end_cell.new.gone can is c.end_cell.ensures.went
+    (above_rows (entries c.args.hand.now) cell was.number was.given.above) in
+    subst (λ (ps : List ℕ). WhereTold (g.P.PortMaker.told c.close_legs.new.ports) (λ (calls : List PortCall). OpensHeld c.args.config.now calls (pairs_left ps held)))
+    (pairs_are c.args.config.now c.end_cell.new.gone legs are) (c.close_legs.ensures.«open» held opens)

@@ -1,0 +1,17 @@
+-- A stop: the entry of the board that ends all live calls.
+use Rattle.std.specs.Prelude.{ℕ, List}
+use Rattle.std.specs.List.{flat_map}
+use Rattle.call_board.specs.Acts.{Call, Stop, BoardEntry}
+use Rattle.call_board.specs.Calls.{live}
+use Rattle.call_board.specs.Pairs.{held, closed_of}
+use Rattle.call_board.specs.Views.{last_moment}
+use Rattle.board_turns.specs.Closing.{pairs_left}
+use Rattle.board_turns.specs.Ending.{leg_pairs}
+
+-- the stop after that history, which has the moment of its last entry
+abbrev pub stop_entry : List BoardEntry → BoardEntry
+stop_entry h = record { moment = last_moment h; event = Stop (live h) }
+
+-- the held pairs without those of the legs that the entry closes of these calls
+abbrev pub still_held : List BoardEntry → BoardEntry → List Call → List ℕ
+still_held h e calls = pairs_left (leg_pairs (flat_map (closed_of h e) calls)) (leg_pairs (held h))

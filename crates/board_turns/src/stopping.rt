@@ -1,0 +1,64 @@
+//! All live calls, ended in order.
+ghost use Rattle.std.specs.Prelude.{◌≡◌, ◌≤◌, [], ◌∷◌, length};
+ghost use Rattle.relay_outside.specs.Told.{WhereTold};
+ghost use Rattle.turn_table.specs.Hands.{IsSameHand, SameTurns};
+ghost use Rattle.call_board.specs.Boards.{BoardFor, KeepsReplies};
+ghost use Rattle.call_board.specs.Calls.{live};
+ghost use Rattle.call_board.specs.Pairs.{held};
+ghost use Rattle.relay_core.specs.Entries.{board_history};
+ghost use Rattle.relay_core.specs.Legal.{Orderly};
+ghost use Rattle.relay_core.specs.Scripts.{script};
+ghost use Rattle.relay_core.specs.Turning.{GainsNested, IsAbove, made_by};
+ghost use Rattle.media_ports.specs.Held.{OpensHeld};
+ghost use Rattle.nested_steps.specs.Nesting.{MayNest};
+ghost use Rattle.board_turns.specs.Ending.{leg_pairs};
+ghost use Rattle.board_turns.specs.Stopping.{stop_entry, still_held};
+
+use crate::ending::end_call;
+use call_board::Board;
+use call_cell::Gone;
+use nested_steps::Nest;
+use relay_core::Relay;
+use relay_outside::{Config, PortMaker};
+use std::sync::Wait;
+use turn_table::{Hand, Turns};
+
+/// Ends all live calls in order of their creation, in the turn of the board that stops the relay, and answers how many: the
+/// board then stands for its history with the stop, which has the moment of the last entry. `gone` is empty before and after.
+/// It takes no memory.
+pub fn end_live<P: PortMaker, R: Wait>(
+    rt: &R,
+    turns: &Turns<Relay<P::In, P::Out>>,
+    hand: &mut Hand<Relay<P::In, P::Out>>,
+    config: &Config,
+    nest: Nest,
+    board: &mut Board,
+    ports: &mut P,
+    gone: &mut Gone<P::Out>,
+) -> usize
+    requires may { MayNest config.now turns.now hand.old }
+    requires above { IsAbove (made_by hand.old) 0 nest.number }
+    requires orderly { Orderly config.now (made_by hand.old) }
+    requires board { BoardFor config.now board.old (board_history (made_by hand.old) nest.number) }
+    requires open { WhereTold (P.told ports.old) (λ calls. OpensHeld config.now calls (leg_pairs (held (board_history (made_by hand.old) nest.number)))) }
+    requires empty { gone.old ≡ [] }
+    ensures same { IsSameHand hand.old hand.new × SameTurns hand.old hand.new }
+    ensures may { MayNest config.now turns.now hand.new }
+    ensures gained { let h = board_history (made_by hand.old) nest.number in
+        GainsNested nest.number nest.moment (script config.now h (stop_entry h)) hand.old hand.new }
+    ensures board { let h = board_history (made_by hand.old) nest.number in BoardFor config.now board.new (stop_entry h ∷ h) }
+    ensures count { result ≡ length (live (board_history (made_by hand.old) nest.number)) }
+    ensures replies { KeepsReplies board.old board.new }
+    ensures open { let h = board_history (made_by hand.old) nest.number in
+        WhereTold (P.told ports.new) (λ calls. OpensHeld config.now calls (still_held h (stop_entry h) (live h))) }
+    ensures later { P.faults ports.old ≤ P.faults ports.new }
+    ensures empty { gone.new ≡ [] }
+{
+    let count = board.live_count();
+    for ended in 0..count {
+        prove!(ended < count);
+        let call = board.call_at(0);
+        end_call(rt, turns, hand, config, nest, board, ports, gone, call);
+    }
+    count
+}
