@@ -1,2 +1,3 @@
 pub mod Legs
 pub mod Opening
+pub mod Filling

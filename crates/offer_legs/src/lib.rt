@@ -6,8 +6,10 @@
 //! their boxes. No call takes memory: the room is made before.
 #![tactic(auto)]
 
+mod filling;
 mod legs;
 mod opening;
 
+pub use filling::{add_drops, add_keys};
 pub use legs::OfferedLegs;
 pub use opening::open_legs;
