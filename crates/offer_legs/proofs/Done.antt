@@ -1,5 +1,5 @@
 -- What was done of an offer's legs, and one leg more.
-use Rattle.std.proofs.Common.{◌≡◌, refl, sym, ◌∙◌, ap, subst, ℕ, zero, suc, ◌+◌, ◌<◌, ◌≤◌, ◌++◌, List, [], ◌∷◌, length, map, false, true, Option, Some, None, arith, append_assoc}
+use Rattle.std.proofs.Common.{◌≡◌, refl, sym, ◌∙◌, ap, subst, ℕ, suc, ◌+◌, ◌<◌, ◌++◌, List, [], ◌∷◌, length, map, false, true, Option, Some, None, arith, append_assoc}
 use Rattle.std.specs.Prelude.{slice_get}
 use Rattle.std.specs.Option.{option_to_list}
 use Rattle.std.specs.List.{AllZip}
@@ -10,11 +10,10 @@ use Rattle.relay_outside.specs.declared.settings.Config.{Config}
 use Rattle.relay_outside.specs.declared.ports.InCall.{InCall}
 use Rattle.relay_outside.specs.declared.ports.OutCall.{OutCall}
 use Rattle.turn_table.specs.declared.hands.Hand.{Hand}
-use Rattle.turn_table.specs.Hands.{IsSameHand, SameTurns, entries}
+use Rattle.turn_table.specs.Hands.{IsSameHand, entries}
 use Rattle.port_pool.specs.declared.holder.Holder.{Holder}
 use Rattle.port_pool.specs.declared.holder.Side.{Side}
 use Rattle.port_pool.specs.declared.pairs.Lease.{Lease}
-use Rattle.port_pool.specs.Pools.{AreFree}
 use Rattle.offer_answer.specs.Rounds.{NewLeg, Demand}
 use Rattle.offer_answer.specs.Offering.{PlanFor, leg_asked}
 use Rattle.offer_answer.specs.declared.plan.Plan.{Plan}
@@ -23,7 +22,7 @@ use Rattle.call_board.specs.Whole.{legs_of, leg_of}
 use Rattle.media_ports.specs.declared.ends.PairEnds.{PairEnds}
 use Rattle.media_ports.specs.Addresses.{pairs_of}
 use Rattle.relay_core.specs.declared.part.Part.{Part}
-use Rattle.relay_core.specs.Entries.{Entry, box_of}
+use Rattle.relay_core.specs.Entries.{box_of}
 use Rattle.relay_core.specs.Scripts.{Owed, opening}
 use Rattle.relay_core.specs.Made.{Made}
 use Rattle.relay_core.specs.Turning.{GainsNested, made_by}

@@ -1,13 +1,11 @@
 -- One key and one section more.
-use Rattle.std.proofs.Common.{◌≡◌, refl, sym, ◌∙◌, ap, subst, ℕ, zero, suc, ◌+◌, ◌<◌, ◌≤◌, ◌++◌, ◌==◌, ◌&&◌, List, [], ◌∷◌, length, Bool, true, false, cond, filter, get_or, take, Option, Some, None, arith, append_assoc}
+use Rattle.std.proofs.Common.{◌≡◌, refl, sym, ◌∙◌, ap, ℕ, zero, suc, ◌+◌, ◌<◌, ◌≤◌, ◌++◌, ◌==◌, List, [], ◌∷◌, length, Bool, true, false, cond, filter, get_or, take, Some, None, arith, append_assoc}
 use Rattle.std.specs.Prelude.{slice_get}
 use Rattle.histories.specs.Words.{In, here, there, has, numbers}
 use Rattle.histories.proofs.Lists.{filtered, keeps, it_has, has_it}
 use Rattle.port_pool.specs.Signals.{NewKey}
-use Rattle.srtp_keys.specs.MasterKey.{MasterKey}
 use Rattle.offer_answer.specs.Rounds.{KeyPlace, Round, OfferAsk}
-use Rattle.offer_answer.specs.Sections.{most_sections}
-use Rattle.offer_answer.specs.Demands.{dropped_sections, is_dropped}
+use Rattle.offer_answer.specs.Demands.{is_dropped}
 use Rattle.offer_answer.specs.Plan.{demand}
 use Rattle.call_board.specs.Pairs.{new_keys}
 use Rattle.call_cell.specs.declared.prepare.Prepare as prepared

@@ -1,8 +1,7 @@
-use Rattle.std.proofs.Common.{◌≡◌, ◌∙◌, ◌≤◌, ◌+◌, ◌++◌, [], ◌∷◌, ℕ, List, ap, sym, subst, filter, arith}
+use Rattle.std.proofs.Common.{◌≡◌, ◌∙◌, ◌++◌, [], ◌∷◌, ℕ, List, ap, subst, filter, arith}
 use Rattle.histories.specs.Words.{has, numbers}
 use Rattle.offer_answer.specs.Plan.{demand}
 use Rattle.nested_steps.specs.Bringing.{brought_dropped}
-use Rattle.offer_legs.specs.Filling.{SectionsFor}
 use Rattle.offer_legs.proofs.Filled.{sections_more, legs_still, demanded_are}
 use Rattle.offer_legs.proofs.filling.add_drops.Goals as goal
 

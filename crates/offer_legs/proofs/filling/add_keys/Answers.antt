@@ -1,4 +1,4 @@
-use Rattle.std.proofs.Common.{◌≡◌, ◌∙◌, ◌≤◌, ◌+◌, ◌++◌, [], ◌∷◌, ℕ, List, ap, sym, subst, get_or, take, arith}
+use Rattle.std.proofs.Common.{◌∙◌, ◌+◌, ◌++◌, [], ◌∷◌, List, ap, subst, get_or, take, arith}
 use Rattle.offer_answer.specs.Offering.{key_asked}
 use Rattle.nested_steps.specs.Bringing.{brought_keys}
 use Rattle.port_pool.specs.Signals.{NewKey}

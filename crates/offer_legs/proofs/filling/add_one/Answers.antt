@@ -1,4 +1,4 @@
-use Rattle.std.proofs.Common.{◌++◌, [], ◌∷◌, sym, subst}
+use Rattle.std.proofs.Common.{◌++◌, [], ◌∷◌, subst}
 use Rattle.srtp_keys.specs.MasterKey.{MasterKey}
 use Rattle.call_cell.specs.Preparing.{PrepareFor}
 use Rattle.nested_steps.specs.Bringing.{brought_key}

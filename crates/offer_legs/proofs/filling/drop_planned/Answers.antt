@@ -1,4 +1,4 @@
-use Rattle.std.proofs.Common.{◌++◌, [], ◌∷◌, ℕ, List, sym, subst}
+use Rattle.std.proofs.Common.{ℕ, List, sym, subst}
 use Rattle.call_cell.specs.Preparing.{PrepareFor}
 use Rattle.nested_steps.specs.Bringing.{brought_dropped}
 use Rattle.offer_legs.proofs.Filled.{drops_last}

@@ -3,13 +3,11 @@ use Rattle.std.proofs.lemmas.List.{length_push}
 use Rattle.histories.specs.Words.{here}
 use Rattle.port_pool.specs.Ports.{pair_count}
 use Rattle.port_pool.specs.Pools.{AreFree}
-use Rattle.port_pool.specs.declared.pairs.Lease.{Lease}
 use Rattle.port_pool.specs.declared.holder.Holder.{Holder}
 use Rattle.call_cell.specs.Preparing.{added, parts_added}
-use Rattle.media_ports.specs.declared.ends.PairEnds.{PairEnds}
 use Rattle.media_ports.specs.Addresses.{pairs_of}
 use Rattle.media_ports.specs.Ends.{AreUncalled}
-use Rattle.relay_core.specs.Scripts.{Owed, opening}
+use Rattle.relay_core.specs.Scripts.{opening}
 use Rattle.relay_core.specs.Turning.{GainsNested, made_by}
 use Rattle.nested_steps.proofs.Nesting.{same_again}
 use Rattle.offer_legs.specs.Legs.{LegList}
