@@ -1,0 +1,137 @@
+//! The boxes of new legs, opened in the order of leases.
+ghost use Rattle.std.specs.Prelude.{◌≡◌, ◌≤◌, ◌<◌, ◌+◌, ◌++◌, ℕ, List, [], ◌∷◌, length, map};
+ghost use Rattle.std.specs.List.{AllZip};
+ghost use Rattle.turn_table.specs.Hands.{IsSameHand, SameTurns};
+ghost use Rattle.port_pool.specs.Ports.{pair_count};
+ghost use Rattle.port_pool.specs.Signals.{NewKey};
+ghost use Rattle.offer_answer.specs.Offering as offering;
+ghost use Rattle.offer_answer.specs.Offering.{PlanFor};
+ghost use Rattle.offer_answer.specs.Rounds.{Demand};
+ghost use Rattle.call_board.specs.Acts.{Call};
+ghost use Rattle.call_board.specs.Whole.{legs_of};
+ghost use Rattle.call_cell.specs.Preparing.{IsReady, PrepareFor, added, parts_added, leg_room, key_room};
+ghost use Rattle.media_ports.specs.Addresses.{AreLeased, pairs_of};
+ghost use Rattle.media_ports.specs.Ends.{IsUncalled, AreUncalled};
+ghost use Rattle.relay_core.specs.Entries.{box_of};
+ghost use Rattle.relay_core.specs.Scripts.{opening};
+ghost use Rattle.relay_core.specs.Turning.{GainsNested, made_by};
+ghost use Rattle.nested_steps.specs.Nesting.{MayNest, IsShut};
+ghost use Rattle.offer_legs.specs.Legs.{LegsFor, with_leg};
+ghost use Rattle.offer_legs.specs.Opening.{AreShut, IsOpened, leased_parts, leg_parts};
+
+use crate::legs::OfferedLegs;
+use call_cell::Prepare;
+use media_ports::{OpenedPairs, PairEnds};
+use nested_steps::{Nest, open_box};
+use offer_answer::Plan;
+use port_pool::{Holder, Lease, Leases};
+use relay_core::Relay;
+use relay_outside::{Config, InEnd, OutEnd};
+use std::sync::Wait;
+use turn_table::{Hand, Turns};
+
+/// Opens the box of a leg with the in ends of its ports, and prepares the leg with their out ends.
+fn open_leg<I: InEnd, O: OutEnd, R: Wait>(
+    rt: &R,
+    turns: &Turns<Relay<I, O>>,
+    hand: &mut Hand<Relay<I, O>>,
+    config: &Config,
+    nest: Nest,
+    holder: Holder,
+    lease: Lease,
+    ends: PairEnds<I, O>,
+    prepare: &mut Prepare<O>,
+    legs: &mut OfferedLegs,
+)
+    requires may { MayNest config.now turns.now hand.old }
+    requires pair { (holder.pair < pair_count config.now) × (lease.pair ≡ holder.pair) }
+    requires generation { lease.generation ≡ holder.generation }
+    requires cell { (1 ≤ holder.cell) × (holder.cell ≤ config.now.max_sessions) }
+    requires shut { IsShut (made_by hand.old) (box_of config.now holder.pair) }
+    requires uncalled { IsUncalled I.told O.told ends }
+    requires room { (0 < leg_room prepare.old) × (length legs.old.list < legs.old.room) }
+    ensures same { IsSameHand hand.old hand.new × SameTurns hand.old hand.new }
+    ensures may { MayNest config.now turns.now hand.new }
+    ensures gained { GainsNested nest.number nest.moment (opening config.now holder ∷ []) hand.old hand.new }
+    ensures opened { IsOpened I.told I.faults O.told O.faults config.now nest.number nest.moment hand.old holder ends }
+    ensures added { added prepare.new ≡ added prepare.old ++ holder ∷ [] }
+    ensures parts { parts_added prepare.new ≡ parts_added prepare.old ++ leg_parts lease ends ∷ [] }
+    ensures stands { (keys : List NewKey) (dropped : List ℕ) → PrepareFor prepare.old keys dropped → PrepareFor prepare.new keys dropped }
+    ensures room { (leg_room prepare.new + 1 ≡ leg_room prepare.old) × (key_room prepare.new ≡ key_room prepare.old) }
+    ensures ready { IsReady prepare.old → IsReady prepare.new }
+    ensures legs { legs.new ≡ with_leg legs.old holder }
+{
+    let PairEnds {
+        rtp_in,
+        rtp_out,
+        rtcp_in,
+        rtcp_out,
+    } = ends;
+    open_box(rt, turns, hand, config, nest, holder, rtp_in, rtcp_in);
+    prepare.add_leg(holder, lease, rtp_out, rtcp_out);
+    legs.push(holder);
+}
+
+/// Opens the boxes of a new offer's legs in the order of leases, each with the in ends of its ports, and prepares the legs with
+/// their out ends. Leases and opened pairs are as many as the plan demands, in one order. The legs belong to the call of
+/// that number and cell; they are told in `legs`, which is empty. It takes no memory. Cells are numbered from 1.
+pub fn open_legs<I: InEnd, O: OutEnd, R: Wait>(
+    rt: &R,
+    turns: &Turns<Relay<I, O>>,
+    hand: &mut Hand<Relay<I, O>>,
+    config: &Config,
+    nest: Nest,
+    plan: &Plan,
+    call: u64,
+    cell: u32,
+    leases: Leases,
+    opened: OpenedPairs<I, O>,
+    prepare: &mut Prepare<O>,
+    legs: &mut OfferedLegs,
+)
+    requires may { MayNest config.now turns.now hand.old }
+    requires cell { (1 ≤ cell) × (cell ≤ config.now.max_sessions) }
+    requires leases { length leases.list ≡ offering.pair_count plan.now }
+    requires pairs { length opened.list ≡ offering.pair_count plan.now }
+    requires leased { AreLeased config.now leases.list }
+    requires shut { AreShut config.now (made_by hand.old) (pairs_of leases.list) }
+    requires uncalled { AreUncalled I.told O.told opened.list }
+    requires room { (offering.pair_count plan.now ≤ leg_room prepare.old) × (offering.pair_count plan.now ≤ legs.old.room) }
+    requires none { legs.old.list ≡ [] }
+
+    // The legs are those that the plan demands, with these leases.
+    ensures legs { LegsFor plan.now call cell leases.list legs.new.list }
+
+    // Their boxes are opened, in order, with these ends.
+    ensures same { IsSameHand hand.old hand.new × SameTurns hand.old hand.new }
+    ensures may { MayNest config.now turns.now hand.new }
+    ensures gained { GainsNested nest.number nest.moment (map (opening config.now) legs.new.list) hand.old hand.new }
+    ensures opened { AllZip (IsOpened I.told I.faults O.told O.faults config.now nest.number nest.moment hand.old) legs.new.list opened.list }
+
+    // They are prepared, in order, with their leases and these ends.
+    ensures added { added prepare.new ≡ added prepare.old ++ legs.new.list }
+    ensures parts { parts_added prepare.new ≡ parts_added prepare.old ++ leased_parts leases.list opened.list }
+    ensures stands { (keys : List NewKey) (dropped : List ℕ) → PrepareFor prepare.old keys dropped → PrepareFor prepare.new keys dropped }
+    ensures room { (leg_room prepare.new + offering.pair_count plan.now ≡ leg_room prepare.old) × (key_room prepare.new ≡ key_room prepare.old) }
+    ensures ready { IsReady prepare.old → IsReady prepare.new }
+{
+    let mut leases = leases;
+    let mut opened = opened;
+    for index in 0..plan.pairs() {
+        let (section, side) = plan.pair_leg(index);
+        let lease = leases.pop().unwrap();
+        let ends = opened.pop().unwrap();
+        let holder = Holder {
+            cell,
+            call,
+            section,
+            side,
+            pair: lease.pair(),
+            generation: lease.generation(),
+        };
+        open_leg(
+            rt, turns, hand, config, nest, holder, lease, ends, prepare, legs,
+        );
+    }
+    opened.destroy_empty();
+}
