@@ -9,13 +9,13 @@ use Rattle.relay_outside.specs.declared.ports.PortCall.{PortCall}
 use Rattle.relay_outside.specs.Ports.{IsOpen}
 use Rattle.histories.specs.Words.{In, here, there, has}
 use Rattle.media_ports.specs.Addresses.{port_at, ArePorts}
-use Rattle.media_ports.specs.Calls.{openings, NoneOpen, AllOpen}
-use Rattle.media_ports.proofs.Closed.{Closes, open_among, open_beside, not_open, none_from}
+use Rattle.media_ports.specs.Calls.{Closes, openings, NoneOpen, AllOpen}
+use Rattle.media_ports.proofs.Closed.{open_among, open_beside, not_open, none_from}
 
-has_first : (ports : List ℕ) (p q : ℕ) → p ≡ q → has (q ∷ ports) p ≡ true
+pub has_first : (ports : List ℕ) (p q : ℕ) → p ≡ q → has (q ∷ ports) p ≡ true
 has_first ports p q same = ap (λ (b : Bool). cond b true (has ports p)) (eq-eqb q p (sym same))
 
-has_later : (b rest : Bool) → rest ≡ true → cond b true rest ≡ true
+pub has_later : (b rest : Bool) → rest ≡ true → cond b true rest ≡ true
 has_later true rest h = refl
 has_later false rest h = h
 

@@ -7,13 +7,8 @@ use Rattle.relay_outside.specs.declared.ports.PortCall.{PortCall}
 use Rattle.relay_outside.specs.declared.ports.PortCall.TheVariants.{Open, Close}
 use Rattle.relay_outside.specs.Ports.{IsOpen, ClosesNot}
 use Rattle.histories.specs.Words.{In, here, there}
-use Rattle.media_ports.specs.Calls.{openings, OpensAll, ClosesUncalled, NoneOpen, AllOpen, SameOpen, LeavesOpen}
-use Rattle.media_ports.proofs.Opened.{open_anew, open_still, open_before}
-
--- the call closes this address
-abbrev pub Closes : Addr → PortCall → Type 0
-Closes at (Open other done) = ⊥
-Closes at (Close other taken sent) = other ≡ at
+use Rattle.media_ports.specs.Calls.{openings, Closes, ClosesUncalled, NoneOpen, AllOpen, SameOpen, LeavesOpen}
+use Rattle.media_ports.proofs.Opened.{open_anew, open_still, open_before, none_at_first}
 
 pub closes_uncalled : (ats : List Addr) (calls : List PortCall) → AllZip ClosesUncalled ats calls → AllZip Closes ats calls
 closes_uncalled [] [] h = tt
@@ -29,6 +24,10 @@ zip-append R (a ∷ those) these [] ys front back = absurd front
 zip-append R (a ∷ those) these (x ∷ xs) ys front back = (front.0, zip-append R those these xs ys front.1 back)
 
 -- Openings.
+
+-- each address is opened, in order
+abbrev pub OpensAll : List Addr → List PortCall → Type 0
+OpensAll ats calls = calls ≡ openings ats (replicate (length ats) true)
 
 -- what is open stays open
 pub still_open : (ats : List Addr) (answers : List Bool) (calls : List PortCall) (at : Addr) → IsOpen calls at → IsOpen (calls ++ openings ats answers) at
@@ -123,3 +122,7 @@ pub not_open : (ats : List Addr) (calls : List PortCall) (at : Addr) → NoneOpe
 not_open [] calls at none among o = elim among [ ]
 not_open (a ∷ ats) calls at none (here same) o = none.0 (subst (IsOpen calls) same o)
 not_open (a ∷ ats) calls at none (there more) o = not_open ats calls at none.1 more o
+
+-- no address is open before the first call
+pub none_open_first : (ats : List Addr) → NoneOpen ats []
+none_open_first ats = none_from ats [] (λ at among. none_at_first at)

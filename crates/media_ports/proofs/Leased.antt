@@ -1,6 +1,6 @@
 -- The ports of leases, lease by lease.
-use Rattle.std.proofs.Common.{◌≡◌, ◌∙◌, ap, sym, subst, refl, ℕ, zero, suc, ◌+◌, ◌*◌, ◌<◌, ◌≤◌, ◌^◌, Bool, true, false, cond, ◌==◌, List, [], ◌∷◌, ◌++◌, Option, Some, None, map, length, take, drop, add-one, append_assoc, take-append-drop, arith}
-use Rattle.std.proofs.lemmas.List.{map-append, take-take}
+use Rattle.std.proofs.Common.{◌≡◌, ◌∙◌, ap, sym, subst, refl, ℕ, zero, suc, ◌+◌, ◌*◌, ◌<◌, ◌≤◌, ◌^◌, Bool, true, false, cond, ◌==◌, List, [], ◌∷◌, ◌++◌, Option, Some, None, map, length, take, drop, replicate, add-one, append_assoc, take-append-drop, arith}
+use Rattle.std.proofs.lemmas.List.{map-append, length-map}
 use Rattle.std.specs.Prelude.{slice_get}
 use Rattle.std.specs.List.{AllZip}
 use Rattle.relay_outside.specs.declared.address.Addr.{Addr}
@@ -12,8 +12,8 @@ use Rattle.port_pool.specs.Pools.{AreFree}
 use Rattle.port_pool.proofs.Queue.{fewer_free}
 use Rattle.port_pool.specs.declared.pairs.Lease.{Lease}
 use Rattle.media_ports.specs.Addresses.{port_at, ports_of, addresses_of, ArePorts}
-use Rattle.media_ports.specs.Calls.{ClosesUncalled, AllOpen}
-use Rattle.media_ports.proofs.Closed.{Closes, closes_uncalled, zip-append}
+use Rattle.media_ports.specs.Calls.{openings, OpensPairs, Closes, ClosesUncalled, AllOpen}
+use Rattle.media_ports.proofs.Closed.{OpensAll, closes_uncalled, zip-append}
 use Rattle.media_ports.proofs.Apart.{all_open_after}
 
 -- Lists at a place.
@@ -96,12 +96,12 @@ open_here interface leases i lease calls is open_ =
     (these.0, (these.1.0, tt))
 
 pub open_later : (interface : Ip) (leases : List Lease) (i : ℕ) (lease : Lease) (calls closes : List PortCall) → slice_get leases i ≡ Some lease → ArePorts (ports_of leases) →
-    AllOpen (addresses_of interface (drop i leases)) calls → AllZip ClosesUncalled (addresses_of interface (lease ∷ [])) closes →
+    AllOpen (addresses_of interface (drop i leases)) calls → AllZip Closes (addresses_of interface (lease ∷ [])) closes →
     AllOpen (addresses_of interface (drop (i + 1) leases)) (calls ++ closes)
 open_later interface leases i lease calls closes is are open_ closed =
     let these = subst (λ (ls : List Lease). AllOpen (addresses_of interface ls) calls) (drop_next leases i lease is) open_ in
     let ports = subst (λ (ls : List Lease). ArePorts (ports_of ls)) (drop_next leases i lease is) (later_ports leases i are) in
-    all_open_after interface (ports_of (lease ∷ [])) (ports_of (drop (i + 1) leases)) closes calls ports (closes_uncalled (addresses_of interface (lease ∷ [])) closes closed) these.1.1
+    all_open_after interface (ports_of (lease ∷ [])) (ports_of (drop (i + 1) leases)) closes calls ports closed these.1.1
 
 -- The first of the addresses.
 
@@ -157,6 +157,16 @@ are_free (port ∷ ports) are = (are.0, are.1, are_free ports are.2)
 pub length-ports_of : (leases : List Lease) → length (ports_of leases) ≡ 2 * length leases
 length-ports_of [] = refl
 length-ports_of (lease ∷ leases) = let rest = length-ports_of leases in omega (arith, rest)
+
+pub length-addresses_of : (interface : Ip) (leases : List Lease) → length (addresses_of interface leases) ≡ 2 * length leases
+length-addresses_of interface leases = length-map (ports_of leases) (port_at interface) ∙ length-ports_of leases
+
+-- the openings of all their ports
+pub pairs_from_all : (interface : Ip) (leases : List Lease) (calls : List PortCall) → OpensAll (addresses_of interface leases) calls → OpensPairs interface leases calls
+pairs_from_all interface leases calls opens = opens ∙ ap (λ n. openings (addresses_of interface leases) (replicate n true)) (length-addresses_of interface leases)
+
+pub all_from_pairs : (interface : Ip) (leases : List Lease) (calls : List PortCall) → OpensPairs interface leases calls → OpensAll (addresses_of interface leases) calls
+all_from_pairs interface leases calls opens = opens ∙ ap (λ n. openings (addresses_of interface leases) (replicate n true)) (sym (length-addresses_of interface leases))
 
 pub few_leases : (leases : List Lease) → ArePorts (ports_of leases) → 2 * length leases ≤ 65536
 few_leases [] are = omega arith

@@ -4,3 +4,4 @@ pub mod Closed
 pub mod Apart
 pub mod Leased
 pub mod UpTo
+pub mod Held

@@ -3,7 +3,7 @@ use Rattle.std.proofs.Common.{◌≡◌, ◌∙◌, ◌↔◌, ap, sym, subst, r
 use Rattle.std.specs.Prelude.{slice_get}
 use Rattle.std.specs.List.{AllZip}
 use Rattle.std.proofs.Math.Seq.{append_snoc}
-use Rattle.std.proofs.lemmas.List.{replicate-append-replicate, length-map, length-append, length-take-le}
+use Rattle.std.proofs.lemmas.List.{replicate-append-replicate, length-map, length-append, length-take-le, length_push}
 use Rattle.std.proofs.lemmas.Option.{slice_get_within}
 use Rattle.relay_outside.specs.declared.address.Addr.{Addr}
 use Rattle.relay_outside.specs.declared.address.Ip.{Ip}
@@ -17,15 +17,15 @@ use Rattle.relay_outside.proofs.Telling.{gained_both}
 use Rattle.histories.specs.Words.{In, here, there}
 use Rattle.port_pool.specs.declared.pairs.Lease.{Lease}
 use Rattle.media_ports.specs.Addresses.{port_at, ports_of, addresses_of, ArePorts}
-use Rattle.media_ports.specs.Calls.{openings, OpensAll, OpensHalf, OpensUpTo, ClosesUncalled, NoneOpen, AllOpen, SameOpen}
+use Rattle.media_ports.specs.Calls.{openings, OpensPairs, OpensHalf, OpensUpTo, ClosesUncalled, NoneOpen, AllOpen, SameOpen}
 use Rattle.media_ports.specs.declared.opening.HalfOpened.{HalfOpened}
 use Rattle.media_ports.specs.declared.ends.PairEnds.{PairEnds}
-use Rattle.media_ports.specs.Ends.{half_count, IsUncalled, AreUncalled}
+use Rattle.media_ports.specs.Ends.{EndsList, with_ends, half_count, IsUncalled, AreUncalled}
 use Rattle.media_ports.proofs.Telling.{told_after}
 use Rattle.media_ports.proofs.Opened.{open_anew, open_still, open_before}
-use Rattle.media_ports.proofs.Closed.{closes_uncalled, still_open, open_since, open_beside, not_open}
+use Rattle.media_ports.proofs.Closed.{OpensAll, closes_uncalled, opens_each, still_open, open_since, open_beside, not_open}
 use Rattle.media_ports.proofs.Apart.{none_open_after}
-use Rattle.media_ports.proofs.Leased.{take_next, drop_next, later_ports, addresses_of-append, length-ports_of}
+use Rattle.media_ports.proofs.Leased.{take_next, drop_next, later_ports, addresses_of-append, length-ports_of, all_from_pairs}
 
 -- openings of first and then of more addresses
 pub openings-append : (front back : List Addr) (answers : List Bool) → openings (front ++ back) (replicate (length front) true ++ answers) ≡ openings front (replicate (length front) true) ++ openings back answers
@@ -38,6 +38,19 @@ opens_more front back xs ys these those =
     ∙ ap (λ (calls : List PortCall). openings front (replicate (length front) true) ++ calls) those
     ∙ sym (openings-append front back (replicate (length back) true))
     ∙ ap (openings (front ++ back)) (replicate-append-replicate (length front) (length back) true ∙ ap (λ n. replicate n true) (sym (length-append front back)))
+
+all_from : (ats : List Addr) (calls : List PortCall) → ((at : Addr) → In at ats → IsOpen calls at) → AllOpen ats calls
+all_from [] calls each = tt
+all_from (a ∷ ats) calls each = (each a (here refl), all_from ats calls (λ at more. each at (there more)))
+
+-- all ports of the leases are open then
+pub told_all_open : (interface : Ip) (leases : List Lease) (old new : Option (List PortCall)) (Q : List PortCall → Type 0) → WhereTold old Q → Gained old new (OpensPairs interface leases) →
+    WhereTold new (AllOpen (addresses_of interface leases))
+told_all_open interface leases old new Q held opens =
+    told_after old new (OpensPairs interface leases) Q (AllOpen (addresses_of interface leases))
+    (λ before more h these.
+    let all = all_from (addresses_of interface leases) (before ++ openings (addresses_of interface leases) (replicate (length (addresses_of interface leases)) true)) (opens_each (addresses_of interface leases) before) in
+    subst (λ (calls : List PortCall). AllOpen (addresses_of interface leases) (before ++ calls)) (sym (all_from_pairs interface leases more these)) all) held opens
 
 -- one lease more
 pub opens_next : (interface : Ip) (leases : List Lease) (i : ℕ) (lease : Lease) (xs ys : List PortCall) → slice_get leases i ≡ Some lease →
@@ -160,9 +173,12 @@ gained_failing interface leases i k lease old mid new is few opens fails =
     gained_both old mid new (OpensAll (addresses_of interface (take i leases))) (OpensHalf (addresses_of interface (lease ∷ [])) k) (OpensHalf (addresses_of interface leases) (2 * i + k))
     (λ xs ys these those. fails_next interface leases i k lease xs ys is few these those) opens fails
 
-pub gained_undone : (ats : List Addr) (n : ℕ) (old mid new : Option (List PortCall)) → Gained old mid (OpensHalf ats n) → Gained mid new (AllZip ClosesUncalled (take n ats)) → Gained old new (OpensUpTo ats n)
-gained_undone ats n old mid new opens closes =
-    gained_both old mid new (OpensHalf ats n) (AllZip ClosesUncalled (take n ats)) (OpensUpTo ats n) (λ xs ys these those. undone ats n xs ys these those) opens closes
+pub gained_undone : (ats : List Addr) (n m opened : ℕ) (old mid new : Option (List PortCall)) → m ≡ n → opened ≡ m →
+    Gained old mid (OpensHalf ats n) → Gained mid new (AllZip ClosesUncalled (take m ats)) → Gained old new (OpensUpTo ats opened)
+gained_undone ats n m opened old mid new same is opens closes =
+    let closed = subst (λ (k : ℕ). Gained mid new (AllZip ClosesUncalled (take k ats))) same closes in
+    let all = gained_both old mid new (OpensHalf ats n) (AllZip ClosesUncalled (take n ats)) (OpensUpTo ats n) (λ xs ys these those. undone ats n xs ys these those) opens closed in
+    subst (λ (k : ℕ). Gained old new (OpensUpTo ats k)) (sym (is ∙ same)) all
 
 pub told_open_upto : (ats : List Addr) (n : ℕ) (old new : Option (List PortCall)) (Q : List PortCall → Type 0) → WhereTold old Q → Gained old new (OpensHalf ats n) → WhereTold new (AllOpen (take n ats))
 told_open_upto ats n old new Q held opens =
@@ -173,8 +189,20 @@ pub half_few : {I O : Type 0} (half : Option (HalfOpened I O)) → half_count ha
 half_few None = omega arith
 half_few (Some ends) = omega arith
 
--- the ends of one pair more
-pub uncalled_more : {I O : Type 0} (taken : I → Option (List InCall)) (sent : O → Option (List OutCall)) (pairs : List (PairEnds I O)) (ends : PairEnds I O) →
+-- The ends of one pair more.
+
+uncalled_more : {I O : Type 0} (taken : I → Option (List InCall)) (sent : O → Option (List OutCall)) (pairs : List (PairEnds I O)) (ends : PairEnds I O) →
     AreUncalled taken sent pairs → IsUncalled taken sent ends → AreUncalled taken sent (pairs ++ ends ∷ [])
 uncalled_more taken sent [] ends those this = (this, tt)
 uncalled_more taken sent (first ∷ pairs) ends those this = (those.0, uncalled_more taken sent pairs ends those.1 this)
+
+pub uncalled_pushed : {I O : Type 0} (taken : I → Option (List InCall)) (sent : O → Option (List OutCall)) (old new : EndsList I O) (ends : PairEnds I O) → new ≡ with_ends old ends →
+    AreUncalled taken sent old.list → IsUncalled taken sent ends → AreUncalled taken sent new.list
+uncalled_pushed {I} {O} taken sent old new ends is those this =
+    subst (λ (opened : EndsList I O). AreUncalled taken sent opened.list) (sym is) (uncalled_more taken sent old.list ends those this)
+
+pub count_pushed : {I O : Type 0} (old new : EndsList I O) (ends : PairEnds I O) → new ≡ with_ends old ends → length new.list ≡ length old.list + 1
+count_pushed {I} {O} old new ends is = ap (λ (opened : EndsList I O). length opened.list) is ∙ length_push old.list ends
+
+pub room_pushed : {I O : Type 0} (old new : EndsList I O) (ends : PairEnds I O) → new ≡ with_ends old ends → new.room ≡ old.room
+room_pushed {I} {O} old new ends is = ap (λ (opened : EndsList I O). opened.room) is

@@ -1,12 +1,16 @@
 -- What the opening and the closing of pairs add to a port maker's list, and which addresses are open then.
-use Rattle.std.specs.Prelude.{◌≡◌, ◌↔◌, ℕ, Bool, true, false, Option, List, [], ◌∷◌, ◌++◌, length, take, replicate}
+use Rattle.std.specs.Prelude.{◌≡◌, ◌↔◌, ℕ, ◌+◌, ◌*◌, Bool, true, false, Option, List, [], ◌∷◌, ◌++◌, length, take, replicate}
 use Rattle.std.specs.List.{AllZip}
 use Rattle.relay_outside.specs.declared.address.Addr.{Addr}
+use Rattle.relay_outside.specs.declared.address.Ip.{Ip}
 use Rattle.relay_outside.specs.declared.ports.PortCall.{PortCall}
 use Rattle.relay_outside.specs.declared.ports.PortCall.TheVariants.{Open, Close}
 use Rattle.relay_outside.specs.Told.{StartsEmpty, WhereTold}
 use Rattle.relay_outside.specs.Ports.{IsOpen}
 use Rattle.histories.specs.Words.{In}
+use Rattle.port_pool.specs.declared.pairs.Lease.{Lease}
+use Rattle.media_ports.specs.Addresses.{port_at, addresses_of}
+use Rattle.media_ports.specs.Ends.{EndsTold}
 
 -- openings of these addresses in order, with these answers: as many as there are answers
 abbrev pub openings : List Addr → List Bool → List PortCall
@@ -14,13 +18,18 @@ openings [] answers = []
 openings (at ∷ ats) [] = []
 openings (at ∷ ats) (done ∷ answers) = Open at done ∷ openings ats answers
 
--- each address is opened, in order
-abbrev pub OpensAll : List Addr → List PortCall → Type 0
-OpensAll ats calls = calls ≡ openings ats (replicate (length ats) true)
+-- the ports of leased pairs are opened, in order: two for each lease
+abbrev pub OpensPairs : Ip → List Lease → List PortCall → Type 0
+OpensPairs interface leases calls = calls ≡ openings (addresses_of interface leases) (replicate (2 * length leases) true)
 
 -- so many addresses are opened, in order, and the opening of the next one fails
 abbrev pub OpensHalf : List Addr → ℕ → List PortCall → Type 0
 OpensHalf ats opened calls = calls ≡ openings ats (replicate opened true ++ false ∷ [])
+
+-- the call closes this address
+abbrev pub Closes : Addr → PortCall → Type 0
+Closes at (Open there done) = ⊥
+Closes at (Close there taken sent) = there ≡ at
 
 -- the call closes this address, whose ends were not called
 abbrev pub ClosesUncalled : Addr → PortCall → Type 0
@@ -33,6 +42,12 @@ pub record OpensUpTo (ats : List Addr) (opened : ℕ) (calls : List PortCall) : 
   pub closes : List PortCall
   pub then_fails : calls ≡ openings ats (replicate opened true ++ false ∷ []) ++ closes
   pub closed : AllZip ClosesUncalled (take opened ats) closes
+
+-- the ports of a leased pair are closed, that for RTP first, with what their ends tell
+abbrev pub ClosesPair : Ip → Lease → EndsTold → List PortCall → Type 0
+ClosesPair interface lease ends calls = calls
+    ≡ Close (port_at interface lease.rtp_port) ends.rtp_in ends.rtp_out
+    ∷ Close (port_at interface (lease.rtp_port + 1)) ends.rtcp_in ends.rtcp_out ∷ []
 
 -- none of these addresses is open
 abbrev pub NoneOpen : List Addr → List PortCall → Type 0

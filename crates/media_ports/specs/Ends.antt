@@ -15,7 +15,22 @@ pub record EndsList (I O : Type 0) : Type 0 where
 abbrev pub with_ends : {I O : Type 0} → EndsList I O → PairEnds I O → EndsList I O
 with_ends opened ends = record { list = opened.list ++ ends ∷ []; room = opened.room }
 
+-- what the ends of a pair tell
+pub record EndsTold : Type 0 where
+  pub rtp_in : Option (List InCall)
+  pub rtp_out : Option (List OutCall)
+  pub rtcp_in : Option (List InCall)
+  pub rtcp_out : Option (List OutCall)
+
 module _ {I O : Type 0} (taken : I → Option (List InCall)) (sent : O → Option (List OutCall)) where
+  abbrev pub ends_told : PairEnds I O → EndsTold
+  ends_told ends = record {
+    rtp_in = taken ends.rtp_in;
+    rtp_out = sent ends.rtp_out;
+    rtcp_in = taken ends.rtcp_in;
+    rtcp_out = sent ends.rtcp_out;
+  }
+
   -- no end of the pair was called
   pub record IsUncalled (ends : PairEnds I O) : Type 0 where
     pub rtp_in : StartsEmpty (taken ends.rtp_in)

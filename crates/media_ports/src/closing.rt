@@ -1,13 +1,13 @@
 ghost use Rattle.std.specs.Prelude.{◌≡◌, ◌≤◌, ◌<◌, ◌+◌, ◌^◌, [], ◌∷◌, List};
 ghost use Rattle.relay_outside.specs.Told.{Gained, WhereTold};
-ghost use Rattle.relay_outside.specs.declared.ports.PortCall.{PortCall};
-ghost use Rattle.media_ports.specs.Addresses.{port_at, addresses_of};
-ghost use Rattle.media_ports.specs.Calls.{AllOpen, LeavesOpen, WhereBothTold};
+ghost use Rattle.media_ports.specs.Addresses.{addresses_of};
+ghost use Rattle.media_ports.specs.Calls.{ClosesPair, AllOpen, LeavesOpen, WhereBothTold};
+ghost use Rattle.media_ports.specs.Ends.{ends_told};
 
 use crate::address::address_of;
 use crate::ends::PairEnds;
 use port_pool::Lease;
-use relay_outside::{Ip, PortCall, PortMaker};
+use relay_outside::{Ip, PortMaker};
 
 /// Closes the two open ports of a leased pair, that for RTP first, and gives their ends back. It takes no memory.
 pub fn close_pair<P: PortMaker>(
@@ -18,9 +18,7 @@ pub fn close_pair<P: PortMaker>(
 )
     requires port { lease.now.rtp_port + 1 < 2 ^ 16 }
     requires open { WhereTold (P.told ports.old) (AllOpen (addresses_of interface (lease.now ∷ []))) }
-    ensures closes { Gained (P.told ports.old) (P.told ports.new) (λ calls. calls
-        ≡ PortCall.Close (port_at interface lease.now.rtp_port) (P.In.told ends.rtp_in) (P.Out.told ends.rtp_out)
-        ∷ PortCall.Close (port_at interface (lease.now.rtp_port + 1)) (P.In.told ends.rtcp_in) (P.Out.told ends.rtcp_out) ∷ []) }
+    ensures closes { Gained (P.told ports.old) (P.told ports.new) (ClosesPair interface lease.now (ends_told P.In.told P.Out.told ends)) }
     ensures open { WhereBothTold (P.told ports.old) (P.told ports.new) (LeavesOpen (addresses_of interface (lease.now ∷ []))) }
     ensures later { P.faults ports.old ≤ P.faults ports.new }
 {

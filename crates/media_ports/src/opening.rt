@@ -2,7 +2,7 @@ ghost use Rattle.std.specs.Prelude.{◌≡◌, ◌≤◌, ◌<◌, ◌+◌, ◌*
 ghost use Rattle.std.specs.List.{AllZip};
 ghost use Rattle.relay_outside.specs.Told.{Gained, HasCause, StartsEmpty, WhereTold};
 ghost use Rattle.media_ports.specs.Addresses.{addresses_of, ports_of, ArePorts};
-ghost use Rattle.media_ports.specs.Calls.{OpensAll, OpensHalf, OpensUpTo, ClosesUncalled, AllOpen, NoneOpen, SameOpen, WhereBothTold};
+ghost use Rattle.media_ports.specs.Calls.{OpensPairs, OpensHalf, OpensUpTo, ClosesUncalled, AllOpen, NoneOpen, SameOpen, WhereBothTold};
 ghost use Rattle.media_ports.specs.Ends.{IsUncalled, AreUncalled, IsHalfUncalled, half_count};
 
 use crate::address::address_of;
@@ -33,7 +33,7 @@ fn open_pair<P: PortMaker>(
 ) -> Result<PairEnds<P::In, P::Out>, Option<HalfOpened<P::In, P::Out>>>
     requires port { lease.now.rtp_port + 1 < 2 ^ 16 }
     requires closed { WhereTold (P.told ports.old) (NoneOpen (addresses_of interface (lease.now ∷ []))) }
-    ensures opens { OnOk result (Gained (P.told ports.old) (P.told ports.new) (OpensAll (addresses_of interface (lease.now ∷ [])))) }
+    ensures opens { OnOk result (Gained (P.told ports.old) (P.told ports.new) (OpensPairs interface (lease.now ∷ []))) }
     ensures uncalled { IfOk result (IsUncalled P.In.told P.Out.told) }
     ensures then_fails { IfErr result (λ half. Gained (P.told ports.old) (P.told ports.new) (OpensHalf (addresses_of interface (lease.now ∷ [])) (half_count half))) }
     ensures half_uncalled { IfErr result (IsHalfUncalled P.In.told P.Out.told) }
@@ -151,7 +151,7 @@ pub fn open_pairs<P: PortMaker>(
     requires closed { WhereTold (P.told ports.old) (NoneOpen (addresses_of interface leases.now.list)) }
 
     // Two openings for each lease, and the ends of each pair.
-    ensures opens { OnOk result (Gained (P.told ports.old) (P.told ports.new) (OpensAll (addresses_of interface leases.now.list))) }
+    ensures opens { OnOk result (Gained (P.told ports.old) (P.told ports.new) (OpensPairs interface leases.now.list)) }
     ensures pairs { OnOk result (length opened.new.list ≡ length leases.now.list) }
     ensures uncalled { OnOk result (AreUncalled P.In.told P.Out.told opened.new.list) }
 

@@ -4,9 +4,9 @@ use Rattle.relay_outside.specs.Told.{Gained}
 use Rattle.relay_outside.specs.declared.ports.PortCall.TheVariants.{Close}
 use Rattle.relay_outside.proofs.Telling.{gained_one, gained_both}
 use Rattle.media_ports.specs.Addresses.{port_at}
-use Rattle.media_ports.specs.Calls.{LeavesOpen}
+use Rattle.media_ports.specs.Calls.{Closes, LeavesOpen}
 use Rattle.media_ports.proofs.Telling.{both_told}
-use Rattle.media_ports.proofs.Closed.{Closes, leaves_open, zip-append}
+use Rattle.media_ports.proofs.Closed.{leaves_open, zip-append}
 use Rattle.media_ports.proofs.closing.close_pair.Goals as goal
 
 pub returns-clause-open : goal.returns-clause-open

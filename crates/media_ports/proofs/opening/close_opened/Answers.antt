@@ -5,6 +5,7 @@ use Rattle.relay_outside.proofs.Telling.{gained_both}
 use Rattle.media_ports.specs.Addresses.{addresses_of}
 use Rattle.media_ports.specs.Calls.{ClosesUncalled, AllOpen}
 use Rattle.media_ports.proofs.Telling.{told_after, told_less}
+use Rattle.media_ports.proofs.Closed.{closes_uncalled}
 use Rattle.media_ports.proofs.Leased.{get_take, first_ports, port_fits, zip_more, open_here, open_later}
 use Rattle.media_ports.proofs.opening.close_opened.Goals as goal
 
@@ -39,7 +40,7 @@ loop-index-preserved g c =
           (AllZip ClosesUncalled (addresses_of interface (take i all))) closed (AllZip ClosesUncalled (addresses_of interface (take (i + 1) all)))
           (λ xs ys. zip_more interface ClosesUncalled all i lease xs ys is) c.loop-index.invariant.closes c.close_first.ensures.closes;
       still = told_after (told c.loop-index.ports) (told c.close_first.new.ports) closed (AllOpen (addresses_of interface (drop i all))) (AllOpen (addresses_of interface (drop (i + 1) all)))
-          (λ calls more open_ those. open_later interface all i lease calls more is are open_ those) c.loop-index.invariant.still c.close_first.ensures.closes;
+          (λ calls more open_ those. open_later interface all i lease calls more is are open_ (closes_uncalled (addresses_of interface (lease ∷ [])) more those)) c.loop-index.invariant.still c.close_first.ensures.closes;
       count = omega arith;
       uncalled = c.close_first.ensures.uncalled;
       room = cc;

@@ -1,15 +1,17 @@
 use Rattle.std.proofs.Common.{◌≡◌, ◌∙◌, ◌+◌, ◌*◌, ◌<◌, [], ◌∷◌, ap, sym, subst, ℕ, length, take, drop, List, Some, arith}
 use Rattle.std.specs.List.{AllZip}
-use Rattle.std.proofs.lemmas.List.{length_push}
+use Rattle.std.proofs.lemmas.List.{length_push, take_all}
 use Rattle.relay_outside.specs.declared.ports.PortCall.{PortCall}
+use Rattle.port_pool.specs.declared.pairs.Lease.{Lease}
 use Rattle.relay_outside.specs.Told.{Gained, WhereTold}
-use Rattle.relay_outside.proofs.Telling.{gained_both}
+use Rattle.relay_outside.proofs.Telling.{gained_both, gained_less}
 use Rattle.media_ports.specs.Addresses.{addresses_of}
-use Rattle.media_ports.specs.Calls.{OpensAll, OpensUpTo, ClosesUncalled, NoneOpen, AllOpen, SameOpen}
+use Rattle.media_ports.specs.Calls.{OpensPairs, OpensUpTo, ClosesUncalled, NoneOpen, AllOpen, SameOpen}
 use Rattle.media_ports.specs.Ends.{EndsList, AreUncalled, half_count}
+use Rattle.media_ports.proofs.Closed.{OpensAll}
 use Rattle.media_ports.proofs.Telling.{told_after, told_less, both_told_where}
-use Rattle.media_ports.proofs.Leased.{port_fits}
-use Rattle.media_ports.proofs.UpTo.{opens_next, none_open_here, none_open_later, same_open, gained_failing, gained_undone, told_open_upto, half_few, uncalled_more}
+use Rattle.media_ports.proofs.Leased.{port_fits, pairs_from_all}
+use Rattle.media_ports.proofs.UpTo.{opens_next, none_open_here, none_open_later, same_open, gained_failing, gained_undone, told_open_upto, half_few, uncalled_pushed, count_pushed, room_pushed}
 use Rattle.media_ports.proofs.opening.open_pairs.Goals as goal
 
 pub open_pair-requires-clause-port : goal.open_pair-requires-clause-port
@@ -45,10 +47,9 @@ returns-in-Err-clause-then_fails g c =
     let i = c.loop-index.index in
     let k = half_count c.in-Err.half in
     let opens = gained_failing interface leases i k lease (told c.args.ports.now) (told c.loop-index.ports) (told c.open_pair.new.ports) c.get.ensures (half_few c.in-Err.half) c.loop-index.invariant.opens c.in-Err.ensures.then_fails in
-    let count : 2 * length c.loop-index.opened.list + k ≡ 2 * i + k = ap (λ n. 2 * n + k) c.loop-index.invariant.count in
-    let closes = subst (λ (n : ℕ). Gained (told c.open_pair.new.ports) (told c.undo.new.ports) (AllZip ClosesUncalled (take n ats))) count c.undo.ensures.closes in
-    subst (λ (n : ℕ). Gained (told c.args.ports.now) (told c.undo.new.ports) (OpensUpTo ats n)) (sym count ∙ sym c.undo.ensures.count)
-    (gained_undone ats (2 * i + k) (told c.args.ports.now) (told c.open_pair.new.ports) (told c.undo.new.ports) opens closes)
+    let held = length c.loop-index.opened.list in
+    gained_undone ats (2 * i + k) (2 * held + k) c.undo.result.opened (told c.args.ports.now) (told c.open_pair.new.ports) (told c.undo.new.ports)
+    (ap (λ n. 2 * n + k) c.loop-index.invariant.count) c.undo.ensures.count opens c.undo.ensures.closes
 
 pub returns-in-Err-clause-same : goal.returns-in-Err-clause-same
 returns-in-Err-clause-same g c =
@@ -70,9 +71,17 @@ loop-index-preserved g c =
           (λ xs ys. opens_next interface leases i lease xs ys c.get.ensures) c.loop-index.invariant.opens c.in-Ok.ensures.opens;
       closed = told_after (told c.loop-index.ports) (told c.open_pair.new.ports) one (NoneOpen (addresses_of interface (drop i leases))) (NoneOpen (addresses_of interface (drop (i + 1) leases)))
           (λ calls more none opens. none_open_later interface leases i lease calls more c.get.ensures c.requires.ports none opens) c.loop-index.invariant.closed c.in-Ok.ensures.opens;
-      count = ap (λ (opened : EndsList g.row.P-In.Denot g.row.P-Out.Denot). length opened.list) c.push.ensures ∙ length_push c.loop-index.opened.list c.in-Ok.ends ∙ ap (λ n. n + 1) c.loop-index.invariant.count;
-      uncalled = subst (λ (opened : EndsList g.row.P-In.Denot g.row.P-Out.Denot). AreUncalled g.P.In.InEnd.told g.P.Out.OutEnd.told opened.list) (sym c.push.ensures)
-          (uncalled_more g.P.In.InEnd.told g.P.Out.OutEnd.told c.loop-index.opened.list c.in-Ok.ends c.loop-index.invariant.uncalled c.in-Ok.ensures.uncalled);
-      room = ap (λ (opened : EndsList g.row.P-In.Denot g.row.P-Out.Denot). opened.room) c.push.ensures ∙ c.loop-index.invariant.room;
+      count = count_pushed c.loop-index.opened c.push.new.self c.in-Ok.ends c.push.ensures ∙ ap (λ n. n + 1) c.loop-index.invariant.count;
+      uncalled = uncalled_pushed g.P.In.InEnd.told g.P.Out.OutEnd.told c.loop-index.opened c.push.new.self c.in-Ok.ends c.push.ensures c.loop-index.invariant.uncalled c.in-Ok.ensures.uncalled;
+      room = room_pushed c.loop-index.opened c.push.new.self c.in-Ok.ends c.push.ensures ∙ c.loop-index.invariant.room;
       later = omega (arith, c.in-Ok.ensures.cause.later);
     }
+
+pub returns-clause-opens : goal.returns-clause-opens
+returns-clause-opens g c =
+    let told = g.P.PortMaker.told in
+    let interface = c.args.interface in
+    let leases = c.args.leases.now.list in
+    let whole : take c.loop-index.index leases ≡ leases = take_all c.loop-index.index leases (omega arith) in
+    gained_less (told c.args.ports.now) (told c.loop-index.ports) (OpensAll (addresses_of interface (take c.loop-index.index leases))) (OpensPairs interface leases)
+    (λ calls opens. pairs_from_all interface leases calls (subst (λ (these : List Lease). OpensAll (addresses_of interface these) calls) whole opens)) c.loop-index.invariant.opens

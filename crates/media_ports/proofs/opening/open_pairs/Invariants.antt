@@ -1,8 +1,9 @@
 use Rattle.std.proofs.Common.{◌≡◌, ◌≤◌, length, take, drop}
 use Rattle.relay_outside.specs.Told.{Gained, WhereTold}
 use Rattle.media_ports.specs.Addresses.{addresses_of}
-use Rattle.media_ports.specs.Calls.{OpensAll, NoneOpen}
+use Rattle.media_ports.specs.Calls.{NoneOpen}
 use Rattle.media_ports.specs.Ends.{AreUncalled}
+use Rattle.media_ports.proofs.Closed.{OpensAll}
 use Rattle.media_ports.proofs.opening.open_pairs.Given as goal
 
 abbrev pub invariant-loop-index : goal.invariant-loop-index
