@@ -1,8 +1,8 @@
 -- What the list says of a place after a nested step, there or elsewhere.
-use Rattle.std.proofs.Common.{◌≡◌, refl, sym, ◌∙◌, ap, subst, ℕ, zero, suc, ◌+◌, ◌<◌, ◌≤◌, ◌⊎◌, inl, inr, List, [], ◌∷◌, ◌++◌, true, Some, None, map, filter, IsSome, arith}
+use Rattle.std.proofs.Common.{◌≡◌, refl, sym, ◌∙◌, ap, subst, ℕ, zero, suc, ◌<◌, ◌≤◌, ◌⊎◌, inl, inr, List, [], ◌∷◌, ◌++◌, true, Some, None, map, filter, IsSome, arith}
 use Rattle.std.specs.List.{filter_map, cons_option}
 use Rattle.histories.specs.Words.{In, here, there}
-use Rattle.histories.proofs.Lists.{in_append, in_left, in_right, mapped, maps}
+use Rattle.histories.proofs.Lists.{in_append, in_left, in_right, maps}
 use Rattle.relay_outside.specs.declared.settings.Config.{Config}
 use Rattle.turn_table.specs.declared.hands.Hand.{Hand}
 use Rattle.turn_table.specs.Hands.{entries}
@@ -14,9 +14,9 @@ use Rattle.port_pool.specs.declared.signal.SectionSignal.{SectionSignal}
 use Rattle.call_cell.specs.declared.prepare.Prepare as prepared
 use Rattle.call_cell.specs.Preparing.{CanCome}
 use Rattle.call_cell.specs.Committing.{NamesKeys, contexts_due_after}
-use Rattle.call_cell.specs.Cells.{since_end, CellEvent, CellEntry, keys_of, key_numbered}
-use Rattle.relay_core.specs.Entries.{Event, Cell, Box, Entry, is_at, history, cell_at, box_in, cell_entry, box_event, cell_history, box_history, box_of}
-use Rattle.relay_core.specs.Scripts.{Owed, owed_by, opening}
+use Rattle.call_cell.specs.Cells.{since_end, CellEvent, keys_of, key_numbered}
+use Rattle.relay_core.specs.Entries.{Event, Box, Entry, is_at, history, cell_at, box_in, cell_entry, box_event, cell_history, box_history}
+use Rattle.relay_core.specs.Scripts.{Owed, owed_by}
 use Rattle.relay_core.specs.Made.{Made, list_of}
 use Rattle.relay_core.specs.Standing.{BringsNewKeys}
 use Rattle.relay_core.specs.Turning.{IsAbove, Rising, GainsNested, made_by}
@@ -24,7 +24,7 @@ use Rattle.relay_core.proofs.Boards.{lt_or_eq}
 use Rattle.relay_core.proofs.Histories.{at_place, is_there}
 use Rattle.relay_core.proofs.Shut.{same_history}
 use Rattle.relay_core.proofs.Turns.{filter_append, filter_none, filter_every, false_if, nothing_more}
-use Rattle.nested_steps.specs.Nesting.{IsShut, IsOpen, closing_of}
+use Rattle.nested_steps.specs.Nesting.{IsShut, IsOpen}
 use Rattle.nested_steps.specs.InCells.{HasNewKeys, CanPrepare, CanCommit, HasRoom, in_cell_of}
 use Rattle.nested_steps.proofs.Nesting.{map_rows}
 

@@ -1,5 +1,5 @@
 -- What the main hand is given at a box, and what its ends then are.
-use Rattle.std.proofs.Common.{◌≡◌, refl, sym, ◌∙◌, ap, subst, ℕ, ◌+◌, ◌<◌, ◌≤◌, List, Option, Some, None, IsSome, arith}
+use Rattle.std.proofs.Common.{◌≡◌, refl, sym, subst, ℕ, ◌≤◌, List, Option, Some, None, IsSome, arith}
 use Rattle.relay_outside.specs.declared.settings.Config.{Config}
 use Rattle.relay_outside.specs.declared.ports.InCall.{InCall}
 use Rattle.relay_outside.specs.declared.ports.OutCall.{OutCall}
@@ -8,16 +8,15 @@ use Rattle.turn_table.specs.declared.hands.Hand.{Hand}
 use Rattle.turn_table.specs.Hands.{view, entries, IsGiven}
 use Rattle.port_pool.specs.declared.holder.Holder.{Holder}
 use Rattle.port_pool.specs.declared.boxes.Opened.{Opened}
-use Rattle.port_pool.specs.declared.boxes.PairBox.{PairBox}
 use Rattle.port_pool.specs.Boxes.{holder}
-use Rattle.port_pool.specs.PairBoxes.{holder_of, ends_of, holder_in, ends_in, cells_of}
+use Rattle.port_pool.specs.PairBoxes.{holder_of, ends_of}
 use Rattle.relay_core.specs.declared.part.Part.{Part}
 use Rattle.relay_core.specs.declared.part.Part.TheVariants as part
 use Rattle.relay_core.specs.Entries.{box_history, box_of}
 use Rattle.relay_core.specs.Made.{Made}
 use Rattle.relay_core.specs.Standing.{BoxIs}
 use Rattle.relay_core.specs.Steps.{Relates, IsReserved}
-use Rattle.relay_core.specs.Turning.{IsAbove, made_by}
+use Rattle.relay_core.specs.Turning.{made_by}
 use Rattle.relay_core.proofs.Given.{given_box}
 use Rattle.nested_steps.proofs.Nesting.{above_rows}
 use Rattle.nested_steps.specs.Nesting.{MayNest, IsShut, IsOpen, Opens, Shuts}

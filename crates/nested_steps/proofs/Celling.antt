@@ -1,5 +1,5 @@
 -- What the main hand is given at a cell, and what the steps of a cell are.
-use Rattle.std.proofs.Common.{◌≡◌, refl, sym, ◌∙◌, ap, subst, ℕ, ◌≤◌, max, Bool, true, List, Option, Some, None, arith}
+use Rattle.std.proofs.Common.{◌≡◌, sym, ap, subst, ℕ, ◌≤◌, max, Bool, List, Option}
 use Rattle.relay_outside.specs.declared.settings.Config.{Config}
 use Rattle.relay_outside.specs.declared.ports.InCall.{InCall}
 use Rattle.relay_outside.specs.declared.ports.OutCall.{OutCall}
@@ -21,7 +21,7 @@ use Rattle.relay_core.specs.Steps.{Relates}
 use Rattle.relay_core.specs.Turning.{made_by}
 use Rattle.relay_core.proofs.Given.{given_cell}
 use Rattle.nested_steps.specs.Nesting.{MayNest, nested}
-use Rattle.nested_steps.specs.InCells.{HasNewKeys, moment_in, EndsPart, ExpiresPart, IsCellAt, Ends, Expires}
+use Rattle.nested_steps.specs.InCells.{HasNewKeys, moment_in, EndsPart, ExpiresPart, Ends, Expires}
 use Rattle.nested_steps.proofs.Nesting.{above_rows}
 use Rattle.nested_steps.proofs.Boxing.{Gives}
 

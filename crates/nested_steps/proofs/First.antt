@@ -1,5 +1,5 @@
 -- What a list without an entry says of each place, and of what comes first.
-use Rattle.std.proofs.Common.{◌≡◌, refl, sym, ◌∙◌, ap, subst, ℕ, zero, suc, ◌<◌, ◌≤◌, List, [], ◌∷◌, ◌++◌, None, map, filter, arith}
+use Rattle.std.proofs.Common.{◌≡◌, refl, sym, ◌∙◌, ap, subst, ℕ, zero, suc, List, [], ◌∷◌, ◌++◌, arith}
 use Rattle.std.specs.List.{AllPairs, filter_map}
 use Rattle.relay_outside.specs.declared.settings.Config.{Config}
 use Rattle.histories.specs.Words.{In, here, there}
@@ -11,7 +11,7 @@ use Rattle.port_pool.specs.Signals.{NewKey}
 use Rattle.port_pool.specs.Boxes.{holder}
 use Rattle.call_cell.specs.declared.leg.Leg.{Leg}
 use Rattle.call_cell.specs.declared.prepare.Prepare as prepared
-use Rattle.call_cell.specs.Cells.{CellEvent, CellEntry, keys_of, key_numbered, since_end}
+use Rattle.call_cell.specs.Cells.{CellEvent, CellEntry, key_numbered, since_end}
 use Rattle.call_cell.specs.Committing.{contexts_due_after}
 use Rattle.call_cell.specs.Preparing.{CanCome, AreTwo, PrepareFor, added}
 use Rattle.relay_core.specs.Entries.{Entry, history, cell_history, box_event, cell_entry}

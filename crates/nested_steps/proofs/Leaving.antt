@@ -1,6 +1,6 @@
 -- The leases and ends that went from a cell are those of its legs, by the hand's list.
-use Rattle.std.proofs.Common.{◌≡◌, refl, sym, ◌∙◌, ap, subst, ℕ, ◌≤◌, ◌⊎◌, inl, inr, Bool, true, false, cond, List, [], ◌∷◌, map, filter, arith}
-use Rattle.std.specs.List.{AllZip, filter_map}
+use Rattle.std.proofs.Common.{◌≡◌, refl, sym, ◌∙◌, ap, subst, ℕ, Bool, true, false, cond, List, [], ◌∷◌, map, filter}
+use Rattle.std.specs.List.{filter_map}
 use Rattle.relay_outside.specs.declared.settings.Config.{Config}
 use Rattle.relay_outside.specs.declared.ports.InCall.{InCall}
 use Rattle.relay_outside.specs.declared.ports.OutCall.{OutCall}
@@ -18,13 +18,13 @@ use Rattle.call_cell.specs.declared.leg.Leg.{Leg}
 use Rattle.call_cell.specs.declared.prepare.Prepare as prepared
 use Rattle.call_cell.specs.declared.cell.Cell as cell
 use Rattle.call_cell.specs.Cells.{CellEntry, legs, since_end}
-use Rattle.call_cell.specs.Standing.{LegFor, LegsFor}
+use Rattle.call_cell.specs.Standing.{LegFor}
 use Rattle.call_cell.specs.CellStanding.{CellFor}
 use Rattle.call_cell.specs.Ending.{parts_of}
 use Rattle.call_cell.proofs.Few.{each_in}
 use Rattle.call_cell.proofs.Nested.{same_kept}
 use Rattle.relay_core.specs.declared.part.Part.{Part}
-use Rattle.relay_core.specs.Entries.{Entry, history, cell_entry, cell_history}
+use Rattle.relay_core.specs.Entries.{Entry, cell_entry, cell_history}
 use Rattle.relay_core.specs.Made.{Made}
 use Rattle.relay_core.specs.Turning.{IsAbove, made_by}
 use Rattle.nested_steps.specs.InCells.{IsCellAt, Ends, Prepares, Commits}

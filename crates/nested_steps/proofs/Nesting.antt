@@ -12,7 +12,6 @@ use Rattle.turn_table.specs.Histories.{phase_at}
 use Rattle.turn_table.specs.Hands.{IsSameHand, SameTurns, HasPlace, SameTurnsBut, MayTurn, LacksPlace, GainsTurn, EndsTurn, place_of, front_of, view, entries, starts}
 use Rattle.turn_table.specs.declared.hands.Turn.{Turn}
 use Rattle.turn_table.specs.Steps.{entry}
-use Rattle.histories.specs.Words.{In, here, there}
 use Rattle.port_pool.specs.Ports.{pair_count}
 use Rattle.relay_core.specs.declared.part.Part.{Part}
 use Rattle.relay_core.specs.Entries.{Event, Entry}

@@ -1,5 +1,5 @@
 -- What a nested step does to a cell.
-use Rattle.std.specs.Prelude.{◌≡◌, ◌≤◌, ℕ, Bool, List, [], ◌∷◌, Option}
+use Rattle.std.specs.Prelude.{◌≡◌, ◌≤◌, ℕ, Bool, List, Option}
 use Rattle.relay_outside.specs.declared.settings.Config.{Config}
 use Rattle.relay_outside.specs.declared.ports.InCall.{InCall}
 use Rattle.relay_outside.specs.declared.ports.OutCall.{OutCall}
@@ -19,7 +19,7 @@ use Rattle.call_cell.specs.Ending.{CellEnds}
 use Rattle.call_cell.specs.Expiring.{CellExpires}
 use Rattle.relay_core.specs.declared.part.Part.{Part}
 use Rattle.relay_core.specs.declared.part.Part.TheVariants as part
-use Rattle.relay_core.specs.Entries.{Event, Cell, Entry, cell_history}
+use Rattle.relay_core.specs.Entries.{Cell, Entry, cell_history}
 use Rattle.relay_core.specs.Scripts.{Owed}
 use Rattle.relay_core.specs.Made.{Made}
 use Rattle.relay_core.specs.Standing.{BringsNewKeys, nested_of}

@@ -1,5 +1,5 @@
 -- Who may make nested steps, and what such a step tells.
-use Rattle.std.specs.Prelude.{◌≡◌, ◌<◌, ◌≤◌, ℕ, List, [], ◌∷◌, Option, Some, None, IsSome}
+use Rattle.std.specs.Prelude.{◌≡◌, ℕ, List, Option, Some, None, IsSome}
 use Rattle.relay_outside.specs.declared.settings.Config.{Config}
 use Rattle.relay_outside.specs.declared.ports.InCall.{InCall}
 use Rattle.relay_outside.specs.declared.ports.OutCall.{OutCall}

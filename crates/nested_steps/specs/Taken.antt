@@ -1,5 +1,5 @@
 -- What a turn gave, as the step needs it.
-use Rattle.std.specs.Prelude.{◌≡◌, ◌≤◌, Option, Some, None, IsSome}
+use Rattle.std.specs.Prelude.{◌≡◌, ◌≤◌, Some, None, IsSome}
 use Rattle.port_pool.specs.declared.holder.Holder.{Holder}
 use Rattle.port_pool.specs.PairBoxes.{holder_in, ends_in, cells_of}
 use Rattle.relay_core.specs.declared.part.Part.{Part}

@@ -2,7 +2,7 @@ use Rattle.std.proofs.Common.{sym, subst, arith}
 use Rattle.port_pool.specs.Boxes.{Close}
 use Rattle.relay_core.specs.Entries.{Box, box_of}
 use Rattle.nested_steps.specs.Nesting.{nested}
-use Rattle.nested_steps.specs.Taken.{CanShut, HasEnds}
+use Rattle.nested_steps.specs.Taken.{CanShut}
 use Rattle.nested_steps.proofs.Nesting.{above_rows, turn_gained, turn_may}
 use Rattle.nested_steps.proofs.Boxing.{open_given, shut_from}
 use Rattle.nested_steps.proofs.boxes.shut_box.Goals as goal

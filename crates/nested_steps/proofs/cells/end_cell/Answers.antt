@@ -1,4 +1,4 @@
-use Rattle.std.proofs.Common.{arith, max}
+use Rattle.std.proofs.Common.{arith}
 use Rattle.call_cell.specs.Cells.{End}
 use Rattle.relay_core.specs.Entries.{Cell}
 use Rattle.nested_steps.specs.InCells.{moment_in}

@@ -1,4 +1,4 @@
-use Rattle.std.proofs.Common.{arith, max, sym, subst}
+use Rattle.std.proofs.Common.{arith, max}
 use Rattle.call_cell.specs.Cells.{Prepare}
 use Rattle.call_cell.specs.Preparing.{added}
 use Rattle.relay_core.specs.Entries.{Cell}
