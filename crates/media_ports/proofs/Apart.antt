@@ -1,12 +1,9 @@
 -- The addresses of different ports differ, so what is opened or closed at some leaves the others.
-use Rattle.std.proofs.Common.{◌≡◌, ◌∙◌, ap, sym, subst, refl, ℕ, ◌+◌, ◌<◌, ◌^◌, Bool, true, false, cond, ◌==◌, eqb, eqb-true, eq-eqb, List, [], ◌∷◌, ◌++◌, ◌⊎◌, inl, inr, map, length, arith}
-use Rattle.std.proofs.lemmas.Bool.{eqb-false}
-use Rattle.std.proofs.lemmas.List.{map-append}
+use Rattle.std.proofs.Common.{◌≡◌, ◌∙◌, ap, sym, subst, refl, ℕ, ◌+◌, ◌<◌, ◌^◌, Bool, true, false, cond, ◌==◌, eqb, eqb-true, eq-eqb, List, [], ◌∷◌, ◌++◌, inl, inr, map, arith}
 use Rattle.std.specs.List.{AllZip}
 use Rattle.relay_outside.specs.declared.address.Addr.{Addr}
 use Rattle.relay_outside.specs.declared.address.Ip.{Ip}
 use Rattle.relay_outside.specs.declared.ports.PortCall.{PortCall}
-use Rattle.relay_outside.specs.Ports.{IsOpen}
 use Rattle.histories.specs.Words.{In, here, there, has}
 use Rattle.media_ports.specs.Addresses.{port_at, ArePorts}
 use Rattle.media_ports.specs.Calls.{Closes, openings, NoneOpen, AllOpen}

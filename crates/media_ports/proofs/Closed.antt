@@ -1,5 +1,5 @@
 -- Which addresses are open after several openings or closings.
-use Rattle.std.proofs.Common.{◌≡◌, ◌∙◌, ◌↔◌, ap, sym, subst, refl, ℕ, Bool, true, false, List, [], ◌∷◌, ◌++◌, ◌⊎◌, inl, inr, append_assoc, append-nil, length, replicate}
+use Rattle.std.proofs.Common.{◌≡◌, ◌∙◌, sym, subst, refl, Bool, true, List, [], ◌∷◌, ◌++◌, ◌⊎◌, inl, inr, append-nil, length, replicate}
 use Rattle.std.specs.List.{AllZip}
 use Rattle.std.proofs.Math.Seq.{append_snoc}
 use Rattle.relay_outside.specs.declared.address.Addr.{Addr}
@@ -7,7 +7,7 @@ use Rattle.relay_outside.specs.declared.ports.PortCall.{PortCall}
 use Rattle.relay_outside.specs.declared.ports.PortCall.TheVariants.{Open, Close}
 use Rattle.relay_outside.specs.Ports.{IsOpen, ClosesNot}
 use Rattle.histories.specs.Words.{In, here, there}
-use Rattle.media_ports.specs.Calls.{openings, Closes, ClosesUncalled, NoneOpen, AllOpen, SameOpen, LeavesOpen}
+use Rattle.media_ports.specs.Calls.{openings, Closes, ClosesUncalled, NoneOpen, LeavesOpen}
 use Rattle.media_ports.proofs.Opened.{open_anew, open_still, open_before, none_at_first}
 
 pub closes_uncalled : (ats : List Addr) (calls : List PortCall) → AllZip ClosesUncalled ats calls → AllZip Closes ats calls

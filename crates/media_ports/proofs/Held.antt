@@ -1,18 +1,16 @@
 -- The ports of the configuration's pairs: no two have one, and just those of the held pairs are open, whatever is opened and closed.
-use Rattle.std.proofs.Common.{◌≡◌, ◌∙◌, ◌↔◌, ap, sym, subst, refl, ℕ, ◌+◌, ◌-◌, ◌*◌, ◌/◌, ◌%◌, ◌<◌, ◌≤◌, ◌^◌, Bool, true, false, cond, ◌||◌, ◌&&◌, not, ◌==◌, eqb, eqb-true, eq-eqb, ne_eqb, List, [], ◌∷◌, ◌++◌, ◌⊎◌, inl, inr, Option, map, length, replicate, arith}
-use Rattle.std.proofs.lemmas.Bool.{eqb-false}
+use Rattle.std.proofs.Common.{◌≡◌, ◌∙◌, ◌↔◌, ap, sym, subst, refl, ℕ, ◌+◌, ◌<◌, ◌^◌, Bool, true, false, cond, ◌||◌, ◌&&◌, not, ◌==◌, eqb, eqb-true, List, [], ◌∷◌, ◌++◌, ◌⊎◌, inl, inr, Option, length, replicate, arith}
 use Rattle.std.specs.List.{AllZip}
 use Rattle.relay_outside.specs.declared.address.Addr.{Addr}
-use Rattle.relay_outside.specs.declared.address.Ip.{Ip}
 use Rattle.relay_outside.specs.declared.settings.Config.{Config}
 use Rattle.relay_outside.specs.declared.ports.PortCall.{PortCall}
 use Rattle.relay_outside.specs.Ports.{IsOpen}
-use Rattle.relay_outside.specs.Told.{Gained, WhereTold}
+use Rattle.relay_outside.specs.Told.{Gained}
 use Rattle.rtp_packet.specs.declared.head.Half.{Half}
 use Rattle.rtp_packet.specs.declared.head.Half.TheVariants.{Rtp, Rtcp}
 use Rattle.histories.specs.Words.{In, here, there, has}
 use Rattle.port_pool.specs.declared.pairs.Lease.{Lease}
-use Rattle.port_pool.specs.Ports.{first_port, pair_count, pair_port, half_port}
+use Rattle.port_pool.specs.Ports.{pair_count, pair_port, half_port}
 use Rattle.port_pool.specs.Pools.{AreFree}
 use Rattle.media_ports.specs.Addresses.{port_at, port_address, ports_of, addresses_of, ArePorts, pairs_of, HavePorts, AreLeased}
 use Rattle.media_ports.specs.Calls.{OpensPairs, Closes, ClosesPair, OpensUpTo, NoneOpen, AllOpen, SameOpen, LeavesOpen}

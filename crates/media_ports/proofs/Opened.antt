@@ -1,12 +1,11 @@
 -- Which addresses are open as a list of calls gains one more call.
-use Rattle.std.proofs.Common.{◌≡◌, ◌∙◌, ◌↔◌, ap, sym, subst, refl, Bool, true, false, List, [], ◌∷◌, ◌++◌, ◌⊎◌, inl, inr, append_assoc, append-nil}
+use Rattle.std.proofs.Common.{◌≡◌, ◌∙◌, ap, subst, refl, true, List, [], ◌∷◌, ◌++◌, ◌⊎◌, inl, inr, append_assoc}
 use Rattle.std.specs.Prelude.{All}
 use Rattle.std.specs.List.{AllByRecursion}
-use Rattle.std.proofs.Math.Seq.{append_snoc}
 use Rattle.std.proofs.lemmas.List.Elements.{All-from_recursion, recursion_from_All, All-push, All-nil}
 use Rattle.relay_outside.specs.declared.address.Addr.{Addr}
 use Rattle.relay_outside.specs.declared.ports.PortCall.{PortCall}
-use Rattle.relay_outside.specs.declared.ports.PortCall.TheVariants.{Open, Close}
+use Rattle.relay_outside.specs.declared.ports.PortCall.TheVariants.{Open}
 use Rattle.relay_outside.specs.Ports.{IsOpen, ClosesNot}
 
 -- the last of these is the one in the middle, or stands behind it

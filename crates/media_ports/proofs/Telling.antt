@@ -1,5 +1,5 @@
 -- What holds of a list of calls as the device gains more of them.
-use Rattle.std.proofs.Common.{◌≡◌, sym, subst, List, [], ◌∷◌, ◌++◌, Option, Some, None}
+use Rattle.std.proofs.Common.{sym, subst, List, ◌++◌, Option, Some, None}
 use Rattle.relay_outside.specs.Told.{Gained, WhereTold}
 use Rattle.media_ports.specs.Calls.{WhereBothTold}
 

@@ -1,5 +1,5 @@
 -- Openings one after another, up to one that fails, and their undoing.
-use Rattle.std.proofs.Common.{◌≡◌, ◌∙◌, ◌↔◌, ap, sym, subst, refl, ℕ, zero, suc, ◌+◌, ◌*◌, ◌<◌, ◌≤◌, Bool, true, false, List, [], ◌∷◌, ◌++◌, ◌⊎◌, inl, inr, Option, Some, None, map, length, take, drop, replicate, append_assoc, append-nil, take-append-drop, arith}
+use Rattle.std.proofs.Common.{◌≡◌, ◌∙◌, ap, sym, subst, refl, ℕ, zero, suc, ◌+◌, ◌*◌, ◌≤◌, Bool, true, false, List, [], ◌∷◌, ◌++◌, ◌⊎◌, inl, inr, Option, Some, None, length, take, drop, replicate, append_assoc, append-nil, take-append-drop, arith}
 use Rattle.std.specs.Prelude.{slice_get}
 use Rattle.std.specs.List.{AllZip}
 use Rattle.std.proofs.Math.Seq.{append_snoc}
@@ -22,7 +22,7 @@ use Rattle.media_ports.specs.declared.opening.HalfOpened.{HalfOpened}
 use Rattle.media_ports.specs.declared.ends.PairEnds.{PairEnds}
 use Rattle.media_ports.specs.Ends.{EndsList, with_ends, half_count, IsUncalled, AreUncalled}
 use Rattle.media_ports.proofs.Telling.{told_after}
-use Rattle.media_ports.proofs.Opened.{open_anew, open_still, open_before}
+use Rattle.media_ports.proofs.Opened.{open_anew, open_before}
 use Rattle.media_ports.proofs.Closed.{OpensAll, closes_uncalled, opens_each, still_open, open_since, open_beside, not_open}
 use Rattle.media_ports.proofs.Apart.{none_open_after}
 use Rattle.media_ports.proofs.Leased.{take_next, drop_next, later_ports, addresses_of-append, length-ports_of, all_from_pairs}

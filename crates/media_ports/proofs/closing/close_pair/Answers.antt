@@ -1,6 +1,5 @@
-use Rattle.std.proofs.Common.{◌≡◌, ◌∙◌, ◌+◌, ◌++◌, [], ◌∷◌, List, refl, sym, subst, ap}
+use Rattle.std.proofs.Common.{◌≡◌, ◌∙◌, ◌+◌, ◌++◌, [], ◌∷◌, ap}
 use Rattle.std.specs.List.{AllZip}
-use Rattle.relay_outside.specs.Told.{Gained}
 use Rattle.relay_outside.specs.declared.ports.PortCall.TheVariants.{Close}
 use Rattle.relay_outside.proofs.Telling.{gained_one, gained_both}
 use Rattle.media_ports.specs.Addresses.{port_at}

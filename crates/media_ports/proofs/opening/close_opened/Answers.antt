@@ -1,5 +1,4 @@
-use Rattle.std.proofs.Common.{◌≡◌, ◌+◌, ◌<◌, [], ◌∷◌, length, take, drop, Some, arith}
-use Rattle.std.specs.Prelude.{slice_get}
+use Rattle.std.proofs.Common.{◌+◌, ◌<◌, [], ◌∷◌, length, take, drop, arith}
 use Rattle.std.specs.List.{AllZip}
 use Rattle.relay_outside.proofs.Telling.{gained_both}
 use Rattle.media_ports.specs.Addresses.{addresses_of}

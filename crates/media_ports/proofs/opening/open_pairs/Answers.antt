@@ -1,13 +1,11 @@
-use Rattle.std.proofs.Common.{◌≡◌, ◌∙◌, ◌+◌, ◌*◌, ◌<◌, [], ◌∷◌, ap, sym, subst, ℕ, length, take, drop, List, Some, arith}
-use Rattle.std.specs.List.{AllZip}
-use Rattle.std.proofs.lemmas.List.{length_push, take_all}
-use Rattle.relay_outside.specs.declared.ports.PortCall.{PortCall}
+use Rattle.std.proofs.Common.{◌≡◌, ◌∙◌, ◌+◌, ◌*◌, [], ◌∷◌, ap, sym, subst, ℕ, length, take, drop, List, arith}
+use Rattle.std.proofs.lemmas.List.{take_all}
 use Rattle.port_pool.specs.declared.pairs.Lease.{Lease}
-use Rattle.relay_outside.specs.Told.{Gained, WhereTold}
+use Rattle.relay_outside.specs.Told.{WhereTold}
 use Rattle.relay_outside.proofs.Telling.{gained_both, gained_less}
 use Rattle.media_ports.specs.Addresses.{addresses_of}
-use Rattle.media_ports.specs.Calls.{OpensPairs, OpensUpTo, ClosesUncalled, NoneOpen, AllOpen, SameOpen}
-use Rattle.media_ports.specs.Ends.{EndsList, AreUncalled, half_count}
+use Rattle.media_ports.specs.Calls.{OpensPairs, OpensUpTo, NoneOpen, AllOpen, SameOpen}
+use Rattle.media_ports.specs.Ends.{half_count}
 use Rattle.media_ports.proofs.Closed.{OpensAll}
 use Rattle.media_ports.proofs.Telling.{told_after, told_less, both_told_where}
 use Rattle.media_ports.proofs.Leased.{port_fits, pairs_from_all}

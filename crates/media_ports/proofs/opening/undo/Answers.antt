@@ -1,12 +1,11 @@
-use Rattle.std.proofs.Common.{◌≡◌, ◌∙◌, ◌+◌, ◌*◌, ◌<◌, ◌≤◌, ◌++◌, [], ◌∷◌, ap, sym, subst, refl, ℕ, length, take, List, Option, Some, None, Fits, w64, arith}
+use Rattle.std.proofs.Common.{◌≡◌, ◌∙◌, ◌+◌, ◌*◌, ◌++◌, [], ◌∷◌, ap, sym, subst, ℕ, length, take, List, Some, arith}
 use Rattle.std.specs.Prelude.{slice_get}
 use Rattle.std.specs.List.{AllZip}
 use Rattle.relay_outside.specs.declared.address.Addr.{Addr}
-use Rattle.relay_outside.specs.declared.ports.PortCall.{PortCall}
 use Rattle.relay_outside.specs.declared.ports.PortCall.TheVariants.{Close}
-use Rattle.relay_outside.specs.Told.{StartsEmpty, Gained}
+use Rattle.relay_outside.specs.Told.{Gained}
 use Rattle.relay_outside.specs.Ports.{IsOpen}
-use Rattle.relay_outside.proofs.Telling.{gained_one, gained_both, gained_less}
+use Rattle.relay_outside.proofs.Telling.{gained_one, gained_both}
 use Rattle.media_ports.specs.Addresses.{port_at, addresses_of}
 use Rattle.media_ports.specs.Calls.{ClosesUncalled, AllOpen}
 use Rattle.media_ports.specs.Ends.{IsHalfUncalled, half_count}

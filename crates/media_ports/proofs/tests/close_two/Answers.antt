@@ -1,7 +1,7 @@
-use Rattle.std.proofs.Common.{◌≡◌, ◌∙◌, ◌*◌, ◌<◌, [], ◌∷◌, ◌++◌, ap, sym, subst, refl, length, drop, List, arith}
+use Rattle.std.proofs.Common.{◌∙◌, [], ◌∷◌, ◌++◌, ap, sym, subst, refl, length, arith}
 use Rattle.std.specs.List.{AllZip}
 use Rattle.media_ports.specs.declared.tests.TheConstants.{INTERFACE}
-use Rattle.media_ports.specs.Addresses.{addresses_of, ports_of, ArePorts}
+use Rattle.media_ports.specs.Addresses.{addresses_of, ArePorts}
 use Rattle.media_ports.specs.Calls.{AllOpen, Closes, ClosesPair}
 use Rattle.media_ports.specs.Ends.{EndsTold}
 use Rattle.media_ports.proofs.Telling.{told_less, told_after}
