@@ -1,7 +1,7 @@
 //! The outside of the relay, as traits: sockets, ports, keys, time and lines.
 //! Each trait says what its calls mean by a list of what was called and answered, and by a count of
 //! faults.
-//! Nothing here opens a socket: the devices that do stand with the programs that use them.
+//! Nothing here opens a socket: `outside_real` has the devices that do.
 #![tactic(auto)]
 
 mod address;
