@@ -1,3 +1,4 @@
+pub mod Acting
 pub mod Closing
 pub mod Ending
 pub mod Stopping

@@ -1,0 +1,70 @@
+-- What a command does in the board's turn: between the look for a kept reply, which it finds none of, and the keeping of its own.
+use Rattle.std.specs.Prelude.{◌≡◌, ◌≤◌, ℕ, List, [], ◌∷◌, Option, map, length, if◌then◌else◌}
+use Rattle.relay_outside.specs.declared.ports.PortCall.{PortCall}
+use Rattle.relay_outside.specs.declared.settings.Config.{Config}
+use Rattle.turn_table.specs.declared.hands.Turns.{Turns}
+use Rattle.turn_table.specs.declared.hands.Hand.{Hand}
+use Rattle.turn_table.specs.Hands.{IsSameHand, SameTurns}
+use Rattle.offer_answer.specs.Rounds as round
+use Rattle.call_board.specs.declared.board.Board.{Board}
+use Rattle.call_board.specs.Acts.{Lease, Offer, Answer, Act, Repeated, Starved, Failed, Undone, Offered, Answered, Deleted, Queried, Told, BoardEntry, act}
+use Rattle.call_board.specs.Pairs.{held}
+use Rattle.call_board.specs.Boards.{Shows}
+use Rattle.call_board.specs.Views.{View, view_of, last_moment, at_moment, with_leases, with_returned, without_call}
+use Rattle.call_board.specs.Whole.{with_draws, with_closed, with_more, with_first}
+use Rattle.relay_core.specs.Entries.{Entry, board_history}
+use Rattle.relay_core.specs.Legal.{Orderly}
+use Rattle.relay_core.specs.Made.{Made}
+use Rattle.relay_core.specs.Scripts.{script}
+use Rattle.relay_core.specs.Turning.{GainsNested, IsAbove, made_by}
+use Rattle.relay_core.specs.declared.part.Part.{Part}
+use Rattle.media_ports.specs.Held.{TellsHeld}
+use Rattle.nested_steps.specs.declared.nest.Nest.{Nest}
+use Rattle.nested_steps.specs.Nesting.{MayNest}
+use Rattle.board_turns.specs.Ending.{leg_pairs}
+
+-- What an act makes of what the board keeps, but for the reply that is kept.
+
+-- an offer that was undone leased its pairs and drew its keys, and gave the pairs back
+abbrev pub acted_undone : List Lease → List (List ℕ) → View → View
+acted_undone leases draws v =
+    with_returned (with_draws (with_leases v (length leases)) (length draws)) (map (λ (lease : Lease). lease.pair) leases)
+
+-- an accepted offer leased its pairs and drew its keys, was taken in, and gave back the pairs that it dropped
+abbrev pub acted_offer : List BoardEntry → BoardEntry → Offer → View → View
+acted_offer h e o v =
+    let made : round.Round = round.Offered o.ask o.legs o.keys in
+    let leased = with_draws (with_leases v (length o.legs)) (length o.keys) in
+    let taken = if o.begins then with_first o.of made e.moment leased else with_more o.of made e.moment leased in
+    with_closed h e o.of taken
+
+abbrev pub acted : List BoardEntry → BoardEntry → Act → View → View
+acted h e Repeated v = v
+acted h e Starved v = v
+acted h e (Failed code) v = v
+acted h e (Undone code leases draws) v = acted_undone leases draws v
+acted h e (Offered o) v = acted_offer h e o v
+acted h e (Answered a) v = with_closed h e a.of (with_more a.of (round.Answered a.ask) e.moment v)
+acted h e (Deleted of) v = with_closed h e of (without_call v of.number)
+acted h e (Queried of) v = v
+acted h e Told v = v
+
+-- The turn.
+
+module _ {M I O T : Type 0} {g : _} where
+  -- The main hand has the board's turn of this number and has made no step in it: the board stands for the history that the hand's
+  -- list has of it, at the moment of the turn, and, where the port maker tells, just the ports of the held pairs are open
+  pub record InTurn (config : Config) (turns : Turns M (Part I O) Made T) (hand : Hand M (Part I O) Made T g) (nest : Nest) (board : Board) (told : Option (List PortCall)) : Type 0 where
+    pub may : MayNest config turns hand
+    pub above : IsAbove (made_by hand) 0 nest.number
+    pub orderly : Orderly config (made_by hand)
+    pub timely : last_moment (board_history (made_by hand) nest.number) ≤ nest.moment
+    pub shows : Shows config board (at_moment (view_of config (board_history (made_by hand) nest.number)) nest.moment)
+    pub opens : TellsHeld config told (leg_pairs (held (board_history (made_by hand) nest.number)))
+
+  -- The turn did what the entry owes: the hand's list gained its nested entries, the board keeps what the entry's act makes, and
+  -- just the ports of the pairs that are held then are open
+  pub record DoesAct (config : Config) (old new : Hand M (Part I O) Made T g) (nest : Nest) (e : BoardEntry) (board : Board) (told : Option (List PortCall)) : Type 0 where
+    pub gained : GainsNested nest.number nest.moment (script config (board_history (made_by old) nest.number) e) old new
+    pub shows : Shows config board (acted (board_history (made_by old) nest.number) e (act e) (at_moment (view_of config (board_history (made_by old) nest.number)) nest.moment))
+    pub opens : TellsHeld config told (leg_pairs (held (e ∷ board_history (made_by old) nest.number)))
