@@ -1,5 +1,5 @@
 -- What a command does in the board's turn: between the look for a kept reply, which it finds none of, and the keeping of its own.
-use Rattle.std.specs.Prelude.{◌≡◌, ◌≤◌, ℕ, List, [], ◌∷◌, Option, map, length, if◌then◌else◌}
+use Rattle.std.specs.Prelude.{◌≡◌, ◌≤◌, ◌<◌, ◌^◌, ℕ, List, [], ◌∷◌, Option, map, length, if◌then◌else◌}
 use Rattle.relay_outside.specs.declared.ports.PortCall.{PortCall}
 use Rattle.relay_outside.specs.declared.settings.Config.{Config}
 use Rattle.turn_table.specs.declared.hands.Turns.{Turns}
@@ -57,6 +57,7 @@ module _ {M I O T : Type 0} {g : _} where
   pub record InTurn (config : Config) (turns : Turns M (Part I O) Made T) (hand : Hand M (Part I O) Made T g) (nest : Nest) (board : Board) (told : Option (List PortCall)) : Type 0 where
     pub may : MayNest config turns hand
     pub above : IsAbove (made_by hand) 0 nest.number
+    pub low : nest.number < 2 ^ 56
     pub orderly : Orderly config (made_by hand)
     pub timely : last_moment (board_history (made_by hand) nest.number) ≤ nest.moment
     pub shows : Shows config board (at_moment (view_of config (board_history (made_by hand) nest.number)) nest.moment)
