@@ -24,7 +24,7 @@ use Rattle.call_board.specs.Calls.{live, find_call, new_call, rounds}
 use Rattle.call_board.specs.Pairs.{free_in, is_short}
 use Rattle.call_board.specs.Kept.{kept}
 use Rattle.call_board.specs.Asked.{asked}
-use Rattle.call_board.specs.Replies.{Fault, reply_text}
+use Rattle.call_board.specs.Replies.{Fault, reply_datagram}
 use Rattle.call_board.specs.Answers.{Answering, Answered, failing, leased_pairs, offer_ask, answer_ask, offer_leased, offer_unless, offer_to, answer_unless, answer_to, answering_asked, answering_unless, spelled}
 use Rattle.call_board.specs.Fits.{FitsControl, answer_of, is_repeat, is_read, is_heard}
 use Rattle.call_board.proofs.Told.{IsRepeat}
@@ -32,8 +32,8 @@ use Rattle.call_board.proofs.Tells.{leased_case, tells_of}
 
 -- What is due, where memory may be short.
 
-abbrev unless_starved : Config → Bool → Answering → Answered
-unless_starved config starved a = cond starved (record { bytes = reply_text config (Fault E17); act = act.Starved }) (spelled config a)
+abbrev pub unless_starved : Config → (cookie : List ℕ) → Bool → Answering → Answered
+unless_starved config cookie starved a = cond starved (record { bytes = reply_datagram config cookie (Fault E17); act = act.Starved }) (spelled config cookie a)
 
 abbrev act_of : Answered → Act
 act_of a = a.act
@@ -75,10 +75,10 @@ long_alike config h c d pairs others false is = absurd (let e = is in cc)
 
 unread_due : (config : Config) (h : List BoardEntry) (c d : Control) (pairs others : Option Entries) → (c.act ≡ act.Repeated → ⊥) → (repeat too_long starved told : Bool)
     → is_repeat c.act ≡ repeat → (not repeat && not too_long && (not starved || told)) ≡ false
-    → unless_starved config starved (answering_asked config h d (asked config too_long others)) ≡ unless_starved config starved (answering_asked config h c (asked config too_long pairs))
+    → unless_starved config c.cookie starved (answering_asked config h d (asked config too_long others)) ≡ unless_starved config c.cookie starved (answering_asked config h c (asked config too_long pairs))
 unread_due config h c d pairs others once true too_long starved told is unread = absurd (once (repeats c.act is))
 unread_due config h c d pairs others once false true starved told is unread =
-    ap (unless_starved config starved) (long_alike config h c d pairs others true refl)
+    ap (unless_starved config c.cookie starved) (long_alike config h c d pairs others true refl)
 unread_due config h c d pairs others once false false true told is unread = refl
 unread_due config h c d pairs others once false false false told is unread = absurd (let e : true ≡ false = unread in cc)
 
@@ -191,10 +191,10 @@ asked_same config h c chosen (Ok (said.Query id)) unheard = refl
 asked_same config h c chosen (Ok (said.Listing limit)) unheard = refl
 
 unheard_due : (config : Config) (h : List BoardEntry) (c : Control) (chosen : List (Option CryptoLine)) (starved : Bool) (r : Result Said ErrorCode)
-    → is_heard (unless_starved config starved (answering_asked config h c r)).act ≡ false
-    → unless_starved config starved (answering_asked config h (heard_as c chosen) r) ≡ unless_starved config starved (answering_asked config h c r)
+    → is_heard (unless_starved config c.cookie starved (answering_asked config h c r)).act ≡ false
+    → unless_starved config c.cookie starved (answering_asked config h (heard_as c chosen) r) ≡ unless_starved config c.cookie starved (answering_asked config h c r)
 unheard_due config h c chosen true r unheard = refl
-unheard_due config h c chosen false r unheard = ap (spelled config) (asked_same config h c chosen r unheard)
+unheard_due config h c chosen false r unheard = ap (spelled config c.cookie) (asked_same config h c chosen r unheard)
 
 unheard_case : (config : Config) (h : List BoardEntry) (c : Control) (chosen : List (Option CryptoLine)) (o : Option (List ℕ))
     → is_heard (answering_unless config h c o).act ≡ false → answering_unless config h (heard_as c chosen) o ≡ answering_unless config h c o

@@ -18,7 +18,7 @@ use Rattle.call_board.specs.Calls.{live, ended_by, ended_in, ended_by_act, find_
 use Rattle.call_board.specs.Pairs.{free_in, is_short, new_legs, new_keys, drawn}
 use Rattle.call_board.specs.Kept.{kept}
 use Rattle.call_board.specs.Asked.{asked}
-use Rattle.call_board.specs.Replies.{Fault, Done, reply_text}
+use Rattle.call_board.specs.Replies.{Fault, Done, reply_datagram}
 use Rattle.call_board.specs.Answers.{Answering, failing, offering, undoing, leased_pairs, offer_ask, answer_ask, offer_leased, offer_unless, offer_to, answer_unless, answer_to, delete_of, missing, names_side, query_of, answering_command, answering_asked, answering, answering_unless, spelled, Answered}
 use Rattle.call_board.specs.Fits.{FitsBoard, FitsAt, FitsControl, GivesFor, GivesUndone, demanded, demanded_by, answer_of}
 use Rattle.call_board.proofs.Once.{is_false}
@@ -209,7 +209,7 @@ starved_case config h now c gives true is = turn_is now c _ is
 starved_case config h now c gives false is = asked_case config h now c (asked config c.too_long c.pairs) refl gives is
 
 starved_act : (config : Config) (h : List BoardEntry) (c : Control) (starved : Bool)
-    → (cond starved (record { bytes = reply_text config (Fault E17); act = act.Starved }) (spelled config (answering config h c))).act ≡ cond starved act.Starved (answering config h c).act
+    → (cond starved (record { bytes = reply_datagram config c.cookie (Fault E17); act = act.Starved }) (spelled config c.cookie (answering config h c))).act ≡ cond starved act.Starved (answering config h c).act
 starved_act config h c true = refl
 starved_act config h c false = refl
 

@@ -62,7 +62,7 @@ pub record Given : Type 0 where
 
 -- A control datagram with a frame: its source, cookie and body, and whether it filled 16,385 bytes; the dictionary that the
 -- body spells, where it spells one, and the usable crypto keys of its description, section by section; what the outside
--- answered; the reply, as it follows the cookie; and what it did
+-- answered; the reply, a whole datagram with the cookie first; and what it did
 pub record Control : Type 0 where
   pub source : Addr
   pub cookie : List ℕ

@@ -15,7 +15,7 @@ use Rattle.call_board.specs.Acts as act
 use Rattle.call_board.specs.Acts.{Call, Act, Given, Control, BoardEvent, Turn, Tick, Stop, BoardEntry}
 use Rattle.call_board.specs.Calls.{live, find_call, new_call, rounds, first_moment, latest_moment}
 use Rattle.call_board.specs.Pairs.{free_in, fronts, is_short, lease_of, new_legs, new_keys, drawn}
-use Rattle.call_board.specs.Replies.{Reply, Pong, Done, Warned, Described, Reported, Listed, Fault, reply_text}
+use Rattle.call_board.specs.Replies.{Reply, Pong, Done, Warned, Described, Reported, Listed, Fault, reply_datagram}
 use Rattle.call_board.specs.Asked.{asked}
 
 -- a reply, and what is done
@@ -150,17 +150,18 @@ answering_asked config h c (Ok says) = answering_command config h c says
 abbrev pub answering : Config → List BoardEntry → Control → Answering
 answering config h c = answering_asked config h c (asked config c.too_long c.pairs)
 
--- the bytes of a reply, and what is done
+-- the datagram of a reply, and what is done
 pub record Answered : Type 0 where
   pub bytes : List ℕ
   pub act : Act
 
-abbrev pub spelled : Config → Answering → Answered
-spelled config a = record { bytes = reply_text config a.reply; act = a.act }
+abbrev pub spelled : Config → (cookie : List ℕ) → Answering → Answered
+spelled config cookie a = record { bytes = reply_datagram config cookie a.reply; act = a.act }
 
--- What a datagram is answered and does: a kept reply is given again; want of memory may be the answer to any other
+-- What a datagram is answered and does: a kept reply is given again, as it was kept; want of memory may be the answer to any other
 -- datagram; and else the reply is the one that is due
 abbrev pub answering_unless : Config → List BoardEntry → Control → Option (List ℕ) → Answered
 answering_unless config h c (Some bytes) = record { bytes = bytes; act = act.Repeated }
 answering_unless config h c None =
-    if c.given.starved then record { bytes = reply_text config (Fault E17); act = act.Starved } else spelled config (answering config h c)
+    if c.given.starved then record { bytes = reply_datagram config c.cookie (Fault E17); act = act.Starved }
+    else spelled config c.cookie (answering config h c)

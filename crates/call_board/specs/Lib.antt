@@ -10,6 +10,7 @@ pub mod Fits
 pub mod Views
 pub mod Boards
 pub mod Planned
+pub mod Lending
 pub mod Applied
 pub mod Whole
 pub mod Returns

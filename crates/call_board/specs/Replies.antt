@@ -1,5 +1,5 @@
--- What follows the cookie in a reply.
-use Rattle.std.specs.Prelude.{ℕ, List}
+-- The reply to a control datagram.
+use Rattle.std.specs.Prelude.{ℕ, List, ◌∷◌, ◌++◌}
 use Rattle.relay_outside.specs.declared.settings.Config.{Config}
 use Rattle.ng_bencode.specs.Tree.{Tree}
 use Rattle.ng_bencode.specs.Spells.{spelling}
@@ -25,5 +25,10 @@ tree_of_reply config (Reported told) = report_tree config told
 tree_of_reply config (Listed call_ids) = listing_tree call_ids
 tree_of_reply config (Fault code) = error_reply code
 
+-- what follows the cookie and the space
 unfoldable pub reply_text : Config → Reply → List ℕ
 reply_text config reply = spelling (tree_of_reply config reply)
+
+-- the whole datagram: the cookie that was asked with, one space, and the reply
+abbrev pub reply_datagram : Config → List ℕ → Reply → List ℕ
+reply_datagram config cookie reply = cookie ++ 32 ∷ reply_text config reply

@@ -1,19 +1,23 @@
 //! What the board plans for an answer.
 
-ghost use Rattle.std.specs.Prelude.{◌≡◌, ◌<◌, List, Some, IfOk, position, length};
+ghost use Rattle.std.specs.Prelude.{◌≡◌, ◌<◌, [], List, Some, None, IfOk, position, length};
 ghost use Rattle.std.specs.Str.{bytes_eq};
 ghost use Rattle.relay_outside.specs.declared.settings.Config.{Config};
+ghost use Rattle.sdp_text.specs.Lines.{lines_of};
+ghost use Rattle.offer_answer.specs.Rounds.{AnswerAsk};
+ghost use Rattle.offer_answer.specs.Plan.{AnswerHeard};
 ghost use Rattle.offer_answer.specs.Widths.{WritesFrom};
-ghost use Rattle.call_board.specs.Views.{View, call_of_id};
+ghost use Rattle.call_board.specs.Views.{View, CallView, call_of_id};
 ghost use Rattle.call_board.specs.Boards.{Shows};
 ghost use Rattle.call_board.specs.Planned.{PlansAnswer};
 
 use crate::board::Board;
 use crate::board_plan::BoardPlan;
 use crate::fault::BoardFault;
+use crate::live_call::place_of_id;
 use crate::planning::fault_by;
 use ng_command::AnswerIn;
-use offer_answer::answer;
+use offer_answer::{Heard, answer};
 use sdp_text::Sdp;
 use std::alloc::Global;
 
@@ -63,6 +67,19 @@ impl Board {
         match self.place_of_call(&input.call_id) {
             Some(place) => self.plan_reply(alloc, place, input, sdp),
             None => Err(BoardFault::UnknownCall),
+        }
+    }
+
+    /// What is heard in the description of an answer to the last offer of the live call with this call-id: of each section the
+    /// first usable crypto line that its side was offered. Nothing where no live call has the call-id.
+    pub fn hear_answer(&self, call_id: &[u8], sdp: &Sdp) -> Heard
+        ensures heard { (config : Config) (v : View) (c : CallView) (ask : AnswerAsk) → Shows config self.now v →
+            call_of_id v call_id.now ≡ Some c → lines_of ask.sdp ≡ sdp.now → ask.chosen ≡ result → AnswerHeard c.rounds ask }
+        ensures nothing { (config : Config) (v : View) → Shows config self.now v → call_of_id v call_id.now ≡ None → result ≡ [] }
+    {
+        match place_of_id(self.calls.as_slice(), call_id) {
+            Some(place) => self.calls[place].dialog.hear(sdp),
+            None => Heard::none(),
         }
     }
 }

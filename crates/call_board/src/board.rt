@@ -107,6 +107,13 @@ impl Board {
         self.replies.keep(source, cookie, reply, now);
     }
 
+    /// The number that the next drawn key has, from 0.
+    pub fn next_key(&self) -> u64
+        ensures { (config : Config) (v : View) → Shows config self.now v → result ≡ v.drawn }
+    {
+        self.drawn
+    }
+
     /// Numbers a drawn key, from 0. Fewer than 2^63 keys were drawn before.
     pub fn count_draw(&mut self) -> u64
         requires { self.old.drawn < 2 ^ 63 }

@@ -1,6 +1,8 @@
 //! What the board plans for an offer or an answer.
 
 ghost use Rattle.std.specs.Prelude.{◌≡◌};
+ghost use Rattle.std.specs.Borrow.{sem};
+ghost use Rattle.call_board.specs.Lending.{LendsPlan};
 
 use ng_bencode::Text;
 use offer_answer::{Dialog, Plan};
@@ -32,8 +34,18 @@ pub struct BoardPlan {
 
 impl BoardPlan {
     /// The plan of the call's dialog.
-    pub fn plan(&mut self) -> &mut Plan {
+    pub fn plan(&mut self) -> &mut Plan
+        ensures* writes_back { sem 𝓛 (LendsPlan self.entry result) }
+        ensures value { result.now ≡ self.old.plan }
+    {
         &mut self.plan
+    }
+
+    /// What the plan of the call's dialog demands and commits.
+    pub fn planned(&self) -> &Plan
+        ensures { result.now ≡ self.now.plan }
+    {
+        &self.plan
     }
 
     /// The number of the call.

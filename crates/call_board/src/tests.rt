@@ -108,6 +108,7 @@ fn an_answer_to_no_call_is_refused(rt: HostRuntime) -> Result<(), Fail> {
     };
     let refused = board.plan_answer(alloc, &input, &sdp);
     assert!(rt; matches!(refused, Err(BoardFault::UnknownCall)));
+    assert!(rt; board.hear_answer(b"call", &sdp).lines().is_empty());
     Ok(())
 }
 

@@ -1,3 +1,4 @@
 pub mod Sources
 pub mod Words
 pub mod Told
+pub mod Sizes

@@ -16,4 +16,4 @@ mod verdict;
 
 pub use command::{AnswerIn, Command, DeleteIn, OfferIn, Options, QueryIn};
 pub use fault::{CommandFault, KeyName};
-pub use reading::read;
+pub use reading::{read, read_pairs};

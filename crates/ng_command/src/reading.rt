@@ -37,8 +37,13 @@ pub fn read(alloc: Global, body: &[u8]) -> Result<Command, CommandFault>
     }
 }
 
-/// Reads the dictionary of a command.
-fn read_pairs(alloc: Global, pairs: &Pairs) -> Result<Command, CommandFault>
+/// Reads a dictionary that was decoded already as a command.
+///
+/// # Errors
+///
+/// As `read`, but for `Malformed`: the first fault by the order of the variants of `CommandFault`, and by the same order of keys
+/// and options.
+pub fn read_pairs(alloc: Global, pairs: &Pairs) -> Result<Command, CommandFault>
     ensures { Agrees (told (pairs_of (list_in pairs.now))) result }
 {
     let kind = match kind_named(pairs) {

@@ -21,3 +21,4 @@ pub mod AnswerSteps
 pub mod Written
 pub mod WrittenBack
 pub mod Kept
+pub mod HeardLines

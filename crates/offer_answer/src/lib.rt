@@ -14,6 +14,7 @@ mod answering;
 mod dialog;
 mod fault;
 mod filling;
+mod heard;
 mod last_offer;
 mod law;
 mod leg;
@@ -33,6 +34,7 @@ mod writing_back;
 pub use answering::answer;
 pub use dialog::Dialog;
 pub use fault::OaFault;
+pub use heard::Heard;
 pub use law::{
     offers_drop_what_goes, signals_name_drawn_keys, signals_reject_what_goes, signals_secure_legs,
 };

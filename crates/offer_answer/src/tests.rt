@@ -7,7 +7,7 @@ use ng_bencode::Text;
 use ng_command::{AnswerIn, OfferIn, Options};
 use port_pool::Side;
 use relay_outside::{Config, Flags, Ip};
-use sdes_lines::Suite;
+use sdes_lines::{CryptoLine, Suite};
 use sdp_text::{Bytes, Proto, Sdp, read};
 use std::alloc::Global;
 use std::process::Abort;
@@ -281,5 +281,39 @@ fn a_later_offer_carries_the_key_in_force_alone(rt: HostRuntime) -> Result<(), F
     assert_eq!(rt; out.as_slice(), BOB_ANSWERED);
     let out = offered(&rt, alloc, &mut dialog, None, &[], &[])?;
     assert_eq!(rt; out.as_slice(), ALICE_AGAIN);
+    Ok(())
+}
+
+#[test]
+fn an_offer_is_heard_section_by_section(rt: HostRuntime) -> Result<(), Fail> {
+    let sdp = read(rt.alloc(), SECURE)?;
+    let heard = Heard::of_offer(&sdp);
+    let line = CryptoLine {
+        tag: 7,
+        suite: Suite::Tag32,
+        key: KEYS[0],
+    };
+    assert_eq!(rt; heard.lines(), [None, Some(line)].as_slice());
+    assert!(rt; Heard::none().lines().is_empty());
+    Ok(())
+}
+
+#[test]
+fn an_answer_is_heard_by_the_lines_that_were_offered(rt: HostRuntime) -> Result<(), Fail> {
+    let alloc = rt.alloc();
+    let mut dialog = Dialog::new(alloc, &text(alloc, b"alice")?)?;
+    let sdp = read(alloc, BOB_SECURED)?;
+    let unheard = dialog.hear(&sdp);
+    assert!(rt; matches!(unheard.lines(), [None]));
+    offered(
+        &rt,
+        alloc,
+        &mut dialog,
+        Some(Proto::Savp),
+        &[30_000, 30_002],
+        &KEYS,
+    )?;
+    let heard = dialog.hear(&sdp);
+    assert!(rt; matches!(heard.lines(), [Some(line)] if line.tag == 1));
     Ok(())
 }

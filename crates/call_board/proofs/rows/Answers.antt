@@ -12,7 +12,7 @@ use Rattle.call_board.specs.Acts as act
 use Rattle.call_board.specs.Acts.{Call, Given, Control, Tick, Stop, BoardEntry}
 use Rattle.call_board.specs.Calls.{rounds}
 use Rattle.call_board.specs.Pairs.{free_in, is_short, new_keys}
-use Rattle.call_board.specs.Replies.{Pong, Done, Warned, Reported, Listed, Fault, reply_text}
+use Rattle.call_board.specs.Replies.{Pong, Done, Warned, Reported, Listed, Fault, reply_datagram}
 use Rattle.call_board.specs.Answers.{failing, telling, answering_command, answering_asked, answering_unless, delete_of, offer_planned, offer_leased, leased_pairs, offering}
 use Rattle.call_board.specs.Fits.{FitsAt, named_live}
 use Rattle.call_board.proofs.rows.Histories.{config, asked, options, from_port, given, at, history_of, c1, c2, c3, leg, lease, begins, offer, deletes, key}
@@ -35,10 +35,10 @@ full = history_of (begins c1 [] ∷ begins c2 [] ∷ begins c3 [] ∷ [])
 -- What comes before the command.
 
 -- a kept reply is given again, also where memory is short
-kept_first : answering_unless config two (datagram starved) (Some (codes "pong")) ≡ record { bytes = codes "pong"; act = act.Repeated }
+kept_first : answering_unless config two (datagram starved) (Some (codes "7_o pong")) ≡ record { bytes = codes "7_o pong"; act = act.Repeated }
 kept_first = refl
 
-out_of_memory : answering_unless config two (datagram starved) None ≡ record { bytes = reply_text config (Fault E17); act = act.Starved }
+out_of_memory : answering_unless config two (datagram starved) None ≡ record { bytes = reply_datagram config (codes "7_o") (Fault E17); act = act.Starved }
 out_of_memory = refl
 
 faulty_command : answering_asked config two (datagram given) (Err E3) ≡ record { reply = Fault E3; act = act.Failed E3 }

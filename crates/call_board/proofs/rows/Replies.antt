@@ -2,7 +2,8 @@
 use Rattle.std.proofs.Common.{◌≡◌, ℕ, List, [], ◌∷◌, ◌++◌, map, true, false, Some, None, Ok, Err, codes, refl, arith}
 use Rattle.relay_outside.specs.declared.address.Ip.TheVariants as ips
 use Rattle.ng_bencode.specs.Tree.{Bytes, Entries, no_entries, entry}
-use Rattle.ng_command.specs.Said.{Offer}
+use Rattle.ng_command.specs.Said.{Offer, Query, Listing}
+use Rattle.ng_command.specs.Reading.{told as command_told}
 use Rattle.ng_command.specs.declared.fault.KeyName.TheVariants.{CallId}
 use Rattle.ng_reply.specs.declared.code.ErrorCode.TheVariants.{E1, E3, E4, E6, E7, E8, E9, E10, E11, E12, E13, E14, E15, E18}
 use Rattle.ng_reply.specs.declared.code.SdpPart.TheVariants as part
@@ -11,7 +12,8 @@ use Rattle.call_board.specs.Acts as act
 use Rattle.call_board.specs.Acts.{Act, Control, BoardEntry}
 use Rattle.call_board.specs.Asked.{asked}
 use Rattle.call_board.specs.Reports.{report_tree, listing_tree}
-use Rattle.call_board.specs.Fits.{FitsControl, is_read, is_heard}
+use Rattle.call_board.specs.Answers.{spelled, answering_command}
+use Rattle.call_board.specs.Fits.{FitsControl, is_read, is_heard, asks_after}
 use Rattle.call_board.proofs.rows.Histories.{config, from_port, given, options, c1, c2, begins}
 use Rattle.call_board.proofs.rows.Turns.{turns, at, ping, ping_fits, offered, offered_fits}
 
@@ -41,7 +43,7 @@ abbrev one_call : List BoardEntry
 one_call = at 0 offered ∷ []
 
 unrecognized : FitsControl config [] 0 (plain (codes "1") (codes "d7:command3:fooe") (pair (codes "command") (codes "foo") no_entries)
-    (codes "d12:error-reason20:unrecognized command6:result5:errore") (act.Failed E3))
+    (codes "1 d12:error-reason20:unrecognized command6:result5:errore") (act.Failed E3))
 unfolding replies
 unrecognized = record {
   framed = refl;
@@ -54,7 +56,7 @@ unrecognized = record {
 }
 
 call_id_is_missing : FitsControl config [] 0 (plain (codes "x") (codes "d7:command5:offere") (pair (codes "command") (codes "offer") no_entries)
-    (codes "d12:error-reason29:missing or wrong key: call-id6:result5:errore") (act.Failed (E4 CallId)))
+    (codes "x d12:error-reason29:missing or wrong key: call-id6:result5:errore") (act.Failed (E4 CallId)))
 unfolding replies
 call_id_is_missing = record {
   framed = refl;
@@ -66,10 +68,22 @@ call_id_is_missing = record {
   answers = refl;
 }
 
-listed : FitsControl config one_call 0 (plain (codes "3") (codes "d7:command4:liste") (pair (codes "command") (codes "list") no_entries)
-    (codes "d5:callsl2:c1e6:result2:oke") act.Told)
+-- A list and a query, which are read and not answered yet.
+
+abbrev list : Control
+list = plain (codes "3") (codes "d7:command4:liste") (pair (codes "command") (codes "list") no_entries)
+    (codes "3 d12:error-reason20:unrecognized command6:result5:errore") (act.Failed E3)
+
+list_is_read : command_told (pair (codes "command") (codes "list") no_entries) ≡ Ok (Listing 32)
+list_is_read = refl
+
+listed : spelled config (codes "3") (answering_command config one_call list (Listing 32)) ≡ record { bytes = codes "3 d5:callsl2:c1e6:result2:oke"; act = act.Told }
 unfolding replies
-listed = record {
+listed = refl
+
+list_is_not_built : FitsControl config one_call 0 list
+unfolding replies
+list_is_not_built = record {
   framed = refl;
   length_is = refl;
   reads = λ read. record { ints = (tt, tt); deep = omega arith; spelled = refl };
@@ -81,11 +95,19 @@ listed = record {
 
 abbrev query : Control
 query = plain (codes "4") (codes "d7:call-id2:c17:command5:querye") (pair (codes "call-id") (codes "c1") (pair (codes "command") (codes "query") no_entries))
-    (codes "d7:createdi0e11:last signali0e6:result2:ok4:tagsd1:ad6:mediasleeee") (act.Queried c1)
+    (codes "4 d12:error-reason20:unrecognized command6:result5:errore") (act.Failed E3)
 
-queried : FitsControl config one_call 0 (record query { given = record given { report = Some [] } })
+query_is_read : command_told (pair (codes "call-id") (codes "c1") (pair (codes "command") (codes "query") no_entries)) ≡ Ok (Query (codes "c1"))
+query_is_read = refl
+
+queried : spelled config (codes "4") (answering_command config one_call (record query { given = record given { report = Some [] } }) (Query (codes "c1")))
+    ≡ record { bytes = codes "4 d7:createdi0e11:last signali0e6:result2:ok4:tagsd1:ad6:mediasleeee"; act = act.Queried c1 }
 unfolding replies
-queried = record {
+queried = refl
+
+query_is_not_built : FitsControl config one_call 0 query
+unfolding replies
+query_is_not_built = record {
   framed = refl;
   length_is = refl;
   reads = λ read. record { ints = (tt, (tt, tt)); deep = omega arith; spelled = refl };
@@ -95,34 +117,29 @@ queried = record {
   answers = refl;
 }
 
--- a query that is short of memory may have read its call, and no other
+-- a query that is short of memory may have read its call, and no other; so none is read that is not answered yet
+
+reads_its_call : asks_after one_call (Ok (Query (codes "c1"))) ≡ true
+unfolding replies
+reads_its_call = refl
+
+reads_no_stranger : asks_after [] (Ok (Query (codes "c1"))) ≡ false
+reads_no_stranger = refl
 
 abbrev starved_query : Control
 starved_query = record query {
   given = record given { starved = true; report = Some [] };
-  reply = codes "d12:error-reason13:out of memory6:result5:errore";
+  reply = codes "4 d12:error-reason13:out of memory6:result5:errore";
   act = act.Starved;
 }
 
-starved_query_fits : FitsControl config one_call 0 starved_query
+starved_query_reads_none : FitsControl config one_call 0 starved_query → ⊥
 unfolding replies
-starved_query_fits = record {
-  framed = refl;
-  length_is = refl;
-  reads = λ read. record { ints = (tt, (tt, tt)); deep = omega arith; spelled = refl };
-  hears = λ heard. absurd (let e : false ≡ true = heard in cc);
-  gives = record { no_opens = refl; no_draws = refl; none_failed = refl };
-  reports = λ starves other. absurd (let e : true ≡ false = other in cc);
-  answers = refl;
-}
-
-reads_no_stranger : FitsControl config [] 0 starved_query → ⊥
-unfolding replies
-reads_no_stranger fits = let e = fits.reports refl refl in cc
+starved_query_reads_none fits = let e = fits.reports refl refl in cc
 
 -- a delete of an unknown call-id warns and changes nothing
 unknown_is_warned : FitsControl config one_call 0 (plain (codes "9") (codes "d7:call-id1:z7:command6:deletee") (pair (codes "call-id") (codes "z") (pair (codes "command") (codes "delete") no_entries))
-    (codes "d6:result2:ok7:warning15:unknown call-ide") act.Told)
+    (codes "9 d6:result2:ok7:warning15:unknown call-ide") act.Told)
 unfolding replies
 unknown_is_warned = record {
   framed = refl;
@@ -139,7 +156,7 @@ unknown_is_warned = record {
 abbrev failing : List ℕ → Act → Control
 failing reply does = record offered { given = given; reply = reply; act = does }
 
-no_session : FitsControl (record config { max_sessions = 1 }) (begins c2 [] ∷ []) 0 (record (failing (codes "d12:error-reason21:session limit reached6:result5:errore") (act.Failed E14)) { cookie = codes "7_p" })
+no_session : FitsControl (record config { max_sessions = 1 }) (begins c2 [] ∷ []) 0 (record (failing (codes "7_p d12:error-reason21:session limit reached6:result5:errore") (act.Failed E14)) { cookie = codes "7_p" })
 unfolding replies
 no_session = record {
   framed = refl;
@@ -152,7 +169,7 @@ no_session = record {
 }
 
 -- a range of one pair
-no_pair : FitsControl (record config { port_max = 30001 }) [] 0 (failing (codes "d12:error-reason17:no free port pair6:result5:errore") (act.Failed E13))
+no_pair : FitsControl (record config { port_max = 30001 }) [] 0 (failing (codes "7_o d12:error-reason17:no free port pair6:result5:errore") (act.Failed E13))
 unfolding replies
 no_pair = record {
   framed = refl;
@@ -207,7 +224,7 @@ unfolding replies
 fault_before_version_6 = refl
 
 version_6_refused : FitsControl config [] 0 (plain (codes "6") (codes "d7:call-id2:c17:command5:offer8:from-tag1:a3:sdp51:" ++ by_version_6 ++ codes "e") (describes by_version_6)
-    (codes "d12:error-reason23:unsupported SDP: line 26:result5:errore") (act.Failed (E7 (part.Line 2))))
+    (codes "6 d12:error-reason23:unsupported SDP: line 26:result5:errore") (act.Failed (E7 (part.Line 2))))
 unfolding replies
 version_6_refused = record {
   framed = refl;

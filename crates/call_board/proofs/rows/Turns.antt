@@ -46,7 +46,7 @@ ping = record {
   pairs = Some (entry (codes "command") (Bytes (codes "ping")) no_entries);
   chosen = [];
   given = given;
-  reply = codes "d6:result4:ponge";
+  reply = codes "5323_1 d6:result4:ponge";
   act = act.Told;
 }
 
@@ -92,7 +92,7 @@ offered = record {
   pairs = Some offer_pairs;
   chosen = None ∷ [];
   given = record given { opens = true ∷ true ∷ true ∷ true ∷ [] };
-  reply = codes "d6:result2:ok3:sdp154:" ++ alice_replaced ++ codes "e";
+  reply = codes "7_o d6:result2:ok3:sdp154:" ++ alice_replaced ++ codes "e";
   act = act.Offered (record { of = c1; begins = true; ask = ask; legs = leg c1 0 B 0 1 ∷ leg c1 0 A 1 1 ∷ []; keys = []; dropped = [] });
 }
 
@@ -158,7 +158,7 @@ deleted = record {
   pairs = Some (entry (codes "call-id") (Bytes (codes "c1")) (entry (codes "command") (Bytes (codes "delete")) no_entries));
   chosen = [];
   given = given;
-  reply = codes "d6:result2:oke";
+  reply = codes "8_d d6:result2:oke";
   act = act.Deleted c1;
 }
 
@@ -211,7 +211,7 @@ unread_repeat_fits = record {
   answers = refl;
 }
 
-unread_starved_fits : FitsControl config [] 0 (record ping { pairs = None; given = record given { starved = true }; reply = codes "d12:error-reason13:out of memory6:result5:errore"; act = act.Starved })
+unread_starved_fits : FitsControl config [] 0 (record ping { pairs = None; given = record given { starved = true }; reply = codes "5323_1 d12:error-reason13:out of memory6:result5:errore"; act = act.Starved })
 unfolding turns
 unread_starved_fits = record {
   framed = refl;
@@ -225,7 +225,7 @@ unread_starved_fits = record {
 
 -- It has no report, since it asks after no call.
 
-starved_report : FitsControl config [] 0 (record ping { given = record given { starved = true; report = Some [] }; reply = codes "d12:error-reason13:out of memory6:result5:errore"; act = act.Starved }) → ⊥
+starved_report : FitsControl config [] 0 (record ping { given = record given { starved = true; report = Some [] }; reply = codes "5323_1 d12:error-reason13:out of memory6:result5:errore"; act = act.Starved }) → ⊥
 unfolding turns
 starved_report fits = let e = fits.reports refl refl in cc
 
@@ -239,7 +239,7 @@ c1_anew = call_of 1 1 (codes "c1")
 
 abbrev anew : Control
 anew = record offered {
-  reply = codes "d6:result2:ok3:sdp154:" ++ alice_anew ++ codes "e";
+  reply = codes "7_o d6:result2:ok3:sdp154:" ++ alice_anew ++ codes "e";
   act = act.Offered (record { of = c1_anew; begins = true; ask = ask; legs = leg c1_anew 0 B 2 1 ∷ leg c1_anew 0 A 3 1 ∷ []; keys = []; dropped = [] });
 }
 
