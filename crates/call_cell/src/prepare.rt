@@ -132,4 +132,20 @@ impl<O> Prepare<O> {
             self.dropped[section as usize] = true;
         }
     }
+
+    /// Gives the memory back, when no leg was added.
+    pub fn destroy_empty(self)
+        requires none { added self ≡ [] }
+        requires ready { IsReady self }
+    {
+        let Prepare {
+            legs,
+            places,
+            keys: _,
+            spare: _,
+            dropped: _,
+        } = self;
+        legs.destroy_empty();
+        places.destroy_empty();
+    }
 }

@@ -1,5 +1,6 @@
 -- What an offer and an answer make of a cell.
-use Rattle.std.proofs.Common.{◌≡◌, refl, sym, ◌∙◌, ap, subst, ℕ, ◌≤◌, max, List, [], ◌∷◌, Option, arith}
+use Rattle.std.proofs.Common.{◌≡◌, refl, sym, ◌∙◌, ap, subst, ℕ, ◌≤◌, ◌⊎◌, inl, inr, max, List, [], ◌∷◌, Option, arith}
+use Rattle.std.proofs.lemmas.List.Sums.{count_by-le-length}
 use Rattle.relay_outside.specs.declared.settings.Config.{Config}
 use Rattle.relay_outside.specs.declared.ports.InCall.{InCall}
 use Rattle.relay_outside.specs.declared.ports.OutCall.{OutCall}
@@ -10,23 +11,25 @@ use Rattle.port_pool.specs.declared.signal.SectionSignal.{SectionSignal}
 use Rattle.port_pool.specs.Signals.{NewKey}
 use Rattle.call_cell.specs.declared.prepare.Prepare as prepared
 use Rattle.call_cell.specs.declared.cell.Cell as cell
+use Rattle.call_cell.specs.declared.leg.Leg.{Leg}
 use Rattle.call_cell.specs.Cells.{CellEvent, CellEntry, Prepare, Commit, Relay, Expire, Read, End, since_end}
 use Rattle.call_cell.specs.Lasting.{kept}
 use Rattle.call_cell.specs.CellStanding.{CellFor}
-use Rattle.call_cell.specs.Committing.{NamesKeys, CellCommits, contexts_due, contexts_due_after}
+use Rattle.call_cell.specs.Committing.{NamesKeys, CellCommits, needs_contexts, contexts_due, contexts_due_after}
 use Rattle.call_cell.specs.Preparing.{PrepareFor, CanCome, CellPrepares, FitsPlaces, added}
 use Rattle.call_cell.proofs.Again.{can_come_again, names_keys_again}
 use Rattle.call_cell.proofs.Callers.{places_fit, due_is}
+use Rattle.call_cell.proofs.Few.{few}
 use Rattle.call_cell.proofs.Nested.{entry_at, can_come_kept, names_keys_kept, due_kept}
 use Rattle.relay_core.specs.declared.part.Part.{Part}
 use Rattle.relay_core.specs.declared.part.Part.TheVariants as part
-use Rattle.relay_core.specs.Entries.{Cell, cell_history}
+use Rattle.relay_core.specs.Entries.{Entry, Cell, cell_history}
 use Rattle.relay_core.specs.Made.{Made}
 use Rattle.relay_core.specs.Standing.{CellIs, nested_of}
 use Rattle.relay_core.specs.Steps.{Relates}
-use Rattle.relay_core.specs.Turning.{made_by}
+use Rattle.relay_core.specs.Turning.{IsAbove, made_by}
 use Rattle.nested_steps.specs.Nesting.{nested}
-use Rattle.nested_steps.specs.InCells.{moment_in, OfferComes, AnswerComes, TakesOffer, TakesAnswer, PreparesPart, CommitsPart, Prepares, Commits}
+use Rattle.nested_steps.specs.InCells.{moment_in, HasSpace, OfferComes, AnswerComes, TakesOffer, TakesAnswer, PreparesPart, CommitsPart, Prepares, Commits}
 use Rattle.nested_steps.proofs.Boxing.{Gives}
 
 -- Offers, answers and ends are nested.
@@ -79,6 +82,25 @@ module _ {I O : Type 0} where
         names = names_keys_kept own is.0 signal same names;
         room = omega (arith, due, room);
       }
+
+  -- a cell has at most 16 legs, and so no more inbound contexts are due
+  few_due : (config : Config) (x : Part I O) (own : List CellEntry) (signal : List SectionSignal) → CellIs config x (nested_of own)
+      → contexts_due_after (since_end own) signal ≤ 16
+  few_due config (part.Board b) own signal is = absurd is
+  few_due config (part.Pair b) own signal is = absurd is
+  few_due config (part.Cell c) own signal is =
+      let kept = due_kept own is.0 signal (same_lasting own is.0 (sym is.1)) in
+      let due = due_is config c is.0 signal is.2 in
+      let legs = few config (since_end is.0) c.legs.items is.2.legs_for in
+      let counted = count_by-le-length (λ (leg : Leg O). needs_contexts signal leg) c.legs.items in
+      omega (arith, kept, due, legs, counted)
+
+  pub space_is : (config : Config) (x : Part I O) (l : List Entry) (cell n : ℕ) (signal : List SectionSignal) (contexts : ℕ)
+      → CellIs config x (nested_of (cell_history l cell n)) → IsAbove l cell n → HasSpace l cell signal contexts
+      → contexts_due_after (since_end (cell_history l cell n)) signal ≤ contexts
+  space_is config x l cell n signal contexts is above (inl room) = room n above
+  space_is config x l cell n signal contexts is above (inr many) =
+      let few = few_due config x (cell_history l cell n) signal is in omega (arith, few, many)
 
   offer_of : (x : Part I O) (c : cell.Cell O) (signal : prepared.Prepare O) (call : ℕ) (keys : List NewKey) (dropped : List ℕ) → x ≡ part.Cell c
       → TakesOffer x signal call keys dropped → OfferComes c signal call keys dropped

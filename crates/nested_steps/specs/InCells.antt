@@ -1,5 +1,5 @@
 -- What a nested step does to a cell.
-use Rattle.std.specs.Prelude.{◌≡◌, ◌≤◌, ℕ, Bool, List, Option}
+use Rattle.std.specs.Prelude.{◌≡◌, ◌≤◌, ℕ, Bool, List, Option, ◌⊎◌}
 use Rattle.relay_outside.specs.declared.settings.Config.{Config}
 use Rattle.relay_outside.specs.declared.ports.InCall.{InCall}
 use Rattle.relay_outside.specs.declared.ports.OutCall.{OutCall}
@@ -49,6 +49,10 @@ CanCommit l cell signal = (n : ℕ) → IsAbove l cell n → NamesKeys (since_en
 -- by the list, the answer makes no more inbound contexts than there is room for
 abbrev pub HasRoom : List Entry → ℕ → List SectionSignal → ℕ → Type 0
 HasRoom l cell signal contexts = (n : ℕ) → IsAbove l cell n → contexts_due_after (since_end (cell_history l cell n)) signal ≤ contexts
+
+-- or for as many as a cell may have legs
+abbrev pub HasSpace : List Entry → ℕ → List SectionSignal → ℕ → Type 0
+HasSpace l cell signal contexts = HasRoom l cell signal contexts ⊎ (16 ≤ contexts)
 
 -- the cell stands for a history after which the offer can come
 pub record OfferComes {O : Type 0} (cell : cell.Cell O) (signal : prepared.Prepare O) (call : ℕ) (keys : List NewKey) (dropped : List ℕ) : Type 0 where

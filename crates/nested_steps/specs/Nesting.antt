@@ -1,5 +1,5 @@
 -- Who may make nested steps, and what such a step tells.
-use Rattle.std.specs.Prelude.{◌≡◌, ℕ, List, Option, Some, None, IsSome}
+use Rattle.std.specs.Prelude.{◌≡◌, ℕ, List, [], Option, Some, None, IsSome}
 use Rattle.relay_outside.specs.declared.settings.Config.{Config}
 use Rattle.relay_outside.specs.declared.ports.InCall.{InCall}
 use Rattle.relay_outside.specs.declared.ports.OutCall.{OutCall}
@@ -29,7 +29,7 @@ pub record MayNest {M I O T : Type 0} {g : _} (config : Config) (turns : Turns M
 
 -- a step that was handed this moment, as the table records it
 abbrev pub nested : (number handed moment : ℕ) → Event → Made
-nested number handed moment event = record { handed = handed; moment = moment; board = number; event = event }
+nested number handed moment event = record { handed = handed; moment = moment; board = number; before = []; event = event }
 
 -- Boxes.
 

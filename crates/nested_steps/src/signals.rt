@@ -8,7 +8,7 @@ ghost use Rattle.relay_core.specs.Steps.{Relates};
 ghost use Rattle.relay_core.specs.Turning.{GainsNested, made_by};
 ghost use Rattle.nested_steps.specs.Nesting.{MayNest, nested};
 ghost use Rattle.nested_steps.specs.Bringing.{brought_keys, brought_dropped};
-ghost use Rattle.nested_steps.specs.InCells.{HasNewKeys, in_cell_of, moment_in, preparing, CanPrepare, CanCommit, HasRoom, TakesOffer, TakesAnswer, PreparesPart, CommitsPart, Prepares, Commits};
+ghost use Rattle.nested_steps.specs.InCells.{HasNewKeys, in_cell_of, moment_in, preparing, CanPrepare, CanCommit, HasSpace, TakesOffer, TakesAnswer, PreparesPart, CommitsPart, Prepares, Commits};
 ghost use Rattle.nested_steps.specs.Leaving.{DroppedWent, RejectedWent};
 
 use crate::brought::Brought;
@@ -101,7 +101,7 @@ pub fn prepare_cell<I: InEnd, O: OutEnd, R: Wait>(
 }
 
 /// Commits in a cell what an answer says of the call's legs. The legs of the sections that it rejects go to `gone`, which is
-/// empty. `contexts` has room for each inbound key or suite other than the one in force. Cells are numbered from 1.
+/// empty. `contexts` has room for each inbound key or suite other than the one in force, or for 16. Cells are numbered from 1.
 pub fn commit_cell<I: InEnd, O: OutEnd, R: Wait>(
     rt: &R,
     turns: &Turns<Relay<I, O>>,
@@ -117,7 +117,7 @@ pub fn commit_cell<I: InEnd, O: OutEnd, R: Wait>(
     requires cell { (1 ≤ cell) × (cell ≤ config.now.max_sessions) }
     requires keys { HasNewKeys (made_by hand.old) cell }
     requires names { CanCommit (made_by hand.old) cell signal.now }
-    requires room { HasRoom (made_by hand.old) cell signal.now contexts }
+    requires room { HasSpace (made_by hand.old) cell signal.now contexts }
     requires empty { gone.old ≡ [] }
     ensures same { IsSameHand hand.old hand.new × SameTurns hand.old hand.new }
     ensures may { MayNest config.now turns.now hand.new }

@@ -24,7 +24,7 @@ use Rattle.call_board.specs.Calls.{live, find_call, new_call, rounds, rounds_of_
 use Rattle.call_board.specs.Pairs.{free_in, is_short}
 use Rattle.call_board.specs.Kept.{kept}
 use Rattle.call_board.specs.Asked.{asked, asked_by, command_in, sdp_error, description_error, unless, code_if, v6_error}
-use Rattle.call_board.specs.Replies.{Fault, Done, reply_text}
+use Rattle.call_board.specs.Replies.{Fault, Done, reply_datagram}
 use Rattle.call_board.specs.Answers.{failing, offer_ask, answer_ask, leased_pairs, offer_leased, offer_unless, offer_to, answer_unless, answer_to, delete_of, missing, names_side, query_of, answering_command, answering_asked, answering, answering_unless, spelled, Answered}
 use Rattle.call_board.specs.Fits.{FitsControl}
 use Rattle.call_board.proofs.Tells.{leased_case}
@@ -249,7 +249,7 @@ asked_answers config h c p (Ok says) asks q = command_answers config h c p says 
 
 -- what a datagram did that was neither repeated nor starved is the answer to what it asks
 starved_is : {X : Type 0} (f : Act → Option X) (x : X) (config : Config) (h : List BoardEntry) (c : Control) → f act.Starved ≡ None → (starved : Bool)
-    → f (cond starved (record { bytes = reply_text config (Fault E17); act = act.Starved }) (spelled config (answering config h c))).act ≡ Some x
+    → f (cond starved (record { bytes = reply_datagram config c.cookie (Fault E17); act = act.Starved }) (spelled config c.cookie (answering config h c))).act ≡ Some x
     → f (answering config h c).act ≡ Some x
 starved_is f x config h c none true q = absurd (none_some none q)
 starved_is f x config h c none false q = q

@@ -1,7 +1,8 @@
 -- What is known of the state that a turn gives.
-use Rattle.std.proofs.Common.{◌≡◌, refl, sym, ◌∙◌, ap, subst, ℕ, zero, suc, ◌<◌, ◌≤◌, ◌⊎◌, inl, inr, Bool, true, false, cond, List, [], ◌∷◌, ◌++◌, Option, Some, None, map, filter, length, ◌==◌, arith, slice_get}
+use Rattle.std.proofs.Common.{◌≡◌, refl, sym, ◌∙◌, ap, subst, ℕ, zero, suc, ◌<◌, ◌≤◌, ◌⊎◌, inl, inr, Bool, true, false, cond, List, [], ◌∷◌, ◌++◌, Option, Some, None, map, filter, length, ◌==◌, arith, slice_get, take}
 use Rattle.std.specs.List.{filter_map, cons_option}
 use Rattle.std.proofs.Math.Seq.{take-length}
+use Rattle.std.proofs.lemmas.Option.{slice_get_within}
 use Rattle.relay_outside.specs.declared.ports.InCall.{InCall}
 use Rattle.relay_outside.specs.declared.ports.OutCall.{OutCall}
 use Rattle.relay_outside.specs.declared.settings.Config.{Config}
@@ -21,10 +22,11 @@ use Rattle.relay_core.specs.declared.part.Part.{Part}
 use Rattle.relay_core.specs.declared.part.Part.TheVariants as part
 use Rattle.relay_core.specs.Entries.{Event, Board, Cell, Box, Entry, is_at, history, board_at, cell_at, box_in, board_entry, cell_entry, box_event, board_history, cell_history, box_history}
 use Rattle.relay_core.specs.Made.{Made, list_of}
+use Rattle.relay_core.specs.Recorded.{is_boards, IsRecorded}
 use Rattle.relay_core.specs.Steps.{is_reserved, IsReserved}
 use Rattle.relay_core.specs.Beginning.{AreParts, AreCells, AreBoxes, IsCell, IsBox, BeginsAs}
 use Rattle.relay_core.specs.Standing.{told_entry, BringsNewKeys, Stands, IsBoardPart, IsCellPart, IsBoxPart, nested_of, BoardIs, BoxIs, CellIs}
-use Rattle.relay_core.proofs.Stays.{onto, Steps, stands_onto, board_stays, cell_stays, box_stays}
+use Rattle.relay_core.proofs.Stays.{onto, Steps, RecordsOnto, records_from, stands_onto, board_stays, cell_stays, box_stays}
 use Rattle.relay_core.proofs.Own.{IsOwn, own_history}
 
 -- What the places begin as.
@@ -242,6 +244,16 @@ module _ {I O : Type 0} where
   box_not_cell cells (part.Cell c) is cell = is
   box_not_cell cells (part.Pair b) is cell = cell
 
+  box_not_board : (cells : ℕ) (x : Part I O) → IsBoxPart cells x → IsBoardPart x → ⊥
+  box_not_board cells (part.Board b) is board = is
+  box_not_board cells (part.Cell c) is board = is
+  box_not_board cells (part.Pair b) is board = board
+
+reserved_boards : (ev : Event) → is_boards ev ≡ true → is_reserved ev ≡ true
+reserved_boards (Board b) t = refl
+reserved_boards (Cell c) t = absurd (let k : false ≡ true = t in cc)
+reserved_boards (Box b) t = absurd (let k : false ≡ true = t in cc)
+
 module _ {T I O : Type 0} (it : I → Option (List InCall)) (ic : I → ℕ) (ot : O → Option (List OutCall)) (oc : O → ℕ) where
   abbrev pub Gives : ℕ → View (Part I O) Made T → ℕ → Part I O → Type 0
   Gives k v n x = Given (Steps {T = T} it ic ot oc) IsReserved k v n x
@@ -266,14 +278,33 @@ module _ {T I O : Type 0} (it : I → Option (List InCall)) (ic : I → ℕ) (ot
       ap (λ (rows : List (table.Entry Made T)). filter keeps_event (onto rows [])) (sym (take-length g.history))
       ∙ o ∙ ap (λ (i : ℕ). filter keeps_event (history (list_of v.entries) k i)) g.long
 
-  -- the board's turn gives the board of the list's own history
+  -- of each number before the front the list has the board's entries
+  board_before : (v : View (Part I O) Made T) (n : ℕ) (x : Part I O) → (g : Gives 0 v n x) → v.main ≡ true → Numbered v.entries → (i : ℕ) → i ≤ length g.history
+      → filter_map board_entry (onto (take i g.history) []) ≡ board_history (list_of v.entries) i
+  board_before v n x g main numbered i within =
+      board_kept (onto (take i g.history) [])
+      ∙ ap (λ (xs : List Entry). filter_map board_entry xs) (own_history keeps_event 0 v.entries g.history (is_own 0 v n x g main numbered) i within)
+      ∙ sym (board_kept (history (list_of v.entries) 0 i))
+
+  -- so each of the board's steps that lead to the front records what stands before it
+  records_given : (v : View (Part I O) Made T) (n : ℕ) (x : Part I O) → (g : Gives 0 v n x) → v.main ≡ true → Numbered v.entries → IsRecorded v.entries
+      → RecordsOnto g.history []
+  records_given v n x g main numbered recorded =
+      records_from g.history [] (λ i row q boards.
+      let low = slice_get_within g.history i row q in
+      let number : row.number ≡ i = (g.named i row q).1 in
+      recorded row (g.main main i row q (reserved_boards row.event.event boards)) boards
+      ∙ ap (λ (m : ℕ). board_history (list_of v.entries) m) number
+      ∙ sym (board_before v n x g main numbered i (omega (arith, low))))
+
+  -- the board's turn gives the board of the list's own history, where each of its steps records what the list has before it
   pub given_board : (config : Config) (v : View (Part I O) Made T) (n : ℕ) (x : Part I O) → AreParts config v.starts → Gives 0 v n x → v.main ≡ true → Numbered v.entries
-      → BoardIs config x (board_history (list_of v.entries) n)
-  given_board config v n x are g main numbered =
+      → IsRecorded v.entries → BoardIs config x (board_history (list_of v.entries) n)
+  given_board config v n x are g main numbered recorded =
       let b = board_begins config g.start (begins_as config v.starts are 0 g.start g.starts) in
       board_is config x (onto g.history []) (board_history (list_of v.entries) n)
       (board_stays it ic ot oc g.start x g.history g.leaves b.0)
-      (stands_onto it ic ot oc config g.start x g.history [] g.leaves (λ is. absurd (not_cell g.start b.0 is)) b.1)
+      (stands_onto it ic ot oc config g.start x g.history [] g.leaves (λ is. absurd (not_cell g.start b.0 is)) (λ is. records_given v n x g main numbered recorded) b.1)
       (board_kept (onto g.history [])
       ∙ ap (λ (xs : List Entry). filter_map board_entry xs) (kept_history 0 v n x g main numbered)
       ∙ sym (board_kept (history (list_of v.entries) 0 n)))
@@ -285,7 +316,8 @@ module _ {T I O : Type 0} (it : I → Option (List InCall)) (ic : I → ℕ) (ot
       let b = box_begins config k g.start above (begins_as config v.starts are k g.start g.starts) in
       box_is config x (onto g.history []) (holder (box_history (list_of v.entries) k n))
       (box_stays it ic ot oc config.max_sessions g.start x g.history g.leaves b.0)
-      (stands_onto it ic ot oc config g.start x g.history [] g.leaves (λ is. absurd (box_not_cell config.max_sessions g.start b.0 is)) b.1)
+      (stands_onto it ic ot oc config g.start x g.history [] g.leaves (λ is. absurd (box_not_cell config.max_sessions g.start b.0 is))
+      (λ is. absurd (box_not_board config.max_sessions g.start b.0 is)) b.1)
       (box_kept (onto g.history [])
       ∙ ap (λ (xs : List Entry). holder (filter_map box_event xs)) (kept_history k v n x g main numbered)
       ∙ sym (box_kept (history (list_of v.entries) k n)))
@@ -304,7 +336,7 @@ module _ {T I O : Type 0} (it : I → Option (List InCall)) (ic : I → ℕ) (ot
       = brings_whole _ (subst BringsNewKeys (sym same) (brings_nested _ brings)) in
       cell_is config x (onto g.history []) (nested_of (cell_history (list_of v.entries) k n))
       (cell_stays it ic ot oc g.start x g.history g.leaves b.0)
-      (stands_onto it ic ot oc config g.start x g.history [] g.leaves (λ is. new) b.1)
+      (stands_onto it ic ot oc config g.start x g.history [] g.leaves (λ is. new) (λ is. absurd (not_cell g.start is b.0)) b.1)
       same
 
   -- by any hand, a cell's turn gives a cell, and a box's a box

@@ -21,6 +21,7 @@ pub mod Learned
 pub mod Elsewhere
 pub mod Turns
 pub mod Gains
+pub mod Recording
 pub mod Shut
 pub mod Shutting
 pub mod Plans
@@ -47,6 +48,7 @@ pub mod Filling
 pub mod Filled
 pub mod Joins
 pub mod Handing
+pub mod Known
 pub mod Placing
 pub mod Closed
 mod Example

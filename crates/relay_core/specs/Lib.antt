@@ -6,6 +6,7 @@ pub mod Carried
 pub mod Learned
 pub mod Codes
 pub mod Made
+pub mod Recorded
 pub mod Steps
 pub mod Beginning
 pub mod Standing

@@ -4,15 +4,18 @@ use Rattle.turn_table.specs.declared.machine.Entry as table
 use Rattle.call_cell.specs.declared.outcome.Outcome.{Outcome}
 use Rattle.call_cell.specs.Cells.{CellEvent, Relay, Receipt, Relayed, Deed}
 use Rattle.call_cell.specs.Standing.{sent_ok}
+use Rattle.call_board.specs.Acts.{BoardEntry}
 use Rattle.relay_core.specs.Entries.{Event, Cell, Entry}
 use Rattle.relay_core.specs.Legal.{is_handed_own, is_handed_boards}
 
--- A step as the table records it: the moment that it was handed, its moment, the number of the board entry that it belongs to, and
--- its event. Of a relay the outcome is recorded: what it noted, protected and sent follows from the history of its cell.
+-- A step as the table records it: the moment that it was handed, its moment, the number of the board entry that it belongs to, of a
+-- step of the board the history before it, which its state does not tell in full, and its event. Of a relay the outcome is recorded:
+-- what it noted, protected and sent follows from the history of its cell.
 pub record Made : Type 0 where
   pub handed : ℕ
   pub moment : ℕ
   pub board : ℕ
+  pub before : List BoardEntry
   pub event : Event
 
 -- a relay by its packet and its outcome

@@ -25,7 +25,7 @@ use Rattle.call_board.specs.Calls.{live, rounds, find_call, rounds_of_call}
 use Rattle.call_board.specs.Pairs.{Once, held, free, free_in, is_short, drawn}
 use Rattle.call_board.specs.Kept.{kept}
 use Rattle.call_board.specs.Asked.{Reads, asked}
-use Rattle.call_board.specs.Replies.{Fault, reply_text}
+use Rattle.call_board.specs.Replies.{Fault, reply_datagram}
 use Rattle.call_board.specs.Answers.{answering_unless, offering, spelled}
 use Rattle.call_board.specs.Fits.{is_read, is_heard, Hears, answer_of}
 use Rattle.relay_core.specs.Entries.{Event, Board, Cell, Box, Entry, is_nested, history, front, box_event, board_history, cell_before, box_history, box_of}
@@ -115,16 +115,16 @@ pub record IsValidOffer (config : Config) (h : List BoardEntry) (c : Control) (n
 -- it is answered well, or with the error of what it is in want of
 pub data IsOfferReply (config : Config) (h : List BoardEntry) (c : Control) (id : List ℕ) (ask : OfferAsk) : Type 0 where
   well : (o : act.Offer) → c.act ≡ act.Offered o → o.ask ≡ ask
-      → c.reply ≡ (spelled config (offering config (rounds_of_call h (find_call h id)) o)).bytes → IsOfferReply config h c id ask
-  no_pair : c.reply ≡ reply_text config (Fault E13) → c.act ≡ act.Failed E13
+      → c.reply ≡ (spelled config c.cookie (offering config (rounds_of_call h (find_call h id)) o)).bytes → IsOfferReply config h c id ask
+  no_pair : c.reply ≡ reply_datagram config c.cookie (Fault E13) → c.act ≡ act.Failed E13
       → is_short (free_in config h) (plan.demand (rounds_of_call h (find_call h id)) ask).pairs ≡ true → IsOfferReply config h c id ask
-  session_limit : c.reply ≡ reply_text config (Fault E14) → c.act ≡ act.Failed E14
+  session_limit : c.reply ≡ reply_datagram config c.cookie (Fault E14) → c.act ≡ act.Failed E14
       → find_call h id ≡ None → length (live h) ≡ config.max_sessions → IsOfferReply config h c id ask
-  port_fault : (leases : List act.Lease) → c.reply ≡ reply_text config (Fault E15) → c.act ≡ act.Undone E15 leases []
+  port_fault : (leases : List act.Lease) → c.reply ≡ reply_datagram config c.cookie (Fault E15) → c.act ≡ act.Undone E15 leases []
       → In false c.given.opens → IsOfferReply config h c id ask
-  key_fault : (leases : List act.Lease) → c.reply ≡ reply_text config (Fault E16) → c.act ≡ act.Undone E16 leases c.given.draws
+  key_fault : (leases : List act.Lease) → c.reply ≡ reply_datagram config c.cookie (Fault E16) → c.act ≡ act.Undone E16 leases c.given.draws
       → c.given.draw_failed ≡ true → IsOfferReply config h c id ask
-  no_memory : c.reply ≡ reply_text config (Fault E17) → c.act ≡ act.Starved → IsOfferReply config h c id ask
+  no_memory : c.reply ≡ reply_datagram config c.cookie (Fault E17) → c.act ≡ act.Starved → IsOfferReply config h c id ask
 
 -- What an orderly list has, whatever the lanes do
 pub record BoardSafe (config : Config) (l : List Entry) : Type 0 where

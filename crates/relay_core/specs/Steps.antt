@@ -1,5 +1,5 @@
--- Which steps of the board, the cells and the boxes their events are: what the calls of each say, for every history that the old
--- state stands for.
+-- Which steps of the board, the cells and the boxes their events are: of a cell and of a box what their calls say for every history
+-- that the old state stands for, of the board for the history that the step records.
 use Rattle.std.specs.Prelude.{◌≡◌, ℕ, Bool, true, List, ◌∷◌, Option, Some, None}
 use Rattle.relay_outside.specs.declared.ports.InCall.{InCall}
 use Rattle.relay_outside.specs.declared.ports.OutCall.{OutCall}
@@ -44,9 +44,10 @@ pub record BoardStep (config : Config) (h : List BoardEntry) (made : Made) (even
   pub fits : FitsBoard config h (board_made made event)
   pub stands : BoardFor config new (board_made made event ∷ h)
 
+-- the history is the one that the step records
 abbrev pub BoardSteps : board.Board → Made → Event → board.Board → Type 0
 BoardSteps old made (Board event) new =
-    (h : List BoardEntry) → IsFitting old.config h → BoardFor old.config old h → BoardStep old.config h made event new
+    IsFitting old.config made.before → BoardFor old.config old made.before → BoardStep old.config made.before made event new
 BoardSteps old made (Cell event) new = ⊥
 BoardSteps old made (Box event) new = ⊥
 

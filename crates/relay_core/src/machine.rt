@@ -11,6 +11,7 @@ pub struct Happening {
 }
 
 impl Model for Happening {
+    ghost use Rattle.std.specs.Prelude.{[]};
     ghost use Rattle.relay_core.specs.Entries.{Box};
     ghost use Rattle.relay_core.specs.Made.{Made};
     ghost use Rattle.port_pool.specs.Boxes.{Close};
@@ -21,7 +22,7 @@ impl Model for Happening {
 
     ghost coded = { Prim.hlevel (codes, entries_code) };
 
-    ghost view = { λ happening. record { handed = 0; moment = 0; board = 0; event = Box Close } };
+    ghost view = { λ happening. record { handed = 0; moment = 0; board = 0; before = []; event = Box Close } };
 }
 
 /// The machine of the board, the cells and the boxes, whose in ends and out ends are of these types.
@@ -53,10 +54,11 @@ pub trait Says {
 }
 
 impl Says for Brand {
+    ghost use Rattle.std.specs.Prelude.{[]};
     ghost use Rattle.relay_core.specs.Entries.{Box};
     ghost use Rattle.port_pool.specs.Boxes.{Close};
 
-    ghost made = { record { handed = 0; moment = 0; board = 0; event = Box Close } };
+    ghost made = { record { handed = 0; moment = 0; board = 0; before = []; event = Box Close } };
 }
 
 /// What X says, of this machine.

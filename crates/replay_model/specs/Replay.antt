@@ -65,7 +65,7 @@ abbrev pub replied : List Entry → List Happening → Control → Gone
 replied l past c = record {
   entries = l;
   past = Replied (not (fails step.Replying past)) ∷ past;
-  prints = replying c.source (c.cookie ++ 32 ∷ c.reply) (fails step.Replying past);
+  prints = replying c.source c.reply (fails step.Replying past);
 }
 
 abbrev pub turn_of : Config → (ℕ → List ℕ) → Replay → Addr → (cookie body : List ℕ) → Heard → Control

@@ -10,7 +10,7 @@ use Rattle.offer_answer.specs.Plan as plan
 use Rattle.call_board.specs.Acts as act
 use Rattle.call_board.specs.Acts.{Call, Given, Control, Turn, Tick, BoardEntry}
 use Rattle.call_board.specs.Kept.{kept}
-use Rattle.call_board.specs.Replies.{Done, Described, reply_text}
+use Rattle.call_board.specs.Replies.{Done, Described, reply_datagram}
 use Rattle.call_board.specs.Answers.{answering_unless}
 use Rattle.call_board.specs.Fits.{answer_of, FitsControl}
 use Rattle.relay_core.proofs.Example.Datagrams.{config, id, offer, answer, legs, keys, first_draw, second_draw, offered, line, signal, offer_body, offer_pairs, offer_is_read, offer_is_asked, offer_is_faultless, offer_demands, offer_is_heard, answer_body, answer_pairs, answer_is_read, answer_is_asked, answer_is_faultless, answer_commits, answer_is_heard, delete_body, delete_pairs, delete_is_read, delete_is_asked, next_id, next_body, next_pairs, next_offer, next_legs, next_is_read, next_is_asked, next_is_faultless, next_demands, next_is_heard}
@@ -39,7 +39,7 @@ offer_turn = record {
   pairs = Some offer_pairs;
   chosen = None ∷ [];
   given = record { starved = false; opens = true ∷ true ∷ true ∷ true ∷ []; draws = first_draw ∷ second_draw ∷ []; draw_failed = false; report = None };
-  reply = reply_text config (Described (plan.offer_text config [] offer (30000 ∷ 30002 ∷ []) keys));
+  reply = reply_datagram config (codes "1") (Described (plan.offer_text config [] offer (30000 ∷ 30002 ∷ []) keys));
   act = act.Offered accepted_offer;
 }
 
@@ -106,7 +106,7 @@ answer_turn = record {
   pairs = Some answer_pairs;
   chosen = Some line ∷ [];
   given = nothing_given;
-  reply = reply_text config (Described (plan.answer_text config offered answer));
+  reply = reply_datagram config (codes "2") (Described (plan.answer_text config offered answer));
   act = act.Answered accepted_answer;
 }
 
@@ -144,7 +144,7 @@ delete_turn = record {
   pairs = Some delete_pairs;
   chosen = [];
   given = nothing_given;
-  reply = reply_text config Done;
+  reply = reply_datagram config (codes "3") Done;
   act = act.Deleted the_call;
 }
 
@@ -198,7 +198,7 @@ next_turn = record {
   pairs = Some next_pairs;
   chosen = None ∷ [];
   given = record nothing_given { opens = true ∷ true ∷ true ∷ true ∷ [] };
-  reply = reply_text config (Described (plan.offer_text config [] next_offer (30000 ∷ 30002 ∷ []) []));
+  reply = reply_datagram config (codes "4") (Described (plan.offer_text config [] next_offer (30000 ∷ 30002 ∷ []) []));
   act = act.Offered accepted_next;
 }
 

@@ -5,7 +5,7 @@ use Rattle.relay_core.specs.Turning.{made_by}
 use Rattle.nested_steps.specs.InCells.{moment_in}
 use Rattle.nested_steps.proofs.Nesting.{above_rows, turn_gained, turn_may}
 use Rattle.nested_steps.proofs.Celling.{cell_given}
-use Rattle.nested_steps.proofs.Signalling.{takes_answer, commits_by}
+use Rattle.nested_steps.proofs.Signalling.{takes_answer, space_is, commits_by}
 use Rattle.nested_steps.proofs.Leaving.{committed_went}
 use Rattle.nested_steps.proofs.signals.commit_cell.Goals as goal
 
@@ -18,7 +18,7 @@ commit_part-requires-clause-takes g c =
     c.turn-turn.ensures.turn.1 in
     let above = above_rows _ c.args.cell c.turn-turn.result.front is.0.above in
     takes_answer c.args.config.now c.state.result.now own c.args.signal.now c.args.contexts is.1 (c.requires.names c.turn-turn.result.front above)
-    (c.requires.room c.turn-turn.result.front above)
+    (space_is c.args.config.now c.state.result.now (made_by c.args.hand.now) c.args.cell c.turn-turn.result.front c.args.signal.now c.args.contexts is.1 above c.requires.room)
 
 pub returns-clause-gained : goal.returns-clause-gained
 returns-clause-gained g c =

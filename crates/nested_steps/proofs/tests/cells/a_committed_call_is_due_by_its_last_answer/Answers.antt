@@ -1,4 +1,4 @@
-use Rattle.std.proofs.Common.{refl}
+use Rattle.std.proofs.Common.{refl, inl}
 use Rattle.nested_steps.proofs.After.{keys_still}
 use Rattle.nested_steps.proofs.First.{first_new, first_room, new_first}
 use Rattle.nested_steps.proofs.tests.cells.a_committed_call_is_due_by_its_last_answer.Goals as goal
@@ -7,7 +7,7 @@ pub commit_cell-requires-clause-keys : goal.commit_cell-requires-clause-keys
 commit_cell-requires-clause-keys g c = first_new _ 2 c.in-Some.ensures.hand.0
 
 pub commit_cell-requires-clause-room : goal.commit_cell-requires-clause-room
-commit_cell-requires-clause-room g c = first_room _ 2 _ _ c.in-Some.ensures.hand.0
+commit_cell-requires-clause-room g c = inl (first_room _ 2 _ _ c.in-Some.ensures.hand.0)
 
 pub expire_cell-young-requires-clause-keys : goal.expire_cell-young-requires-clause-keys
 expire_cell-young-requires-clause-keys g c =
