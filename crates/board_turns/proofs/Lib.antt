@@ -2,4 +2,12 @@ pub mod Lefts
 pub mod Closed
 pub mod Ended
 pub mod Next
+pub mod StayHeld
+pub mod CloseAfter
+pub mod Deleted
 pub mod Stopped
+pub mod Betweens
+pub mod Unheld
+pub mod Firsts
+pub mod StopTurns
+pub mod Grown

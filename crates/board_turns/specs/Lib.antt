@@ -1,4 +1,5 @@
 pub mod Acting
+pub mod Between
 pub mod Closing
 pub mod Ending
 pub mod Stopping

@@ -5,6 +5,8 @@ use Rattle.call_board.specs.Acts.{Call, Stop, BoardEntry}
 use Rattle.call_board.specs.Calls.{live}
 use Rattle.call_board.specs.Pairs.{held, closed_of}
 use Rattle.call_board.specs.Views.{last_moment}
+use Rattle.relay_core.specs.Entries.{Board}
+use Rattle.relay_core.specs.Made.{Made}
 use Rattle.board_turns.specs.Closing.{pairs_left}
 use Rattle.board_turns.specs.Ending.{leg_pairs}
 
@@ -15,3 +17,7 @@ stop_entry h = record { moment = last_moment h; event = Stop (live h) }
 -- the held pairs without those of the legs that the entry closes of these calls
 abbrev pub still_held : List BoardEntry → BoardEntry → List Call → List ℕ
 still_held h e calls = pairs_left (leg_pairs (flat_map (closed_of h e) calls)) (leg_pairs (held h))
+
+-- as the table records it
+abbrev pub stop_made : List BoardEntry → Made
+stop_made h = record { handed = last_moment h; moment = last_moment h; board = 0; before = h; event = Board (Stop (live h)) }

@@ -1,15 +1,23 @@
 //! What the main hand does in a turn of the board that ends calls, from its first nested step to its last.
 //!
 //! Module `closing` closes the legs that went from a cell: the box of each pair, its ports, and its lease. `ending` ends a call:
-//! its cell, its place among the live calls, and its legs. `stopping` ends all live calls in order, as a stop does.
+//! its cell, its place among the live calls, and its legs. `putting` ends the board's turn with its entry. `stopping` ends all
+//! live calls in order, as a stop does, and makes the whole turn of a stop.
 //! `specs/Closing.antt` and `specs/Ending.antt` say when that may be done and what it tells, `specs/Stopping.antt` has the
-//! board's entry of a stop.
+//! board's entry of a stop. `specs/Between.antt` says what is known of the main hand between the board's turns, and what a turn
+//! adds to its list, `specs/Acting.antt` what is known in a turn.
 #![tactic(auto)]
 
 mod closing;
+mod deleting;
 mod ending;
+mod putting;
 mod stopping;
+#[cfg(test)]
+mod tests;
 
 pub use closing::close_legs;
+pub use deleting::delete_call;
 pub use ending::end_call;
-pub use stopping::end_live;
+pub use putting::put_entry;
+pub use stopping::{end_live, stop_turn};

@@ -1,4 +1,4 @@
-//! All live calls, ended in order.
+//! All live calls, ended in order, and the turn of the board in which a stop does so.
 ghost use Rattle.std.specs.Prelude.{◌≡◌, ◌≤◌, [], ◌∷◌, length};
 ghost use Rattle.relay_outside.specs.Told.{WhereTold};
 ghost use Rattle.turn_table.specs.Hands.{IsSameHand, SameTurns};
@@ -9,17 +9,22 @@ ghost use Rattle.relay_core.specs.Entries.{board_history};
 ghost use Rattle.relay_core.specs.Legal.{Orderly};
 ghost use Rattle.relay_core.specs.Scripts.{script};
 ghost use Rattle.relay_core.specs.Turning.{GainsNested, IsAbove, made_by};
-ghost use Rattle.media_ports.specs.Held.{OpensHeld};
+ghost use Rattle.call_board.specs.Views.{last_moment};
+ghost use Rattle.relay_core.specs.Standing.{BoardIs};
+ghost use Rattle.media_ports.specs.Held.{OpensHeld, TellsHeld};
 ghost use Rattle.nested_steps.specs.Nesting.{MayNest};
+ghost use Rattle.board_turns.specs.Between.{board_of, IsBetween, MakesTurn};
 ghost use Rattle.board_turns.specs.Ending.{leg_pairs};
 ghost use Rattle.board_turns.specs.Stopping.{stop_entry, still_held};
 
 use crate::ending::end_call;
+use crate::putting::put_entry;
 use call_board::Board;
 use call_cell::Gone;
 use nested_steps::Nest;
-use relay_core::Relay;
+use relay_core::{Part, Relay};
 use relay_outside::{Config, PortMaker};
+use std::marker::Brand;
 use std::sync::Wait;
 use turn_table::{Hand, Turns};
 
@@ -60,5 +65,72 @@ pub fn end_live<P: PortMaker, R: Wait>(
         let call = board.call_at(0);
         end_call(rt, turns, hand, config, nest, board, ports, gone, call);
     }
+    count
+}
+
+/// Ends all live calls on the board of the place, in the turn of the board with this number.
+fn stop_part<P: PortMaker, R: Wait>(
+    rt: &R,
+    turns: &Turns<Relay<P::In, P::Out>>,
+    hand: &mut Hand<Relay<P::In, P::Out>>,
+    config: &Config,
+    number: u64,
+    part: &mut Part<P::In, P::Out>,
+    ports: &mut P,
+    gone: &mut Gone<P::Out>,
+) -> usize
+    requires may { MayNest config.now turns.now hand.old }
+    requires above { IsAbove (made_by hand.old) 0 number }
+    requires orderly { Orderly config.now (made_by hand.old) }
+    requires board { BoardIs config.now part.old (board_history (made_by hand.old) number) }
+    requires open { TellsHeld config.now (P.told ports.old) (leg_pairs (held (board_history (made_by hand.old) number))) }
+    requires empty { gone.old ≡ [] }
+    ensures same { IsSameHand hand.old hand.new × SameTurns hand.old hand.new }
+    ensures may { MayNest config.now turns.now hand.new }
+    ensures gained { let h = board_history (made_by hand.old) number in
+        GainsNested number (last_moment h) (script config.now h (stop_entry h)) hand.old hand.new }
+    ensures board { let h = board_history (made_by hand.old) number in BoardIs config.now part.new (stop_entry h ∷ h) }
+    ensures count { result ≡ length (live (board_history (made_by hand.old) number)) }
+    ensures shut { TellsHeld config.now (P.told ports.new) [] }
+    ensures later { P.faults ports.old ≤ P.faults ports.new }
+    ensures empty { gone.new ≡ [] }
+{
+    match part {
+        Part::Board(board) => {
+            let moment = board.advance(0);
+            let nest = Nest { number, moment };
+            end_live(rt, turns, hand, config, nest, board, ports, gone)
+        }
+        Part::Cell(_) => unreachable!(),
+        Part::Pair(_) => unreachable!(),
+    }
+}
+
+/// Stops the relay in a turn of the board: all live calls end, in order of their creation, and the board's entry of the stop is
+/// made, with the moment of the last one. It answers how many calls ended. Then no port of a pair is open, where just those of the
+/// held pairs were. `gone` is empty before and after. Between its steps the main hand waits for lanes; it takes no memory.
+pub fn stop_turn<P: PortMaker, R: Wait>(
+    rt: &R,
+    turns: &Turns<Relay<P::In, P::Out>>,
+    hand: &mut Hand<Relay<P::In, P::Out>>,
+    config: &Config,
+    ports: &mut P,
+    gone: &mut Gone<P::Out>,
+) -> usize
+    requires between { IsBetween config.now turns.now hand.old }
+    requires open { TellsHeld config.now (P.told ports.old) (leg_pairs (held (board_of (made_by hand.old)))) }
+    requires empty { gone.old ≡ [] }
+    ensures same { IsSameHand hand.old hand.new }
+    ensures between { IsBetween config.now turns.now hand.new }
+    ensures makes { MakesTurn config.now hand.old hand.new (stop_entry (board_of (made_by hand.old))) }
+    ensures count { result ≡ length (live (board_of (made_by hand.old))) }
+    ensures shut { TellsHeld config.now (P.told ports.new) [] }
+    ensures later { P.faults ports.old ≤ P.faults ports.new }
+    ensures empty { gone.new ≡ [] }
+{
+    let mut turn = turns.turn(rt, hand, 0);
+    let number = turn.front();
+    let count = stop_part(rt, turns, hand, config, number, turn.state(), ports, gone);
+    put_entry::<P::In, P::Out, Brand>(turns, hand, turn);
     count
 }

@@ -1,0 +1,73 @@
+-- The main hand before the board's first turn.
+use Rattle.std.proofs.Common.{◌≡◌, sym, subst, ap, ◌<◌, ℕ, List, [], ◌∷◌, ◌++◌, length, length-append, Option, Some, arith, false, true}
+use Rattle.relay_outside.specs.declared.ports.PortCall.{PortCall}
+use Rattle.relay_outside.specs.declared.settings.Config.{Config}
+use Rattle.relay_outside.specs.Ports.{IsOpen}
+use Rattle.turn_table.specs.declared.machine.Entry as table
+use Rattle.turn_table.specs.declared.hands.Turns.{Turns}
+use Rattle.turn_table.specs.declared.hands.Hand.{Hand}
+use Rattle.turn_table.specs.Hands.{IsHandOf, IsFirstHand, entries}
+use Rattle.call_board.specs.Acts.{BoardEntry}
+use Rattle.call_board.specs.Pairs.{held}
+use Rattle.relay_core.specs.declared.part.Part.{Part}
+use Rattle.relay_core.specs.Entries.{Entry}
+use Rattle.relay_core.specs.Made.{Made, list_of}
+use Rattle.relay_core.specs.Beginning.{AreParts}
+use Rattle.relay_core.specs.Turning.{made_by}
+use Rattle.relay_core.proofs.Known.{IsKnown}
+use Rattle.relay_core.proofs.Turns.{nothing_is_orderly}
+use Rattle.media_ports.specs.Held.{OpensHeld, TellsHeld}
+use Rattle.board_turns.specs.Between.{board_of, IsBetween}
+use Rattle.board_turns.specs.Ending.{leg_pairs}
+
+nothing_known : {T : Type 0} (config : Config) → IsKnown {T = T} config []
+nothing_known config = record {
+  orderly = nothing_is_orderly config;
+  handed = λ row i. elim i [ ];
+  recorded = λ row i. elim i [ ];
+  receiving = λ own. record { received = λ e x i. elim i [ ]; once = λ e f x y i. elim i [ ] };
+}
+
+module _ {M I O T : Type 0} {g : _} where
+  -- the hand of a table that began with the parts of the configuration
+  pub first_between : (config : Config) (turns : Turns M (Part I O) Made T) (hand : Hand M (Part I O) Made T g) (parts : List (Part I O)) → IsHandOf turns hand
+      → IsFirstHand parts hand → AreParts config parts → IsBetween config turns hand
+  first_between config turns hand parts of_table first are =
+      let known : IsKnown config (entries hand) = subst (λ (rows : List (table.Entry Made T)). IsKnown config rows) (sym first.1) (nothing_known config) in
+      record {
+        of_table = of_table;
+        main = first.3;
+        idle = first.4;
+        parts = subst (λ (l : List (Part I O)). AreParts config l) (sym first.0) are;
+        numbered = known.orderly.numbered;
+        orderly = known.orderly;
+        handed = known.handed;
+        recorded = known.recorded;
+        receiving = known.receiving;
+      }
+
+  pub first_made : (hand : Hand M (Part I O) Made T g) (parts : List (Part I O)) → IsFirstHand parts hand → made_by hand ≡ []
+  first_made hand parts first = ap (λ (rows : List (table.Entry Made T)). list_of rows) first.1
+
+-- a list without an entry has none of the board
+pub first_board : (l : List Entry) → l ≡ [] → board_of l ≡ []
+first_board l none = ap (λ (k : List Entry). board_of k) none
+
+not_opened : (before after : List PortCall) (call : PortCall) → [] ≡ before ++ call ∷ after → ⊥
+not_opened before after call q =
+    let long = length-append before (call ∷ after) in
+    let none : 0 ≡ length (before ++ call ∷ after) = ap length q in
+    omega (arith, long, none)
+
+-- and of a port maker that was not called no port is open
+pub none_open : (config : Config) → OpensHeld config [] []
+none_open config pair half low = (
+  λ is_open. absurd (not_opened is_open.before is_open.after _ is_open.opened),
+  λ held. absurd (let q : false ≡ true = held in cc),
+)
+
+-- so just the ports of the held pairs are open
+pub first_opens : (config : Config) (l : List Entry) (told : Option (List PortCall)) → told ≡ Some [] → l ≡ [] → TellsHeld config told (leg_pairs (held (board_of l)))
+first_opens config l told nothing none =
+    subst (λ (t : Option (List PortCall)). TellsHeld config t (leg_pairs (held (board_of l)))) (sym nothing)
+    (subst (λ (h : List BoardEntry). OpensHeld config [] (leg_pairs (held h))) (sym (first_board l none)) (none_open config))

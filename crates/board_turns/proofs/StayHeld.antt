@@ -1,0 +1,63 @@
+-- Which pairs are held when legs were closed: those that were held, without the pairs of these legs.
+use Rattle.std.proofs.Common.{◌≡◌, ◌∙◌, refl, sym, ap, subst, ℕ, Bool, true, false, not, cond, List, [], ◌∷◌, ◌++◌, Option, map, filter}
+use Rattle.std.specs.Prelude.{◌&&◌, ◌==◌}
+use Rattle.relay_outside.specs.declared.ports.PortCall.{PortCall}
+use Rattle.relay_outside.specs.declared.settings.Config.{Config}
+use Rattle.histories.specs.Words.{In, here, there, has}
+use Rattle.histories.proofs.Lists.{equal_if, maps, filtered, has_it}
+use Rattle.port_pool.specs.declared.holder.Holder.{Holder}
+use Rattle.call_board.specs.Pairs.{Once}
+use Rattle.board_turns.specs.Closing.{pairs_left}
+use Rattle.board_turns.specs.Ending.{leg_pairs}
+use Rattle.board_turns.proofs.Lefts.{has_left}
+
+is_false : (b : Bool) → (b ≡ true → ⊥) → b ≡ false
+is_false true never = absurd (never refl)
+is_false false never = refl
+
+-- a leg more, which is kept or not
+inside_case : (p : Holder → Bool) (leg : Holder) (legs : List Holder) (q : ℕ) → (In q (leg_pairs (filter p legs)) → In q (leg_pairs legs))
+    → (kept : Bool) → In q (leg_pairs (cond kept (leg ∷ filter p legs) (filter p legs))) → In q (leg_pairs (leg ∷ legs))
+inside_case p leg legs q rest true (here e) = here e
+inside_case p leg legs q rest true (there k) = there (rest k)
+inside_case p leg legs q rest false i = there (rest i)
+
+-- a pair of some of the legs is a pair of the legs
+inside : (p : Holder → Bool) (legs : List Holder) (q : ℕ) → In q (leg_pairs (filter p legs)) → In q (leg_pairs legs)
+inside p [] q i = i
+inside p (leg ∷ legs) q i = inside_case p leg legs q (λ k. inside p legs q k) (p leg) i
+
+-- a pair that stands nowhere in the legs stands in none of them
+not_among : (p : Holder → Bool) (legs : List Holder) (q : ℕ) → (In q (leg_pairs legs) → ⊥) → has (leg_pairs (filter p legs)) q ≡ false
+not_among p legs q never =
+    is_false (has (leg_pairs (filter p legs)) q) (λ t. never (inside p legs q (has_it q (leg_pairs (filter p legs)) t)))
+
+-- one leg more, which is closed or not, and whose pair is this one or not
+stay_case : (p : Holder → Bool) (leg : Holder) (legs : List Holder) (q : ℕ) → (In leg.pair (leg_pairs legs) → ⊥)
+    → has (leg_pairs (filter (λ a. not (p a)) legs)) q ≡ (not (has (leg_pairs (filter p legs)) q) && has (leg_pairs legs) q)
+    → (closes same : Bool) → p leg ≡ closes → (leg.pair == q) ≡ same
+    → has (leg_pairs (cond (not closes) (leg ∷ filter (λ a. not (p a)) legs) (filter (λ a. not (p a)) legs))) q
+    ≡ (not (has (leg_pairs (cond closes (leg ∷ filter p legs) (filter p legs))) q) && cond same true (has (leg_pairs legs) q))
+stay_case p leg legs q alone rest true true c s =
+    let gone = subst (λ (n : ℕ). In n (leg_pairs legs) → ⊥) (equal_if leg.pair q s) alone in
+    not_among (λ a. not (p a)) legs q gone
+    ∙ sym (ap (λ (b : Bool). not (cond b true (has (leg_pairs (filter p legs)) q)) && true) s)
+stay_case p leg legs q alone rest true false c s =
+    rest ∙ sym (ap (λ (b : Bool). not (cond b true (has (leg_pairs (filter p legs)) q)) && has (leg_pairs legs) q) s)
+stay_case p leg legs q alone rest false true c s =
+    let gone = subst (λ (n : ℕ). In n (leg_pairs legs) → ⊥) (equal_if leg.pair q s) alone in
+    ap (λ (b : Bool). cond b true (has (leg_pairs (filter (λ a. not (p a)) legs)) q)) s
+    ∙ sym (ap (λ (b : Bool). not b && true) (not_among p legs q gone))
+stay_case p leg legs q alone rest false false c s =
+    ap (λ (b : Bool). cond b true (has (leg_pairs (filter (λ a. not (p a)) legs)) q)) s ∙ rest
+
+stay_has : (p : Holder → Bool) (legs : List Holder) (q : ℕ) → Once (leg_pairs legs)
+    → has (leg_pairs (filter (λ a. not (p a)) legs)) q ≡ (not (has (leg_pairs (filter p legs)) q) && has (leg_pairs legs) q)
+stay_has p [] q once = refl
+stay_has p (leg ∷ legs) q once =
+    stay_case p leg legs q once.0 (stay_has p legs q once.1) (p leg) (leg.pair == q) refl refl
+
+-- the pairs of the legs that stay are those that are left
+pub stay_left : (p : Holder → Bool) (legs : List Holder) (q : ℕ) → Once (leg_pairs legs)
+    → has (pairs_left (leg_pairs (filter p legs)) (leg_pairs legs)) q ≡ has (leg_pairs (filter (λ a. not (p a)) legs)) q
+stay_left p legs q once = has_left (leg_pairs (filter p legs)) (leg_pairs legs) q ∙ sym (stay_has p legs q once)

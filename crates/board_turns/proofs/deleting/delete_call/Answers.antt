@@ -1,0 +1,55 @@
+use Rattle.std.proofs.Common.{◌≡◌, ◌∙◌, refl, sym, ap, subst, ℕ, List, ◌∷◌}
+use Rattle.relay_outside.specs.declared.ports.PortCall.{PortCall}
+use Rattle.histories.specs.Words.{In, here}
+use Rattle.port_pool.specs.declared.holder.Holder.{Holder}
+use Rattle.call_board.specs.Acts.{Call}
+use Rattle.call_board.specs.Boards.{Shows}
+use Rattle.call_board.specs.Calls.{live}
+use Rattle.call_board.specs.Pairs.{held, closed_of}
+use Rattle.call_board.specs.Views.{View, view_of, at_moment}
+use Rattle.call_board.proofs.Found.{live_cells_apart}
+use Rattle.relay_core.specs.Entries.{board_history}
+use Rattle.relay_core.specs.Scripts.{Owed}
+use Rattle.relay_core.specs.Turning.{GainsNested, made_by}
+use Rattle.relay_core.proofs.Histories.{good_history}
+use Rattle.board_turns.specs.Closing.{pairs_left}
+use Rattle.board_turns.specs.Ending.{CanEnd, leg_pairs, ending_of, with_end}
+use Rattle.board_turns.specs.Stopping.{stop_entry}
+use Rattle.board_turns.proofs.Lefts.{told_alike}
+use Rattle.board_turns.proofs.Deleted.{ends_one, may_delete, deleted_held, deleted_owes, deleted_acts}
+use Rattle.board_turns.proofs.deleting.delete_call.Goals as goal
+
+pub end_call-requires-clause-can : goal.end_call-requires-clause-can
+end_call-requires-clause-can g c =
+    let config = c.args.config.now in
+    let h = board_history (made_by c.args.hand.now) c.args.nest.number in
+    let of : Call = c.requires.live.0 in
+    let told = g.P.PortMaker.told c.args.ports.now in
+    let legs = closed_of h (stop_entry h) of in (
+      of,
+      legs,
+      subst (λ (k : ℕ). CanEnd config (made_by c.args.hand.now) c.args.board.now told k of legs) c.requires.live.2
+          (may_delete config c.args.turns.now c.args.hand.now c.args.nest c.args.board.now told (stop_entry h) of c.requires.turn c.requires.live.1 c.requires.live.1),
+    )
+
+pub returns-clause-does : goal.returns-clause-does
+returns-clause-does g c e of is number alive moment =
+    let config = c.args.config.now in
+    let h = board_history (made_by c.args.hand.now) c.args.nest.number in
+    let v = at_moment (view_of config h) c.args.nest.moment in
+    let told = g.P.PortMaker.told c.args.ports.now in
+    let legs = closed_of h e of in
+    let ends = subst (λ (calls : List Call). In of calls) (sym (ends_one e of is).ends) (here (refl {a = of})) in
+    let can = may_delete config c.args.turns.now c.args.hand.now c.args.nest c.args.board.now told e of c.requires.turn alive ends in
+    let can_call = subst (λ (k : ℕ). CanEnd config (made_by c.args.hand.now) c.args.board.now told k of legs) number can in
+    let fits = good_history config (made_by c.args.hand.now) c.requires.turn.orderly c.args.nest.number in
+    record {
+      gained = subst (λ (owed : List Owed). GainsNested c.args.nest.number c.args.nest.moment owed c.args.hand.now c.end_call.new.hand) (sym (deleted_owes config h e of is))
+          (c.end_call.ensures.gained of legs can_call);
+      shows = subst (λ (w : View). Shows config c.end_call.new.board w)
+          (ap (λ (k : ℕ). with_end v k legs) (sym number) ∙ sym (deleted_acts h e of v is))
+          (c.end_call.ensures.ended of legs can_call config v c.requires.turn.shows (live_cells_apart config h fits));
+      opens = told_alike config (g.P.PortMaker.told c.end_call.new.ports) (pairs_left (leg_pairs legs) (leg_pairs (held h))) (leg_pairs (held (e ∷ h)))
+          (deleted_held config h e of fits is)
+          (c.end_call.ensures.«open» of legs can_call (leg_pairs (held h)) c.requires.turn.opens);
+    }

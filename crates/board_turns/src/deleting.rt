@@ -1,0 +1,47 @@
+//! A call that is deleted.
+ghost use Rattle.std.specs.Prelude.{◌≡◌, ◌≤◌, []};
+ghost use Rattle.turn_table.specs.Hands.{IsSameHand, SameTurns};
+ghost use Rattle.histories.specs.Words.{In};
+ghost use Rattle.call_board.specs.Acts.{Call, BoardEntry, Deleted, act};
+ghost use Rattle.call_board.specs.Boards.{KeepsReplies};
+ghost use Rattle.call_board.specs.Calls.{live};
+ghost use Rattle.relay_core.specs.Entries.{board_history};
+ghost use Rattle.relay_core.specs.Turning.{made_by};
+ghost use Rattle.nested_steps.specs.Nesting.{MayNest};
+ghost use Rattle.board_turns.specs.Acting.{InTurn, DoesAct};
+
+use crate::ending::end_call;
+use call_board::Board;
+use call_cell::Gone;
+use nested_steps::Nest;
+use relay_core::Relay;
+use relay_outside::{Config, PortMaker};
+use std::sync::Wait;
+use turn_table::{Hand, Turns};
+
+/// Ends the live call of this number in the board's turn of the delete that ends it: its cell ends, it is live no more, and its
+/// legs are closed in lease order. `gone` is empty before and after. It takes no memory.
+pub fn delete_call<P: PortMaker, R: Wait>(
+    rt: &R,
+    turns: &Turns<Relay<P::In, P::Out>>,
+    hand: &mut Hand<Relay<P::In, P::Out>>,
+    config: &Config,
+    nest: Nest,
+    board: &mut Board,
+    ports: &mut P,
+    gone: &mut Gone<P::Out>,
+    call: u64,
+)
+    requires turn { InTurn config.now turns.now hand.old nest board.old (P.told ports.old) }
+    requires live { (of : Call) × In of (live (board_history (made_by hand.old) nest.number)) × (of.number ≡ call) }
+    requires empty { gone.old ≡ [] }
+    ensures same { IsSameHand hand.old hand.new × SameTurns hand.old hand.new }
+    ensures may { MayNest config.now turns.now hand.new }
+    ensures does { (e : BoardEntry) (of : Call) → act e ≡ Deleted of → of.number ≡ call → In of (live (board_history (made_by hand.old) nest.number)) →
+        e.moment ≡ nest.moment → DoesAct config.now hand.old hand.new nest e board.new (P.told ports.new) }
+    ensures replies { KeepsReplies board.old board.new }
+    ensures later { P.faults ports.old ≤ P.faults ports.new }
+    ensures empty { gone.new ≡ [] }
+{
+    end_call(rt, turns, hand, config, nest, board, ports, gone, call);
+}
