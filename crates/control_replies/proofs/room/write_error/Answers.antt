@@ -1,0 +1,7 @@
+use Rattle.control_replies.proofs.Datagrams.{fault_is, written}
+use Rattle.control_replies.proofs.room.write_error.Goals as goal
+use Rattle.std.proofs.Common.{◌∙◌}
+
+pub returns : goal.returns
+returns c config =
+    written _ _ _ _ c.requires.empty c.extend.ensures.list (c.fixed_error-len.ensures.datagram ∙ fault_is config c.args.cookie.now c.args.code)

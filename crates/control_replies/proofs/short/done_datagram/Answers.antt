@@ -1,0 +1,8 @@
+use Rattle.control_replies.proofs.Datagrams.{done_is, same_text}
+use Rattle.control_replies.proofs.short.done_datagram.Goals as goal
+use Rattle.std.proofs.Common.{◌∷◌, ◌++◌, ap, ◌∙◌}
+use Rattle.ng_bencode.specs.Spells.{spelling}
+
+pub returns : goal.returns
+returns c config =
+    same_text c.spelled.result _ _ c.spelled.ensures (ap (λ tree. c.args.cookie.now ++ 32 ∷ spelling tree) c.in-Ok.ensures ∙ done_is config c.args.cookie.now)

@@ -1,0 +1,68 @@
+//! The replies that carry no description.
+ghost use Rattle.std.specs.Prelude.{◌≡◌, ◌≤◌, ◌++◌, ◌∷◌, IfOk};
+ghost use Rattle.relay_outside.specs.declared.settings.Config.{Config};
+ghost use Rattle.ng_bencode.specs.Tree.{tree_of, depth};
+ghost use Rattle.ng_bencode.specs.Spells.{spelling};
+ghost use Rattle.cookie_cache.specs.Keepings.{IsCookie};
+ghost use Rattle.call_board.specs.Replies.{Pong, Done, Warned, Fault, reply_datagram};
+
+use crate::texts::copy;
+use ng_bencode::{Text, Value, encode};
+use ng_frame::join;
+use ng_reply::{ErrorCode, done, fixed_error, pong, warned};
+use relay_outside::OutOfMemory;
+use std::alloc::Global;
+
+/// The datagram of a ping's reply. `Err` is want of memory.
+pub fn pong_datagram(alloc: Global, cookie: &[u8]) -> Result<Text, OutOfMemory>
+    ensures { (config : Config) → IfOk result (λ text. text.list ≡ reply_datagram config cookie.now Pong) }
+{
+    let Ok(value) = pong(alloc) else {
+        return Err(OutOfMemory);
+    };
+    spelled(alloc, cookie, &value)
+}
+
+/// The datagram of success, and nothing else. `Err` is want of memory.
+pub fn done_datagram(alloc: Global, cookie: &[u8]) -> Result<Text, OutOfMemory>
+    ensures { (config : Config) → IfOk result (λ text. text.list ≡ reply_datagram config cookie.now Done) }
+{
+    let Ok(value) = done(alloc) else {
+        return Err(OutOfMemory);
+    };
+    spelled(alloc, cookie, &value)
+}
+
+/// The datagram of success with the text of an error as a warning. `Err` is want of memory.
+pub fn warned_datagram(alloc: Global, cookie: &[u8], code: ErrorCode) -> Result<Text, OutOfMemory>
+    ensures { (config : Config) → IfOk result (λ text. text.list ≡ reply_datagram config cookie.now (Warned code)) }
+{
+    let Ok(value) = warned(alloc, code) else {
+        return Err(OutOfMemory);
+    };
+    spelled(alloc, cookie, &value)
+}
+
+/// The datagram of an error. `Err` is want of memory, which `ng_reply::fixed_error` tells without taking any.
+pub fn error_datagram(alloc: Global, cookie: &[u8], code: ErrorCode) -> Result<Text, OutOfMemory>
+    requires { IsCookie cookie.now }
+    ensures { (config : Config) → IfOk result (λ text. text.list ≡ reply_datagram config cookie.now (Fault code)) }
+{
+    let mut out = [0; 512];
+    let len = fixed_error(cookie, code, &mut out);
+    copy(alloc, &out[..len])
+}
+
+/// The datagram of a reply that stands as a value.
+fn spelled(alloc: Global, cookie: &[u8], value: &Value) -> Result<Text, OutOfMemory>
+    requires { depth (tree_of value.now) ≤ 16 }
+    ensures { IfOk result (λ text. text.list ≡ cookie.now ++ 32 ∷ spelling (tree_of value.now)) }
+{
+    let Ok(reply) = encode(alloc, value) else {
+        return Err(OutOfMemory);
+    };
+    match join(alloc, cookie, reply.as_slice()) {
+        Ok(datagram) => Ok(datagram),
+        Err(_) => Err(OutOfMemory),
+    }
+}
