@@ -1,0 +1,5 @@
+pub mod Stays
+pub mod Rejected
+pub mod Taken
+pub mod Done
+pub mod Asked

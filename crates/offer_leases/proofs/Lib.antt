@@ -1,0 +1,5 @@
+pub mod Fronts
+pub mod Numbered
+pub mod Taken
+pub mod Undone
+pub mod Counted

@@ -1,0 +1,2 @@
+pub mod Leasing
+pub mod Undoing

@@ -1,0 +1,10 @@
+pub mod Targets
+pub mod Leased
+pub mod Brought
+pub mod Dropped
+pub mod Kept
+pub mod Taken
+pub mod Done
+pub mod Limits
+pub mod Undone
+pub mod Accepted

@@ -1,0 +1,123 @@
+//! A planned offer, from its first lease to its last close.
+ghost use Rattle.std.specs.Prelude.{◌≡◌, ◌≤◌, ℕ, List, [], length, IfOk, IfErr};
+ghost use Rattle.relay_outside.specs.Told.{Gained};
+ghost use Rattle.turn_table.specs.Hands.{IsSameHand, SameTurns};
+ghost use Rattle.offer_answer.specs.Rounds.{OfferAsk};
+ghost use Rattle.offer_answer.specs.Offering.{key_count};
+ghost use Rattle.offer_answer.specs.Widths.{WritesFrom};
+ghost use Rattle.ng_reply.specs.declared.code.ErrorCode.{ErrorCode};
+ghost use Rattle.call_board.specs.Acts.{Offered, Undone, BoardEntry, act};
+ghost use Rattle.call_board.specs.Boards.{KeepsReplies};
+ghost use Rattle.call_board.specs.Fits.{FitsBoard};
+ghost use Rattle.call_board.specs.Planned.{HasRoom};
+ghost use Rattle.media_ports.specs.Draws.{DrawsAll};
+ghost use Rattle.relay_core.specs.Entries.{board_history};
+ghost use Rattle.relay_core.specs.Turning.{made_by};
+ghost use Rattle.nested_steps.specs.Nesting.{MayNest};
+ghost use Rattle.board_turns.specs.Acting.{InTurn, DoesAct};
+ghost use Rattle.offer_leases.specs.Leasing.{pairs_of_plan, keys_of_plan};
+ghost use Rattle.offer_leases.specs.Undoing.{ComesEarly, DrawsBefore, HasRisen, keys_before};
+ghost use Rattle.offer_turns.specs.Offers.{CanOffer, offer_of, undone_leases, text_of};
+ghost use Rattle.offer_turns.specs.Brings.{HasOfferRoom};
+
+use crate::room::OfferRoom;
+use crate::taking::take_in;
+use call_board::{Board, BoardPlan};
+use call_cell::Gone;
+use media_ports::DrawnList;
+use nested_steps::Nest;
+use offer_leases::{LeaseFault, LeasedOffer, lease_offer};
+use relay_core::Relay;
+use relay_outside::{Config, KeySource, PortMaker};
+use sdp_text::{Bytes, Sdp};
+use std::sync::Wait;
+use turn_table::{Hand, Turns};
+
+/// What an accepted offer gives its caller.
+#[derive(Drop)]
+pub struct AcceptedOffer {
+    /// The keys that were drawn for it, in the order in which it demands them.
+    pub drawn: DrawnList,
+    /// The description for the other side.
+    pub text: Bytes,
+}
+
+/// Carries out the plan of an offer in the board's turn: leases its pairs, opens their ports, draws its keys, opens the boxes of
+/// its legs, prepares its call's cell, takes the plan in, and closes the legs of the sections that it drops. `gone` is empty
+/// before and after. It takes no memory.
+///
+/// `Port`: a port could not be opened. `Key`: a draw failed. Then what was opened is closed again, the pairs wait behind all free
+/// ones, and the keys that were drawn are used up; nothing else has changed.
+pub fn offer_act<P: PortMaker, K: KeySource, R: Wait>(
+    rt: &R,
+    turns: &Turns<Relay<P::In, P::Out>>,
+    hand: &mut Hand<Relay<P::In, P::Out>>,
+    config: &Config,
+    nest: Nest,
+    board: &mut Board,
+    ports: &mut P,
+    keys: &mut K,
+    gone: &mut Gone<P::Out>,
+    plan: BoardPlan,
+    sdp: &Sdp,
+    room: OfferRoom<P::In, P::Out>,
+) -> Result<AcceptedOffer, LeaseFault>
+    requires turn { InTurn config.now turns.now hand.old nest board.old (P.told ports.old) }
+    requires due { (id : List ℕ) × (ask : OfferAsk) × CanOffer config.now (board_history (made_by hand.old) nest.number) id ask sdp.now plan }
+    requires planned { HasRoom board.old plan }
+    requires made { WritesFrom plan.plan sdp.now }
+    requires room { HasOfferRoom plan.plan room }
+    requires empty { gone.old ≡ [] }
+    ensures same { IsSameHand hand.old hand.new × SameTurns hand.old hand.new }
+    ensures may { MayNest config.now turns.now hand.new }
+    ensures empty { gone.new ≡ [] }
+    ensures replies { KeepsReplies board.old board.new }
+    ensures later { (P.faults ports.old ≤ P.faults ports.new) × (K.faults keys.old ≤ K.faults keys.new) }
+
+    // An accepted offer does what its entry owes, and its description is the one that is due.
+    ensures does { IfOk result (λ accepted. (id : List ℕ) (ask : OfferAsk) → CanOffer config.now (board_history (made_by hand.old) nest.number) id ask sdp.now plan →
+        (e : BoardEntry) → FitsBoard config.now (board_history (made_by hand.old) nest.number) e →
+        act e ≡ Offered (offer_of config.now (board_history (made_by hand.old) nest.number) id ask accepted.drawn.list) → e.moment ≡ nest.moment →
+        DoesAct config.now hand.old hand.new nest e board.new (P.told ports.new)) }
+    ensures text { IfOk result (λ accepted. (id : List ℕ) (ask : OfferAsk) → CanOffer config.now (board_history (made_by hand.old) nest.number) id ask sdp.now plan →
+        accepted.text.list ≡ text_of config.now (board_history (made_by hand.old) nest.number) id (offer_of config.now (board_history (made_by hand.old) nest.number) id ask accepted.drawn.list)) }
+    ensures within { IfOk result (λ accepted. length accepted.text.list ≤ plan.plan.reply_len) }
+    ensures count { IfOk result (λ accepted. length accepted.drawn.list ≡ key_count plan.plan) }
+    ensures draws { IfOk result (λ accepted. Gained (K.told keys.old) (K.told keys.new) (DrawsAll accepted.drawn.list)) }
+
+    // One that is undone does what its entry owes.
+    ensures undoes { IfErr result (λ fault. (id : List ℕ) (ask : OfferAsk) → CanOffer config.now (board_history (made_by hand.old) nest.number) id ask sdp.now plan →
+        (e : BoardEntry) (code : ErrorCode) → act e ≡ Undone code (undone_leases config.now (board_history (made_by hand.old) nest.number) id ask) (keys_before fault) →
+        DoesAct config.now hand.old hand.new nest e board.new (P.told ports.new)) }
+    ensures early { IfErr result (ComesEarly (pairs_of_plan plan) (keys_of_plan plan)) }
+    ensures draws_before { IfErr result (λ fault. DrawsBefore fault (K.told keys.old) (K.told keys.new)) }
+    ensures cause { IfErr result (λ fault. HasRisen fault (P.faults ports.old) (P.faults ports.new) (K.faults keys.old) (K.faults keys.new)) }
+{
+    let OfferRoom {
+        opened,
+        drawn,
+        bring,
+        numbers,
+        mut text,
+    } = room;
+    match lease_offer(config, board, ports, keys, plan, opened, drawn) {
+        Ok(leased) => {
+            let LeasedOffer {
+                plan,
+                leases,
+                opened,
+                drawn,
+                first_key,
+            } = leased;
+            take_in(
+                rt, turns, hand, config, nest, board, ports, gone, plan, leases, opened, first_key,
+                &drawn, sdp, bring, numbers, &mut text,
+            );
+            Ok(AcceptedOffer { drawn, text })
+        }
+        Err(fault) => {
+            bring.destroy_empty();
+            Err(fault)
+        }
+    }
+}

@@ -1,0 +1,152 @@
+//! What an accepted offer brings to its call: the boxes of its legs are opened, and the call's cell is prepared.
+ghost use Rattle.std.specs.Prelude.{◌≡◌, ◌≤◌, ◌<◌, ◌^◌, ℕ, List, [], length};
+ghost use Rattle.turn_table.specs.Hands.{IsSameHand, SameTurns};
+ghost use Rattle.offer_answer.specs.Rounds.{Round, OfferAsk, Demand};
+ghost use Rattle.offer_answer.specs.Plan.{demand};
+ghost use Rattle.offer_answer.specs.Offering.{PlanFor, pair_count, key_count};
+ghost use Rattle.call_cell.specs.Preparing.{IsReady, PrepareFor, added, key_room};
+ghost use Rattle.call_board.specs.Boards.{leases_of};
+ghost use Rattle.call_board.specs.Pairs.{new_keys};
+ghost use Rattle.call_board.specs.Views.{view_of};
+ghost use Rattle.media_ports.specs.Ends.{AreUncalled};
+ghost use Rattle.relay_core.specs.Entries.{board_history};
+ghost use Rattle.relay_core.specs.Legal.{Orderly};
+ghost use Rattle.relay_core.specs.Turning.{GainsNested, IsAbove, made_by};
+ghost use Rattle.nested_steps.specs.Nesting.{MayNest};
+ghost use Rattle.nested_steps.specs.Bringing.{brought_keys, brought_dropped};
+ghost use Rattle.nested_steps.specs.Leaving.{AreLeasesOf};
+ghost use Rattle.offer_legs.specs.Filling.{SameLegs};
+ghost use Rattle.offer_turns.specs.Offers.{IsDue, next_key, offer_of, dropped_legs, bringing_of};
+ghost use Rattle.offer_turns.specs.Brings.{HasLegRoom, HasToldRoom, HasListRoom};
+
+use call_board::BoardPlan;
+use call_cell::{Gone, Prepare};
+use media_ports::{DrawnList, OpenedPairs};
+use nested_steps::{Brought, Nest, prepare_cell};
+use offer_answer::Plan;
+use offer_legs::{OfferedLegs, add_drops, add_keys, open_legs};
+use port_pool::Leases;
+use relay_core::Relay;
+use relay_outside::{Config, InEnd, OutEnd};
+use std::sync::Wait;
+use turn_table::{Hand, Turns};
+
+/// The last port of the range.
+fn last_port(config: &Config) -> u16
+    ensures { (result ≡ config.now.port_max) × (result < 2 ^ 16) }
+{
+    config.port_max
+}
+
+/// Prepares the drawn keys of an offer, and that the legs of the sections are dropped that its plan drops. It takes no memory.
+fn bring_keys<O>(
+    plan: &Plan,
+    first_key: u64,
+    drawn: &DrawnList,
+    prepare: &mut Prepare<O>,
+    brought: &mut Brought,
+)
+    requires keys { length drawn.now.list ≡ key_count plan.now }
+    requires first { first_key ≤ 2 ^ 63 }
+    requires room { key_count plan.now ≤ key_room prepare.old }
+    requires told { HasToldRoom plan.now brought.old }
+    ensures keys { (asked : Demand) → PlanFor plan.now asked → brought_keys brought.new ≡ new_keys first_key drawn.now.list asked.keys }
+    ensures dropped { (rounds : List Round) (ask : OfferAsk) → PlanFor plan.now (demand rounds ask) → brought_dropped brought.new ≡ (demand rounds ask).dropped }
+    ensures stands { (asked : Demand) → PlanFor plan.now asked → PrepareFor prepare.old [] [] → PrepareFor prepare.new (brought_keys brought.new) (brought_dropped brought.new) }
+    ensures legs { SameLegs prepare.old prepare.new }
+{
+    add_keys(plan, first_key, drawn, prepare, brought);
+    add_drops(plan, prepare, brought);
+}
+
+/// The room for what an offer brings to its call.
+#[derive(Drop)]
+pub(crate) struct BringRoom<O> {
+    /// The legs and keys, as the cell takes them.
+    pub prepare: Prepare<O>,
+    /// The keys and the dropped sections, as contracts tell them.
+    pub brought: Brought,
+    /// The legs, as contracts tell them.
+    pub legs: OfferedLegs,
+}
+
+impl<O> BringRoom<O> {
+    /// Gives the memory back, where nothing was brought.
+    pub fn destroy_empty(self)
+        requires none { added self.prepare ≡ [] }
+        requires ready { IsReady self.prepare }
+    {
+        let BringRoom {
+            prepare,
+            brought: _,
+            legs: _,
+        } = self;
+        prepare.destroy_empty();
+    }
+}
+
+/// Opens the boxes of an accepted offer's legs, in the order of leases, and prepares its call's cell with them, with the drawn
+/// keys and with the dropped sections. The legs of these go to `gone`, which is empty. It takes no memory.
+pub(crate) fn prepare_offer<I: InEnd, O: OutEnd, R: Wait>(
+    rt: &R,
+    turns: &Turns<Relay<I, O>>,
+    hand: &mut Hand<Relay<I, O>>,
+    config: &Config,
+    nest: Nest,
+    plan: &BoardPlan,
+    leases: Leases,
+    opened: OpenedPairs<I, O>,
+    first_key: u64,
+    drawn: &DrawnList,
+    room: BringRoom<O>,
+    gone: &mut Gone<O>,
+)
+    requires may { MayNest config.now turns.now hand.old }
+    requires above { IsAbove (made_by hand.old) 0 nest.number }
+    requires orderly { Orderly config.now (made_by hand.old) }
+    requires due { (id : List ℕ) × (ask : OfferAsk) × IsDue config.now (board_history (made_by hand.old) nest.number) id ask plan.now drawn.now.list }
+    requires leases { leases.list ≡ leases_of config.now (view_of config.now (board_history (made_by hand.old) nest.number)) (pair_count plan.now.plan) }
+    requires count { length leases.list ≡ pair_count plan.now.plan }
+    requires opened { length opened.list ≡ pair_count plan.now.plan }
+    requires uncalled { AreUncalled I.told O.told opened.list }
+    requires first { first_key ≡ next_key (board_history (made_by hand.old) nest.number) }
+    requires low { first_key ≤ 2 ^ 63 }
+    requires keys { length drawn.now.list ≡ key_count plan.now.plan }
+    requires room { HasLegRoom plan.now.plan room.prepare × HasToldRoom plan.now.plan room.brought × HasListRoom plan.now.plan room.legs }
+    requires empty { gone.old ≡ [] }
+    ensures same { IsSameHand hand.old hand.new × SameTurns hand.old hand.new }
+    ensures may { MayNest config.now turns.now hand.new }
+    ensures gained { (id : List ℕ) (ask : OfferAsk) → IsDue config.now (board_history (made_by hand.old) nest.number) id ask plan.now drawn.now.list →
+        GainsNested nest.number nest.moment (bringing_of config.now (offer_of config.now (board_history (made_by hand.old) nest.number) id ask drawn.now.list)) hand.old hand.new }
+    ensures went { (id : List ℕ) (ask : OfferAsk) → IsDue config.now (board_history (made_by hand.old) nest.number) id ask plan.now drawn.now.list →
+        AreLeasesOf config.now gone.new (dropped_legs (board_history (made_by hand.old) nest.number) (offer_of config.now (board_history (made_by hand.old) nest.number) id ask drawn.now.list)) }
+{
+    let BringRoom {
+        mut prepare,
+        mut brought,
+        mut legs,
+    } = room;
+    let last = last_port(config);
+    prove!(last <= 65_535);
+    let of_call = plan.call();
+    let of_cell = plan.cell();
+    let demanded = plan.planned();
+    open_legs(
+        rt,
+        turns,
+        hand,
+        config,
+        nest,
+        demanded,
+        of_call,
+        of_cell,
+        leases,
+        opened,
+        &mut prepare,
+        &mut legs,
+    );
+    bring_keys(demanded, first_key, drawn, &mut prepare, &mut brought);
+    prepare_cell(
+        rt, turns, hand, config, nest, of_cell, of_call, prepare, &brought, gone,
+    );
+}

@@ -1,0 +1,94 @@
+//! The memory of an accepted offer.
+ghost use Rattle.std.specs.Prelude.{◌≡◌, ◌≤◌, [], IfOk, vec_capacity};
+ghost use Rattle.nested_steps.specs.Bringing.{brought_keys, brought_dropped, more_keys, more_dropped};
+ghost use Rattle.offer_turns.specs.Brings.{HasOfferRoom};
+
+use crate::preparing::BringRoom;
+use call_cell::Prepare;
+use media_ports::{DrawnList, OpenedPairs};
+use nested_steps::Brought;
+use offer_answer::Plan;
+use offer_legs::OfferedLegs;
+use relay_outside::OutOfMemory;
+use sdp_text::Bytes;
+use std::alloc::Global;
+
+/// How many sections an offer may drop: as many as a call may have.
+const MOST_DROPPED: usize = 8;
+
+/// All memory that an accepted offer takes beside the board's. It is made before the first pair is leased, so that nothing
+/// which comes after that can be short of memory.
+#[derive(Drop)]
+pub struct OfferRoom<I, O> {
+    /// The ends of its opened ports.
+    pub(crate) opened: OpenedPairs<I, O>,
+    /// Its drawn keys.
+    pub(crate) drawn: DrawnList,
+    /// What it brings to its call.
+    pub(crate) bring: BringRoom<O>,
+    /// The ports for RTP of its legs.
+    pub(crate) numbers: Vec<u16>,
+    /// Its description.
+    pub(crate) text: Bytes,
+}
+
+/// Room for so many keys and legs, as contracts tell them, and for the drawn keys.
+fn reserve_lists(
+    alloc: Global,
+    pairs: usize,
+    keys: usize,
+) -> Result<(Brought, OfferedLegs, DrawnList), OutOfMemory>
+    ensures told { IfOk result (λ lists. (brought_keys lists.0 ≡ []) × (brought_dropped lists.0 ≡ [])) }
+    ensures more { IfOk result (λ lists. (more_keys lists.0 ≡ keys) × (more_dropped lists.0 ≡ 8)) }
+    ensures legs { IfOk result (λ lists. lists.1 ≡ record { list = []; room = pairs }) }
+    ensures drawn { IfOk result (λ lists. lists.2 ≡ record { list = []; room = keys }) }
+{
+    let brought = Brought::reserve(alloc, keys, MOST_DROPPED)?;
+    let legs = OfferedLegs::with_room(alloc, pairs)?;
+    let drawn = DrawnList::with_room(alloc, keys)?;
+    Ok((brought, legs, drawn))
+}
+
+/// Room for so many ports, and for a description of so many bytes.
+fn reserve_text(alloc: Global, pairs: usize, len: usize) -> Result<(Vec<u16>, Bytes), OutOfMemory>
+    ensures numbers { IfOk result (λ both. (both.0.items ≡ []) × (pairs ≤ vec_capacity both.0)) }
+    ensures text { IfOk result (λ both. (both.1.list ≡ []) × (len ≤ both.1.spare)) }
+{
+    let Ok(numbers) = Vec::with_capacity(alloc, pairs) else {
+        return Err(OutOfMemory);
+    };
+    let mut text = Bytes::new(alloc);
+    if text.reserve(len).is_err() {
+        return Err(OutOfMemory);
+    }
+    Ok((numbers, text))
+}
+
+impl<I, O> OfferRoom<I, O> {
+    /// Room for what the plan of an offer demands.
+    pub fn reserve(alloc: Global, plan: &Plan) -> Result<OfferRoom<I, O>, OutOfMemory>
+        ensures { IfOk result (HasOfferRoom plan.now) }
+    {
+        let (pairs, keys) = (plan.pairs(), plan.keys());
+        let (brought, legs, drawn) = reserve_lists(alloc, pairs, keys)?;
+        let (numbers, text) = reserve_text(alloc, pairs, plan.reply_len())?;
+        let opened = OpenedPairs::with_room(alloc, pairs)?;
+        match Prepare::reserve(alloc, pairs, keys) {
+            Ok(prepare) => Ok(OfferRoom {
+                opened,
+                drawn,
+                bring: BringRoom {
+                    prepare,
+                    brought,
+                    legs,
+                },
+                numbers,
+                text,
+            }),
+            Err(OutOfMemory) => {
+                opened.destroy_empty();
+                Err(OutOfMemory)
+            }
+        }
+    }
+}
