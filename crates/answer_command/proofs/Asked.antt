@@ -1,0 +1,53 @@
+-- A datagram that asks for an answer, and what is heard in its description.
+use Rattle.std.proofs.Common.{◌≡◌, ◌∙◌, refl, sym, ap, subst, ℕ, Bool, false, List, Option, Some, None, Result, Ok}
+use Rattle.relay_outside.specs.declared.settings.Config.{Config}
+use Rattle.ng_bencode.specs.Tree.{Entries}
+use Rattle.ng_command.specs.declared.command.AnswerIn.{AnswerIn}
+use Rattle.ng_command.specs.Said.{Said}
+use Rattle.ng_reply.specs.declared.code.ErrorCode.{ErrorCode}
+use Rattle.sdes_lines.specs.declared.crypto_line.CryptoLine.{CryptoLine}
+use Rattle.sdp_text.specs.Lines.{lines_of}
+use Rattle.offer_answer.specs.Rounds.{AnswerAsk}
+use Rattle.offer_answer.specs.Plan.{AnswerHeard}
+use Rattle.call_board.specs.Acts.{Call, BoardEntry}
+use Rattle.call_board.specs.Asked.{asked}
+use Rattle.call_board.specs.Calls.{find_call, rounds}
+use Rattle.call_board.specs.Fits.{Hears, HearsAnswer}
+use Rattle.call_board.proofs.Done.{Asks}
+use Rattle.call_board.proofs.Dues.{AsksOf}
+use Rattle.control_entries.specs.declared.request.Request.{Request}
+use Rattle.control_entries.specs.declared.gave.Gave.{Gave}
+use Rattle.control_entries.specs.Controls.{unanswered}
+use Rattle.control_entries.specs.Giving.{given_by}
+use Rattle.control_entries.specs.Carrying.{hearing_as}
+use Rattle.control_entries.proofs.Asking.{asks_so}
+use Rattle.answer_command.specs.Commands.{AsksFor, says_of, ask_of}
+
+-- it asks for the answer
+pub is_asked : (config : Config) (h : List BoardEntry) (moment : ℕ) (request : Request) (pairs : Option Entries) (input : AnswerIn) → AsksFor config h moment request pairs input
+    → asked config request.too_long pairs ≡ Ok (says_of input)
+is_asked config h moment request pairs input c =
+    ap (λ (long : Bool). asked config long pairs) c.asking.short ∙ asks_so config false pairs (says_of input) c.asking.command c.fine
+
+pub asks_answer : (config : Config) (h : List BoardEntry) (moment : ℕ) (request : Request) (pairs : Option Entries) (input : AnswerIn) (chosen : List (Option CryptoLine)) (gave : Gave)
+    → AsksFor config h moment request pairs input → (given_by gave).starved ≡ false → Asks config h moment (unanswered (hearing_as request pairs chosen gave)) (Ok (says_of input))
+asks_answer config h moment request pairs input chosen gave c fed =
+    record { nothing_kept = c.anew.not_kept; not_starved = fed; is_asked = is_asked config h moment request pairs input c }
+
+pub hears_answer : (config : Config) (h : List BoardEntry) (moment : ℕ) (request : Request) (pairs : Option Entries) (input : AnswerIn) (chosen : List (Option CryptoLine)) (gave : Gave)
+    → AsksFor config h moment request pairs input → HearsAnswer h (ask_of input chosen) (find_call h input.call_id.list)
+    → Hears h (unanswered (hearing_as request pairs chosen gave)) (asked config request.too_long pairs)
+hears_answer config h moment request pairs input chosen gave c heard =
+    subst (λ (r : Result Said ErrorCode). Hears h (unanswered (hearing_as request pairs chosen gave)) r) (sym (is_asked config h moment request pairs input c)) heard
+
+-- what is asked of the call that has the call-id
+pub asks_of : (h : List BoardEntry) (input : AnswerIn) (lines : List (List ℕ)) (chosen : List (Option CryptoLine)) (o : Option Call) → lines_of input.sdp.list ≡ lines
+    → HearsAnswer h (ask_of input chosen) o → AsksOf h input lines (ask_of input chosen) o
+asks_of h input lines chosen None lines_are heard = tt
+asks_of h input lines chosen (Some of) lines_are heard =
+    record { from_tag_is = refl; to_tag_is = refl; options_are = refl; hears = record { lines_are = lines_are; heard = heard } }
+
+-- what is heard by the board
+pub heard_by : (h : List BoardEntry) (ask : AnswerAsk) (o : Option Call) → ((of : Call) → o ≡ Some of → AnswerHeard (rounds h of.number) ask) → HearsAnswer h ask o
+heard_by h ask None hears = tt
+heard_by h ask (Some of) hears = hears of refl

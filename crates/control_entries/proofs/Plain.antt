@@ -1,0 +1,133 @@
+-- A command that owes nothing and changes nothing but the reply that is kept.
+use Rattle.std.proofs.Common.{◌≡◌, refl, sym, ◌∙◌, ap, subst, ℕ, Bool, true, false, List, [], ◌∷◌, ◌++◌, Option, Some, None, Result, Ok, Err, length}
+use Rattle.std.specs.Prelude.{nat_lt}
+use Rattle.relay_outside.specs.declared.ports.PortCall.{PortCall}
+use Rattle.relay_outside.specs.declared.settings.Config.{Config}
+use Rattle.turn_table.specs.declared.hands.Turns.{Turns}
+use Rattle.turn_table.specs.declared.hands.Hand.{Hand}
+use Rattle.ng_bencode.specs.Room.{Room}
+use Rattle.ng_frame.specs.Frame.{frame}
+use Rattle.ng_command.specs.Said as said
+use Rattle.ng_command.specs.Said.{Said}
+use Rattle.ng_reply.specs.declared.code.ErrorCode.{ErrorCode}
+use Rattle.port_pool.specs.declared.holder.Holder.{Holder}
+use Rattle.call_board.specs.declared.board.Board.{Board}
+use Rattle.call_board.specs.Acts as act
+use Rattle.call_board.specs.Acts.{Act, Call, Control, Turn, BoardEntry}
+use Rattle.call_board.specs.Answers.{Answered, answering_unless}
+use Rattle.call_board.specs.Asked.{asked}
+use Rattle.call_board.specs.Boards.{Shows}
+use Rattle.call_board.specs.Calls.{find_call}
+use Rattle.call_board.specs.Fits.{FitsControl, FitsBoard}
+use Rattle.call_board.specs.Kept.{kept}
+use Rattle.call_board.specs.Pairs.{held}
+use Rattle.call_board.specs.Views.{View, view_of, at_moment}
+use Rattle.call_board.proofs.Idle.{idle_changes_nothing, is_idle}
+use Rattle.call_board.proofs.Done.{IsDue}
+use Rattle.relay_core.specs.declared.part.Part.{Part}
+use Rattle.relay_core.specs.Entries.{Entry, board_history}
+use Rattle.relay_core.specs.Made.{Made}
+use Rattle.relay_core.specs.Scripts.{Owed, script, script_of_act, reading, reading_starved}
+use Rattle.relay_core.specs.Turning.{GainsNested, made_by}
+use Rattle.media_ports.specs.Held.{TellsHeld}
+use Rattle.nested_steps.specs.declared.nest.Nest.{Nest}
+use Rattle.nested_steps.proofs.Nesting.{gains_nothing}
+use Rattle.board_turns.specs.Ending.{leg_pairs}
+use Rattle.board_turns.specs.Acting.{acted, InTurn, DoesAct}
+use Rattle.control_entries.specs.Controls.{Hearing, unanswered, with_answer, entry_with, entry_at, control_of}
+use Rattle.control_entries.specs.Carrying.{IsReplyOf, Carries}
+
+-- acts of commands that change nothing, without a report
+abbrev pub is_plain : Act → Bool
+is_plain act.Repeated = true
+is_plain act.Starved = true
+is_plain (act.Failed code) = true
+is_plain act.Told = true
+is_plain _ = false
+
+plain_idle : (a : Act) → is_plain a ≡ true → is_idle a ≡ true
+plain_idle act.Repeated t = refl
+plain_idle act.Starved t = refl
+plain_idle (act.Failed code) t = refl
+plain_idle act.Told t = refl
+plain_idle (act.Undone code leases draws) t = absurd (let k : false ≡ true = t in cc)
+plain_idle (act.Offered o) t = absurd (let k : false ≡ true = t in cc)
+plain_idle (act.Answered a) t = absurd (let k : false ≡ true = t in cc)
+plain_idle (act.Deleted of) t = absurd (let k : false ≡ true = t in cc)
+plain_idle (act.Queried of) t = absurd (let k : false ≡ true = t in cc)
+
+-- without a report nothing is read
+nothing_read : (o : Option Call) → reading o None ≡ []
+nothing_read None = refl
+nothing_read (Some c) = refl
+
+no_reading : (h : List BoardEntry) (c : Control) (r : Result Said ErrorCode) → c.given.report ≡ None → reading_starved h c r ≡ []
+no_reading h c (Err code) none = refl
+no_reading h c (Ok said.Ping) none = refl
+no_reading h c (Ok (said.Offer id from_tag sdp options)) none = refl
+no_reading h c (Ok (said.Answer id from_tag to_tag sdp options)) none = refl
+no_reading h c (Ok (said.Delete id from_tag fatal)) none = refl
+no_reading h c (Ok (said.Query id)) none = ap (reading (find_call h id)) none ∙ nothing_read (find_call h id)
+no_reading h c (Ok (said.Listing limit)) none = refl
+
+owes_nothing : (config : Config) (h : List BoardEntry) (e : BoardEntry) (c : Control) (a : Act) → c.given.report ≡ None → is_plain a ≡ true
+    → script_of_act config h e c a ≡ []
+owes_nothing config h e c act.Repeated none t = refl
+owes_nothing config h e c act.Starved none t = no_reading h c (asked config c.too_long c.pairs) none
+owes_nothing config h e c (act.Failed code) none t = refl
+owes_nothing config h e c act.Told none t = refl
+owes_nothing config h e c (act.Undone code leases draws) none t = absurd (let k : false ≡ true = t in cc)
+owes_nothing config h e c (act.Offered o) none t = absurd (let k : false ≡ true = t in cc)
+owes_nothing config h e c (act.Answered a) none t = absurd (let k : false ≡ true = t in cc)
+owes_nothing config h e c (act.Deleted of) none t = absurd (let k : false ≡ true = t in cc)
+owes_nothing config h e c (act.Queried of) none t = absurd (let k : false ≡ true = t in cc)
+
+acts_nothing : (h : List BoardEntry) (e : BoardEntry) (a : Act) (v : View) → is_plain a ≡ true → acted h e a v ≡ v
+acts_nothing h e act.Repeated v t = refl
+acts_nothing h e act.Starved v t = refl
+acts_nothing h e (act.Failed code) v t = refl
+acts_nothing h e act.Told v t = refl
+acts_nothing h e (act.Undone code leases draws) v t = absurd (let k : false ≡ true = t in cc)
+acts_nothing h e (act.Offered o) v t = absurd (let k : false ≡ true = t in cc)
+acts_nothing h e (act.Answered a) v t = absurd (let k : false ≡ true = t in cc)
+acts_nothing h e (act.Deleted of) v t = absurd (let k : false ≡ true = t in cc)
+acts_nothing h e (act.Queried of) v t = absurd (let k : false ≡ true = t in cc)
+
+holds_same : (config : Config) (h : List BoardEntry) (moment : ℕ) (x : Hearing) (a : Answered) → is_plain a.act ≡ true → held (entry_with moment x a ∷ h) ≡ held h
+holds_same config h moment x a t =
+    (idle_changes_nothing config (entry_with moment x a) h a.act (record { control = with_answer x a; is_turn = refl; acts = refl }) (plain_idle a.act t)).same_held
+
+module _ {M I O T : Type 0} {g : _} where
+  -- with this answer, in place of the one that is due
+  record CarriesAs (config : Config) (old new : Hand M (Part I O) Made T g) (nest : Nest) (x : Hearing) (a : Answered) (reply : Option (Room ℕ)) (board : Board) (told : Option (List PortCall)) : Type 0 where
+    fits : FitsBoard config (board_history (made_by old) nest.number) (entry_with nest.moment x a)
+    does : DoesAct config old new nest (entry_with nest.moment x a) board told
+    replies : IsReplyOf (with_answer x a) reply
+
+  -- what is carried out with the answer that is due
+  pub carries_due : (config : Config) (old new : Hand M (Part I O) Made T g) (nest : Nest) (x : Hearing) (due : Answered) (reply : Option (Room ℕ)) (board : Board) (told : Option (List PortCall))
+      → IsDue config (board_history (made_by old) nest.number) nest.moment (unanswered x) due
+      → FitsControl config (board_history (made_by old) nest.number) nest.moment (with_answer x due)
+      → DoesAct config old new nest (entry_with nest.moment x due) board told
+      → IsReplyOf (with_answer x due) reply
+      → Carries config old new nest x reply board told
+  carries_due config old new nest x due reply board told is fits does replies =
+      let c = subst (λ (a : Answered). CarriesAs config old new nest x a reply board told) (sym is) (record { fits = fits; does = does; replies = replies }) in
+      record { fits = c.fits; does = c.does; replies = c.replies }
+
+  -- nothing is done
+  pub does_nothing : (config : Config) (turns : Turns M (Part I O) Made T) (hand : Hand M (Part I O) Made T g) (nest : Nest) (x : Hearing) (a : Answered) (board : Board) (told : Option (List PortCall))
+      → Shows config board (at_moment (view_of config (board_history (made_by hand) nest.number)) nest.moment)
+      → TellsHeld config told (leg_pairs (held (board_history (made_by hand) nest.number)))
+      → x.given.report ≡ None → is_plain a.act ≡ true
+      → DoesAct config hand hand nest (entry_with nest.moment x a) board told
+  does_nothing config turns hand nest x a board told shows opens none t =
+      let h = board_history (made_by hand) nest.number in
+      let e = entry_with nest.moment x a in
+      let v = at_moment (view_of config h) nest.moment in
+      record {
+        gained = subst (λ (owed : List Owed). GainsNested nest.number nest.moment owed hand hand) (sym (owes_nothing config h e (with_answer x a) a.act none t))
+            (gains_nothing nest.number nest.moment hand);
+        shows = subst (λ (w : View). Shows config board w) (sym (acts_nothing h e a.act v t)) shows;
+        opens = subst (λ (legs : List Holder). TellsHeld config told (leg_pairs legs)) (sym (holds_same config h nest.moment x a t)) opens;
+      }

@@ -1,0 +1,11 @@
+use Rattle.std.proofs.Common.{sym, subst, List, [], Option}
+use Rattle.sdes_lines.specs.declared.crypto_line.CryptoLine.{CryptoLine}
+use Rattle.call_board.specs.Replies.{Fault, reply_datagram}
+use Rattle.control_reading.specs.declared.description.DescriptionFault.{DescriptionFault}
+use Rattle.control_entries.specs.Telling.{Refuses, Tells, error_in}
+use Rattle.control_entries.proofs.faulty.misdescribed.Goals as goal
+
+pub returns-in-Error : goal.returns-in-Error
+returns-in-Error c =
+    subst (λ (fault : DescriptionFault). Refuses c.args.cookie.now [] (error_in fault) c.refused.result) (sym c.in-Error.is)
+    (λ config. subst (λ (chosen : List (Option CryptoLine)). Tells chosen (reply_datagram config c.args.cookie.now (Fault c.in-Error.code)) c.refused.result) c.none.ensures (c.refused.ensures config))

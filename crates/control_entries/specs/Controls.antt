@@ -1,0 +1,76 @@
+-- The board's entry of a control datagram: a function of the board's history, of what was heard of the datagram and of what the
+-- outside gave in its turn.
+use Rattle.std.specs.Prelude.{ℕ, Bool, List, [], Option, max}
+use Rattle.relay_outside.specs.declared.address.Addr.{Addr}
+use Rattle.relay_outside.specs.declared.settings.Config.{Config}
+use Rattle.ng_bencode.specs.Tree.{Entries}
+use Rattle.sdes_lines.specs.declared.crypto_line.CryptoLine.{CryptoLine}
+use Rattle.call_board.specs.Acts.{Given, Told, Control, Turn, BoardEntry}
+use Rattle.call_board.specs.Answers.{Answered, answering_unless}
+use Rattle.call_board.specs.Kept.{kept}
+use Rattle.call_board.specs.Views.{last_moment}
+use Rattle.relay_core.specs.Entries.{Board}
+use Rattle.relay_core.specs.Made.{Made}
+
+-- what was heard of a datagram with a frame, and what the outside gave in its turn
+pub record Hearing : Type 0 where
+  pub source : Addr
+  pub cookie : List ℕ
+  pub body : List ℕ
+  pub too_long : Bool
+  pub pairs : Option Entries
+  pub chosen : List (Option CryptoLine)
+  pub given : Given
+
+-- the datagram, before it is answered
+abbrev pub unanswered : Hearing → Control
+unanswered x = record {
+  source = x.source;
+  cookie = x.cookie;
+  body = x.body;
+  too_long = x.too_long;
+  pairs = x.pairs;
+  chosen = x.chosen;
+  given = x.given;
+  reply = [];
+  act = Told;
+}
+
+-- with what it is answered, and does
+abbrev pub with_answer : Hearing → Answered → Control
+with_answer x a = record {
+  source = x.source;
+  cookie = x.cookie;
+  body = x.body;
+  too_long = x.too_long;
+  pairs = x.pairs;
+  chosen = x.chosen;
+  given = x.given;
+  reply = a.bytes;
+  act = a.act;
+}
+
+-- the datagram as that history demands it at that moment
+abbrev pub control_of : Config → List BoardEntry → ℕ → Hearing → Control
+control_of config h moment x = with_answer x (answering_unless config h (unanswered x) (kept h x.source x.cookie moment))
+
+-- the moment of a datagram that is handed this one
+abbrev pub moment_at : List BoardEntry → ℕ → ℕ
+moment_at h now = max now (last_moment h)
+
+-- the board's entry of a datagram that is answered so
+abbrev pub entry_with : ℕ → Hearing → Answered → BoardEntry
+entry_with moment x a = record { moment = moment; event = Turn (with_answer x a) }
+
+abbrev pub entry_at : Config → List BoardEntry → ℕ → Hearing → BoardEntry
+entry_at config h moment x = entry_with moment x (answering_unless config h (unanswered x) (kept h x.source x.cookie moment))
+
+-- the step that the table records of a datagram that is handed this moment
+abbrev pub control_made : Config → List BoardEntry → ℕ → Hearing → Made
+control_made config h now x = record {
+  handed = now;
+  moment = moment_at h now;
+  board = 0;
+  before = h;
+  event = Board (Turn (control_of config h (moment_at h now) x));
+}

@@ -1,0 +1,4 @@
+pub mod Controls
+pub mod Giving
+pub mod Telling
+pub mod Carrying

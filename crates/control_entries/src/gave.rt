@@ -1,0 +1,18 @@
+//! What the outside gave in the turn of a datagram.
+
+use media_ports::DrawnList;
+
+/// What the outside gave in the turn of a datagram. The board's entry records it: a proof takes it from here.
+#[derive(Drop)]
+pub enum Gave {
+    /// Nothing was asked of it.
+    Nothing,
+    /// Memory was short.
+    Starved,
+    /// So many ports were opened, and the next could not be.
+    PortFault(usize),
+    /// So many ports were opened, and these keys drawn; the next draw failed.
+    KeyFault(usize, DrawnList),
+    /// So many ports were opened, and these keys drawn.
+    Offered(usize, DrawnList),
+}

@@ -1,0 +1,80 @@
+-- Commands that are carried out here: those that fail before they are known, and pings.
+use Rattle.std.proofs.Common.{◌≡◌, ◌≤◌, ◌∙◌, refl, sym, ap, subst, ℕ, Bool, true, false, List, [], ◌∷◌, ◌++◌, length, length-append, Option, Some, None, Ok, Err, arith}
+use Rattle.std.proofs.lemmas.Bool.Decides.{nat_tests}
+use Rattle.std.specs.Prelude.{nat_lt}
+use Rattle.relay_outside.specs.declared.ports.PortCall.{PortCall}
+use Rattle.relay_outside.specs.declared.settings.Config.{Config}
+use Rattle.turn_table.specs.declared.hands.Turns.{Turns}
+use Rattle.turn_table.specs.declared.hands.Hand.{Hand}
+use Rattle.ng_bencode.specs.Tree.{Entries}
+use Rattle.ng_command.specs.Said as said
+use Rattle.ng_reply.specs.declared.code.ErrorCode.{ErrorCode}
+use Rattle.sdes_lines.specs.declared.crypto_line.CryptoLine.{CryptoLine}
+use Rattle.call_board.specs.declared.board.Board.{Board}
+use Rattle.call_board.specs.Acts as act
+use Rattle.call_board.specs.Asked.{Reads, asked, command_in}
+use Rattle.call_board.specs.Fits.{Hears}
+use Rattle.call_board.specs.Replies.{Fault, Pong, reply_datagram}
+use Rattle.call_board.proofs.Built.{asks_no_query, asks_no_list}
+use Rattle.call_board.proofs.Done.{with_reply, failed_due, ping_due}
+use Rattle.relay_core.specs.declared.part.Part.{Part}
+use Rattle.relay_core.specs.Entries.{board_history}
+use Rattle.relay_core.specs.Made.{Made}
+use Rattle.relay_core.specs.Turning.{made_by}
+use Rattle.nested_steps.specs.declared.nest.Nest.{Nest}
+use Rattle.board_turns.specs.Acting.{InTurn}
+use Rattle.control_entries.specs.declared.request.Request.{Request}
+use Rattle.control_entries.specs.declared.gave.Gave.TheVariants.{Nothing}
+use Rattle.control_entries.specs.declared.done.Done.{Done}
+use Rattle.control_entries.specs.Controls.{unanswered}
+use Rattle.control_entries.specs.Carrying.{hearing_as, hearing_by, Carries}
+use Rattle.control_entries.specs.Telling.{IsAnew, Tells}
+use Rattle.control_entries.proofs.Asking.{asks_so, asks_faulty}
+use Rattle.control_entries.proofs.Tellings.{tells_carries}
+
+-- no dictionary is a query or a list
+pub no_query : (config : Config) (pairs : Option Entries) (id : List ℕ) → command_in false pairs ≡ Ok (said.Query id) → ⊥
+no_query config pairs id is = asks_no_query config false pairs id (asks_so config false pairs (said.Query id) is refl)
+
+pub no_list : (config : Config) (pairs : Option Entries) (limit : ℕ) → command_in false pairs ≡ Ok (said.Listing limit) → ⊥
+no_list config pairs limit is = asks_no_list config false pairs limit (asks_so config false pairs (said.Listing limit) is refl)
+
+not_below : (m n : ℕ) → nat_lt m n ≡ false → n ≤ m
+not_below m n t = grind (arith, nat_tests)
+
+-- the body of a datagram that isn't too long
+pub body_short : (cookie body : List ℕ) (long : Bool) → long ≡ nat_lt 16384 (length (cookie ++ 32 ∷ body)) → long ≡ false → length body ≤ 16384
+body_short cookie body long is short =
+    let whole = length-append cookie (32 ∷ body) in
+    let fits = not_below 16384 (length (cookie ++ 32 ∷ body)) (sym is ∙ short) in
+    omega (arith, whole, fits)
+
+module _ {M I O T : Type 0} {g : _} where
+  -- a datagram that is too long, or whose dictionary or keys are faulty, was answered with its error
+  pub faulty_carries : (config : Config) (turns : Turns M (Part I O) Made T) (hand : Hand M (Part I O) Made T g) (nest : Nest) (request : Request) (pairs : Option Entries)
+      (chosen : List (Option CryptoLine)) (code : ErrorCode) (done : Done) (board : Board) (told : Option (List PortCall))
+      → InTurn config turns hand nest board told → IsAnew (board_history (made_by hand) nest.number) nest.moment request
+      → (request.too_long ≡ false → Reads request.body.now pairs) → command_in request.too_long pairs ≡ Err code
+      → Tells chosen (reply_datagram config request.cookie.now (Fault code)) done
+      → Carries config hand hand nest (hearing_by request pairs done) done.reply board told
+  faulty_carries config turns hand nest request pairs chosen code done board told turn anew reads is tells =
+      let h = board_history (made_by hand) nest.number in
+      let c = unanswered (hearing_as request pairs chosen Nothing) in
+      let is_asked = asks_faulty config request.too_long pairs code is in
+      tells_carries config turns hand nest request pairs chosen (with_reply config c (Fault code) (act.Failed code)) done board told turn anew reads
+      (failed_due config h nest.moment c code (record { nothing_kept = anew.not_kept; not_starved = refl; is_asked = is_asked })) refl refl
+      (λ heard. subst (λ r. Hears h c r) (sym is_asked) tt) tells
+
+  -- a ping was answered
+  pub ping_carries : (config : Config) (turns : Turns M (Part I O) Made T) (hand : Hand M (Part I O) Made T g) (nest : Nest) (request : Request) (pairs : Option Entries)
+      (chosen : List (Option CryptoLine)) (done : Done) (board : Board) (told : Option (List PortCall))
+      → InTurn config turns hand nest board told → IsAnew (board_history (made_by hand) nest.number) nest.moment request
+      → (request.too_long ≡ false → Reads request.body.now pairs) → command_in request.too_long pairs ≡ Ok said.Ping
+      → Tells chosen (reply_datagram config request.cookie.now Pong) done
+      → Carries config hand hand nest (hearing_by request pairs done) done.reply board told
+  ping_carries config turns hand nest request pairs chosen done board told turn anew reads is tells =
+      let h = board_history (made_by hand) nest.number in
+      let c = unanswered (hearing_as request pairs chosen Nothing) in
+      tells_carries config turns hand nest request pairs chosen (with_reply config c Pong act.Told) done board told turn anew reads
+      (ping_due config h nest.moment c (record { nothing_kept = anew.not_kept; not_starved = refl; is_asked = asks_so config request.too_long pairs said.Ping is refl })) refl refl
+      (λ heard. absurd (let k : false ≡ true = heard in cc)) tells

@@ -1,0 +1,4 @@
+pub mod Commands
+pub mod Kept
+pub mod Taken
+pub mod Turns

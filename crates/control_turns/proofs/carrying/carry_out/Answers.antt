@@ -1,0 +1,18 @@
+use Rattle.std.proofs.Common.{◌≡◌, ap, Bool, true, false, None}
+use Rattle.call_board.specs.Asked.{command_in}
+use Rattle.ng_reply.specs.declared.code.ErrorCode.TheVariants.{E18}
+use Rattle.control_entries.proofs.Tellings.{is_short_carries}
+use Rattle.control_turns.proofs.Commands.{faulty_carries}
+use Rattle.control_turns.proofs.carrying.carry_out.Goals as goal
+
+pub returns-then-request-clause-carries : goal.returns-then-request-clause-carries
+returns-then-request-clause-carries g c =
+    let too_long = c.if-request.true in
+    faulty_carries c.args.config.now c.args.turns.now c.args.hand.now c.args.nest c.args.request.now None c.none.result E18 c.refused-done.result c.args.board.now
+    (g.P.PortMaker.told c.args.ports.now) c.requires.turn c.requires.anew (λ short. absurd (let s = short in let t = too_long in cc))
+    (ap (λ (b : Bool). command_in b None) too_long) (c.refused-done.ensures c.args.config.now)
+
+pub returns-in_default-clause-carries : goal.returns-in_default-clause-carries
+returns-in_default-clause-carries g c =
+    is_short_carries c.args.config.now c.args.turns.now c.args.hand.now c.args.nest c.args.request.now None c.short.result c.args.board.now
+    (g.P.PortMaker.told c.args.ports.now) c.requires.turn c.requires.anew c.short.ensures

@@ -1,0 +1,46 @@
+use Rattle.std.proofs.Common.{◌≡◌, sym, subst, ℕ, List}
+use Rattle.relay_core.specs.Entries.{board_history}
+use Rattle.relay_core.specs.Turning.{made_by}
+use Rattle.control_reading.specs.Bodies.{pairs_if}
+use Rattle.control_entries.specs.Controls.{control_of}
+use Rattle.control_entries.specs.Carrying.{hearing_by}
+use Rattle.control_turns.specs.Sending.{Sends}
+use Rattle.control_turns.proofs.Kept.{datagram_is, deals_kept, short_deals, short_reply, turn_keeps}
+use Rattle.control_turns.proofs.dealing.answer_anew.Goals as goal
+
+pub returns-then-is_err-clause-deals : goal.returns-then-is_err-clause-deals
+returns-then-is_err-clause-deals g c =
+    short_deals c.args.config.now c.args.turns.now c.args.hand.now c.args.nest c.args.request.now c.answer_short.result.dealt c.args.board.now c.reserve_reply.new.self
+    (g.P.PortMaker.told c.args.ports.now) c.requires.turn c.requires.anew c.reserve_reply.ensures.shows c.answer_short.ensures.short.2
+
+pub returns-then-is_err-clause-sent : goal.returns-then-is_err-clause-sent
+returns-then-is_err-clause-sent g c =
+    let dealt = c.answer_short.result.dealt in
+    subst (λ (bytes : List ℕ). Sends c.args.request.now.source bytes c.answer_short.result.sent (g.N.ControlLink.told c.args.link.now) (g.N.ControlLink.told c.answer_short.new.link))
+    (sym (short_reply c.args.config.now (board_history (made_by c.args.hand.now) c.args.nest.number) c.args.nest.moment c.args.request.now (pairs_if dealt.dictionary)
+    dealt.heard dealt.gave c.requires.anew.not_kept c.answer_short.ensures.short.2)) c.answer_short.ensures.sent
+
+pub returns-in_default-clause-deals : goal.returns-in_default-clause-deals
+returns-in_default-clause-deals g c =
+    short_deals c.args.config.now c.args.turns.now c.args.hand.now c.args.nest c.args.request.now c.answer_short-in_default.result.dealt c.args.board.now c.reserve_reply.new.self
+    (g.P.PortMaker.told c.args.ports.now) c.requires.turn c.requires.anew c.reserve_reply.ensures.shows c.answer_short-in_default.ensures.short.2
+
+pub returns-in_default-clause-sent : goal.returns-in_default-clause-sent
+returns-in_default-clause-sent g c =
+    let dealt = c.answer_short-in_default.result.dealt in
+    subst (λ (bytes : List ℕ). Sends c.args.request.now.source bytes c.answer_short-in_default.result.sent (g.N.ControlLink.told c.args.link.now)
+    (g.N.ControlLink.told c.answer_short-in_default.new.link))
+    (sym (short_reply c.args.config.now (board_history (made_by c.args.hand.now) c.args.nest.number) c.args.nest.moment c.args.request.now (pairs_if dealt.dictionary)
+    dealt.heard dealt.gave c.requires.anew.not_kept c.answer_short-in_default.ensures.short.2)) c.answer_short-in_default.ensures.sent
+
+pub carry_out-dictionary-requires-clause-turn : goal.carry_out-dictionary-requires-clause-turn
+carry_out-dictionary-requires-clause-turn g c =
+    turn_keeps c.args.config.now c.args.turns.now c.args.hand.now c.args.nest c.args.board.now c.reserve_reply.new.self (g.P.PortMaker.told c.args.ports.now)
+    c.reserve_reply.ensures.shows c.requires.turn
+
+pub returns-clause-deals : goal.returns-clause-deals
+returns-clause-deals g c =
+    deals_kept c.args.config.now c.args.turns.now c.args.hand.now c.carry_out-dictionary.new.hand c.args.nest c.args.request.now
+    (record { dictionary = c.carry_out-dictionary.result.dictionary; heard = c.carry_out-dictionary.result.done.heard; gave = c.carry_out-dictionary.result.done.gave })
+    c.carry_out-dictionary.result.done.reply c.args.board.now c.carry_out-dictionary.new.board c.reply_to-sent.new.board (g.P.PortMaker.told c.args.ports.now)
+    (g.P.PortMaker.told c.carry_out-dictionary.new.ports) c.requires.turn c.carry_out-dictionary.ensures.carries c.reply_to-sent.ensures.kept

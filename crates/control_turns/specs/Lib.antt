@@ -1,0 +1,4 @@
+pub mod Sending
+pub mod Dealing
+pub mod Turning
+pub mod Taking

@@ -1,0 +1,169 @@
+//! A command that is no repeat, carried out.
+ghost use Rattle.std.specs.Prelude.{◌≡◌, ◌≤◌, [], Option, Ok, false, IfOk, length};
+ghost use Rattle.ng_command.specs.Said.{said};
+ghost use Rattle.turn_table.specs.Hands.{IsSameHand, SameTurns};
+ghost use Rattle.ng_bencode.specs.Tree.{Entries};
+ghost use Rattle.call_board.specs.Asked.{Reads, command_in};
+ghost use Rattle.call_board.specs.Boards.{KeepsReplies};
+ghost use Rattle.control_reading.specs.Bodies.{pairs_if, said_by, description_in};
+ghost use Rattle.relay_core.specs.Entries.{board_history};
+ghost use Rattle.relay_core.specs.Turning.{made_by};
+ghost use Rattle.nested_steps.specs.Nesting.{MayNest};
+ghost use Rattle.board_turns.specs.Acting.{InTurn};
+ghost use Rattle.control_entries.specs.Telling.{IsAnew};
+ghost use Rattle.control_entries.specs.Carrying.{hearing_by, Carries};
+
+use answer_command::answer;
+use call_board::Board;
+use call_cell::Gone;
+use control_entries::{Done, Request, refused, short, told};
+use control_reading::{Body, read_body};
+use control_replies::pong_datagram;
+use delete_command::delete;
+use nested_steps::Nest;
+use ng_bencode::Pairs;
+use ng_command::Command;
+use ng_reply::ErrorCode;
+use offer_answer::Heard;
+use offer_command::offer;
+use relay_core::Relay;
+use relay_outside::{Config, KeySource, PortMaker};
+use std::alloc::Global;
+use std::sync::Wait;
+use turn_table::{Hand, Turns};
+
+/// A command that was carried out, with the dictionary that it was read from.
+#[derive(Drop)]
+pub(crate) struct Carried {
+    /// The dictionary.
+    pub dictionary: Option<Pairs>,
+    /// How it was carried out.
+    pub done: Done,
+}
+
+/// Carries out a command.
+fn carry_out_known<P: PortMaker, K: KeySource, R: Wait>(
+    rt: &R,
+    alloc: Global,
+    turns: &Turns<Relay<P::In, P::Out>>,
+    hand: &mut Hand<Relay<P::In, P::Out>>,
+    config: &Config,
+    nest: Nest,
+    board: &mut Board,
+    ports: &mut P,
+    keys: &mut K,
+    gone: &mut Gone<P::Out>,
+    request: &Request,
+    command: &Command,
+) -> Done
+    requires turn { InTurn config.now turns.now hand.old nest board.old (P.told ports.old) }
+    requires anew { IsAnew (board_history (made_by hand.old) nest.number) nest.moment request.now }
+    requires empty { gone.old ≡ [] }
+    requires small { length (description_in (said command.now)) ≤ length request.now.body.now }
+    requires asked { (pairs : Option Entries) × (request.now.too_long ≡ false) × Reads request.now.body.now pairs × (command_in false pairs ≡ Ok (said command.now)) }
+    ensures same { IsSameHand hand.old hand.new × SameTurns hand.old hand.new }
+    ensures may { MayNest config.now turns.now hand.new }
+    ensures carries { (pairs : Option Entries) → request.now.too_long ≡ false → Reads request.now.body.now pairs → command_in false pairs ≡ Ok (said command.now) →
+        Carries config.now hand.old hand.new nest (hearing_by request.now pairs result) result.reply board.new (P.told ports.new) }
+    ensures replies { KeepsReplies board.old board.new }
+    ensures empty { gone.new ≡ [] }
+    ensures later { (P.faults ports.old ≤ P.faults ports.new) × (K.faults keys.old ≤ K.faults keys.new) }
+{
+    match command {
+        Command::Ping => told(Heard::none(), pong_datagram(alloc, request.cookie)),
+        Command::Offer(input) => offer(
+            rt, alloc, turns, hand, config, nest, board, ports, keys, gone, request, input,
+        ),
+        Command::Answer(input) => answer(
+            rt, alloc, turns, hand, config, nest, board, ports, gone, request, input,
+        ),
+        Command::Delete(input) => delete(
+            rt, alloc, turns, hand, config, nest, board, ports, gone, request, input,
+        ),
+        Command::Query(_) => unreachable!(),
+        Command::List(_) => unreachable!(),
+    }
+}
+
+/// Carries out a command, or answers the error that there is in its place.
+fn carry_out_command<P: PortMaker, K: KeySource, R: Wait>(
+    rt: &R,
+    alloc: Global,
+    turns: &Turns<Relay<P::In, P::Out>>,
+    hand: &mut Hand<Relay<P::In, P::Out>>,
+    config: &Config,
+    nest: Nest,
+    board: &mut Board,
+    ports: &mut P,
+    keys: &mut K,
+    gone: &mut Gone<P::Out>,
+    request: &Request,
+    command: &Result<Command, ErrorCode>,
+) -> Done
+    requires turn { InTurn config.now turns.now hand.old nest board.old (P.told ports.old) }
+    requires anew { IsAnew (board_history (made_by hand.old) nest.number) nest.moment request.now }
+    requires empty { gone.old ≡ [] }
+    requires small { IfOk command.now (λ asks. length (description_in (said asks)) ≤ length request.now.body.now) }
+    requires asked { (pairs : Option Entries) × (request.now.too_long ≡ false) × Reads request.now.body.now pairs × (command_in false pairs ≡ said_by command.now) }
+    ensures same { IsSameHand hand.old hand.new × SameTurns hand.old hand.new }
+    ensures may { MayNest config.now turns.now hand.new }
+    ensures carries { (pairs : Option Entries) → request.now.too_long ≡ false → Reads request.now.body.now pairs → command_in false pairs ≡ said_by command.now →
+        Carries config.now hand.old hand.new nest (hearing_by request.now pairs result) result.reply board.new (P.told ports.new) }
+    ensures replies { KeepsReplies board.old board.new }
+    ensures empty { gone.new ≡ [] }
+    ensures later { (P.faults ports.old ≤ P.faults ports.new) × (K.faults keys.old ≤ K.faults keys.new) }
+{
+    match command {
+        Ok(command) => carry_out_known(
+            rt, alloc, turns, hand, config, nest, board, ports, keys, gone, request, command,
+        ),
+        Err(code) => refused(alloc, request.cookie, *code, Heard::none()),
+    }
+}
+
+/// Carries out what a datagram asks.
+pub(crate) fn carry_out<P: PortMaker, K: KeySource, R: Wait>(
+    rt: &R,
+    alloc: Global,
+    turns: &Turns<Relay<P::In, P::Out>>,
+    hand: &mut Hand<Relay<P::In, P::Out>>,
+    config: &Config,
+    nest: Nest,
+    board: &mut Board,
+    ports: &mut P,
+    keys: &mut K,
+    gone: &mut Gone<P::Out>,
+    request: &Request,
+) -> Carried
+    requires turn { InTurn config.now turns.now hand.old nest board.old (P.told ports.old) }
+    requires anew { IsAnew (board_history (made_by hand.old) nest.number) nest.moment request.now }
+    requires empty { gone.old ≡ [] }
+    ensures same { IsSameHand hand.old hand.new × SameTurns hand.old hand.new }
+    ensures may { MayNest config.now turns.now hand.new }
+    ensures carries { Carries config.now hand.old hand.new nest (hearing_by request.now (pairs_if result.dictionary) result.done) result.done.reply board.new (P.told ports.new) }
+    ensures replies { KeepsReplies board.old board.new }
+    ensures empty { gone.new ≡ [] }
+    ensures later { (P.faults ports.old ≤ P.faults ports.new) × (K.faults keys.old ≤ K.faults keys.new) }
+{
+    if request.too_long {
+        let done = refused(alloc, request.cookie, ErrorCode::E18, Heard::none());
+        return Carried {
+            dictionary: None,
+            done,
+        };
+    }
+    let Ok(body) = read_body(alloc, request.body) else {
+        return Carried {
+            dictionary: None,
+            done: short(),
+        };
+    };
+    let Body {
+        dictionary,
+        command,
+    } = body;
+    let done = carry_out_command(
+        rt, alloc, turns, hand, config, nest, board, ports, keys, gone, request, &command,
+    );
+    Carried { dictionary, done }
+}

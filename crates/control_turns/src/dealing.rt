@@ -1,0 +1,186 @@
+//! A datagram, dealt with in the board's turn.
+ghost use Rattle.std.specs.Prelude.{◌≡◌, ◌≤◌, [], None};
+ghost use Rattle.relay_outside.specs.Told.{HasCause};
+ghost use Rattle.turn_table.specs.Hands.{IsSameHand, SameTurns};
+ghost use Rattle.ng_reply.specs.Replies.{error_datagram};
+ghost use Rattle.cookie_cache.specs.Keepings.{IsCookie};
+ghost use Rattle.relay_core.specs.Entries.{board_history};
+ghost use Rattle.relay_core.specs.Turning.{made_by};
+ghost use Rattle.nested_steps.specs.Nesting.{MayNest};
+ghost use Rattle.board_turns.specs.Acting.{InTurn};
+ghost use Rattle.control_entries.specs.Controls.{control_of, moment_at};
+ghost use Rattle.control_turns.specs.Sending.{Sends};
+ghost use Rattle.control_entries.specs.Telling.{IsAnew};
+ghost use Rattle.control_turns.specs.Turning.{IsRequest};
+ghost use Rattle.control_turns.specs.Dealing.{hearing_of, Deals, IsTaken, DealsAt};
+
+use crate::carrying::{Carried, carry_out};
+use crate::dealt::Dealt;
+use crate::replying::reply_to;
+use crate::sending::{send, send_shortage};
+use call_board::Board;
+use call_cell::Gone;
+use control_entries::{Done, Gave, Request};
+use control_replies::copy;
+use nested_steps::Nest;
+use ng_reply::ErrorCode;
+use offer_answer::Heard;
+use relay_core::{Part, Relay};
+use relay_outside::{Config, ControlLink, Failed, KeySource, PortMaker};
+use std::alloc::Global;
+use std::sync::Wait;
+use turn_table::{Hand, Turns};
+
+/// What was made of a datagram.
+#[derive(Drop)]
+pub(crate) struct Answered {
+    /// What the board's entry records of it.
+    pub dealt: Dealt,
+    /// What the send of its reply answered.
+    pub sent: Result<(), Failed>,
+}
+
+/// Answers that memory was short before anything was read.
+fn answer_short<N: ControlLink>(link: &mut N, request: &Request) -> Answered
+    requires { IsCookie request.now.cookie.now }
+    ensures short { (result.dealt.dictionary ≡ None) × (result.dealt.heard ≡ []) × (result.dealt.gave ≡ Gave.Starved) }
+    ensures sent { Sends request.now.source (error_datagram request.now.cookie.now ErrorCode.E17) result.sent (N.told link.old) (N.told link.new) }
+    ensures cause { HasCause (N.faults link.old) (N.faults link.new) result.sent }
+{
+    let sent = send_shortage(link, request.source, request.cookie);
+    let dealt = Dealt {
+        dictionary: None,
+        heard: Heard::none(),
+        gave: Gave::Starved,
+    };
+    Answered { dealt, sent }
+}
+
+/// Carries out a command for which no reply is kept, sends its reply and keeps it.
+fn answer_anew<N: ControlLink, P: PortMaker, K: KeySource, R: Wait>(
+    rt: &R,
+    alloc: Global,
+    turns: &Turns<Relay<P::In, P::Out>>,
+    hand: &mut Hand<Relay<P::In, P::Out>>,
+    config: &Config,
+    nest: Nest,
+    board: &mut Board,
+    link: &mut N,
+    ports: &mut P,
+    keys: &mut K,
+    gone: &mut Gone<P::Out>,
+    request: &Request,
+) -> Answered
+    requires turn { InTurn config.now turns.now hand.old nest board.old (P.told ports.old) }
+    requires anew { IsAnew (board_history (made_by hand.old) nest.number) nest.moment request.now }
+    requires empty { gone.old ≡ [] }
+    ensures same { IsSameHand hand.old hand.new × SameTurns hand.old hand.new }
+    ensures may { MayNest config.now turns.now hand.new }
+    ensures deals { Deals config.now hand.old hand.new nest (hearing_of request.now result.dealt) board.new (P.told ports.new) }
+    ensures sent { Sends request.now.source (control_of config.now (board_history (made_by hand.old) nest.number) nest.moment (hearing_of request.now result.dealt)).reply
+        result.sent (N.told link.old) (N.told link.new) }
+    ensures cause { HasCause (N.faults link.old) (N.faults link.new) result.sent }
+    ensures empty { gone.new ≡ [] }
+    ensures later { (P.faults ports.old ≤ P.faults ports.new) × (K.faults keys.old ≤ K.faults keys.new) }
+{
+    if board.reserve_reply().is_err() {
+        return answer_short(link, request);
+    }
+    let Ok(cookie) = copy(alloc, request.cookie) else {
+        return answer_short(link, request);
+    };
+    let Carried { dictionary, done } = carry_out(
+        rt, alloc, turns, hand, config, nest, board, ports, keys, gone, request,
+    );
+    let Done { heard, gave, reply } = done;
+    let sent = reply_to(board, link, request, nest.moment, cookie, reply);
+    let dealt = Dealt {
+        dictionary,
+        heard,
+        gave,
+    };
+    Answered { dealt, sent }
+}
+
+/// Sends the reply that is kept for a request, where there is one, and else carries its command out.
+fn deal<N: ControlLink, P: PortMaker, K: KeySource, R: Wait>(
+    rt: &R,
+    alloc: Global,
+    turns: &Turns<Relay<P::In, P::Out>>,
+    hand: &mut Hand<Relay<P::In, P::Out>>,
+    config: &Config,
+    nest: Nest,
+    board: &mut Board,
+    link: &mut N,
+    ports: &mut P,
+    keys: &mut K,
+    gone: &mut Gone<P::Out>,
+    request: &Request,
+) -> Answered
+    requires turn { InTurn config.now turns.now hand.old nest board.old (P.told ports.old) }
+    requires request { IsRequest request.now }
+    requires empty { gone.old ≡ [] }
+    ensures same { IsSameHand hand.old hand.new × SameTurns hand.old hand.new }
+    ensures may { MayNest config.now turns.now hand.new }
+    ensures deals { Deals config.now hand.old hand.new nest (hearing_of request.now result.dealt) board.new (P.told ports.new) }
+    ensures sent { Sends request.now.source (control_of config.now (board_history (made_by hand.old) nest.number) nest.moment (hearing_of request.now result.dealt)).reply
+        result.sent (N.told link.old) (N.told link.new) }
+    ensures cause { HasCause (N.faults link.old) (N.faults link.new) result.sent }
+    ensures empty { gone.new ≡ [] }
+    ensures later { (P.faults ports.old ≤ P.faults ports.new) × (K.faults keys.old ≤ K.faults keys.new) }
+{
+    if let Some(kept) = board.find_reply(request.source, request.cookie, nest.moment) {
+        let sent = send(link, request.source, kept);
+        let dealt = Dealt {
+            dictionary: None,
+            heard: Heard::none(),
+            gave: Gave::Nothing,
+        };
+        return Answered { dealt, sent };
+    }
+    answer_anew(
+        rt, alloc, turns, hand, config, nest, board, link, ports, keys, gone, request,
+    )
+}
+
+/// Deals with a request where the board's place is given, whose turn has this number. `now` is in milliseconds.
+pub(crate) fn deal_part<N: ControlLink, P: PortMaker, K: KeySource, R: Wait>(
+    rt: &R,
+    alloc: Global,
+    turns: &Turns<Relay<P::In, P::Out>>,
+    hand: &mut Hand<Relay<P::In, P::Out>>,
+    config: &Config,
+    number: u64,
+    part: &mut Part<P::In, P::Out>,
+    link: &mut N,
+    ports: &mut P,
+    keys: &mut K,
+    gone: &mut Gone<P::Out>,
+    request: &Request,
+    now: u64,
+) -> Answered
+    requires taken { IsTaken config.now turns.now hand.old number part.old (P.told ports.old) }
+    requires request { IsRequest request.now }
+    requires empty { gone.old ≡ [] }
+    ensures same { IsSameHand hand.old hand.new × SameTurns hand.old hand.new }
+    ensures may { MayNest config.now turns.now hand.new }
+    ensures deals { let h = board_history (made_by hand.old) number in
+        DealsAt config.now hand.old hand.new number (moment_at h now) (hearing_of request.now result.dealt) part.new (P.told ports.new) }
+    ensures sent { let h = board_history (made_by hand.old) number in
+        Sends request.now.source (control_of config.now h (moment_at h now) (hearing_of request.now result.dealt)).reply result.sent (N.told link.old) (N.told link.new) }
+    ensures cause { HasCause (N.faults link.old) (N.faults link.new) result.sent }
+    ensures empty { gone.new ≡ [] }
+    ensures later { (P.faults ports.old ≤ P.faults ports.new) × (K.faults keys.old ≤ K.faults keys.new) }
+{
+    match part {
+        Part::Board(board) => {
+            let moment = board.advance(now);
+            let nest = Nest { number, moment };
+            deal(
+                rt, alloc, turns, hand, config, nest, board, link, ports, keys, gone, request,
+            )
+        }
+        Part::Cell(_) => unreachable!(),
+        Part::Pair(_) => unreachable!(),
+    }
+}

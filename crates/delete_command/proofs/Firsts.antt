@@ -1,0 +1,59 @@
+-- The first turn of the board of a relay.
+use Rattle.std.proofs.Common.{◌≡◌, refl, sym, subst, ap, ℕ, ◌≤◌, List, [], Bool, false, Option, Some, None, Ok, arith}
+use Rattle.relay_outside.specs.declared.ports.PortCall.{PortCall}
+use Rattle.relay_outside.specs.declared.settings.Config.{Config}
+use Rattle.turn_table.specs.declared.hands.Turns.{Turns}
+use Rattle.turn_table.specs.declared.hands.Hand.{Hand}
+use Rattle.relay_outside.specs.declared.address.Addr.{Addr}
+use Rattle.cookie_cache.specs.Keepings.{kept}
+use Rattle.ng_bencode.specs.Tree.{Dict, Entries}
+use Rattle.ng_bencode.specs.Spells.{Spells}
+use Rattle.ng_command.specs.Said.{Delete}
+use Rattle.ng_command.specs.Reading.{told}
+use Rattle.call_board.specs.declared.board.Board.{Board}
+use Rattle.call_board.specs.Asked.{or_code}
+use Rattle.call_board.specs.Boards.{Shows, BoardFor}
+use Rattle.call_board.specs.Pairs.{held}
+use Rattle.call_board.specs.Views.{view_of, at_moment, last_moment}
+use Rattle.relay_core.specs.declared.part.Part.{Part}
+use Rattle.relay_core.specs.Entries.{Entry, board_history}
+use Rattle.relay_core.specs.Made.{Made}
+use Rattle.relay_core.specs.Turning.{IsAbove, made_by}
+use Rattle.media_ports.specs.Held.{TellsHeld}
+use Rattle.nested_steps.specs.declared.nest.Nest.{Nest}
+use Rattle.board_turns.specs.Acting.{InTurn}
+use Rattle.board_turns.specs.Between.{IsBetween}
+use Rattle.board_turns.specs.Ending.{leg_pairs}
+use Rattle.board_turns.proofs.Firsts.{none_open}
+use Rattle.control_entries.specs.declared.request.Request.{Request}
+use Rattle.control_entries.specs.Telling.{IsAsking}
+
+abbrev pub at_first : Nest
+at_first = record { number = 0; moment = 0 }
+
+none_above : (l : List Entry) → l ≡ [] → IsAbove l 0 0
+none_above l none = subst (λ (k : List Entry). IsAbove k 0 0) (sym none) (λ e i. elim i [ ])
+
+module _ {M I O T : Type 0} {g : _} where
+  pub in_first : (config : Config) (turns : Turns M (Part I O) Made T) (hand : Hand M (Part I O) Made T g) (board : Board) (calls : Option (List PortCall))
+      → IsBetween config turns hand → made_by hand ≡ [] → BoardFor config board [] → calls ≡ Some [] → InTurn config turns hand at_first board calls
+  in_first config turns hand board calls b none for nothing = record {
+    may = record { of_table = b.of_table; main = b.main; alone = λ k has. absurd (has (b.idle k)); parts = b.parts; numbered = b.numbered };
+    above = none_above (made_by hand) none;
+    low = omega arith;
+    orderly = b.orderly;
+    timely = subst (λ (l : List Entry). last_moment (board_history l 0) ≤ 0) (sym none) (omega arith);
+    shows = subst (λ (l : List Entry). Shows config board (at_moment (view_of config (board_history l 0)) 0)) (sym none) for;
+    opens = subst (λ (l : List Entry). TellsHeld config calls (leg_pairs (held (board_history l 0)))) (sym none)
+        (subst (λ (t : Option (List PortCall)). TellsHeld config t []) (sym nothing) (none_open config));
+  }
+
+-- what a body says, a datagram asks
+pub asking_so : (request : Request) (pairs : Entries) (id : List ℕ) (tag : Option (List ℕ)) (fatal : Bool) → request.too_long ≡ false
+    → Spells request.body.now (Dict pairs) → told pairs ≡ Ok (Delete id tag fatal) → IsAsking request (Some pairs) (Delete id tag fatal)
+asking_so request pairs id tag fatal short spells says = record { short = short; reads = spells; command = ap or_code says }
+
+-- nothing is kept before the first datagram
+pub none_kept : (source : Addr) (cookie : List ℕ) (now : ℕ) → kept [] source cookie now ≡ None
+unfolding kept
+none_kept source cookie now = refl

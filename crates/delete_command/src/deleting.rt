@@ -1,0 +1,102 @@
+//! A delete.
+ghost use Rattle.std.specs.Prelude.{◌≡◌, ◌≤◌, [], Option, Some};
+ghost use Rattle.relay_outside.specs.declared.settings.Config.{Config};
+ghost use Rattle.turn_table.specs.Hands.{IsSameHand, SameTurns};
+ghost use Rattle.ng_bencode.specs.Tree.{Entries};
+ghost use Rattle.ng_command.specs.Said.{Delete, list_of};
+ghost use Rattle.offer_answer.specs.Sides.{is_tag_of};
+ghost use Rattle.call_board.specs.Answers.{names_side};
+ghost use Rattle.call_board.specs.Boards.{Shows, IsLive, KeepsReplies};
+ghost use Rattle.call_board.specs.Views.{View, CallView, call_numbered};
+ghost use Rattle.relay_core.specs.Entries.{board_history};
+ghost use Rattle.relay_core.specs.Turning.{made_by};
+ghost use Rattle.nested_steps.specs.Nesting.{MayNest};
+ghost use Rattle.board_turns.specs.Acting.{InTurn};
+ghost use Rattle.control_entries.specs.Carrying.{hearing_by, Carries};
+ghost use Rattle.control_entries.specs.Telling.{IsAnew, IsAsking};
+
+use board_turns::delete_call;
+use call_board::Board;
+use call_cell::Gone;
+use control_entries::{Done, Gave, Request, missing, short};
+use control_replies::done_datagram;
+use nested_steps::Nest;
+use ng_bencode::Text;
+use ng_command::DeleteIn;
+use ng_reply::ErrorCode;
+use offer_answer::Heard;
+use port_pool::Side;
+use relay_core::Relay;
+use relay_outside::{Config, PortMaker};
+use std::alloc::Global;
+use std::sync::Wait;
+use turn_table::{Hand, Turns};
+
+/// Whether this is the tag of a side of a live call.
+fn is_tag_of(board: &Board, call: u64, side: Side, tag: &Text) -> bool
+    requires { IsLive board.now call }
+    ensures { (config : Config) (v : View) (c : CallView) → Shows config board.now v → call_numbered v call ≡ Some c →
+        result ≡ is_tag_of c.rounds side tag.now.list }
+{
+    match board.tag(call, side) {
+        Some(own) => own == tag.as_slice(),
+        None => false,
+    }
+}
+
+/// Whether a delete names no tag, or one of a side of its call.
+fn names_side(board: &Board, call: u64, tag: &Option<Text>) -> bool
+    requires { IsLive board.now call }
+    ensures { (config : Config) (v : View) (c : CallView) → Shows config board.now v → call_numbered v call ≡ Some c →
+        result ≡ names_side c.rounds (list_of tag.now) }
+{
+    let Some(tag) = tag else {
+        return true;
+    };
+    is_tag_of(board, call, Side::A, tag) || is_tag_of(board, call, Side::B, tag)
+}
+
+/// Ends the live call of a delete, in the board's turn of its datagram, or tells that there is none to end: no live call has the
+/// call-id (`E9`), or the tag is of no side of it (`E10`), which is an error where the delete is fatal and else a warning. Then, and
+/// where memory is short, nothing is done. `gone` is empty before and after.
+pub fn delete<P: PortMaker, R: Wait>(
+    rt: &R,
+    alloc: Global,
+    turns: &Turns<Relay<P::In, P::Out>>,
+    hand: &mut Hand<Relay<P::In, P::Out>>,
+    config: &Config,
+    nest: Nest,
+    board: &mut Board,
+    ports: &mut P,
+    gone: &mut Gone<P::Out>,
+    request: &Request,
+    input: &DeleteIn,
+) -> Done
+    requires turn { InTurn config.now turns.now hand.old nest board.old (P.told ports.old) }
+    requires anew { IsAnew (board_history (made_by hand.old) nest.number) nest.moment request.now }
+    requires empty { gone.old ≡ [] }
+    requires asked { (pairs : Option Entries) × IsAsking request.now pairs (Delete input.now.call_id.list (list_of input.now.from_tag) input.now.fatal) }
+    ensures same { IsSameHand hand.old hand.new × SameTurns hand.old hand.new }
+    ensures may { MayNest config.now turns.now hand.new }
+    ensures carries { (pairs : Option Entries) → IsAsking request.now pairs (Delete input.now.call_id.list (list_of input.now.from_tag) input.now.fatal) →
+        Carries config.now hand.old hand.new nest (hearing_by request.now pairs result) result.reply board.new (P.told ports.new) }
+    ensures replies { KeepsReplies board.old board.new }
+    ensures empty { gone.new ≡ [] }
+    ensures later { P.faults ports.old ≤ P.faults ports.new }
+{
+    let Some(call) = board.find_call(input.call_id.as_slice()) else {
+        return missing(alloc, request.cookie, input.fatal, ErrorCode::E9);
+    };
+    if !names_side(board, call, &input.from_tag) {
+        return missing(alloc, request.cookie, input.fatal, ErrorCode::E10);
+    }
+    let Ok(reply) = done_datagram(alloc, request.cookie) else {
+        return short();
+    };
+    delete_call(rt, turns, hand, config, nest, board, ports, gone, call);
+    Done {
+        heard: Heard::none(),
+        gave: Gave::Nothing,
+        reply: Some(reply),
+    }
+}

@@ -1,0 +1,84 @@
+-- A datagram that asks for an offer, and what is due to it.
+use Rattle.std.proofs.Common.{◌≡◌, ◌∙◌, refl, sym, ap, subst, ℕ, zero, suc, ◌++◌, ◌∷◌, Bool, true, false, not, List, [], replicate, Option, Some, None, Result, Ok}
+use Rattle.std.specs.List.{list_any}
+use Rattle.relay_outside.specs.declared.settings.Config.{Config}
+use Rattle.ng_bencode.specs.Tree.{Entries}
+use Rattle.ng_command.specs.declared.command.OfferIn.{OfferIn}
+use Rattle.ng_command.specs.Said.{Said}
+use Rattle.ng_reply.specs.declared.code.ErrorCode.{ErrorCode}
+use Rattle.sdes_lines.specs.declared.crypto_line.CryptoLine.{CryptoLine}
+use Rattle.sdp_text.specs.Lines.{lines_of}
+use Rattle.offer_answer.specs.Rounds.{Round}
+use Rattle.offer_answer.specs.Plan as plan
+use Rattle.offer_answer.specs.Plan.{OfferHeard}
+use Rattle.call_board.specs.Acts.{Call, BoardEntry}
+use Rattle.call_board.specs.Asked.{asked}
+use Rattle.call_board.specs.Calls.{find_call, rounds_of_call}
+use Rattle.call_board.specs.Fits.{Hears, demanded, demanded_by}
+use Rattle.call_board.specs.Planned.{Target, PlansOffer}
+use Rattle.call_board.specs.Views.{view_of}
+use Rattle.call_board.specs.declared.board_plan.BoardPlan.{BoardPlan}
+use Rattle.call_board.proofs.Done.{Asks}
+use Rattle.call_board.proofs.Dues.{target_in, target_is}
+use Rattle.control_entries.specs.declared.request.Request.{Request}
+use Rattle.control_entries.specs.declared.gave.Gave.{Gave}
+use Rattle.control_entries.specs.Controls.{unanswered}
+use Rattle.control_entries.specs.Giving.{given_by}
+use Rattle.control_entries.specs.Carrying.{hearing_as}
+use Rattle.control_entries.proofs.Asking.{asks_so}
+use Rattle.offer_turns.specs.Offers.{CanOffer, demand_of}
+use Rattle.offer_turns.proofs.Accepted.{can_offer}
+use Rattle.offer_command.specs.Commands.{AsksFor, says_of, ask_of}
+
+-- it asks for the offer
+pub is_asked : (config : Config) (h : List BoardEntry) (moment : ℕ) (request : Request) (pairs : Option Entries) (input : OfferIn) → AsksFor config h moment request pairs input
+    → asked config request.too_long pairs ≡ Ok (says_of input)
+is_asked config h moment request pairs input c =
+    ap (λ (long : Bool). asked config long pairs) c.asking.short ∙ asks_so config false pairs (says_of input) c.asking.command c.fine
+
+pub asks_offer : (config : Config) (h : List BoardEntry) (moment : ℕ) (request : Request) (pairs : Option Entries) (input : OfferIn) (chosen : List (Option CryptoLine)) (gave : Gave)
+    → AsksFor config h moment request pairs input → (given_by gave).starved ≡ false → Asks config h moment (unanswered (hearing_as request pairs chosen gave)) (Ok (says_of input))
+asks_offer config h moment request pairs input chosen gave c fed =
+    record { nothing_kept = c.anew.not_kept; not_starved = fed; is_asked = is_asked config h moment request pairs input c }
+
+pub hears_offer : (config : Config) (h : List BoardEntry) (moment : ℕ) (request : Request) (pairs : Option Entries) (input : OfferIn) (chosen : List (Option CryptoLine)) (gave : Gave)
+    → AsksFor config h moment request pairs input → OfferHeard (ask_of input chosen)
+    → Hears h (unanswered (hearing_as request pairs chosen gave)) (asked config request.too_long pairs)
+hears_offer config h moment request pairs input chosen gave c heard =
+    subst (λ (r : Result Said ErrorCode). Hears h (unanswered (hearing_as request pairs chosen gave)) r) (sym (is_asked config h moment request pairs input c)) heard
+
+rounds_in : (h : List BoardEntry) (id : List ℕ) (o : Option Call) → rounds_of_call h o ≡ (target_in h id o).rounds
+rounds_in h id None = refl
+rounds_in h id (Some of) = refl
+
+-- what it demands is what the offer demands of the call that the board plans it for
+pub demands_offer : (config : Config) (h : List BoardEntry) (moment : ℕ) (request : Request) (pairs : Option Entries) (input : OfferIn) (chosen : List (Option CryptoLine)) (gave : Gave)
+    → AsksFor config h moment request pairs input → demanded config h (unanswered (hearing_as request pairs chosen gave)) ≡ demand_of config h input.call_id.list (ask_of input chosen)
+demands_offer config h moment request pairs input chosen gave c =
+    let id = input.call_id.list in
+    ap (demanded_by h (unanswered (hearing_as request pairs chosen gave))) (is_asked config h moment request pairs input c)
+    ∙ ap (λ (rs : List Round). plan.demand rs (ask_of input chosen)) (rounds_in h id (find_call h id) ∙ ap (λ (t : Target). t.rounds) (sym (target_is config h id)))
+
+-- a planned one may be carried out
+pub may_offer : (config : Config) (h : List BoardEntry) (moment : ℕ) (request : Request) (pairs : Option Entries) (input : OfferIn) (chosen : List (Option CryptoLine)) (p : BoardPlan)
+    → AsksFor config h moment request pairs input → OfferHeard (ask_of input chosen) → PlansOffer config (view_of config h) input.call_id.list (ask_of input chosen) (Ok p)
+    → CanOffer config h input.call_id.list (ask_of input chosen) (lines_of input.sdp.list) p
+may_offer config h moment request pairs input chosen p c heard plans =
+    can_offer config h moment request.source request.cookie.now request.body.now request.too_long pairs chosen input.call_id.list input.from_tag.list input.sdp.list input.options p (record {
+      framed = c.anew.framed;
+      length_is = c.anew.length_is;
+      reads = c.asking.reads;
+      asks = is_asked config h moment request pairs input c;
+      heard = heard;
+      none_kept = c.anew.not_kept;
+    }) plans
+
+-- What the outside answered to its opens.
+
+pub none_fails : (n : ℕ) → list_any not (replicate n true) ≡ false
+none_fails zero = refl
+none_fails (suc n) = none_fails n
+
+pub one_fails : (n : ℕ) → list_any not (replicate n true ++ false ∷ []) ≡ true
+one_fails zero = refl
+one_fails (suc n) = one_fails n

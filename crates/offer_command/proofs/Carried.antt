@@ -1,0 +1,257 @@
+-- An offer that the board refuses or plans, carried out.
+use Rattle.std.proofs.Common.{◌≡◌, ◌∙◌, refl, sym, ap, subst, ℕ, ◌*◌, ◌<◌, Bool, true, false, List, [], length, replicate, Option, Some, None, Result, Ok, Err}
+use Rattle.relay_outside.specs.declared.ports.PortCall.{PortCall}
+use Rattle.relay_outside.specs.declared.settings.Config.{Config}
+use Rattle.turn_table.specs.declared.hands.Turns.{Turns}
+use Rattle.turn_table.specs.declared.hands.Hand.{Hand}
+use Rattle.ng_bencode.specs.Room.{Room}
+use Rattle.ng_bencode.specs.Tree.{Entries}
+use Rattle.ng_command.specs.declared.command.OfferIn.{OfferIn}
+use Rattle.ng_command.specs.Said.{Said}
+use Rattle.ng_reply.specs.declared.code.ErrorCode.{ErrorCode}
+use Rattle.ng_reply.specs.declared.code.ErrorCode.TheVariants.{E15, E16}
+use Rattle.sdes_lines.specs.declared.crypto_line.CryptoLine.{CryptoLine}
+use Rattle.offer_answer.specs.Rounds.{Demand}
+use Rattle.offer_answer.specs.Plan.{OfferHeard}
+use Rattle.offer_answer.specs.Offering.{pair_count, key_count}
+use Rattle.media_ports.specs.Draws.{KeyBytes}
+use Rattle.call_board.specs.Acts as act
+use Rattle.call_board.specs.Acts.{BoardEntry}
+use Rattle.call_board.specs.Answers.{offering, spelled}
+use Rattle.call_board.specs.Asked.{asked, sdp_error}
+use Rattle.call_board.specs.Boards.{Shows}
+use Rattle.call_board.specs.Fits.{GivesFor, GivesUndone, FitsBoard, Hears}
+use Rattle.call_board.specs.Planned.{PlansOffer, code_of}
+use Rattle.call_board.specs.Replies.{Reply, Fault, Described, reply_datagram}
+use Rattle.call_board.specs.Views.{view_of, at_moment}
+use Rattle.call_board.specs.declared.board.Board.{Board}
+use Rattle.call_board.specs.declared.board_plan.BoardPlan.{BoardPlan}
+use Rattle.call_board.specs.declared.fault.BoardFault.{BoardFault}
+use Rattle.call_board.proofs.Done.{with_reply, due_fits, plan_leases, failed_due, offer_failed_due, offer_ports_due, offer_keys_due, offered_due}
+use Rattle.call_board.proofs.Dues.{offer_fails}
+use Rattle.relay_core.specs.declared.part.Part.{Part}
+use Rattle.relay_core.specs.Entries.{board_history}
+use Rattle.relay_core.specs.Made.{Made}
+use Rattle.relay_core.specs.Turning.{made_by}
+use Rattle.nested_steps.specs.declared.nest.Nest.{Nest}
+use Rattle.board_turns.specs.Acting.{InTurn, DoesAct}
+use Rattle.control_entries.specs.declared.request.Request.{Request}
+use Rattle.control_entries.specs.declared.gave.Gave.{Gave}
+use Rattle.control_entries.specs.declared.gave.Gave.TheVariants as gave
+use Rattle.control_entries.specs.declared.gave.Gave.TheVariants.{Nothing}
+use Rattle.control_entries.specs.declared.done.Done.{Done}
+use Rattle.control_entries.specs.Controls.{Hearing, unanswered, entry_with}
+use Rattle.control_entries.specs.Giving.{given_by}
+use Rattle.control_entries.specs.Carrying.{hearing_as, hearing_by, Carries}
+use Rattle.control_entries.specs.Telling.{IsAnew, IsAsking, Refuses, Tells, error_in}
+use Rattle.control_entries.proofs.Asking.{asks_misdescribed}
+use Rattle.control_entries.proofs.Plain.{carries_due}
+use Rattle.control_entries.proofs.Tellings.{tells_carries, is_short_carries}
+use Rattle.control_reading.specs.Bodies.{IsErrorOf}
+use Rattle.control_reading.specs.declared.description.DescriptionFault.{DescriptionFault}
+use Rattle.control_reading.specs.declared.description.DescriptionFault.TheVariants as faults
+use Rattle.offer_leases.specs.declared.fault.LeaseFault.{LeaseFault}
+use Rattle.offer_leases.specs.declared.fault.LeaseFault.TheVariants.{Port, Key}
+use Rattle.offer_leases.specs.Leasing.{pairs_of_plan, keys_of_plan}
+use Rattle.offer_leases.specs.Undoing.{ComesEarly, keys_before}
+use Rattle.offer_turns.specs.Offers.{offer_of, demand_of, target_of, pairs_for, text_of, undone_leases}
+use Rattle.offer_turns.proofs.Targets.{pairs_count, keys_count}
+use Rattle.offer_command.specs.Commands.{AsksFor, Gives, IsReply, ask_of, says_of, undone_code, undone_gave}
+use Rattle.offer_command.proofs.Asked.{asks_offer, hears_offer, demands_offer, none_fails, one_fails}
+
+module _ {M I O T : Type 0} {g : _} where
+  -- the turn with another state of the board that shows the same
+  pub turn_on : (config : Config) (turns : Turns M (Part I O) Made T) (hand : Hand M (Part I O) Made T g) (nest : Nest) (board new : Board) (told : Option (List PortCall))
+      → InTurn config turns hand nest board told → Shows config new (at_moment (view_of config (board_history (made_by hand) nest.number)) nest.moment)
+      → InTurn config turns hand nest new told
+  turn_on config turns hand nest board new told turn shows = record {
+    may = turn.may;
+    above = turn.above;
+    low = turn.low;
+    orderly = turn.orderly;
+    timely = turn.timely;
+    shows = shows;
+    opens = turn.opens;
+  }
+
+  -- a reply that was made
+  made_so : (config : Config) (old new : Hand M (Part I O) Made T g) (nest : Nest) (x : Hearing) (bytes : List ℕ) (reply : Option (Room ℕ)) (board : Board) (told : Option (List PortCall))
+      → IsReply bytes reply → ((text : Room ℕ) → text.list ≡ bytes → Carries config old new nest x (Some text) board told) → Carries config old new nest x reply board told
+  made_so config old new nest x bytes None board told is carries = absurd is
+  made_so config old new nest x bytes (Some text) board told is carries = carries text is
+
+  pub gives_carries : (config : Config) (old new : Hand M (Part I O) Made T g) (nest : Nest) (request : Request) (pairs : Option Entries) (chosen : List (Option CryptoLine)) (gave : Gave) (reply : Reply)
+      (done : Done) (board : Board) (told : Option (List PortCall))
+      → Gives request.cookie.now chosen gave reply done
+      → ((text : Room ℕ) → text.list ≡ reply_datagram config request.cookie.now reply → Carries config old new nest (hearing_as request pairs chosen gave) (Some text) board told)
+      → Carries config old new nest (hearing_by request pairs done) done.reply board told
+  gives_carries config old new nest request pairs chosen gave reply done board told gives carries =
+      subst (λ (lines : List (Option CryptoLine)). Carries config old new nest (hearing_as request pairs lines done.gave) done.reply board told) (sym gives.heard_is)
+      (subst (λ (given : Gave). Carries config old new nest (hearing_as request pairs chosen given) done.reply board told) (sym gives.gave_is)
+      (made_so config old new nest (hearing_as request pairs chosen gave) (reply_datagram config request.cookie.now reply) done.reply board told (gives.replies config) carries))
+
+  -- it is accepted
+  pub offered_carries : (config : Config) (old new : Hand M (Part I O) Made T g) (nest : Nest) (request : Request) (pairs : Option Entries) (input : OfferIn) (chosen : List (Option CryptoLine)) (p : BoardPlan)
+      (drawn : KeyBytes) (text : Room ℕ) (board : Board) (told : Option (List PortCall))
+      → AsksFor config (board_history (made_by old) nest.number) nest.moment request pairs input → OfferHeard (ask_of input chosen)
+      → PlansOffer config (view_of config (board_history (made_by old) nest.number)) input.call_id.list (ask_of input chosen) (Ok p)
+      → length drawn.list ≡ key_count p.plan
+      → ((e : BoardEntry) → FitsBoard config (board_history (made_by old) nest.number) e
+      → act.act e ≡ act.Offered (offer_of config (board_history (made_by old) nest.number) input.call_id.list (ask_of input chosen) drawn.list) → e.moment ≡ nest.moment
+      → DoesAct config old new nest e board told)
+      → text.list ≡ reply_datagram config request.cookie.now (Described (text_of config (board_history (made_by old) nest.number) input.call_id.list
+      (offer_of config (board_history (made_by old) nest.number) input.call_id.list (ask_of input chosen) drawn.list)))
+      → Carries config old new nest (hearing_as request pairs chosen (gave.Offered (2 * pair_count p.plan) drawn)) (Some text) board told
+  offered_carries config old new nest request pairs input chosen p drawn text board told c heard plans count does bytes =
+      let h = board_history (made_by old) nest.number in
+      let id = input.call_id.list in
+      let ask = ask_of input chosen in
+      let given = gave.Offered (2 * pair_count p.plan) drawn in
+      let x = hearing_as request pairs chosen given in
+      let t = target_of config h id in
+      let o = offer_of config h id ask drawn.list in
+      let due = spelled config request.cookie.now (offering config t.rounds o) in
+      let is = offered_due config h nest.moment (unanswered x) id ask t.of t.begins t.rounds (pairs_for config h id ask) (asks_offer config h nest.moment request pairs input chosen given c refl) refl
+      (plan_leases config h (unanswered x) id ask p plans) (none_fails (2 * pair_count p.plan)) refl in
+      let fits = due_fits config h nest.moment (unanswered x) due is c.anew.framed c.anew.length_is (λ read. c.asking.reads)
+      (λ h. hears_offer config (board_history (made_by old) nest.number) nest.moment request pairs input chosen given c heard)
+      (subst (λ (d : Demand). GivesFor d (given_by given) (act.Offered o)) (sym (demands_offer config h nest.moment request pairs input chosen given c)) (
+        record { all_opened = ap (λ (n : ℕ). replicate (2 * n) true) (pairs_count config h id ask p plans.1) },
+        record { all_drawn = count ∙ keys_count config h id ask p plans.1; none_failed = refl },
+        refl,
+      ))
+      (λ s t. refl) in
+      carries_due config old new nest x due (Some text) board told is fits (does (entry_with nest.moment x due) fits refl refl) (refl, bytes)
+
+  -- a port could not be opened
+  ports_carries : (config : Config) (old new : Hand M (Part I O) Made T g) (nest : Nest) (request : Request) (pairs : Option Entries) (input : OfferIn) (chosen : List (Option CryptoLine)) (p : BoardPlan)
+      (opened : ℕ) (text : Room ℕ) (board : Board) (told : Option (List PortCall))
+      → AsksFor config (board_history (made_by old) nest.number) nest.moment request pairs input → OfferHeard (ask_of input chosen)
+      → PlansOffer config (view_of config (board_history (made_by old) nest.number)) input.call_id.list (ask_of input chosen) (Ok p)
+      → ComesEarly (pairs_of_plan p) (keys_of_plan p) (Port opened)
+      → ((e : BoardEntry) (code : ErrorCode) → act.act e ≡ act.Undone code (undone_leases config (board_history (made_by old) nest.number) input.call_id.list (ask_of input chosen)) []
+      → DoesAct config old new nest e board told)
+      → text.list ≡ reply_datagram config request.cookie.now (Fault E15)
+      → Carries config old new nest (hearing_as request pairs chosen (gave.PortFault opened)) (Some text) board told
+  ports_carries config old new nest request pairs input chosen p opened text board told c heard plans early undoes bytes =
+      let h = board_history (made_by old) nest.number in
+      let id = input.call_id.list in
+      let ask = ask_of input chosen in
+      let given = gave.PortFault opened in
+      let x = hearing_as request pairs chosen given in
+      let t = target_of config h id in
+      let a = act.Undone E15 (undone_leases config h id ask) [] in
+      let due = with_reply config (unanswered x) (Fault E15) a in
+      let is = offer_ports_due config h nest.moment (unanswered x) id ask t.of t.begins t.rounds (pairs_for config h id ask) (asks_offer config h nest.moment request pairs input chosen given c refl) refl
+      (plan_leases config h (unanswered x) id ask p plans) (one_fails opened) in
+      let fits = due_fits config h nest.moment (unanswered x) due is c.anew.framed c.anew.length_is (λ read. c.asking.reads)
+      (λ h. hears_offer config (board_history (made_by old) nest.number) nest.moment request pairs input chosen given c heard)
+      (subst (λ (d : Demand). GivesFor d (given_by given) a) (sym (demands_offer config h nest.moment request pairs input chosen given c)) (
+        subst (λ (b : Bool). GivesUndone (demand_of config h id ask) (given_by given) b) (sym (one_fails opened))
+            (record { opened = opened; some_are_left = subst (λ (n : ℕ). opened < 2 * n) (pairs_count config h id ask p plans.1) early; then_fails = refl }, refl, refl),
+        refl,
+      ))
+      (λ s t. refl) in
+      carries_due config old new nest x due (Some text) board told is fits (undoes (entry_with nest.moment x due) E15 refl) (refl, bytes)
+
+  -- a draw failed
+  keys_carries : (config : Config) (old new : Hand M (Part I O) Made T g) (nest : Nest) (request : Request) (pairs : Option Entries) (input : OfferIn) (chosen : List (Option CryptoLine)) (p : BoardPlan)
+      (drawn : KeyBytes) (text : Room ℕ) (board : Board) (told : Option (List PortCall))
+      → AsksFor config (board_history (made_by old) nest.number) nest.moment request pairs input → OfferHeard (ask_of input chosen)
+      → PlansOffer config (view_of config (board_history (made_by old) nest.number)) input.call_id.list (ask_of input chosen) (Ok p)
+      → ComesEarly (pairs_of_plan p) (keys_of_plan p) (Key drawn)
+      → ((e : BoardEntry) (code : ErrorCode) → act.act e ≡ act.Undone code (undone_leases config (board_history (made_by old) nest.number) input.call_id.list (ask_of input chosen)) drawn.list
+      → DoesAct config old new nest e board told)
+      → text.list ≡ reply_datagram config request.cookie.now (Fault E16)
+      → Carries config old new nest (hearing_as request pairs chosen (gave.KeyFault (2 * pair_count p.plan) drawn)) (Some text) board told
+  keys_carries config old new nest request pairs input chosen p drawn text board told c heard plans early undoes bytes =
+      let h = board_history (made_by old) nest.number in
+      let id = input.call_id.list in
+      let ask = ask_of input chosen in
+      let given = gave.KeyFault (2 * pair_count p.plan) drawn in
+      let x = hearing_as request pairs chosen given in
+      let t = target_of config h id in
+      let a = act.Undone E16 (undone_leases config h id ask) drawn.list in
+      let due = with_reply config (unanswered x) (Fault E16) a in
+      let all = none_fails (2 * pair_count p.plan) in
+      let is = offer_keys_due config h nest.moment (unanswered x) id ask t.of t.begins t.rounds (pairs_for config h id ask) (asks_offer config h nest.moment request pairs input chosen given c refl) refl
+      (plan_leases config h (unanswered x) id ask p plans) all refl in
+      let fits = due_fits config h nest.moment (unanswered x) due is c.anew.framed c.anew.length_is (λ read. c.asking.reads)
+      (λ h. hears_offer config (board_history (made_by old) nest.number) nest.moment request pairs input chosen given c heard)
+      (subst (λ (d : Demand). GivesFor d (given_by given) a) (sym (demands_offer config h nest.moment request pairs input chosen given c)) (
+        subst (λ (b : Bool). GivesUndone (demand_of config h id ask) (given_by given) b) (sym all) (
+          record { all_opened = ap (λ (n : ℕ). replicate (2 * n) true) (pairs_count config h id ask p plans.1) },
+          record { some_are_left = subst (λ (n : ℕ). length drawn.list < n) (keys_count config h id ask p plans.1) early; then_fails = refl },
+        ),
+        refl,
+      ))
+      (λ s t. refl) in
+      carries_due config old new nest x due (Some text) board told is fits (undoes (entry_with nest.moment x due) E16 refl) (refl, bytes)
+
+  -- it is undone
+  pub undone_carries : (config : Config) (old new : Hand M (Part I O) Made T g) (nest : Nest) (request : Request) (pairs : Option Entries) (input : OfferIn) (chosen : List (Option CryptoLine)) (p : BoardPlan)
+      (fault : LeaseFault) (text : Room ℕ) (board : Board) (told : Option (List PortCall))
+      → AsksFor config (board_history (made_by old) nest.number) nest.moment request pairs input → OfferHeard (ask_of input chosen)
+      → PlansOffer config (view_of config (board_history (made_by old) nest.number)) input.call_id.list (ask_of input chosen) (Ok p)
+      → ComesEarly (pairs_of_plan p) (keys_of_plan p) fault
+      → ((e : BoardEntry) (code : ErrorCode) → act.act e ≡ act.Undone code (undone_leases config (board_history (made_by old) nest.number) input.call_id.list (ask_of input chosen)) (keys_before fault)
+      → DoesAct config old new nest e board told)
+      → text.list ≡ reply_datagram config request.cookie.now (Fault (undone_code fault))
+      → Carries config old new nest (hearing_as request pairs chosen (undone_gave (2 * pair_count p.plan) fault)) (Some text) board told
+  undone_carries config old new nest request pairs input chosen p (Port opened) text board told c heard plans early undoes bytes =
+      ports_carries config old new nest request pairs input chosen p opened text board told c heard plans early undoes bytes
+  undone_carries config old new nest request pairs input chosen p (Key drawn) text board told c heard plans early undoes bytes =
+      keys_carries config old new nest request pairs input chosen p drawn text board told c heard plans early undoes bytes
+
+  -- the board refuses it, or memory is short
+  refuses_case : (config : Config) (turns : Turns M (Part I O) Made T) (hand : Hand M (Part I O) Made T g) (nest : Nest) (request : Request) (pairs : Option Entries) (input : OfferIn) (chosen : List (Option CryptoLine))
+      (fault : BoardFault) (code : Option ErrorCode) (done : Done) (board : Board) (told : Option (List PortCall))
+      → InTurn config turns hand nest board told → AsksFor config (board_history (made_by hand) nest.number) nest.moment request pairs input → OfferHeard (ask_of input chosen)
+      → PlansOffer config (view_of config (board_history (made_by hand) nest.number)) input.call_id.list (ask_of input chosen) (Err fault)
+      → code_of fault ≡ code → Refuses request.cookie.now chosen code done
+      → Carries config hand hand nest (hearing_by request pairs done) done.reply board told
+  refuses_case config turns hand nest request pairs input chosen fault None done board told turn c heard planned is refuses =
+      is_short_carries config turns hand nest request pairs done board told turn c.anew refuses
+  refuses_case config turns hand nest request pairs input chosen fault (Some code) done board told turn c heard planned is refuses =
+      let h = board_history (made_by hand) nest.number in
+      let id = input.call_id.list in
+      let ask = ask_of input chosen in
+      let control = unanswered (hearing_as request pairs chosen Nothing) in
+      tells_carries config turns hand nest request pairs chosen (with_reply config control (Fault code) (act.Failed code)) done board told turn c.anew (λ short. c.asking.reads)
+      (offer_failed_due config h nest.moment control id ask code (asks_offer config h nest.moment request pairs input chosen Nothing c refl) refl
+      (offer_fails config h control.given id ask fault code planned is)) refl refl
+      (λ late. hears_offer config h nest.moment request pairs input chosen Nothing c heard) (refuses config)
+
+  pub refuses_carries : (config : Config) (turns : Turns M (Part I O) Made T) (hand : Hand M (Part I O) Made T g) (nest : Nest) (request : Request) (pairs : Option Entries) (input : OfferIn) (chosen : List (Option CryptoLine))
+      (fault : BoardFault) (done : Done) (board : Board) (told : Option (List PortCall))
+      → InTurn config turns hand nest board told → AsksFor config (board_history (made_by hand) nest.number) nest.moment request pairs input → OfferHeard (ask_of input chosen)
+      → PlansOffer config (view_of config (board_history (made_by hand) nest.number)) input.call_id.list (ask_of input chosen) (Err fault)
+      → Refuses request.cookie.now chosen (code_of fault) done
+      → Carries config hand hand nest (hearing_by request pairs done) done.reply board told
+  refuses_carries config turns hand nest request pairs input chosen fault done board told turn c heard planned refuses =
+      refuses_case config turns hand nest request pairs input chosen fault (code_of fault) done board told turn c heard planned refl refuses
+
+  -- its description has an error
+  error_carries : (config : Config) (turns : Turns M (Part I O) Made T) (hand : Hand M (Part I O) Made T g) (nest : Nest) (request : Request) (pairs : Option Entries) (input : OfferIn) (chosen : List (Option CryptoLine))
+      (code : ErrorCode) (done : Done) (board : Board) (told : Option (List PortCall))
+      → InTurn config turns hand nest board told → IsAnew (board_history (made_by hand) nest.number) nest.moment request → IsAsking request pairs (says_of input)
+      → sdp_error config input.sdp.list ≡ Some code → Tells chosen (reply_datagram config request.cookie.now (Fault code)) done
+      → Carries config hand hand nest (hearing_by request pairs done) done.reply board told
+  error_carries config turns hand nest request pairs input chosen code done board told turn anew asking faulty tells =
+      let h = board_history (made_by hand) nest.number in
+      let control = unanswered (hearing_as request pairs chosen Nothing) in
+      let is : asked config request.too_long pairs ≡ Err code =
+      ap (λ (long : Bool). asked config long pairs) asking.short ∙ asks_misdescribed config false pairs (says_of input) code asking.command faulty in
+      tells_carries config turns hand nest request pairs chosen (with_reply config control (Fault code) (act.Failed code)) done board told turn anew (λ short. asking.reads)
+      (failed_due config h nest.moment control code (record { nothing_kept = anew.not_kept; not_starved = refl; is_asked = is })) refl refl
+      (λ late. subst (λ (r : Result Said ErrorCode). Hears h control r) (sym is) tt) tells
+
+  pub misdescribed_carries : (config : Config) (turns : Turns M (Part I O) Made T) (hand : Hand M (Part I O) Made T g) (nest : Nest) (request : Request) (pairs : Option Entries) (input : OfferIn)
+      (fault : DescriptionFault) (done : Done) (board : Board) (told : Option (List PortCall))
+      → InTurn config turns hand nest board told → IsAnew (board_history (made_by hand) nest.number) nest.moment request → IsAsking request pairs (says_of input)
+      → IsErrorOf (sdp_error config input.sdp.list) fault → Refuses request.cookie.now [] (error_in fault) done
+      → Carries config hand hand nest (hearing_by request pairs done) done.reply board told
+  misdescribed_carries config turns hand nest request pairs input (faults.Error code) done board told turn anew asking faulty refuses =
+      error_carries config turns hand nest request pairs input [] code done board told turn anew asking faulty (refuses config)
+  misdescribed_carries config turns hand nest request pairs input faults.OutOfMemory done board told turn anew asking faulty refuses =
+      is_short_carries config turns hand nest request pairs done board told turn anew refuses

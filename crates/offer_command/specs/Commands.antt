@@ -1,0 +1,74 @@
+-- What the command of an offer asks, and how it is carried out.
+use Rattle.std.specs.Prelude.{◌≡◌, ℕ, List, Option, Some, None, Ok}
+use Rattle.relay_outside.specs.declared.settings.Config.{Config}
+use Rattle.ng_bencode.specs.Room.{Room}
+use Rattle.ng_bencode.specs.Tree.{Entries}
+use Rattle.ng_command.specs.declared.command.OfferIn.{OfferIn}
+use Rattle.ng_command.specs.Said.{Said, Offer}
+use Rattle.ng_reply.specs.declared.code.ErrorCode.{ErrorCode}
+use Rattle.ng_reply.specs.declared.code.ErrorCode.TheVariants.{E15, E16}
+use Rattle.sdes_lines.specs.declared.crypto_line.CryptoLine.{CryptoLine}
+use Rattle.sdp_text.specs.Lines.{lines_of}
+use Rattle.offer_answer.specs.Rounds.{OfferAsk}
+use Rattle.offer_answer.specs.Plan.{OfferHeard}
+use Rattle.offer_answer.specs.Widths.{WritesFrom}
+use Rattle.call_board.specs.declared.board.Board.{Board}
+use Rattle.call_board.specs.declared.board_plan.BoardPlan.{BoardPlan}
+use Rattle.call_board.specs.Acts.{BoardEntry}
+use Rattle.call_board.specs.Answers.{offer_ask}
+use Rattle.call_board.specs.Asked.{sdp_error}
+use Rattle.call_board.specs.Planned.{HasRoom, PlansOffer}
+use Rattle.call_board.specs.Replies.{Reply, reply_datagram}
+use Rattle.call_board.specs.Views.{view_of}
+use Rattle.offer_leases.specs.declared.fault.LeaseFault.{LeaseFault}
+use Rattle.offer_leases.specs.declared.fault.LeaseFault.TheVariants.{Port, Key}
+use Rattle.control_entries.specs.declared.done.Done.{Done}
+use Rattle.control_entries.specs.declared.gave.Gave.{Gave}
+use Rattle.control_entries.specs.declared.gave.Gave.TheVariants.{PortFault, KeyFault}
+use Rattle.control_entries.specs.declared.request.Request.{Request}
+use Rattle.control_entries.specs.Telling.{IsAnew, IsAsking}
+
+-- what the command says
+abbrev pub says_of : OfferIn → Said
+says_of input = Offer input.call_id.list input.from_tag.list input.sdp.list input.options
+
+-- what the offer asks, in whose description these crypto lines were chosen
+abbrev pub ask_of : OfferIn → List (Option CryptoLine) → OfferAsk
+ask_of input chosen = offer_ask input.from_tag.list input.sdp.list input.options chosen
+
+-- no reply is kept for the datagram, by its dictionary it asks for this offer, and the description of that has no error
+pub record AsksFor (config : Config) (h : List BoardEntry) (moment : ℕ) (request : Request) (pairs : Option Entries) (input : OfferIn) : Type 0 where
+  pub anew : IsAnew h moment request
+  pub asking : IsAsking request pairs (says_of input)
+  pub fine : sdp_error config input.sdp.list ≡ None
+
+-- These crypto lines were chosen in the description, which has these lines, and so the board planned the offer
+pub record IsPlanned (config : Config) (h : List BoardEntry) (board : Board) (input : OfferIn) (lines : List (List ℕ)) (chosen : List (Option CryptoLine)) (p : BoardPlan) : Type 0 where
+  pub lines_are : lines_of input.sdp.list ≡ lines
+  pub heard : OfferHeard (ask_of input chosen)
+  pub plans : PlansOffer config (view_of config h) input.call_id.list (ask_of input chosen) (Ok p)
+  pub room : HasRoom board p
+  pub writes : WritesFrom p.plan lines
+
+-- How it is carried out.
+
+-- the reply that is made is these bytes
+abbrev pub IsReply : List ℕ → Option (Room ℕ) → Type 0
+IsReply bytes None = ⊥
+IsReply bytes (Some text) = text.list ≡ bytes
+
+-- where these crypto lines were chosen, the outside gave this, and the reply is made
+pub record Gives (cookie : List ℕ) (chosen : List (Option CryptoLine)) (gave : Gave) (reply : Reply) (done : Done) : Type 0 where
+  pub heard_is : done.heard ≡ chosen
+  pub gave_is : done.gave ≡ gave
+  pub replies : (config : Config) → IsReply (reply_datagram config cookie reply) done.reply
+
+-- the error of an offer that is undone
+abbrev pub undone_code : LeaseFault → ErrorCode
+undone_code (Port opened) = E15
+undone_code (Key drawn) = E16
+
+-- what the outside gave for one that opens so many ports
+abbrev pub undone_gave : (ports : ℕ) → LeaseFault → Gave
+undone_gave ports (Port opened) = PortFault opened
+undone_gave ports (Key drawn) = KeyFault ports drawn
