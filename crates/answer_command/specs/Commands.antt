@@ -1,5 +1,5 @@
 -- What the command of an answer asks, and what the board planned of it.
-use Rattle.std.specs.Prelude.{◌≡◌, ℕ, List, Option, Some, None, Ok}
+use Rattle.std.specs.Prelude.{◌≡◌, ℕ, List, Option, None, Ok}
 use Rattle.relay_outside.specs.declared.settings.Config.{Config}
 use Rattle.ng_bencode.specs.Tree.{Entries}
 use Rattle.ng_command.specs.declared.command.AnswerIn.{AnswerIn}

@@ -9,6 +9,7 @@ ghost use Rattle.nested_steps.specs.Nesting.{MayNest};
 ghost use Rattle.board_turns.specs.Acting.{InTurn};
 ghost use Rattle.control_replies.specs.Rooms.{IsReplyRoom};
 ghost use Rattle.control_entries.specs.Carrying.{hearing_by, Carries};
+ghost use Rattle.control_entries.specs.Giving.{IsUnasked};
 ghost use Rattle.answer_command.specs.Commands.{AsksFor, IsPlanned};
 
 use crate::room::{AnswerRoom, answer_room};
@@ -62,6 +63,7 @@ fn carry_out<P: PortMaker, R: Wait>(
     ensures replies { KeepsReplies board.old board.new }
     ensures empty { gone.new ≡ [] }
     ensures later { P.faults ports.old ≤ P.faults ports.new }
+    ensures unasked { IsUnasked result.gave }
 {
     let AnswerRoom {
         contexts,
@@ -107,6 +109,7 @@ pub(crate) fn accept_answer<P: PortMaker, R: Wait>(
     ensures replies { KeepsReplies board.old board.new }
     ensures empty { gone.new ≡ [] }
     ensures later { P.faults ports.old ≤ P.faults ports.new }
+    ensures unasked { IsUnasked result.gave }
 {
     let length = plan.planned().reply_len();
     if length >= MOST_BYTES {

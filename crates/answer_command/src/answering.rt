@@ -10,6 +10,7 @@ ghost use Rattle.relay_core.specs.Turning.{made_by};
 ghost use Rattle.nested_steps.specs.Nesting.{MayNest};
 ghost use Rattle.board_turns.specs.Acting.{InTurn};
 ghost use Rattle.control_entries.specs.Carrying.{hearing_by, Carries};
+ghost use Rattle.control_entries.specs.Giving.{IsUnasked};
 ghost use Rattle.control_entries.specs.Telling.{IsAnew, IsAsking};
 ghost use Rattle.answer_command.specs.Commands.{AsksFor};
 
@@ -53,6 +54,7 @@ fn answer_described<P: PortMaker, R: Wait>(
     ensures replies { KeepsReplies board.old board.new }
     ensures empty { gone.new ≡ [] }
     ensures later { P.faults ports.old ≤ P.faults ports.new }
+    ensures unasked { IsUnasked result.gave }
 {
     let heard = board.hear_answer(input.call_id.as_slice(), sdp);
     match board.plan_answer(alloc, input, sdp) {
@@ -91,6 +93,7 @@ pub fn answer<P: PortMaker, R: Wait>(
     ensures replies { KeepsReplies board.old board.new }
     ensures empty { gone.new ≡ [] }
     ensures later { P.faults ports.old ≤ P.faults ports.new }
+    ensures unasked { IsUnasked result.gave }
 {
     match read_description(alloc, config, input.sdp.as_slice()) {
         Ok(sdp) => answer_described(

@@ -1,5 +1,5 @@
 -- What a datagram asks, by the command that its dictionary says.
-use Rattle.std.proofs.Common.{◌≡◌, ◌∙◌, ap, refl, Bool, Option, Some, None, Result, Ok, Err}
+use Rattle.std.proofs.Common.{◌≡◌, ◌∙◌, ap, refl, Bool, Option, Some, None, Ok, Err}
 use Rattle.relay_outside.specs.declared.settings.Config.{Config}
 use Rattle.ng_bencode.specs.Tree.{Entries}
 use Rattle.ng_command.specs.Said.{Said}

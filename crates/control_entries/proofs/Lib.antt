@@ -1,3 +1,4 @@
 pub mod Plain
 pub mod Asking
 pub mod Tellings
+pub mod Givings

@@ -1,12 +1,10 @@
 -- A command that owes nothing and changes nothing but the reply that is kept.
-use Rattle.std.proofs.Common.{◌≡◌, refl, sym, ◌∙◌, ap, subst, ℕ, Bool, true, false, List, [], ◌∷◌, ◌++◌, Option, Some, None, Result, Ok, Err, length}
-use Rattle.std.specs.Prelude.{nat_lt}
+use Rattle.std.proofs.Common.{◌≡◌, refl, sym, ◌∙◌, ap, subst, ℕ, Bool, true, false, List, [], ◌∷◌, Option, Some, None, Result, Ok, Err}
 use Rattle.relay_outside.specs.declared.ports.PortCall.{PortCall}
 use Rattle.relay_outside.specs.declared.settings.Config.{Config}
 use Rattle.turn_table.specs.declared.hands.Turns.{Turns}
 use Rattle.turn_table.specs.declared.hands.Hand.{Hand}
 use Rattle.ng_bencode.specs.Room.{Room}
-use Rattle.ng_frame.specs.Frame.{frame}
 use Rattle.ng_command.specs.Said as said
 use Rattle.ng_command.specs.Said.{Said}
 use Rattle.ng_reply.specs.declared.code.ErrorCode.{ErrorCode}
@@ -14,27 +12,26 @@ use Rattle.port_pool.specs.declared.holder.Holder.{Holder}
 use Rattle.call_board.specs.declared.board.Board.{Board}
 use Rattle.call_board.specs.Acts as act
 use Rattle.call_board.specs.Acts.{Act, Call, Control, Turn, BoardEntry}
-use Rattle.call_board.specs.Answers.{Answered, answering_unless}
+use Rattle.call_board.specs.Answers.{Answered}
 use Rattle.call_board.specs.Asked.{asked}
 use Rattle.call_board.specs.Boards.{Shows}
 use Rattle.call_board.specs.Calls.{find_call}
 use Rattle.call_board.specs.Fits.{FitsControl, FitsBoard}
-use Rattle.call_board.specs.Kept.{kept}
 use Rattle.call_board.specs.Pairs.{held}
 use Rattle.call_board.specs.Views.{View, view_of, at_moment}
 use Rattle.call_board.proofs.Idle.{idle_changes_nothing, is_idle}
 use Rattle.call_board.proofs.Done.{IsDue}
 use Rattle.relay_core.specs.declared.part.Part.{Part}
-use Rattle.relay_core.specs.Entries.{Entry, board_history}
+use Rattle.relay_core.specs.Entries.{board_history}
 use Rattle.relay_core.specs.Made.{Made}
-use Rattle.relay_core.specs.Scripts.{Owed, script, script_of_act, reading, reading_starved}
+use Rattle.relay_core.specs.Scripts.{Owed, script_of_act, reading, reading_starved}
 use Rattle.relay_core.specs.Turning.{GainsNested, made_by}
 use Rattle.media_ports.specs.Held.{TellsHeld}
 use Rattle.nested_steps.specs.declared.nest.Nest.{Nest}
 use Rattle.nested_steps.proofs.Nesting.{gains_nothing}
 use Rattle.board_turns.specs.Ending.{leg_pairs}
-use Rattle.board_turns.specs.Acting.{acted, InTurn, DoesAct}
-use Rattle.control_entries.specs.Controls.{Hearing, unanswered, with_answer, entry_with, entry_at, control_of}
+use Rattle.board_turns.specs.Acting.{acted, DoesAct}
+use Rattle.control_entries.specs.Controls.{Hearing, unanswered, with_answer, entry_with}
 use Rattle.control_entries.specs.Carrying.{IsReplyOf, Carries}
 
 -- acts of commands that change nothing, without a report

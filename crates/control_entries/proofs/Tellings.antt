@@ -1,6 +1,6 @@
 -- Commands that change nothing but the reply that is kept: that their turn does what is due.
-use Rattle.std.proofs.Common.{◌≡◌, refl, sym, subst, ℕ, Bool, true, false, not, List, [], ◌∷◌, Option, Some, None}
-use Rattle.std.specs.Prelude.{◌&&◌, ◌||◌}
+use Rattle.std.proofs.Common.{◌≡◌, refl, sym, subst, ℕ, Bool, true, false, not, List, Option, Some, None}
+use Rattle.std.specs.Prelude.{◌&&◌}
 use Rattle.relay_outside.specs.declared.ports.PortCall.{PortCall}
 use Rattle.relay_outside.specs.declared.settings.Config.{Config}
 use Rattle.turn_table.specs.declared.hands.Turns.{Turns}
@@ -15,7 +15,7 @@ use Rattle.call_board.specs.Acts as act
 use Rattle.call_board.specs.Acts.{Act, Given, Control, BoardEntry}
 use Rattle.call_board.specs.Answers.{Answered}
 use Rattle.call_board.specs.Asked.{Reads, asked}
-use Rattle.call_board.specs.Fits.{GivesNothing, GivesFor, Hears, is_read, is_heard, is_repeat, demanded}
+use Rattle.call_board.specs.Fits.{GivesNothing, GivesFor, Hears, is_heard, is_repeat, demanded}
 use Rattle.call_board.specs.Kept.{is_kept}
 use Rattle.call_board.specs.Replies.{Fault}
 use Rattle.call_board.proofs.Done.{IsDue, with_reply, due_fits, starved_due}

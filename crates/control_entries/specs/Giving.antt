@@ -1,8 +1,9 @@
 -- What the outside gave in the turn of a datagram, as the run tells it.
-use Rattle.std.specs.Prelude.{ℕ, Bool, true, false, List, [], ◌∷◌, ◌++◌, Option, Some, None, replicate}
-use Rattle.ng_bencode.specs.Tree.{Tree, Entries, Int, Bytes, Items, Dict}
-use Rattle.ng_bencode.specs.Tree.{tree_of}
-use Rattle.ng_bencode.specs.declared.value.Value.{Value}
+use Rattle.std.specs.Prelude.{◌≡◌, ℕ, Bool, true, false, List, [], ◌∷◌, ◌++◌, Option, None, replicate, map, if◌then◌else◌}
+use Rattle.histories.specs.Words.{In}
+use Rattle.relay_outside.specs.declared.keys.KeyCall.{KeyCall}
+use Rattle.relay_outside.specs.declared.keys.KeyCall.TheVariants as key
+use Rattle.relay_outside.specs.Told.{Rose, Gained}
 use Rattle.call_board.specs.Acts.{Given}
 use Rattle.control_entries.specs.declared.gave.Gave.{Gave}
 use Rattle.control_entries.specs.declared.gave.Gave.TheVariants.{Nothing, Starved, PortFault, KeyFault, Offered}
@@ -16,3 +17,23 @@ given_by Starved = given_so true [] [] false
 given_by (PortFault opened) = given_so false (replicate opened true ++ false ∷ []) [] false
 given_by (KeyFault opened drawn) = given_so false (replicate opened true) drawn.list true
 given_by (Offered opened drawn) = given_so false (replicate opened true) drawn.list false
+
+-- nothing was asked of the outside
+abbrev pub IsUnasked : Gave → Type 0
+IsUnasked Nothing = Unit {0}
+IsUnasked Starved = Unit {0}
+IsUnasked (PortFault opened) = ⊥
+IsUnasked (KeyFault opened drawn) = ⊥
+IsUnasked (Offered opened drawn) = ⊥
+
+-- the calls of a key source whose draws gave these keys, and then failed or not
+abbrev pub draws_of : Given → List KeyCall
+draws_of given = map key.Drawn given.draws ++ (if given.draw_failed then key.Failed ∷ [] else [])
+
+-- What an entry says that the outside gave is what the devices told: the draws are those that the key source's list gained, and a
+-- port that could not be opened, or a key that could not be drawn, stands in it only where the count of the port maker's faults, or
+-- of the key source's, rose
+pub record IsGivenBy (given : Given) (ports ports_now keys keys_now : ℕ) (drew drew_now : Option (List KeyCall)) : Type 0 where
+  pub port_fault : In false given.opens → Rose ports ports_now
+  pub key_fault : given.draw_failed ≡ true → Rose keys keys_now
+  pub draws : Gained drew drew_now (λ calls. calls ≡ draws_of given)

@@ -1,6 +1,5 @@
 -- A command that changes nothing, as it is carried out.
-use Rattle.std.specs.Prelude.{◌≡◌, ℕ, ◌++◌, ◌∷◌, Bool, true, false, nat_lt, length, List, [], Option, Some, None, Result, Ok, if◌then◌else◌}
-use Rattle.relay_outside.specs.declared.address.Addr.{Addr}
+use Rattle.std.specs.Prelude.{◌≡◌, ℕ, ◌++◌, ◌∷◌, Bool, false, nat_lt, length, List, Option, Some, None, Ok, if◌then◌else◌}
 use Rattle.relay_outside.specs.declared.settings.Config.{Config}
 use Rattle.ng_bencode.specs.Room.{Room}
 use Rattle.ng_frame.specs.Frame.{frame}

@@ -2,6 +2,7 @@
 ghost use Rattle.std.specs.Prelude.{◌≡◌, []};
 ghost use Rattle.cookie_cache.specs.Keepings.{IsCookie};
 ghost use Rattle.call_board.specs.Planned.{code_of};
+ghost use Rattle.control_entries.specs.Giving.{IsUnasked};
 ghost use Rattle.control_entries.specs.Telling.{Refuses, error_in};
 
 use crate::done::Done;
@@ -31,7 +32,8 @@ fn code_of(fault: BoardFault) -> Option<ErrorCode>
 /// The board has this fault in place of a plan, where these crypto lines were chosen: its error is told, or want of memory.
 pub fn unplanned(alloc: Global, cookie: &[u8], fault: BoardFault, heard: Heard) -> Done
     requires { IsCookie cookie.now }
-    ensures { Refuses cookie.now heard (code_of fault) result }
+    ensures refuses { Refuses cookie.now heard (code_of fault) result }
+    ensures unasked { IsUnasked result.gave }
 {
     match code_of(fault) {
         Some(code) => refused(alloc, cookie, code, heard),
@@ -42,7 +44,8 @@ pub fn unplanned(alloc: Global, cookie: &[u8], fault: BoardFault, heard: Heard) 
 /// The description is refused so: its error is told, or want of memory. No crypto line is chosen in it.
 pub fn misdescribed(alloc: Global, cookie: &[u8], fault: DescriptionFault) -> Done
     requires { IsCookie cookie.now }
-    ensures { Refuses cookie.now [] (error_in fault) result }
+    ensures refuses { Refuses cookie.now [] (error_in fault) result }
+    ensures unasked { IsUnasked result.gave }
 {
     match fault {
         DescriptionFault::Error(code) => refused(alloc, cookie, code, Heard::none()),

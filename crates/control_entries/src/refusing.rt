@@ -3,6 +3,7 @@ ghost use Rattle.std.specs.Prelude.{◌≡◌, ℕ, List, [], IfOk};
 ghost use Rattle.cookie_cache.specs.Keepings.{IsCookie};
 ghost use Rattle.call_board.specs.Replies.{Fault, Warned, reply_datagram};
 ghost use Rattle.relay_outside.specs.declared.settings.Config.{Config};
+ghost use Rattle.control_entries.specs.Giving.{IsUnasked};
 ghost use Rattle.control_entries.specs.Telling.{Tells, IsShort, missing_reply};
 
 use crate::done::Done;
@@ -16,7 +17,8 @@ use std::alloc::Global;
 
 /// Memory was short.
 pub fn short() -> Done
-    ensures { IsShort result }
+    ensures is_short { IsShort result }
+    ensures unasked { IsUnasked result.gave }
 {
     Done {
         heard: Heard::none(),
@@ -27,7 +29,8 @@ pub fn short() -> Done
 
 /// Nothing was asked of the outside, and this is the reply, where memory sufficed for it.
 pub fn told(heard: Heard, reply: Result<Text, OutOfMemory>) -> Done
-    ensures { (bytes : List ℕ) → IfOk reply (λ text. text.list ≡ bytes) → Tells heard bytes result }
+    ensures tells { (bytes : List ℕ) → IfOk reply (λ text. text.list ≡ bytes) → Tells heard bytes result }
+    ensures unasked { IsUnasked result.gave }
 {
     match reply {
         Ok(reply) => Done {
@@ -42,7 +45,8 @@ pub fn told(heard: Heard, reply: Result<Text, OutOfMemory>) -> Done
 /// A command that fails.
 pub fn refused(alloc: Global, cookie: &[u8], code: ErrorCode, heard: Heard) -> Done
     requires { IsCookie cookie.now }
-    ensures { (config : Config) → Tells heard (reply_datagram config cookie.now (Fault code)) result }
+    ensures tells { (config : Config) → Tells heard (reply_datagram config cookie.now (Fault code)) result }
+    ensures unasked { IsUnasked result.gave }
 {
     told(heard, error_datagram(alloc, cookie, code))
 }
@@ -50,7 +54,8 @@ pub fn refused(alloc: Global, cookie: &[u8], code: ErrorCode, heard: Heard) -> D
 /// A delete that finds nothing to end: an error where it is fatal, a warning otherwise.
 pub fn missing(alloc: Global, cookie: &[u8], fatal: bool, code: ErrorCode) -> Done
     requires { IsCookie cookie.now }
-    ensures { (config : Config) → Tells [] (reply_datagram config cookie.now (missing_reply fatal code)) result }
+    ensures tells { (config : Config) → Tells [] (reply_datagram config cookie.now (missing_reply fatal code)) result }
+    ensures unasked { IsUnasked result.gave }
 {
     if fatal {
         refused(alloc, cookie, code, Heard::none())

@@ -1,5 +1,5 @@
 -- Commands that are carried out here: those that fail before they are known, and pings.
-use Rattle.std.proofs.Common.{◌≡◌, ◌≤◌, ◌∙◌, refl, sym, ap, subst, ℕ, Bool, true, false, List, [], ◌∷◌, ◌++◌, length, length-append, Option, Some, None, Ok, Err, arith}
+use Rattle.std.proofs.Common.{◌≡◌, ◌≤◌, ◌∙◌, refl, sym, subst, ℕ, Bool, true, false, List, ◌∷◌, ◌++◌, length, length-append, Option, Ok, Err, arith}
 use Rattle.std.proofs.lemmas.Bool.Decides.{nat_tests}
 use Rattle.std.specs.Prelude.{nat_lt}
 use Rattle.relay_outside.specs.declared.ports.PortCall.{PortCall}
@@ -12,7 +12,7 @@ use Rattle.ng_reply.specs.declared.code.ErrorCode.{ErrorCode}
 use Rattle.sdes_lines.specs.declared.crypto_line.CryptoLine.{CryptoLine}
 use Rattle.call_board.specs.declared.board.Board.{Board}
 use Rattle.call_board.specs.Acts as act
-use Rattle.call_board.specs.Asked.{Reads, asked, command_in}
+use Rattle.call_board.specs.Asked.{Reads, command_in}
 use Rattle.call_board.specs.Fits.{Hears}
 use Rattle.call_board.specs.Replies.{Fault, Pong, reply_datagram}
 use Rattle.call_board.proofs.Built.{asks_no_query, asks_no_list}

@@ -1,5 +1,5 @@
 -- What the turn of a datagram makes, when its reply is kept.
-use Rattle.std.proofs.Common.{◌≡◌, ◌≤◌, refl, sym, ◌∙◌, ap, subst, ℕ, Bool, true, false, List, [], ◌∷◌, ◌++◌, Option, Some, None}
+use Rattle.std.proofs.Common.{◌≡◌, ◌≤◌, refl, sym, ◌∙◌, ap, subst, ℕ, true, false, List, ◌∷◌, Option, Some, None}
 use Rattle.relay_outside.specs.declared.address.Addr.{Addr}
 use Rattle.relay_outside.specs.declared.ports.PortCall.{PortCall}
 use Rattle.relay_outside.specs.declared.settings.Config.{Config}
@@ -14,11 +14,10 @@ use Rattle.control_reading.specs.Bodies.{pairs_if}
 use Rattle.control_replies.proofs.Datagrams.{fault_is}
 use Rattle.cookie_cache.specs.Keepings.{moment_used}
 use Rattle.cookie_cache.specs.Keepings as cache
-use Rattle.port_pool.specs.declared.holder.Holder.{Holder}
 use Rattle.call_board.specs.declared.board.Board.{Board}
 use Rattle.call_board.specs.Acts as act
 use Rattle.call_board.specs.Acts.{Act, Control, Turn, BoardEntry}
-use Rattle.call_board.specs.Answers.{Answered, answering_unless}
+use Rattle.call_board.specs.Answers.{Answered}
 use Rattle.call_board.specs.Boards.{Shows, BoardFor}
 use Rattle.call_board.specs.Fits.{FitsControl}
 use Rattle.call_board.specs.Kept.{is_kept, kept, keepings}

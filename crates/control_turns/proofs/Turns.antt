@@ -1,10 +1,9 @@
 -- The board's turn of a datagram, from its take to its put.
-use Rattle.std.proofs.Common.{◌≡◌, ◌∙◌, refl, sym, ap, subst, ℕ, max, arith, List, [], ◌∷◌, ◌++◌, Option}
+use Rattle.std.proofs.Common.{◌≡◌, refl, sym, subst, ℕ, max, arith, List, ◌∷◌, Option}
 use Rattle.relay_outside.specs.declared.ports.InCall.{InCall}
 use Rattle.relay_outside.specs.declared.ports.OutCall.{OutCall}
 use Rattle.relay_outside.specs.declared.ports.PortCall.{PortCall}
 use Rattle.relay_outside.specs.declared.settings.Config.{Config}
-use Rattle.turn_table.specs.declared.machine.Entry as table
 use Rattle.turn_table.specs.declared.hands.Turns.{Turns}
 use Rattle.turn_table.specs.declared.hands.Hand.{Hand}
 use Rattle.turn_table.specs.declared.hands.Turn.{Turn}
@@ -18,12 +17,11 @@ use Rattle.call_board.specs.Pairs.{held}
 use Rattle.call_board.specs.Views.{view_of, at_moment, last_moment}
 use Rattle.relay_core.specs.declared.part.Part.{Part}
 use Rattle.relay_core.specs.declared.part.Part.TheVariants as part
-use Rattle.relay_core.specs.Entries.{Entry, board_history}
+use Rattle.relay_core.specs.Entries.{board_history}
 use Rattle.relay_core.specs.Made.{Made}
-use Rattle.relay_core.specs.Scripts.{script}
 use Rattle.relay_core.specs.Standing.{BoardIs}
 use Rattle.relay_core.specs.Steps.{Relates}
-use Rattle.relay_core.specs.Turning.{GainsNested, made_by}
+use Rattle.relay_core.specs.Turning.{made_by}
 use Rattle.media_ports.specs.Held.{TellsHeld}
 use Rattle.board_turns.specs.Acting.{InTurn}
 use Rattle.board_turns.specs.Between.{board_of, IsBetween}

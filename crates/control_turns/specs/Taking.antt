@@ -3,6 +3,7 @@ use Rattle.std.specs.Prelude.{◌≡◌, ℕ, Bool, true, false, List, [], ◌�
 use Rattle.ng_frame.specs.Frame.{frame}
 use Rattle.relay_outside.specs.Told.{Gained}
 use Rattle.relay_outside.specs.declared.address.Addr.{Addr}
+use Rattle.relay_outside.specs.declared.keys.KeyCall.{KeyCall}
 use Rattle.relay_outside.specs.declared.link.LinkGiven.{LinkGiven}
 use Rattle.relay_outside.specs.declared.link.LinkGiven.TheVariants as given
 use Rattle.relay_outside.specs.declared.link.LinkCall.{LinkCall}
@@ -15,6 +16,7 @@ use Rattle.relay_core.specs.Made.{Made}
 use Rattle.relay_core.specs.Turning.{made_by}
 use Rattle.board_turns.specs.Between.{board_of, MakesTurn}
 use Rattle.control_entries.specs.Controls.{Hearing, control_of, entry_at, moment_at}
+use Rattle.control_entries.specs.Giving.{IsGivenBy}
 use Rattle.control_turns.specs.declared.taking.ControlTurn.{ControlTurn}
 use Rattle.control_turns.specs.declared.taking.ControlTurn.TheVariants as turn
 
@@ -74,16 +76,25 @@ pub record DidTurn (config : Config) (h : List BoardEntry) (now : ℕ) (answer :
   pub calls_are : calls ≡ call.Take 16385 gave ∷ sends
   pub followed : DidFollow config h now gave answer made sends
 
+-- what the outside gave in a turn; of a turn that made no entry the key source was not asked
+abbrev pub GaveFor : Option Hearing → (ports ports_now keys keys_now : ℕ) → (drew drew_now : Option (List KeyCall)) → Type 0
+GaveFor None ports ports_now keys keys_now drew drew_now = drew_now ≡ drew
+GaveFor (Some x) ports ports_now keys keys_now drew drew_now = IsGivenBy x.given ports ports_now keys keys_now drew drew_now
+
 module _ {M I O T : Type 0} {g : _} where
   -- what follows a datagram that was taken
-  pub record Responded (config : Config) (old new : Hand M (Part I O) Made T g) (now : ℕ) (from : Addr) (datagram : List ℕ) (answer : ControlTurn) (before after : Option (List LinkCall)) : Type 0 where
+  pub record Responded (config : Config) (old new : Hand M (Part I O) Made T g) (now : ℕ) (from : Addr) (datagram : List ℕ) (answer : ControlTurn)
+      (ports ports_now keys keys_now : ℕ) (drew drew_now : Option (List KeyCall)) (before after : Option (List LinkCall)) : Type 0 where
     pub made : Option Hearing
     pub follows : Follows config old new now answer made
+    pub given : GaveFor made ports ports_now keys keys_now drew drew_now
     pub calls : Gained before after (DidReply config (board_of (made_by old)) now from (frame datagram) (is_too_long datagram) answer made)
 
-  -- One control turn, where this moment is handed in: the main hand's list gained at most one turn of the board, and the link's list
-  -- the calls of the turn
-  pub record Turned (config : Config) (old new : Hand M (Part I O) Made T g) (now : ℕ) (answer : ControlTurn) (before after : Option (List LinkCall)) : Type 0 where
+  -- One control turn, where this moment is handed in: the main hand's list gained at most one turn of the board, whose entry says of
+  -- the outside what the port maker and the key source told, and the link's list the calls of the turn
+  pub record Turned (config : Config) (old new : Hand M (Part I O) Made T g) (now : ℕ) (answer : ControlTurn)
+      (ports ports_now keys keys_now : ℕ) (drew drew_now : Option (List KeyCall)) (before after : Option (List LinkCall)) : Type 0 where
     pub made : Option Hearing
     pub follows : Follows config old new now answer made
+    pub given : GaveFor made ports ports_now keys keys_now drew drew_now
     pub calls : Gained before after (DidTurn config (board_of (made_by old)) now answer made)

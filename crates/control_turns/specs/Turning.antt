@@ -1,6 +1,7 @@
 -- What one datagram adds to the hand's list and to the link's.
 use Rattle.std.specs.Prelude.{◌≡◌, ℕ, List, ◌∷◌, ◌++◌, Option, Some, Result, length, nat_lt}
 use Rattle.relay_outside.specs.declared.answers.Failed.{Failed}
+use Rattle.relay_outside.specs.declared.keys.KeyCall.{KeyCall}
 use Rattle.relay_outside.specs.declared.link.LinkCall.{LinkCall}
 use Rattle.relay_outside.specs.declared.settings.Config.{Config}
 use Rattle.turn_table.specs.declared.hands.Hand.{Hand}
@@ -12,6 +13,7 @@ use Rattle.relay_core.specs.Turning.{made_by}
 use Rattle.board_turns.specs.Between.{board_of, MakesTurn}
 use Rattle.control_entries.specs.declared.request.Request.{Request}
 use Rattle.control_entries.specs.Controls.{Hearing, control_of, moment_at, entry_at}
+use Rattle.control_entries.specs.Giving.{IsGivenBy}
 use Rattle.control_turns.specs.Sending.{Sends}
 
 -- the request is a datagram that has a frame
@@ -29,10 +31,12 @@ pub record IsHeard (request : Request) (x : Hearing) : Type 0 where
 
 module _ {M I O T : Type 0} {g : _} where
   -- The hand's list gained the board's turn of this request at this moment: the nested entries that are owed, and the entry that the
-  -- board's history demands; and the entry's reply was sent once, to the request's source, with this answer
+  -- board's history demands; what the entry says that the outside gave is what the devices told; and the entry's reply was sent
+  -- once, to the request's source, with this answer
   pub record Answers (config : Config) (old new : Hand M (Part I O) Made T g) (request : Request) (now : ℕ) (sent : Result (Unit {0}) Failed)
-      (before after : Option (List LinkCall)) : Type 0 where
+      (ports ports_now keys keys_now : ℕ) (drew drew_now : Option (List KeyCall)) (before after : Option (List LinkCall)) : Type 0 where
     pub hearing : Hearing
     pub is_heard : IsHeard request hearing
     pub makes : MakesTurn config old new (entry_at config (board_of (made_by old)) (moment_at (board_of (made_by old)) now) hearing)
+    pub given : IsGivenBy hearing.given ports ports_now keys keys_now drew drew_now
     pub sends : Sends request.source (control_of config (board_of (made_by old)) (moment_at (board_of (made_by old)) now) hearing).reply sent before after

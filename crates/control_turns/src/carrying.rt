@@ -12,6 +12,7 @@ ghost use Rattle.nested_steps.specs.Nesting.{MayNest};
 ghost use Rattle.board_turns.specs.Acting.{InTurn};
 ghost use Rattle.control_entries.specs.Telling.{IsAnew};
 ghost use Rattle.control_entries.specs.Carrying.{hearing_by, Carries};
+ghost use Rattle.control_entries.specs.Giving.{given_by, IsGivenBy};
 
 use answer_command::answer;
 use call_board::Board;
@@ -68,6 +69,7 @@ fn carry_out_known<P: PortMaker, K: KeySource, R: Wait>(
     ensures replies { KeepsReplies board.old board.new }
     ensures empty { gone.new ≡ [] }
     ensures later { (P.faults ports.old ≤ P.faults ports.new) × (K.faults keys.old ≤ K.faults keys.new) }
+    ensures given { IsGivenBy (given_by result.gave) (P.faults ports.old) (P.faults ports.new) (K.faults keys.old) (K.faults keys.new) (K.told keys.old) (K.told keys.new) }
 {
     match command {
         Command::Ping => told(Heard::none(), pong_datagram(alloc, request.cookie)),
@@ -112,6 +114,7 @@ fn carry_out_command<P: PortMaker, K: KeySource, R: Wait>(
     ensures replies { KeepsReplies board.old board.new }
     ensures empty { gone.new ≡ [] }
     ensures later { (P.faults ports.old ≤ P.faults ports.new) × (K.faults keys.old ≤ K.faults keys.new) }
+    ensures given { IsGivenBy (given_by result.gave) (P.faults ports.old) (P.faults ports.new) (K.faults keys.old) (K.faults keys.new) (K.told keys.old) (K.told keys.new) }
 {
     match command {
         Ok(command) => carry_out_known(
@@ -144,6 +147,7 @@ pub(crate) fn carry_out<P: PortMaker, K: KeySource, R: Wait>(
     ensures replies { KeepsReplies board.old board.new }
     ensures empty { gone.new ≡ [] }
     ensures later { (P.faults ports.old ≤ P.faults ports.new) × (K.faults keys.old ≤ K.faults keys.new) }
+    ensures given { IsGivenBy (given_by result.done.gave) (P.faults ports.old) (P.faults ports.new) (K.faults keys.old) (K.faults keys.new) (K.told keys.old) (K.told keys.new) }
 {
     if request.too_long {
         let done = refused(alloc, request.cookie, ErrorCode::E18, Heard::none());

@@ -9,6 +9,7 @@ ghost use Rattle.relay_core.specs.Turning.{made_by};
 ghost use Rattle.nested_steps.specs.Nesting.{MayNest};
 ghost use Rattle.board_turns.specs.Acting.{InTurn};
 ghost use Rattle.control_entries.specs.Controls.{control_of, moment_at};
+ghost use Rattle.control_entries.specs.Giving.{given_by, IsGivenBy, IsUnasked};
 ghost use Rattle.control_turns.specs.Sending.{Sends};
 ghost use Rattle.control_entries.specs.Telling.{IsAnew};
 ghost use Rattle.control_turns.specs.Turning.{IsRequest};
@@ -44,6 +45,7 @@ pub(crate) struct Answered {
 fn answer_short<N: ControlLink>(link: &mut N, request: &Request) -> Answered
     requires { IsCookie request.now.cookie.now }
     ensures short { (result.dealt.dictionary ≡ None) × (result.dealt.heard ≡ []) × (result.dealt.gave ≡ Gave.Starved) }
+    ensures unasked { IsUnasked result.dealt.gave }
     ensures sent { Sends request.now.source (error_datagram request.now.cookie.now ErrorCode.E17) result.sent (N.told link.old) (N.told link.new) }
     ensures cause { HasCause (N.faults link.old) (N.faults link.new) result.sent }
 {
@@ -82,6 +84,7 @@ fn answer_anew<N: ControlLink, P: PortMaker, K: KeySource, R: Wait>(
     ensures cause { HasCause (N.faults link.old) (N.faults link.new) result.sent }
     ensures empty { gone.new ≡ [] }
     ensures later { (P.faults ports.old ≤ P.faults ports.new) × (K.faults keys.old ≤ K.faults keys.new) }
+    ensures given { IsGivenBy (given_by result.dealt.gave) (P.faults ports.old) (P.faults ports.new) (K.faults keys.old) (K.faults keys.new) (K.told keys.old) (K.told keys.new) }
 {
     if board.reserve_reply().is_err() {
         return answer_short(link, request);
@@ -128,6 +131,7 @@ fn deal<N: ControlLink, P: PortMaker, K: KeySource, R: Wait>(
     ensures cause { HasCause (N.faults link.old) (N.faults link.new) result.sent }
     ensures empty { gone.new ≡ [] }
     ensures later { (P.faults ports.old ≤ P.faults ports.new) × (K.faults keys.old ≤ K.faults keys.new) }
+    ensures given { IsGivenBy (given_by result.dealt.gave) (P.faults ports.old) (P.faults ports.new) (K.faults keys.old) (K.faults keys.new) (K.told keys.old) (K.told keys.new) }
 {
     if let Some(kept) = board.find_reply(request.source, request.cookie, nest.moment) {
         let sent = send(link, request.source, kept);
@@ -171,6 +175,7 @@ pub(crate) fn deal_part<N: ControlLink, P: PortMaker, K: KeySource, R: Wait>(
     ensures cause { HasCause (N.faults link.old) (N.faults link.new) result.sent }
     ensures empty { gone.new ≡ [] }
     ensures later { (P.faults ports.old ≤ P.faults ports.new) × (K.faults keys.old ≤ K.faults keys.new) }
+    ensures given { IsGivenBy (given_by result.dealt.gave) (P.faults ports.old) (P.faults ports.new) (K.faults keys.old) (K.faults keys.new) (K.told keys.old) (K.told keys.new) }
 {
     match part {
         Part::Board(board) => {

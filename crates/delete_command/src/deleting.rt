@@ -13,6 +13,7 @@ ghost use Rattle.relay_core.specs.Turning.{made_by};
 ghost use Rattle.nested_steps.specs.Nesting.{MayNest};
 ghost use Rattle.board_turns.specs.Acting.{InTurn};
 ghost use Rattle.control_entries.specs.Carrying.{hearing_by, Carries};
+ghost use Rattle.control_entries.specs.Giving.{IsUnasked};
 ghost use Rattle.control_entries.specs.Telling.{IsAnew, IsAsking};
 
 use board_turns::delete_call;
@@ -83,6 +84,7 @@ pub fn delete<P: PortMaker, R: Wait>(
     ensures replies { KeepsReplies board.old board.new }
     ensures empty { gone.new ≡ [] }
     ensures later { P.faults ports.old ≤ P.faults ports.new }
+    ensures unasked { IsUnasked result.gave }
 {
     let Some(call) = board.find_call(input.call_id.as_slice()) else {
         return missing(alloc, request.cookie, input.fatal, ErrorCode::E9);

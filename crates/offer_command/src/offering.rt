@@ -10,6 +10,7 @@ ghost use Rattle.relay_core.specs.Turning.{made_by};
 ghost use Rattle.nested_steps.specs.Nesting.{MayNest};
 ghost use Rattle.board_turns.specs.Acting.{InTurn};
 ghost use Rattle.control_entries.specs.Carrying.{hearing_by, Carries};
+ghost use Rattle.control_entries.specs.Giving.{given_by, IsGivenBy};
 ghost use Rattle.control_entries.specs.Telling.{IsAnew, IsAsking};
 ghost use Rattle.offer_command.specs.Commands.{AsksFor};
 
@@ -55,6 +56,7 @@ fn offer_described<P: PortMaker, K: KeySource, R: Wait>(
     ensures replies { KeepsReplies board.old board.new }
     ensures empty { gone.new ≡ [] }
     ensures later { (P.faults ports.old ≤ P.faults ports.new) × (K.faults keys.old ≤ K.faults keys.new) }
+    ensures given { IsGivenBy (given_by result.gave) (P.faults ports.old) (P.faults ports.new) (K.faults keys.old) (K.faults keys.new) (K.told keys.old) (K.told keys.new) }
 {
     let heard = Heard::of_offer(sdp);
     match board.plan_offer(alloc, input, sdp) {
@@ -94,6 +96,7 @@ pub fn offer<P: PortMaker, K: KeySource, R: Wait>(
     ensures replies { KeepsReplies board.old board.new }
     ensures empty { gone.new ≡ [] }
     ensures later { (P.faults ports.old ≤ P.faults ports.new) × (K.faults keys.old ≤ K.faults keys.new) }
+    ensures given { IsGivenBy (given_by result.gave) (P.faults ports.old) (P.faults ports.new) (K.faults keys.old) (K.faults keys.new) (K.told keys.old) (K.told keys.new) }
 {
     match read_description(alloc, config, input.sdp.as_slice()) {
         Ok(sdp) => offer_described(

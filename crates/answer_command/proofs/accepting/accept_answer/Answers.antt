@@ -5,9 +5,9 @@ pub returns-then-length-ge-MOST_BYTES-clause-carries :
     goal.returns-then-length-ge-MOST_BYTES-clause-carries
 returns-then-length-ge-MOST_BYTES-clause-carries g c pairs asks =
     is_short_carries c.args.config.now c.args.turns.now c.args.hand.now c.args.nest c.args.request.now pairs c.short.result c.args.board.now (g.P.PortMaker.told c.args.ports.now)
-    c.requires.turn asks.anew c.short.ensures
+    c.requires.turn asks.anew c.short.ensures.is_short
 
 pub returns-in_default-clause-carries : goal.returns-in_default-clause-carries
 returns-in_default-clause-carries g c pairs asks =
     is_short_carries c.args.config.now c.args.turns.now c.args.hand.now c.args.nest c.args.request.now pairs c.short-in_default.result c.args.board.now
-    (g.P.PortMaker.told c.args.ports.now) c.requires.turn asks.anew c.short-in_default.ensures
+    (g.P.PortMaker.told c.args.ports.now) c.requires.turn asks.anew c.short-in_default.ensures.is_short

@@ -9,4 +9,4 @@ returns-in-Err-clause-carries g c pairs asking =
     let config = c.args.config.now in
     misdescribed_carries config c.args.turns.now c.args.hand.now c.args.nest c.args.request.now pairs c.args.input.now c.in-Err.fault c.misdescribed.result c.args.board.now
     (g.P.PortMaker.told c.args.ports.now) c.requires.turn c.requires.anew asking
-    (subst (λ (text : List ℕ). IsErrorOf (sdp_error config text) c.in-Err.fault) c.as_slice.ensures c.in-Err.ensures.error) c.misdescribed.ensures
+    (subst (λ (text : List ℕ). IsErrorOf (sdp_error config text) c.in-Err.fault) c.as_slice.ensures c.in-Err.ensures.error) c.misdescribed.ensures.refuses

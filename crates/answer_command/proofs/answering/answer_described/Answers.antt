@@ -1,4 +1,4 @@
-use Rattle.std.proofs.Common.{◌≡◌, ◌∙◌, refl, sym, ap, subst, ℕ, List, Option}
+use Rattle.std.proofs.Common.{◌∙◌, refl, sym, ap, subst, ℕ, List, Option}
 use Rattle.std.specs.Prelude.{option_map}
 use Rattle.call_board.specs.declared.board.Board.{Board}
 use Rattle.call_board.specs.Acts.{Call}
@@ -45,4 +45,4 @@ returns-in-Err-clause-carries g c pairs asks =
     (heard_by h ask (find_call h id)
     (λ of is. c.hear_answer-heard.ensures.heard config v (call_view h of) ask c.requires.turn.shows
     (ap (λ (i : List ℕ). call_of_id v i) c.as_slice.ensures ∙ found_by_id config h id ∙ ap (λ (o : Option Call). option_map (call_view h) o) is) c.requires.read refl))
-    (c.in-Err.ensures.plans config v c.requires.turn.shows) c.unplanned.ensures
+    (c.in-Err.ensures.plans config v c.requires.turn.shows) c.unplanned.ensures.refuses

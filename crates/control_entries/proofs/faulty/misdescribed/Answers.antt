@@ -5,7 +5,7 @@ use Rattle.control_reading.specs.declared.description.DescriptionFault.{Descript
 use Rattle.control_entries.specs.Telling.{Refuses, Tells, error_in}
 use Rattle.control_entries.proofs.faulty.misdescribed.Goals as goal
 
-pub returns-in-Error : goal.returns-in-Error
-returns-in-Error c =
+pub returns-in-Error-clause-refuses : goal.returns-in-Error-clause-refuses
+returns-in-Error-clause-refuses c =
     subst (λ (fault : DescriptionFault). Refuses c.args.cookie.now [] (error_in fault) c.refused.result) (sym c.in-Error.is)
-    (λ config. subst (λ (chosen : List (Option CryptoLine)). Tells chosen (reply_datagram config c.args.cookie.now (Fault c.in-Error.code)) c.refused.result) c.none.ensures (c.refused.ensures config))
+    (λ config. subst (λ (chosen : List (Option CryptoLine)). Tells chosen (reply_datagram config c.args.cookie.now (Fault c.in-Error.code)) c.refused.result) c.none.ensures (c.refused.ensures.tells config))

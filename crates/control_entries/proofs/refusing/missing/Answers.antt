@@ -4,14 +4,14 @@ use Rattle.call_board.specs.Replies.{Fault, Warned, reply_datagram}
 use Rattle.control_entries.specs.Telling.{Tells, missing_reply}
 use Rattle.control_entries.proofs.refusing.missing.Goals as goal
 
-pub returns-then-fatal : goal.returns-then-fatal
-returns-then-fatal c config =
+pub returns-then-fatal-clause-tells : goal.returns-then-fatal-clause-tells
+returns-then-fatal-clause-tells c config =
     subst (λ (fatal : Bool). Tells [] (reply_datagram config c.args.cookie.now (missing_reply fatal c.args.code)) c.refused.result) (sym c.if-fatal.true)
     (subst (λ (lines : List (Option CryptoLine)). Tells lines (reply_datagram config c.args.cookie.now (Fault c.args.code)) c.refused.result) c.none.ensures
-    (c.refused.ensures config))
+    (c.refused.ensures.tells config))
 
-pub returns-else-fatal : goal.returns-else-fatal
-returns-else-fatal c config =
+pub returns-else-fatal-clause-tells : goal.returns-else-fatal-clause-tells
+returns-else-fatal-clause-tells c config =
     subst (λ (fatal : Bool). Tells [] (reply_datagram config c.args.cookie.now (missing_reply fatal c.args.code)) c.told.result) (sym c.if-fatal.false)
     (subst (λ (lines : List (Option CryptoLine)). Tells lines (reply_datagram config c.args.cookie.now (Warned c.args.code)) c.told.result) c.none-else-fatal.ensures
-    (c.told.ensures (reply_datagram config c.args.cookie.now (Warned c.args.code)) (c.warned_datagram.ensures config)))
+    (c.told.ensures.tells (reply_datagram config c.args.cookie.now (Warned c.args.code)) (c.warned_datagram.ensures config)))

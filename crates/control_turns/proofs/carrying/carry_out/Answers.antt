@@ -1,6 +1,7 @@
-use Rattle.std.proofs.Common.{◌≡◌, ap, Bool, true, false, None}
+use Rattle.std.proofs.Common.{ap, Bool, None}
 use Rattle.call_board.specs.Asked.{command_in}
 use Rattle.ng_reply.specs.declared.code.ErrorCode.TheVariants.{E18}
+use Rattle.control_entries.proofs.Givings.{unasked_given}
 use Rattle.control_entries.proofs.Tellings.{is_short_carries}
 use Rattle.control_turns.proofs.Commands.{faulty_carries}
 use Rattle.control_turns.proofs.carrying.carry_out.Goals as goal
@@ -10,9 +11,19 @@ returns-then-request-clause-carries g c =
     let too_long = c.if-request.true in
     faulty_carries c.args.config.now c.args.turns.now c.args.hand.now c.args.nest c.args.request.now None c.none.result E18 c.refused-done.result c.args.board.now
     (g.P.PortMaker.told c.args.ports.now) c.requires.turn c.requires.anew (λ short. absurd (let s = short in let t = too_long in cc))
-    (ap (λ (b : Bool). command_in b None) too_long) (c.refused-done.ensures c.args.config.now)
+    (ap (λ (b : Bool). command_in b None) too_long) (c.refused-done.ensures.tells c.args.config.now)
 
 pub returns-in_default-clause-carries : goal.returns-in_default-clause-carries
 returns-in_default-clause-carries g c =
     is_short_carries c.args.config.now c.args.turns.now c.args.hand.now c.args.nest c.args.request.now None c.short.result c.args.board.now
-    (g.P.PortMaker.told c.args.ports.now) c.requires.turn c.requires.anew c.short.ensures
+    (g.P.PortMaker.told c.args.ports.now) c.requires.turn c.requires.anew c.short.ensures.is_short
+
+pub returns-then-request-clause-given : goal.returns-then-request-clause-given
+returns-then-request-clause-given g c =
+    unasked_given c.refused-done.result.gave (g.P.PortMaker.faults c.args.ports.now) (g.P.PortMaker.faults c.args.ports.now) (g.K.KeySource.faults c.args.keys.now) (g.K.KeySource.faults c.args.keys.now)
+    (g.K.KeySource.told c.args.keys.now) c.refused-done.ensures.unasked
+
+pub returns-in_default-clause-given : goal.returns-in_default-clause-given
+returns-in_default-clause-given g c =
+    unasked_given c.short.result.gave (g.P.PortMaker.faults c.args.ports.now) (g.P.PortMaker.faults c.args.ports.now) (g.K.KeySource.faults c.args.keys.now) (g.K.KeySource.faults c.args.keys.now)
+    (g.K.KeySource.told c.args.keys.now) c.short.ensures.unasked

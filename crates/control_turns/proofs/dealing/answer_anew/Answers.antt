@@ -1,11 +1,10 @@
-use Rattle.std.proofs.Common.{◌≡◌, sym, subst, ℕ, List}
+use Rattle.std.proofs.Common.{sym, subst, ℕ, List}
 use Rattle.relay_core.specs.Entries.{board_history}
 use Rattle.relay_core.specs.Turning.{made_by}
 use Rattle.control_reading.specs.Bodies.{pairs_if}
-use Rattle.control_entries.specs.Controls.{control_of}
-use Rattle.control_entries.specs.Carrying.{hearing_by}
+use Rattle.control_entries.proofs.Givings.{unasked_given}
 use Rattle.control_turns.specs.Sending.{Sends}
-use Rattle.control_turns.proofs.Kept.{datagram_is, deals_kept, short_deals, short_reply, turn_keeps}
+use Rattle.control_turns.proofs.Kept.{deals_kept, short_deals, short_reply, turn_keeps}
 use Rattle.control_turns.proofs.dealing.answer_anew.Goals as goal
 
 pub returns-then-is_err-clause-deals : goal.returns-then-is_err-clause-deals
@@ -44,3 +43,13 @@ returns-clause-deals g c =
     (record { dictionary = c.carry_out-dictionary.result.dictionary; heard = c.carry_out-dictionary.result.done.heard; gave = c.carry_out-dictionary.result.done.gave })
     c.carry_out-dictionary.result.done.reply c.args.board.now c.carry_out-dictionary.new.board c.reply_to-sent.new.board (g.P.PortMaker.told c.args.ports.now)
     (g.P.PortMaker.told c.carry_out-dictionary.new.ports) c.requires.turn c.carry_out-dictionary.ensures.carries c.reply_to-sent.ensures.kept
+
+pub returns-then-is_err-clause-given : goal.returns-then-is_err-clause-given
+returns-then-is_err-clause-given g c =
+    unasked_given c.answer_short.result.dealt.gave (g.P.PortMaker.faults c.args.ports.now) (g.P.PortMaker.faults c.args.ports.now) (g.K.KeySource.faults c.args.keys.now) (g.K.KeySource.faults c.args.keys.now)
+    (g.K.KeySource.told c.args.keys.now) c.answer_short.ensures.unasked
+
+pub returns-in_default-clause-given : goal.returns-in_default-clause-given
+returns-in_default-clause-given g c =
+    unasked_given c.answer_short-in_default.result.dealt.gave (g.P.PortMaker.faults c.args.ports.now) (g.P.PortMaker.faults c.args.ports.now) (g.K.KeySource.faults c.args.keys.now) (g.K.KeySource.faults c.args.keys.now)
+    (g.K.KeySource.told c.args.keys.now) c.answer_short-in_default.ensures.unasked

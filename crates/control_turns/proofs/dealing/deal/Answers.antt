@@ -1,7 +1,9 @@
-use Rattle.std.proofs.Common.{◌≡◌, sym, subst, ℕ, List, Some, None}
+use Rattle.std.proofs.Common.{sym, subst, ℕ, List, Some, None}
 use Rattle.call_board.specs.Views.{view_of, at_moment}
 use Rattle.relay_core.specs.Entries.{board_history}
 use Rattle.relay_core.specs.Turning.{made_by}
+use Rattle.control_entries.specs.declared.gave.Gave.TheVariants.{Nothing}
+use Rattle.control_entries.proofs.Givings.{unasked_given}
 use Rattle.control_turns.specs.Sending.{Sends}
 use Rattle.control_turns.proofs.Kept.{is_kept_now, repeat_deals, repeat_reply}
 use Rattle.control_turns.proofs.dealing.deal.Goals as goal
@@ -35,3 +37,8 @@ answer_anew-requires-clause-anew g c =
       not_kept = is_kept_now h c.args.nest.moment c.args.request.now.source c.args.request.now.cookie.now None c.requires.turn.timely
           (c.in_default.ensures config (at_moment (view_of config h) c.args.nest.moment) c.requires.turn.shows);
     }
+
+pub returns-in-Some-clause-given : goal.returns-in-Some-clause-given
+returns-in-Some-clause-given g c =
+    unasked_given Nothing (g.P.PortMaker.faults c.args.ports.now) (g.P.PortMaker.faults c.args.ports.now) (g.K.KeySource.faults c.args.keys.now)
+    (g.K.KeySource.faults c.args.keys.now) (g.K.KeySource.told c.args.keys.now) tt

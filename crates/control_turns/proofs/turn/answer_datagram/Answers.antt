@@ -1,4 +1,4 @@
-use Rattle.std.proofs.Common.{◌∙◌, refl, sym, ap, subst, ℕ, List, ◌∷◌}
+use Rattle.std.proofs.Common.{refl, sym, subst, ℕ, List, ◌∷◌}
 use Rattle.turn_table.specs.Hands.{front_of, state_of, taken_of}
 use Rattle.call_board.specs.Acts.{BoardEntry}
 use Rattle.call_board.specs.Pairs.{held}
@@ -96,6 +96,7 @@ returns-clause-answers g c =
       hearing = x;
       is_heard = record { source_is = refl; cookie_is = refl; body_is = refl; length_is = refl };
       makes = ended.makes;
+      given = c.deal_part-answered.ensures.given;
       sends = subst (λ (h : List BoardEntry). Sends c.args.request.now.source (control_of config h (moment_at h c.args.now) x).reply c.deal_part-answered.result.sent
           (g.N.ControlLink.told c.args.link.now) (g.N.ControlLink.told c.deal_part-answered.new.link))
           (begins_whole config c.args.turns.now c.args.hand.now mid c.turn-turn.result c.turn-turn.ensures.same.1 begins)

@@ -20,7 +20,7 @@ returns-in_default-clause-carries g c pairs asking =
     let none = no_call config h nest.moment c.as_slice.result.now input.call_id.list c.find_call.result
     (c.find_call.ensures config (at_moment (view_of config h) nest.moment) c.requires.turn.shows) c.as_slice.ensures c.in_default.is in
     unknown_carries config c.args.turns.now c.args.hand.now nest c.args.request.now pairs input.call_id.list (list_of input.from_tag) input.fatal c.missing.result c.args.board.now
-    (g.P.PortMaker.told c.args.ports.now) c.requires.turn c.requires.anew asking none (c.missing.ensures config)
+    (g.P.PortMaker.told c.args.ports.now) c.requires.turn c.requires.anew asking none (c.missing.ensures.tells config)
 
 pub names_side-requires : goal.names_side-requires
 names_side-requires g c =
@@ -49,12 +49,12 @@ returns-then-not-names_side-clause-carries g c pairs asking =
     let names = c.names_side.ensures config v (call_view h found.of) c.requires.turn.shows is_called in
     stranger_carries config c.args.turns.now c.args.hand.now nest c.args.request.now pairs input.call_id.list (list_of input.from_tag) input.fatal found.of
     c.missing-then-not-names_side.result c.args.board.now (g.P.PortMaker.told c.args.ports.now) c.requires.turn c.requires.anew asking found.is
-    (sym names ∙ c.if-not-names_side.true) (c.missing-then-not-names_side.ensures config)
+    (sym names ∙ c.if-not-names_side.true) (c.missing-then-not-names_side.ensures.tells config)
 
 pub returns-in_default-done_datagram-clause-carries : goal.returns-in_default-done_datagram-clause-carries
 returns-in_default-done_datagram-clause-carries g c pairs asking =
     is_short_carries c.args.config.now c.args.turns.now c.args.hand.now c.args.nest c.args.request.now pairs c.short.result c.args.board.now
-    (g.P.PortMaker.told c.args.ports.now) c.requires.turn c.requires.anew c.short.ensures
+    (g.P.PortMaker.told c.args.ports.now) c.requires.turn c.requires.anew c.short.ensures.is_short
 
 pub delete_call-requires-clause-live : goal.delete_call-requires-clause-live
 delete_call-requires-clause-live g c =

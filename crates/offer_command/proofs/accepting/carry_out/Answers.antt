@@ -4,10 +4,12 @@ use Rattle.call_board.specs.Replies.{Described, Fault, reply_datagram}
 use Rattle.relay_core.specs.Entries.{board_history}
 use Rattle.relay_core.specs.Turning.{made_by}
 use Rattle.control_entries.specs.declared.gave.Gave.TheVariants as gave
+use Rattle.control_entries.proofs.Givings.{given_as, offered_given}
 use Rattle.offer_turns.specs.Offers.{CanOffer}
 use Rattle.offer_command.specs.Commands.{Gives, ask_of, undone_code, undone_gave}
 use Rattle.offer_command.proofs.Asked.{may_offer}
 use Rattle.offer_command.proofs.Carried.{gives_carries, offered_carries, undone_carries}
+use Rattle.offer_command.proofs.Givings.{undone_given}
 use Rattle.offer_command.proofs.accepting.carry_out.Goals as goal
 
 pub offer_act-requires-clause-due : goal.offer_act-requires-clause-due
@@ -68,3 +70,19 @@ returns-in-Err-clause-carries g c pairs asks =
     c.undone.result board told gives
     (λ text is. undone_carries config c.args.hand.now c.offer_act.new.hand c.args.nest request pairs input c.args.heard c.args.plan fault text board told asks p.heard p.plans
     c.in-Err.ensures.early (c.in-Err.ensures.undoes id ask can) is)
+
+pub returns-in-Ok-clause-given : goal.returns-in-Ok-clause-given
+returns-in-Ok-clause-given g c =
+    let opens = 2 * c.pairs-opens.result in
+    given_as c.accepted.result.gave (gave.Offered opens c.in-Ok.offered.drawn) (g.P.PortMaker.faults c.args.ports.now) (g.P.PortMaker.faults c.offer_act.new.ports) (g.K.KeySource.faults c.args.keys.now) (g.K.KeySource.faults c.offer_act.new.keys)
+    (g.K.KeySource.told c.args.keys.now) (g.K.KeySource.told c.offer_act.new.keys) c.accepted.ensures.gave_is
+    (offered_given opens c.in-Ok.offered.drawn (g.P.PortMaker.faults c.args.ports.now) (g.P.PortMaker.faults c.offer_act.new.ports) (g.K.KeySource.faults c.args.keys.now) (g.K.KeySource.faults c.offer_act.new.keys)
+    (g.K.KeySource.told c.args.keys.now) (g.K.KeySource.told c.offer_act.new.keys) c.in-Ok.ensures.draws)
+
+pub returns-in-Err-clause-given : goal.returns-in-Err-clause-given
+returns-in-Err-clause-given g c =
+    let opens = 2 * c.pairs-opens.result in
+    given_as c.undone.result.gave (undone_gave opens c.in-Err.fault) (g.P.PortMaker.faults c.args.ports.now) (g.P.PortMaker.faults c.offer_act.new.ports) (g.K.KeySource.faults c.args.keys.now) (g.K.KeySource.faults c.offer_act.new.keys)
+    (g.K.KeySource.told c.args.keys.now) (g.K.KeySource.told c.offer_act.new.keys) c.undone.ensures.gave_is
+    (undone_given opens c.in-Err.fault (g.P.PortMaker.faults c.args.ports.now) (g.P.PortMaker.faults c.offer_act.new.ports) (g.K.KeySource.faults c.args.keys.now) (g.K.KeySource.faults c.offer_act.new.keys)
+    (g.K.KeySource.told c.args.keys.now) (g.K.KeySource.told c.offer_act.new.keys) c.in-Err.ensures.cause c.in-Err.ensures.draws_before)

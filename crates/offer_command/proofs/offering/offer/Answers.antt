@@ -1,6 +1,7 @@
 use Rattle.std.proofs.Common.{subst, ℕ, List}
 use Rattle.call_board.specs.Asked.{sdp_error}
 use Rattle.control_reading.specs.Bodies.{IsErrorOf}
+use Rattle.control_entries.proofs.Givings.{unasked_given}
 use Rattle.offer_command.proofs.Carried.{misdescribed_carries}
 use Rattle.offer_command.proofs.offering.offer.Goals as goal
 
@@ -9,4 +10,9 @@ returns-in-Err-clause-carries g c pairs asking =
     let config = c.args.config.now in
     misdescribed_carries config c.args.turns.now c.args.hand.now c.args.nest c.args.request.now pairs c.args.input.now c.in-Err.fault c.misdescribed.result c.args.board.now
     (g.P.PortMaker.told c.args.ports.now) c.requires.turn c.requires.anew asking
-    (subst (λ (text : List ℕ). IsErrorOf (sdp_error config text) c.in-Err.fault) c.as_slice.ensures c.in-Err.ensures.error) c.misdescribed.ensures
+    (subst (λ (text : List ℕ). IsErrorOf (sdp_error config text) c.in-Err.fault) c.as_slice.ensures c.in-Err.ensures.error) c.misdescribed.ensures.refuses
+
+pub returns-in-Err-clause-given : goal.returns-in-Err-clause-given
+returns-in-Err-clause-given g c =
+    unasked_given c.misdescribed.result.gave (g.P.PortMaker.faults c.args.ports.now) (g.P.PortMaker.faults c.args.ports.now) (g.K.KeySource.faults c.args.keys.now) (g.K.KeySource.faults c.args.keys.now)
+    (g.K.KeySource.told c.args.keys.now) c.misdescribed.ensures.unasked

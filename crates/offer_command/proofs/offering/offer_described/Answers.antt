@@ -3,6 +3,7 @@ use Rattle.offer_answer.specs.Offering.{AsksOffer}
 use Rattle.call_board.specs.Views.{view_of, at_moment}
 use Rattle.relay_core.specs.Entries.{board_history}
 use Rattle.relay_core.specs.Turning.{made_by}
+use Rattle.control_entries.proofs.Givings.{unasked_given}
 use Rattle.offer_command.specs.Commands.{ask_of}
 use Rattle.offer_command.proofs.Carried.{turn_on, refuses_carries}
 use Rattle.offer_command.proofs.offering.offer_described.Goals as goal
@@ -42,4 +43,9 @@ returns-in-Err-clause-carries g c pairs is =
     let turn = turn_on config c.args.turns.now c.args.hand.now c.args.nest c.args.board.now c.plan_offer.new.self told c.requires.turn
     (c.plan_offer.ensures.shows config (at_moment (view_of config h) c.args.nest.moment) c.requires.turn.shows) in
     refuses_carries config c.args.turns.now c.args.hand.now c.args.nest c.args.request.now pairs input c.of_offer-heard.result c.in-Err.fault c.unplanned.result c.plan_offer.new.self told
-    turn is heard (c.in-Err.ensures.plans config (at_moment (view_of config h) c.args.nest.moment) ask c.requires.turn.shows asks) c.unplanned.ensures
+    turn is heard (c.in-Err.ensures.plans config (at_moment (view_of config h) c.args.nest.moment) ask c.requires.turn.shows asks) c.unplanned.ensures.refuses
+
+pub returns-in-Err-clause-given : goal.returns-in-Err-clause-given
+returns-in-Err-clause-given g c =
+    unasked_given c.unplanned.result.gave (g.P.PortMaker.faults c.args.ports.now) (g.P.PortMaker.faults c.args.ports.now) (g.K.KeySource.faults c.args.keys.now) (g.K.KeySource.faults c.args.keys.now)
+    (g.K.KeySource.told c.args.keys.now) c.unplanned.ensures.unasked
