@@ -1,0 +1,237 @@
+-- What a sweep by the main hand keeps, and what it adds to the totals.
+use Rattle.std.proofs.Common.{◌≡◌, ◌∙◌, refl, sym, ap, subst, ℕ, ◌+◌, ◌-◌, ◌^◌, ◌<◌, inl, inr, Bool, true, false, cond, min, List, [], ◌∷◌, ◌++◌, Option, Some, None, filter, length, arith}
+use Rattle.std.proofs.lemmas.List.{map-append}
+use Rattle.relay_outside.specs.declared.settings.Config.{Config}
+use Rattle.rtp_packet.specs.declared.head.Half.{Half}
+use Rattle.turn_table.specs.declared.hands.Turns.{Turns}
+use Rattle.turn_table.specs.declared.hands.Hand.{Hand}
+use Rattle.turn_table.specs.Histories as table_lists
+use Rattle.turn_table.specs.Hands.{IsSameHand, HasNoTurn, entries}
+use Rattle.turn_table.specs.Steps.{entry}
+use Rattle.histories.specs.Words.{In, here, there}
+use Rattle.histories.proofs.Lists.{in_left}
+use Rattle.port_pool.specs.Boxes as box
+use Rattle.port_pool.specs.Boxes.{Taken}
+use Rattle.call_cell.specs.declared.outcome.Outcome.{Outcome}
+use Rattle.call_cell.specs.Cells as cells
+use Rattle.relay_core.specs.declared.part.Part.{Part}
+use Rattle.relay_core.specs.Entries.{Event, Entry, board_history, box_of}
+use Rattle.relay_core.specs.Made.{Made, entry_of, list_of}
+use Rattle.relay_core.specs.Beginning.{AreParts}
+use Rattle.relay_core.specs.Handed.{IsHanded}
+use Rattle.relay_core.specs.Joining.{TakesOwnPairs}
+use Rattle.relay_core.specs.Recorded.{IsRecorded, is_boards}
+use Rattle.relay_core.specs.Turning.{Numbered, IsAbove, IsOfLane, made_by}
+use Rattle.relay_core.proofs.Joins.{row_append, handed_joined}
+use Rattle.relay_core.proofs.Recording.{lane_no_boards, unseen_rows, recorded_behind}
+use Rattle.media_lane.specs.declared.answers.Totals.{Totals}
+use Rattle.media_lane.specs.Receipts.{KeepsList}
+use Rattle.media_lane.specs.Sweeping.{Sweeps}
+use Rattle.media_lane.specs.Taking.{take_made}
+use Rattle.media_lane.specs.Visits as visits
+use Rattle.media_lane.specs.Visits.{Row, Passing, Visit, packet_by, packet_at, relay_rows, rows_of, all_rows, IsPassed, ArePassed, one_if, is_there, has_packet, ends_so, ends_with, is_sent, is_refused, is_lost}
+use Rattle.board_turns.specs.Between.{board_of, IsBetween}
+use Rattle.board_turns.proofs.Betweens.{whole_board}
+use Rattle.main_sweeps.specs.Totals.{is_datagram, gave, relayed, capped, counted, HasTotals, AddsTotals}
+use Rattle.main_sweeps.proofs.Counts.{counted_append, counted_cons}
+
+-- The rows of a sweep are takes and relays.
+
+relay_in : (row : Row) (o : Option cells.Receipt) (r : Option Passing) → table_lists.In row (relay_rows o r) → IsOfLane row.event.event
+relay_in row (Some p) (Some r) (table_lists.here q) = subst (λ (x : Row). IsOfLane x.event.event) (sym q) tt
+relay_in row (Some p) (Some r) (table_lists.there i) = elim i [ ]
+relay_in row (Some p) None i = elim i [ ]
+relay_in row None r i = elim i [ ]
+
+visit_in : (config : Config) (v : Visit) (row : Row) → table_lists.In row (rows_of config v) → IsOfLane row.event.event
+visit_in config v row (table_lists.here q) = subst (λ (x : Row). IsOfLane x.event.event) (sym q) tt
+visit_in config v row (table_lists.there i) = relay_in row (packet_at v) v.passing i
+
+rows_in : (config : Config) (vs : List Visit) (row : Row) → table_lists.In row (all_rows config vs) → IsOfLane row.event.event
+rows_in config [] row i = elim i [ ]
+rows_in config (v ∷ vs) row i =
+    elim (row_append (rows_of config v) (all_rows config vs) i) [ inl j ↦ visit_in config v row j | inr j ↦ rows_in config vs row j ]
+
+-- A number above all.
+
+top : List Entry → ℕ
+top [] = 0
+top (e ∷ l) = (e.number + 1) + top l
+
+below_top : (l : List Entry) (e : Entry) → In e l → e.number < top l
+unfolding top
+below_top [] e i = elim i [ ]
+below_top (x ∷ l) e (here q) = let same = ap (λ (y : Entry). y.number) q in omega (arith, same)
+below_top (x ∷ l) e (there i) = let low = below_top l e i in omega (arith, low)
+
+-- What a sweep keeps.
+
+module _ {M I O : Type 0} {g : _} where
+  -- what is known of the main hand after a sweep, and what its list gained
+  pub record SweptBy (config : Config) (range : Option (ℕ × ℕ)) (old new : Hand M (Part I O) Made (Unit {0}) g) (swept : Totals) : Type 0 where
+    pub same : IsSameHand old new
+    pub idle : HasNoTurn new
+    pub list : KeepsList config (made_by old) (made_by new)
+    pub sweeps : Sweeps config 0 1 range old new swept
+
+  module _ (config : Config) (turns : Turns M (Part I O) Made (Unit {0})) (range : Option (ℕ × ℕ)) (old new : Hand M (Part I O) Made (Unit {0}) g) (swept : Totals)
+      (b : IsBetween config turns old) (s : SweptBy config range old new swept) where
+    rows : List Row
+    rows = all_rows config s.sweeps.visits
+
+    rows_are : entries new ≡ entries old ++ rows
+    unfolding rows
+    rows_are = s.sweeps.list_is
+
+    list_is : made_by new ≡ made_by old ++ list_of rows
+    list_is = ap (λ (xs : List Row). list_of xs) rows_are ∙ map-append entry_of (entries old) rows
+
+    lanes : (row : Row) → table_lists.In row rows → IsOfLane row.event.event
+    unfolding rows
+    lanes row i = rows_in config s.sweeps.visits row i
+
+    no_boards : (row : Row) → table_lists.In row rows → is_boards row.event.event ≡ false
+    no_boards row i = lane_no_boards row.event.event (lanes row i)
+
+    own_before : TakesOwnPairs config (made_by new) → TakesOwnPairs config (made_by old)
+    own_before own e half leg source bytes i q =
+        own e half leg source bytes (subst (λ (l : List Entry). In e l) (sym list_is) (in_left (made_by old) (list_of rows) i)) q
+
+    -- all that is known of the main hand between the board's turns
+    pub swept_between : IsBetween config turns new
+    swept_between =
+        let numbered = s.list.numbered b.numbered in record {
+          of_table = s.same.0 ∙ b.of_table;
+          main = s.same.3 ∙ b.main;
+          idle = s.idle;
+          parts = subst (λ (l : List (Part I O)). AreParts config l) (sym s.same.1) b.parts;
+          numbered = numbered;
+          orderly = s.list.orderly b.orderly;
+          handed = subst (λ (xs : List Row). IsHanded xs) (sym rows_are)
+              (handed_joined config (entries old) rows b.orderly lanes (subst Numbered list_is numbered) b.handed);
+          recorded = subst (λ (xs : List Row). IsRecorded xs) (sym rows_are) (recorded_behind (entries old) rows no_boards b.recorded);
+          receiving = λ own. s.list.receiving own (b.receiving (own_before own));
+        }
+
+    -- and the board's whole history
+    pub swept_board : board_of (made_by new) ≡ board_of (made_by old)
+    swept_board =
+        let n = top (made_by new) in
+        let after : IsAbove (made_by new) 0 n = λ e i p. below_top (made_by new) e i in
+        let before : IsAbove (made_by old) 0 n = λ e i p.
+        below_top (made_by new) e (subst (λ (l : List Entry). In e l) (sym list_is) (in_left (made_by old) (list_of rows) i)) in
+        sym (whole_board (made_by new) n after)
+        ∙ ap (λ (xs : List Row). board_history (list_of xs) n) rows_are
+        ∙ unseen_rows (entries old) rows no_boards n
+        ∙ whole_board (made_by old) n before
+
+-- What a sweep adds to the totals.
+
+pick_step : (f : Visit → Bool) (v : Visit) (vs : List Visit) (t : Bool) → length (cond t (v ∷ filter f vs) (filter f vs)) ≡ one_if t + length (filter f vs)
+pick_step f v vs true = omega arith
+pick_step f v vs false = omega arith
+
+-- a count by rows is one by visits
+all_counted : (q : Event → Bool) (f : Visit → Bool) (config : Config) (range : Option (ℕ × ℕ))
+    → ((v : Visit) → IsPassed range (packet_at v) v.passing → counted q (list_of (rows_of config v)) ≡ one_if (f v))
+    → (vs : List Visit) → ArePassed range vs → counted q (list_of (all_rows config vs)) ≡ length (filter f vs)
+all_counted q f config range each [] passed = refl
+all_counted q f config range each (v ∷ vs) passed =
+    ap (counted q) (map-append entry_of (rows_of config v) (all_rows config vs))
+    ∙ counted_append q (list_of (rows_of config v)) (list_of (all_rows config vs))
+    ∙ ap (λ (n : ℕ). n + counted q (list_of (all_rows config vs))) (each v passed.0)
+    ∙ ap (λ (n : ℕ). one_if (f v) + n) (all_counted q f config range each vs passed.1)
+    ∙ sym (pick_step f v vs (f v))
+
+gave_relays : (o : Option cells.Receipt) (r : Option Passing) → counted gave (list_of (relay_rows o r)) ≡ 0
+gave_relays (Some p) (Some r) = refl
+gave_relays (Some p) None = refl
+gave_relays None r = refl
+
+gave_there : (number : ℕ) (half : Half) (taken : Taken) → is_datagram taken ≡ is_there (packet_by number half taken)
+gave_there number half box.Closed = refl
+gave_there number half box.Nothing = refl
+gave_there number half (box.Datagram holder source bytes) = refl
+gave_there number half (box.TooLong source bytes) = refl
+gave_there number half box.Fault = refl
+
+none_more : (n : ℕ) → n + 0 ≡ n
+none_more n = omega arith
+
+none_first : (n : ℕ) → 0 + n ≡ n
+none_first n = omega arith
+
+head_row : (q : Event → Bool) (row : Row) (rows : List Row) → counted q (list_of (row ∷ rows)) ≡ cond (q row.event.event) 1 0 + counted q (list_of rows)
+head_row q row rows = counted_cons q (entry_of row) (list_of rows)
+
+take_row : Config → Visit → Row
+take_row config v = entry (box_of config v.pair) v.number (take_made v.half v.taken) (tt {0})
+
+gave_visit : (config : Config) (v : Visit) → counted gave (list_of (rows_of config v)) ≡ one_if (has_packet v)
+unfolding take_row
+gave_visit config v =
+    head_row gave (take_row config v) (relay_rows (packet_at v) v.passing)
+    ∙ ap (λ (n : ℕ). cond (is_datagram v.taken) 1 0 + n) (gave_relays (packet_at v) v.passing)
+    ∙ none_more (cond (is_datagram v.taken) 1 0)
+    ∙ ap (λ (t : Bool). one_if t) (gave_there v.number v.half v.taken)
+
+relay_counted : (p : Outcome → Bool) (range : Option (ℕ × ℕ)) (o : Option cells.Receipt) (r : Option Passing) → IsPassed range o r
+    → counted (relayed p) (list_of (relay_rows o r)) ≡ one_if (ends_so p r)
+relay_counted p range (Some k) (Some r) passed = none_first (one_if (p r.outcome))
+relay_counted p range (Some k) None passed = absurd passed
+relay_counted p range None (Some r) passed = absurd passed
+relay_counted p range None None passed = refl
+
+relayed_visit : (p : Outcome → Bool) (config : Config) (range : Option (ℕ × ℕ)) (v : Visit) → IsPassed range (packet_at v) v.passing
+    → counted (relayed p) (list_of (rows_of config v)) ≡ one_if (ends_with p v)
+unfolding take_row
+relayed_visit p config range v passed =
+    head_row (relayed p) (take_row config v) (relay_rows (packet_at v) v.passing)
+    ∙ none_first (counted (relayed p) (list_of (relay_rows (packet_at v) v.passing))) ∙ relay_counted p range (packet_at v) v.passing passed
+
+capped_sum : (m a b c old more new : ℕ) → old ≡ min a m → more ≡ min b m → new ≡ min (old + more) m → c ≡ a + b → new ≡ min c m
+capped_sum m a b c old more new was came is both = omega arith
+
+module _ {M I O : Type 0} {g : _} (config : Config) (range : Option (ℕ × ℕ)) (old new : Hand M (Part I O) Made (Unit {0}) g) (swept : Totals)
+    (s : SweptBy config range old new swept) where
+  -- a count over the longer list
+  longer : (q : Event → Bool) → counted q (made_by new) ≡ counted q (made_by old) + counted q (list_of (all_rows config s.sweeps.visits))
+  longer q =
+      ap (λ (xs : List Row). counted q (list_of xs)) s.sweeps.list_is
+      ∙ ap (counted q) (map-append entry_of (entries old) (all_rows config s.sweeps.visits))
+      ∙ counted_append q (made_by old) (list_of (all_rows config s.sweeps.visits))
+
+  added : (q : Event → Bool) (f : Visit → Bool) (was more is : ℕ)
+      → ((v : Visit) → IsPassed range (packet_at v) v.passing → counted q (list_of (rows_of config v)) ≡ one_if (f v))
+      → was ≡ capped (counted q (made_by old)) → more ≡ visits.count f s.sweeps.visits → is ≡ capped (was + more) → is ≡ capped (counted q (made_by new))
+  added q f was more is each before came sum =
+      capped_sum (2 ^ 64 - 1) (counted q (made_by old)) (length (filter f s.sweeps.visits)) (counted q (made_by new)) was more is before came sum
+      (longer q ∙ ap (λ (n : ℕ). counted q (made_by old) + n) (all_counted q f config range each s.sweeps.visits s.sweeps.passed))
+
+  -- the totals, when what came of the sweep is added
+  pub swept_totals : (was is : Totals) → AddsTotals was swept is → HasTotals (made_by old) was → HasTotals (made_by new) is
+  swept_totals was is adds h =
+      let came = s.sweeps.totals_are in record {
+        taken = added gave has_packet was.taken swept.taken is.taken (λ v passed. gave_visit config v) h.taken came.taken adds.taken;
+        sent = added (relayed is_sent) (ends_with is_sent) was.sent swept.sent is.sent (relayed_visit is_sent config range) h.sent came.sent adds.sent;
+        refused = added (relayed is_refused) (ends_with is_refused) was.refused swept.refused is.refused (relayed_visit is_refused config range) h.refused came.refused adds.refused;
+        lost = added (relayed is_lost) (ends_with is_lost) was.lost swept.lost is.lost (relayed_visit is_lost config range) h.lost came.lost adds.lost;
+      }
+
+-- A lane on the main hand.
+
+module _ {M I O : Type 0} {g : _} where
+  pub swept_at : (config config' : Config) (range : Option (ℕ × ℕ)) (index lanes : ℕ) (old first last new : Hand M (Part I O) Made (Unit {0}) g) (swept : Totals)
+      → first ≡ old → new ≡ last → config' ≡ config → index ≡ 0 → lanes ≡ 1 → IsSameHand first last → HasNoTurn new
+      → KeepsList config' (made_by first) (made_by last) → Sweeps config' index lanes range first last swept → SweptBy config range old new swept
+  swept_at config config' range index lanes old first last new swept begins ends config_is index_is lanes_is same idle list sweeps = record {
+    same = subst (λ h. IsSameHand h new) begins (subst (λ h. IsSameHand first h) (sym ends) same);
+    idle = idle;
+    list = subst (λ h. KeepsList config (made_by h) (made_by new)) begins
+        (subst (λ h. KeepsList config (made_by first) (made_by h)) (sym ends) (subst (λ k. KeepsList k (made_by first) (made_by last)) config_is list));
+    sweeps = subst (λ h. Sweeps config 0 1 range h new swept) begins
+        (subst (λ h. Sweeps config 0 1 range first h swept) (sym ends)
+        (subst (λ n. Sweeps config 0 n range first last swept) lanes_is
+        (subst (λ n. Sweeps config n lanes range first last swept) index_is
+        (subst (λ k. Sweeps k index lanes range first last swept) config_is sweeps))));
+  }

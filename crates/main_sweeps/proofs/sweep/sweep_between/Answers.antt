@@ -1,0 +1,28 @@
+use Rattle.turn_table.specs.Hands.{starts}
+use Rattle.media_lane.specs.Lanes.{config_of, hand_of, index_of, lanes_of}
+use Rattle.media_lane.proofs.Places.{parts_begin}
+use Rattle.main_sweeps.proofs.Sweeps.{SweptBy, swept_at, swept_between, swept_board, swept_totals}
+use Rattle.main_sweeps.proofs.sweep.sweep_between.Goals as goal
+
+pub new-lane-requires-clause-begins : goal.new-lane-requires-clause-begins
+new-lane-requires-clause-begins g c = parts_begin c.args.config.now (starts c.args.hand) c.requires.between.parts
+
+-- what came of the sweep of the one lane
+swept : (g : _) (c : goal.After-into_hand g) → SweptBy c.args.config.now (g.C.Clock.range c.args.clock.now) c.args.hand c.into_hand.result c.sweep-swept.result
+swept g c =
+    let lane = c.new-lane.result in
+    swept_at c.args.config.now (config_of lane) (g.C.Clock.range c.args.clock.now) (index_of lane) (lanes_of lane) c.args.hand (hand_of lane)
+    (hand_of c.sweep-swept.new.self) c.into_hand.result c.sweep-swept.result c.new-lane.ensures.hand c.into_hand.ensures.hand c.new-lane.ensures.config
+    c.new-lane.ensures.number.0 c.new-lane.ensures.number.1 c.sweep-swept.ensures.same.hand c.into_hand.ensures.idle c.sweep-swept.ensures.list c.sweep-swept.ensures.swept
+
+pub returns-clause-between : goal.returns-clause-between
+returns-clause-between g c =
+    swept_between c.args.config.now c.args.turns.now (g.C.Clock.range c.args.clock.now) c.args.hand c.into_hand.result c.sweep-swept.result c.requires.between (swept g c)
+
+pub returns-clause-board : goal.returns-clause-board
+returns-clause-board g c =
+    swept_board c.args.config.now c.args.turns.now (g.C.Clock.range c.args.clock.now) c.args.hand c.into_hand.result c.sweep-swept.result c.requires.between (swept g c)
+
+pub returns-clause-totals : goal.returns-clause-totals
+returns-clause-totals g c =
+    swept_totals c.args.config.now (g.C.Clock.range c.args.clock.now) c.args.hand c.into_hand.result c.sweep-swept.result (swept g c) c.args.totals.now c.add_totals.new.totals c.add_totals.ensures
