@@ -1,4 +1,2 @@
-pub mod Bodies
-pub mod Firsts
-pub mod Keeping
-pub mod Turning
+pub mod Tellings
+mod Errors

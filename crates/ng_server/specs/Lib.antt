@@ -1,6 +1,2 @@
-pub mod Histories
-pub mod Due
-pub mod First
-pub mod Turns
 pub mod Servers
-pub mod Answering
+pub mod Errors

@@ -1,13 +1,22 @@
--- Which histories a server stands for.
-use Rattle.std.specs.Prelude.{◌≡◌, ◌≤◌, List}
-use Rattle.cookie_cache.specs.Caches as caches
-use Rattle.cookie_cache.specs.Keepings as kept
-use Rattle.ng_server.specs.Histories.{ControlEntry, keepings, last_moment}
-use Rattle.ng_server.specs.declared.server.Server.{Server}
+-- A server and its main hand between two calls.
+use Rattle.std.specs.Prelude.{List, Option}
+use Rattle.relay_outside.specs.declared.ports.PortCall.{PortCall}
+use Rattle.relay_outside.specs.declared.settings.Config.{Config}
+use Rattle.turn_table.specs.declared.hands.Hand.{Hand}
+use Rattle.call_board.specs.Acts.{BoardEntry}
+use Rattle.call_board.specs.Pairs.{held}
+use Rattle.relay_core.specs.declared.part.Part.{Part}
+use Rattle.relay_core.specs.Made.{Made}
+use Rattle.relay_core.specs.Turning.{made_by}
+use Rattle.media_ports.specs.Held.{TellsHeld}
+use Rattle.board_turns.specs.Between.{board_of}
+use Rattle.board_turns.specs.Ending.{leg_pairs}
 
--- the server stands for this history: its cache for the replies that were kept, and its moment is that of the last entry,
--- before which nothing was kept later
-pub record StandsFor (server : Server) (history : List ControlEntry) : Type 0 where
-  pub replies : caches.StandsFor server.cache (keepings history)
-  pub moment_is : server.moment ≡ last_moment history
-  pub in_order : kept.last_moment (keepings history) ≤ last_moment history
+-- where the port maker tells, just the ports of the pairs are open that are held after this history of the board
+abbrev pub OpensJust : Config → List BoardEntry → Option (List PortCall) → Type 0
+OpensJust config h told = TellsHeld config told (leg_pairs (held h))
+
+module _ {M I O T : Type 0} {g : _} where
+  -- the board's history, as the main hand's list has it
+  abbrev pub history_of : Hand M (Part I O) Made T g → List BoardEntry
+  history_of hand = board_of (made_by hand)

@@ -1,5 +1,6 @@
-ghost use Rattle.std.specs.Prelude.{◌≡◌, IfOk, length};
+ghost use Rattle.std.specs.Prelude.{◌≡◌, [], IfOk, length};
 
+use call_cell::Gone;
 use relay_outside::OutOfMemory;
 use std::alloc::Global;
 use std::marker::Model;
@@ -7,32 +8,35 @@ use std::marker::Model;
 /// How many bytes a datagram of the control protocol may have, and one more.
 const ROOM: usize = 16_385;
 
-/// The memory of a control turn: room for one datagram of at most 16,384 bytes, and one byte by which a longer one is
-/// told.
+/// The memory of a control turn: room for one datagram of at most 16,384 bytes, with one byte by which a longer one is told,
+/// and for the legs that go from a call's cell, whose out ends are of this type.
 #[derive(Drop)]
-pub struct Desk {
+pub struct Desk<O> {
     /// The bytes of the datagram.
     pub(crate) datagram: Vec<u8>,
+    /// The legs that went. It is empty between two calls of the server.
+    pub(crate) gone: Gone<O>,
 }
 
-impl Model for Desk {
-    ghost use Rattle.std.specs.Prelude.{◌≡◌, ℕ, List, length};
+impl<O> Model for Desk<O> {
+    ghost use Rattle.std.specs.Prelude.{◌≡◌, ℕ, List, [], length};
 
     ghost Value = { List ℕ };
 
     ghost view = { λ desk. desk.datagram.items };
 
-    ghost invariant = { λ desk. length desk.datagram.items ≡ 16385 };
+    ghost invariant = { λ desk. (length desk.datagram.items ≡ 16385) × (desk.gone ≡ []) };
 }
 
-impl Desk {
+impl<O> Desk<O> {
     /// A desk, whose bytes don't matter.
-    pub fn new(alloc: Global) -> Result<Desk, OutOfMemory>
+    pub fn new(alloc: Global) -> Result<Desk<O>, OutOfMemory>
         ensures { IfOk result (λ desk. length desk ≡ ROOM) }
     {
-        match vec![in alloc; 0; ROOM] {
-            Ok(datagram) => Ok(Desk { datagram }),
-            Err(_) => Err(OutOfMemory),
-        }
+        let Ok(datagram) = vec![in alloc; 0; ROOM] else {
+            return Err(OutOfMemory);
+        };
+        let gone = Gone::new(alloc)?;
+        Ok(Desk { datagram, gone })
     }
 }

@@ -1,16 +1,16 @@
-ghost use Rattle.std.specs.Prelude.{◌≡◌, ℕ, List, ◌∷◌, Some};
-ghost use Rattle.ng_server.specs.Histories.{ControlEntry, kept_among, keepings};
-ghost use Rattle.ng_server.specs.Due.{IsDue};
-ghost use Rattle.ng_server.specs.First.{WasFirst};
+ghost use Rattle.std.specs.Prelude.{◌≡◌, ◌∷◌, true, List, ℕ};
+ghost use Rattle.relay_outside.specs.declared.settings.Config.{Config};
+ghost use Rattle.ng_reply.specs.declared.code.ErrorCode.{ErrorCode};
+ghost use Rattle.call_board.specs.Acts.{Control, Turn, BoardEntry, Lease, Undone};
+ghost use Rattle.call_board.specs.Fits.{IsFitting};
+ghost use Rattle.ng_server.specs.Errors.{is_idle, LeavesAll, LeavesCalls};
 
-/// A law, and no work: a command for which a reply is kept gets that reply, whatever its body says, and all that is kept
-/// is as before. The reply is that of an earlier command with its source and cookie, which was no repeat, found memory,
-/// and is less than 60,000 milliseconds old.
-pub fn a_kept_cookie_gives_its_first_reply()
-    ensures reply { (history : List ControlEntry) (entry : ControlEntry) (reply : List ℕ) →
-        kept_among (keepings history) entry ≡ Some reply → IsDue history entry → entry.reply ≡ reply }
-    ensures first { (history : List ControlEntry) (entry : ControlEntry) (reply : List ℕ) →
-        kept_among (keepings history) entry ≡ Some reply → WasFirst history entry.source entry.cookie entry.moment reply }
-    ensures nothing_more { (history : List ControlEntry) (entry : ControlEntry) (reply : List ℕ) →
-        kept_among (keepings history) entry ≡ Some reply → keepings (entry ∷ history) ≡ keepings history }
+/// A law, and no work: after an error the calls, their descriptions and the held pairs are as before it, and the same pairs are
+/// free. After an error that comes before anything is leased, want of memory among them, the order of the free pairs and the
+/// number of keys drawn are as before, too; after an offer that was undone (`port fault`, `key source fault`) the keys that it had
+/// drawn are used up.
+pub fn errors_change_nothing()
+    ensures idle { (config : Config) (h : List BoardEntry) (e : BoardEntry) (c : Control) → e.event ≡ Turn c → is_idle c.act ≡ true → LeavesAll config e h }
+    ensures undone { (config : Config) (h : List BoardEntry) (e : BoardEntry) (c : Control) (code : ErrorCode) (leases : List Lease) (draws : List (List ℕ)) →
+        e.event ≡ Turn c → c.act ≡ Undone code leases draws → IsFitting config (e ∷ h) → LeavesCalls config e h draws }
 {}

@@ -1,218 +1,158 @@
-ghost use Rattle.std.specs.Prelude.{◌≡◌, ◌≤◌, ◌<◌, ℕ, List, [], false, ◌++◌, ◌∷◌, ◌≢◌, IfOk, OnOk, length};
+ghost use Rattle.std.specs.Prelude.{◌≡◌, ◌≤◌, ◌≢◌, List, [], map, length, IfOk};
 ghost use Rattle.relay_outside.specs.Told.{Rose};
-ghost use Rattle.ng_reply.specs.Replies.{error_datagram};
-ghost use Rattle.cookie_cache.specs.Keepings.{Keeping, IsCookie, last_moment};
-ghost use Rattle.cookie_cache.specs.Caches.{HasSparePlace};
-ghost use Rattle.cookie_cache.specs.Caches as caches;
-ghost use Rattle.ng_bencode.specs.Tree.{Tree};
-ghost use Rattle.ng_bencode.specs.Spells.{spelling};
-ghost use Rattle.ng_server.specs.Histories.{ControlEntry};
-ghost use Rattle.ng_server.specs.Due.{IsAnswered};
-ghost use Rattle.ng_server.specs.Servers.{StandsFor};
-ghost use Rattle.ng_server.specs.Turns.{Turned};
-ghost use Rattle.ng_server.specs.Answering.{DidSend, DidAnswer, Responded};
+ghost use Rattle.relay_outside.specs.declared.settings.Config.{Config};
+ghost use Rattle.turn_table.specs.Hands.{IsSameHand, IsHandOf, HasNoTurn, parts, starts, entries};
+ghost use Rattle.call_board.specs.Calls.{live};
+ghost use Rattle.relay_core.specs.Entries.{Entry};
+ghost use Rattle.relay_core.specs.Legal.{Orderly, Legal};
+ghost use Rattle.relay_core.specs.Safe.{BoardSafe, Safe};
+ghost use Rattle.relay_core.specs.Made.{told};
+ghost use Rattle.relay_core.specs.Turning.{made_by};
+ghost use Rattle.relay_core.specs.Beginning.{AreParts};
+ghost use Rattle.relay_core.specs.Joining.{IsSound, AreStanding};
+ghost use Rattle.media_ports.specs.Held.{TellsHeld};
+ghost use Rattle.board_turns.specs.Between.{IsBetween, MakesTurn};
+ghost use Rattle.board_turns.specs.Stopping.{stop_entry};
+ghost use Rattle.control_turns.specs.Taking.{Turned};
+ghost use Rattle.ng_server.specs.Servers.{OpensJust, history_of};
 
-use crate::answer::{Fresh, fresh_reply};
 use crate::desk::Desk;
-use cookie_cache::CookieCache;
-use ng_frame::split;
-use ng_reply::{ErrorCode, fixed_error};
-use relay_outside::{Addr, ControlLink, OutOfMemory, Taken};
+use board_turns::stop_turn;
+use control_turns::{ControlTurn, control_turn};
+use relay_core::{Part, Relay, close_relay, parts};
+use relay_outside::{Config, ControlLink, InEnd, KeySource, OutEnd, OutOfMemory, PortMaker};
 use std::alloc::Global;
+use std::sync::Wait;
+use turn_table::{Hand, Turns};
 
-/// How many bytes a datagram of the control protocol may have.
-const LONGEST: usize = 16_384;
-
-/// How a control turn ended.
-#[derive(Clone, Copy, PartialEq, Eq, Debug)]
-pub enum ControlTurn {
-    /// A reply was sent.
-    Replied,
-    /// The datagram has no frame: it gets no reply.
-    Silent,
-    /// The link had nothing at this call.
-    Nothing,
-    /// The link gives no more.
-    End,
-    /// The take failed.
-    ReadFault,
-    /// The send of the reply failed. The command and its kept reply stand.
-    ReplyFault,
+/// A relay under the ng control protocol: the table of its turns, which threads share by reference, and its configuration. It has to
+/// be closed, by the hand that has all parts.
+pub struct Server<P: PortMaker> {
+    pub(crate) config: Config,
+    pub(crate) turns: Turns<Relay<P::In, P::Out>>,
 }
 
-/// The server of the ng control protocol.
-///
-/// Contracts see it by the histories of the commands that it answered: it stands for such a history, and what it answers
-/// follows from it.
-#[derive(Drop)]
-pub struct Server {
-    /// The first replies to the last commands.
-    cache: CookieCache,
-    /// The moment of the last command, in milliseconds.
-    moment: u64,
-}
-
-/// A datagram that has a frame.
-#[derive(Clone, Copy)]
-pub(crate) struct Request<'a> {
-    /// Where it came from.
-    source: Addr,
-    /// Its cookie.
-    cookie: &'a [u8],
-    /// Its body.
-    body: &'a [u8],
-    /// Whether it has more bytes than a datagram may have.
-    too_long: bool,
-    /// The moment that is used for it.
-    moment: u64,
-}
-
-/// Sends a reply.
-fn send<N: ControlLink>(link: &mut N, to: Addr, bytes: &[u8]) -> ControlTurn
-    ensures sent { DidSend to bytes.now result (N.told link.old) (N.told link.new) }
-    ensures later { N.faults link.old ≤ N.faults link.new }
-    ensures no_read_fault { result ≢ ControlTurn.ReadFault }
-    ensures cause { result ≡ ControlTurn.ReplyFault → Rose (N.faults link.old) (N.faults link.new) }
-{
-    match link.send(to, bytes) {
-        Ok(()) => ControlTurn::Replied,
-        Err(_) => ControlTurn::ReplyFault,
-    }
-}
-
-/// Answers that memory was refused, without taking any.
-fn send_shortage<N: ControlLink>(link: &mut N, to: Addr, cookie: &[u8]) -> ControlTurn
-    requires { IsCookie cookie.now }
-    ensures sent { DidSend to (error_datagram cookie.now ErrorCode.E17) result (N.told link.old) (N.told link.new) }
-    ensures later { N.faults link.old ≤ N.faults link.new }
-    ensures no_read_fault { result ≢ ControlTurn.ReadFault }
-    ensures cause { result ≡ ControlTurn.ReplyFault → Rose (N.faults link.old) (N.faults link.new) }
-{
-    let mut out = [0; 512];
-    let len = fixed_error(cookie, ErrorCode::E17, &mut out);
-    send(link, to, &out[..len])
-}
-
-/// Makes the reply to a request, and the place to keep it.
-fn prepare(alloc: Global, cache: &mut CookieCache, request: &Request) -> Result<Fresh, OutOfMemory>
-    requires { IsCookie request.now.cookie.now }
-    ensures kept { (keepings : List Keeping) → caches.StandsFor cache.old keepings → caches.StandsFor cache.new keepings }
-    ensures place { OnOk result (HasSparePlace cache.new) }
-    ensures cookie { IfOk result (λ fresh. fresh.cookie.list ≡ request.now.cookie.now) }
-    ensures reply { IfOk result (λ fresh. (tree : Tree) × IsAnswered false request.now.too_long request.now.body.now tree × (fresh.reply.list ≡ request.now.cookie.now ++ 32 ∷ spelling tree)) }
-{
-    let Ok(()) = cache.reserve() else {
-        return Err(OutOfMemory);
-    };
-    fresh_reply(alloc, request.cookie, request.body, request.too_long)
-}
-
-/// Sends the reply to a request: the kept one, or a new one, which is kept.
-fn reply<N: ControlLink>(
+/// The table of a relay before its first step, and its main hand.
+fn start_table<I: InEnd + Drop, O: OutEnd + Drop>(
     alloc: Global,
-    cache: &mut CookieCache,
-    link: &mut N,
-    request: &Request,
-) -> ControlTurn
-    requires { IsCookie request.now.cookie.now }
-    ensures answered { (keepings : List Keeping) → caches.StandsFor cache.old keepings → last_moment keepings ≤ request.now.moment → DidAnswer keepings request.now result cache.new (N.told link.old) (N.told link.new) }
-    ensures later { N.faults link.old ≤ N.faults link.new }
-    ensures no_read_fault { result ≢ ControlTurn.ReadFault }
-    ensures cause { result ≡ ControlTurn.ReplyFault → Rose (N.faults link.old) (N.faults link.new) }
+    config: &Config,
+) -> Result<(Turns<Relay<I, O>>, Hand<Relay<I, O>>), OutOfMemory>
+    ensures between { IfOk result (λ r. IsBetween config.now r.0 r.1) }
+    ensures nothing { IfOk result (λ r. made_by r.1 ≡ []) }
+    ensures all { IfOk result (λ r. parts r.1 ≡ 1024) }
 {
-    if let Some(kept) = cache.find(request.source, request.cookie, request.moment) {
-        return send(link, request.source, kept);
+    let states = parts(alloc, config)?;
+    match Turns::start(alloc, states) {
+        Ok(started) => Ok(started),
+        Err(_) => Err(OutOfMemory),
     }
-    let Ok(fresh) = prepare(alloc, cache, request) else {
-        return send_shortage(link, request.source, request.cookie);
-    };
-    let Fresh { cookie, reply } = fresh;
-    let turn = send(link, request.source, reply.as_slice());
-    cache.keep(request.source, cookie, reply, request.moment);
-    turn
 }
 
-impl Server {
-    /// A server that answered nothing yet.
-    pub fn start(alloc: Global) -> Result<Server, OutOfMemory>
-        ensures { IfOk result (λ server. StandsFor server []) }
-    {
-        match CookieCache::new(alloc) {
-            Ok(cache) => Ok(Server { cache, moment: 0 }),
-            Err(OutOfMemory) => Err(OutOfMemory),
-        }
-    }
-
-    /// Answers a datagram that was taken, where it has a frame.
-    fn respond<N: ControlLink>(
-        &mut self,
+impl<P: PortMaker> Server<P> {
+    /// A server without a call, and its main hand, which has all parts of the table.
+    pub fn start(
         alloc: Global,
-        link: &mut N,
-        from: Addr,
-        datagram: &[u8],
-        now: u64,
-    ) -> ControlTurn
-        ensures responded { (history : List ControlEntry) → StandsFor self.old history → Responded history now from datagram.now result self.new (N.told link.old) (N.told link.new) }
-        ensures later { N.faults link.old ≤ N.faults link.new }
-        ensures no_read_fault { result ≢ ControlTurn.ReadFault }
-        ensures cause { result ≡ ControlTurn.ReplyFault → Rose (N.faults link.old) (N.faults link.new) }
+        config: Config,
+    ) -> Result<(Server<P>, Hand<Relay<P::In, P::Out>>), OutOfMemory>
+    where
+        P::In: Drop,
+        P::Out: Drop,
+        ensures config { IfOk result (λ r. r.0.config ≡ config) }
+        ensures between { IfOk result (λ r. IsBetween r.0.config r.0.turns r.1) }
+        ensures nothing { IfOk result (λ r. made_by r.1 ≡ []) }
+        ensures all { IfOk result (λ r. parts r.1 ≡ 1024) }
     {
-        let Some((cookie, body)) = split(datagram) else {
-            return ControlTurn::Silent;
-        };
-        self.moment = self.moment.max(now);
-        let request = Request {
-            source: from,
-            cookie,
-            body,
-            too_long: datagram.len() > LONGEST,
-            moment: self.moment,
-        };
-        reply(alloc, &mut self.cache, link, &request)
+        let (turns, hand) = start_table(alloc, &config)?;
+        Ok((Server { config, turns }, hand))
     }
 
-    /// Takes one datagram into the room, and answers it.
-    fn take_turn<N: ControlLink>(
-        &mut self,
-        alloc: Global,
-        room: &mut [u8],
-        link: &mut N,
-        now: u64,
-    ) -> ControlTurn
-        requires { length room.old ≡ 16385 }
-        ensures turned { (history : List ControlEntry) → StandsFor self.old history → Turned history now result self.new (N.told link.old) (N.told link.new) }
-        ensures later { N.faults link.old ≤ N.faults link.new }
-        ensures read_fault { result ≡ ControlTurn.ReadFault → Rose (N.faults link.old) (N.faults link.new) }
-        ensures reply_fault { result ≡ ControlTurn.ReplyFault → Rose (N.faults link.old) (N.faults link.new) }
+    /// The table, for the lanes.
+    pub fn turns(&self) -> &Turns<Relay<P::In, P::Out>>
+        ensures { result.now ≡ self.now.turns }
     {
-        match link.take(room) {
-            Ok(Taken::Datagram { from, len }) => {
-                self.respond(alloc, link, from, &room[..len], now)
-            }
-            Ok(Taken::Nothing) => ControlTurn::Nothing,
-            Ok(Taken::End) => ControlTurn::End,
-            Err(_) => ControlTurn::ReadFault,
-        }
+        &self.turns
     }
 
-    /// Takes one datagram from the link into the desk, and answers it.
+    /// Takes one datagram from the link into the desk, and answers it, in one turn of the board.
     ///
-    /// A datagram without a frame gets no reply. Every other gets exactly one, to its source: the one that is kept for
-    /// its cookie, or else the one that is due, which is then kept, also where its send fails. Want of memory is answered
-    /// as such, and that reply is not kept. `now` is in milliseconds; a moment before that of the last command counts as
-    /// that one.
-    pub fn control_turn<N: ControlLink>(
-        &mut self,
+    /// A datagram without a frame gets no reply. Every other gets exactly one, to its source: the one that is kept for its cookie,
+    /// or else the one that is due, which is then kept, also where its send fails. An offer leases pairs and opens their ports, and
+    /// all of it is undone after a fault; what ends closes its ports. Want of memory is answered as such, and then nothing is done.
+    /// `now` is in milliseconds; a moment before that of the board's last entry counts as that one. It may wait for the board's turn, and
+    /// for those of boxes and cells.
+    pub fn control_turn<N: ControlLink, K: KeySource, R: Wait>(
+        &self,
+        rt: &R,
         alloc: Global,
-        desk: &mut Desk,
+        hand: &mut Hand<Relay<P::In, P::Out>>,
+        desk: &mut Desk<P::Out>,
         link: &mut N,
+        ports: &mut P,
+        keys: &mut K,
         now: u64,
     ) -> ControlTurn
-        ensures turned { (history : List ControlEntry) → StandsFor self.old history → Turned history now result self.new (N.told link.old) (N.told link.new) }
-        ensures later { N.faults link.old ≤ N.faults link.new }
+        requires between { IsBetween self.now.config self.now.turns hand.old }
+        requires open { OpensJust self.now.config (history_of hand.old) (P.told ports.old) }
+        ensures same { IsSameHand hand.old hand.new }
+        ensures between { IsBetween self.now.config self.now.turns hand.new }
+        ensures safe { BoardSafe self.now.config (made_by hand.new) }
+        ensures open { OpensJust self.now.config (history_of hand.new) (P.told ports.new) }
+        ensures turned { Turned self.now.config hand.old hand.new now result (P.faults ports.old) (P.faults ports.new) (K.faults keys.old) (K.faults keys.new) (K.told keys.old) (K.told keys.new) (N.told link.old) (N.told link.new) }
         ensures read_fault { result ≡ ControlTurn.ReadFault → Rose (N.faults link.old) (N.faults link.new) }
         ensures reply_fault { result ≡ ControlTurn.ReplyFault → Rose (N.faults link.old) (N.faults link.new) }
+        ensures later { (N.faults link.old ≤ N.faults link.new) × (P.faults ports.old ≤ P.faults ports.new) × (K.faults keys.old ≤ K.faults keys.new) }
     {
-        self.take_turn(alloc, desk.datagram.as_mut_slice(), link, now)
+        control_turn(
+            rt,
+            alloc,
+            &self.turns,
+            hand,
+            &self.config,
+            desk.datagram.as_mut_slice(),
+            &mut desk.gone,
+            link,
+            ports,
+            keys,
+            now,
+        )
+    }
+
+    /// Ends all live calls, in order of their creation, and answers how many. Then no port of a pair is open. It may wait for turns;
+    /// it takes no memory.
+    pub fn stop<R: Wait>(
+        &self,
+        rt: &R,
+        hand: &mut Hand<Relay<P::In, P::Out>>,
+        desk: &mut Desk<P::Out>,
+        ports: &mut P,
+    ) -> usize
+        requires between { IsBetween self.now.config self.now.turns hand.old }
+        requires open { OpensJust self.now.config (history_of hand.old) (P.told ports.old) }
+        ensures same { IsSameHand hand.old hand.new }
+        ensures between { IsBetween self.now.config self.now.turns hand.new }
+        ensures makes { MakesTurn self.now.config hand.old hand.new (stop_entry (history_of hand.old)) }
+        ensures count { result ≡ length (live (history_of hand.old)) }
+        ensures shut { TellsHeld self.now.config (P.told ports.new) [] }
+        ensures later { P.faults ports.old ≤ P.faults ports.new }
+    {
+        stop_turn(rt, &self.turns, hand, &self.config, ports, &mut desk.gone)
+    }
+
+    /// Closes the table by the hand that has all its parts, and answers what its places hold, in order. It takes no memory.
+    ///
+    /// The hand's list is then that of all steps of all places, and it is legal, and so safe, with what each relay noted,
+    /// protected and sent told beside its outcome.
+    pub fn close(self, hand: Hand<Relay<P::In, P::Out>>) -> Vec<Part<P::In, P::Out>>
+        requires table { IsHandOf self.turns hand }
+        requires all { parts hand ≡ 1024 }
+        requires idle { HasNoTurn hand }
+        requires starts { AreParts self.config (starts hand) }
+        requires sound { IsSound self.config (entries hand) }
+        ensures length { length result.items ≡ length (starts hand) }
+        ensures states { AreStanding self.config result.items (made_by hand) }
+        ensures legal { (l : List Entry) × (map told l ≡ made_by hand) × Legal self.config l × Safe self.config l }
+    {
+        let Server { config: _, turns } = self;
+        close_relay(turns, hand)
     }
 }

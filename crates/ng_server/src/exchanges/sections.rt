@@ -1,0 +1,355 @@
+//! Sections that are added, rejected and dropped, and sections of other protocols than audio's.
+use super::{Exchange, PROXY, Scenario};
+
+/// Sections that come and go, before and after a commit.
+pub(crate) static SECTIONS: [Scenario; 2] = [
+    Scenario {
+        name: "a second section that comes and goes",
+        range: (30_000, 30_011),
+        max_sessions: 16,
+        failing_opens: &[],
+        keys: &[],
+        failing_draws: &[],
+        exchanges: &[
+            Exchange {
+                from: PROXY,
+                at: 0,
+                ask: "1 d7:call-id2:c17:command5:offer8:from-tag1:a3:sdp93:v=0\r\no=alice 1 1 IN IP4 192.0.2.10\r\ns=-\r\nc=IN IP4 192.0.2.10\r\nt=0 0\r\nm=audio 6000 RTP/AVP 0\r\ne",
+                reply: "1 d6:result2:ok3:sdp116:v=0\r\no=alice 1 1 IN IP4 192.0.2.10\r\ns=-\r\nc=IN IP4 192.0.2.10\r\nt=0 0\r\nm=audio 30000 RTP/AVP 0\r\nc=IN IP4 203.0.113.1\r\ne",
+                open: &[30_000, 30_001, 30_002, 30_003],
+            },
+            Exchange {
+                from: PROXY,
+                at: 0,
+                ask: "2 d7:call-id2:c17:command6:answer8:from-tag1:a3:sdp97:v=0\r\no=bob 2 2 IN IP4 198.51.100.20\r\ns=-\r\nc=IN IP4 198.51.100.20\r\nt=0 0\r\nm=audio 7000 RTP/AVP 0\r\n6:to-tag1:be",
+                reply: "2 d6:result2:ok3:sdp120:v=0\r\no=bob 2 2 IN IP4 198.51.100.20\r\ns=-\r\nc=IN IP4 198.51.100.20\r\nt=0 0\r\nm=audio 30002 RTP/AVP 0\r\nc=IN IP4 203.0.113.1\r\ne",
+                open: &[30_000, 30_001, 30_002, 30_003],
+            },
+            Exchange {
+                from: PROXY,
+                at: 0,
+                ask: "3 d7:call-id2:c17:command5:offer8:from-tag1:a3:sdp117:v=0\r\no=alice 1 1 IN IP4 192.0.2.10\r\ns=-\r\nc=IN IP4 192.0.2.10\r\nt=0 0\r\nm=audio 6000 RTP/AVP 0\r\nm=audio 6010 RTP/AVP 8\r\ne",
+                reply: "3 d6:result2:ok3:sdp163:v=0\r\no=alice 1 1 IN IP4 192.0.2.10\r\ns=-\r\nc=IN IP4 192.0.2.10\r\nt=0 0\r\nm=audio 30000 RTP/AVP 0\r\nc=IN IP4 203.0.113.1\r\nm=audio 30004 RTP/AVP 8\r\nc=IN IP4 203.0.113.1\r\ne",
+                open: &[
+                    30_000, 30_001, 30_002, 30_003, 30_004, 30_005, 30_006, 30_007,
+                ],
+            },
+            Exchange {
+                from: PROXY,
+                at: 0,
+                ask: "4 d7:call-id2:c17:command6:answer8:from-tag1:a3:sdp97:v=0\r\no=bob 2 2 IN IP4 198.51.100.20\r\ns=-\r\nc=IN IP4 198.51.100.20\r\nt=0 0\r\nm=audio 7000 RTP/AVP 0\r\n6:to-tag1:be",
+                reply: "4 d12:error-reason19:media count differs6:result5:errore",
+                open: &[
+                    30_000, 30_001, 30_002, 30_003, 30_004, 30_005, 30_006, 30_007,
+                ],
+            },
+            Exchange {
+                from: PROXY,
+                at: 0,
+                ask: "5 d7:call-id2:c17:command6:answer8:from-tag1:a3:sdp118:v=0\r\no=bob 2 2 IN IP4 198.51.100.20\r\ns=-\r\nc=IN IP4 198.51.100.20\r\nt=0 0\r\nm=audio 7000 RTP/AVP 0\r\nm=audio 0 RTP/AVP 8\r\n6:to-tag1:be",
+                reply: "5 d6:result2:ok3:sdp163:v=0\r\no=bob 2 2 IN IP4 198.51.100.20\r\ns=-\r\nc=IN IP4 198.51.100.20\r\nt=0 0\r\nm=audio 30002 RTP/AVP 0\r\nc=IN IP4 203.0.113.1\r\nm=audio 0 RTP/AVP 8\r\nc=IN IP4 203.0.113.1\r\ne",
+                open: &[30_000, 30_001, 30_002, 30_003],
+            },
+            Exchange {
+                from: PROXY,
+                at: 0,
+                ask: "6 d7:call-id2:c17:command6:answer8:from-tag1:a3:sdp121:v=0\r\no=bob 2 2 IN IP4 198.51.100.20\r\ns=-\r\nc=IN IP4 198.51.100.20\r\nt=0 0\r\nm=audio 7000 RTP/AVP 0\r\nm=audio 7010 RTP/AVP 8\r\n6:to-tag1:be",
+                reply: "6 d6:result2:ok3:sdp163:v=0\r\no=bob 2 2 IN IP4 198.51.100.20\r\ns=-\r\nc=IN IP4 198.51.100.20\r\nt=0 0\r\nm=audio 30002 RTP/AVP 0\r\nc=IN IP4 203.0.113.1\r\nm=audio 0 RTP/AVP 8\r\nc=IN IP4 203.0.113.1\r\ne",
+                open: &[30_000, 30_001, 30_002, 30_003],
+            },
+            Exchange {
+                from: PROXY,
+                at: 0,
+                ask: "7 d7:call-id2:c17:command5:offer8:from-tag1:a3:sdp93:v=0\r\no=alice 1 1 IN IP4 192.0.2.10\r\ns=-\r\nc=IN IP4 192.0.2.10\r\nt=0 0\r\nm=audio 6000 RTP/AVP 0\r\ne",
+                reply: "7 d12:error-reason19:media count differs6:result5:errore",
+                open: &[30_000, 30_001, 30_002, 30_003],
+            },
+            Exchange {
+                from: PROXY,
+                at: 0,
+                ask: "8 d7:call-id2:c17:command5:offer8:from-tag1:b3:sdp121:v=0\r\no=bob 2 2 IN IP4 198.51.100.20\r\ns=-\r\nc=IN IP4 198.51.100.20\r\nt=0 0\r\nm=audio 7000 RTP/AVP 0\r\nm=audio 7010 RTP/AVP 8\r\ne",
+                reply: "8 d6:result2:ok3:sdp167:v=0\r\no=bob 2 2 IN IP4 198.51.100.20\r\ns=-\r\nc=IN IP4 198.51.100.20\r\nt=0 0\r\nm=audio 30002 RTP/AVP 0\r\nc=IN IP4 203.0.113.1\r\nm=audio 30008 RTP/AVP 8\r\nc=IN IP4 203.0.113.1\r\ne",
+                open: &[
+                    30_000, 30_001, 30_002, 30_003, 30_008, 30_009, 30_010, 30_011,
+                ],
+            },
+            Exchange {
+                from: PROXY,
+                at: 0,
+                ask: "9 d7:call-id2:c17:command6:answer8:from-tag1:b3:sdp117:v=0\r\no=alice 1 1 IN IP4 192.0.2.10\r\ns=-\r\nc=IN IP4 192.0.2.10\r\nt=0 0\r\nm=audio 6000 RTP/AVP 0\r\nm=audio 6010 RTP/AVP 8\r\n6:to-tag1:ae",
+                reply: "9 d6:result2:ok3:sdp163:v=0\r\no=alice 1 1 IN IP4 192.0.2.10\r\ns=-\r\nc=IN IP4 192.0.2.10\r\nt=0 0\r\nm=audio 30000 RTP/AVP 0\r\nc=IN IP4 203.0.113.1\r\nm=audio 30010 RTP/AVP 8\r\nc=IN IP4 203.0.113.1\r\ne",
+                open: &[
+                    30_000, 30_001, 30_002, 30_003, 30_008, 30_009, 30_010, 30_011,
+                ],
+            },
+            Exchange {
+                from: PROXY,
+                at: 0,
+                ask: "10 d7:call-id2:c17:command5:offer8:from-tag1:a3:sdp114:v=0\r\no=alice 1 1 IN IP4 192.0.2.10\r\ns=-\r\nc=IN IP4 192.0.2.10\r\nt=0 0\r\nm=audio 6000 RTP/AVP 0\r\nm=audio 0 RTP/AVP 8\r\ne",
+                reply: "10 d6:result2:ok3:sdp159:v=0\r\no=alice 1 1 IN IP4 192.0.2.10\r\ns=-\r\nc=IN IP4 192.0.2.10\r\nt=0 0\r\nm=audio 30000 RTP/AVP 0\r\nc=IN IP4 203.0.113.1\r\nm=audio 0 RTP/AVP 8\r\nc=IN IP4 203.0.113.1\r\ne",
+                open: &[
+                    30_000, 30_001, 30_002, 30_003, 30_008, 30_009, 30_010, 30_011,
+                ],
+            },
+            Exchange {
+                from: PROXY,
+                at: 0,
+                ask: "11 d7:call-id2:c17:command5:offer8:from-tag1:a3:sdp117:v=0\r\no=alice 1 1 IN IP4 192.0.2.10\r\ns=-\r\nc=IN IP4 192.0.2.10\r\nt=0 0\r\nm=audio 6000 RTP/AVP 0\r\nm=audio 6010 RTP/AVP 8\r\ne",
+                reply: "11 d6:result2:ok3:sdp163:v=0\r\no=alice 1 1 IN IP4 192.0.2.10\r\ns=-\r\nc=IN IP4 192.0.2.10\r\nt=0 0\r\nm=audio 30000 RTP/AVP 0\r\nc=IN IP4 203.0.113.1\r\nm=audio 30010 RTP/AVP 8\r\nc=IN IP4 203.0.113.1\r\ne",
+                open: &[
+                    30_000, 30_001, 30_002, 30_003, 30_008, 30_009, 30_010, 30_011,
+                ],
+            },
+            Exchange {
+                from: PROXY,
+                at: 0,
+                ask: "12 d7:call-id2:c17:command6:answer8:from-tag1:a3:sdp118:v=0\r\no=bob 2 2 IN IP4 198.51.100.20\r\ns=-\r\nc=IN IP4 198.51.100.20\r\nt=0 0\r\nm=audio 0 RTP/AVP 0\r\nm=audio 7010 RTP/AVP 8\r\n6:to-tag1:be",
+                reply: "12 d6:result2:ok3:sdp163:v=0\r\no=bob 2 2 IN IP4 198.51.100.20\r\ns=-\r\nc=IN IP4 198.51.100.20\r\nt=0 0\r\nm=audio 0 RTP/AVP 0\r\nc=IN IP4 203.0.113.1\r\nm=audio 30008 RTP/AVP 8\r\nc=IN IP4 203.0.113.1\r\ne",
+                open: &[30_008, 30_009, 30_010, 30_011],
+            },
+            Exchange {
+                from: PROXY,
+                at: 0,
+                ask: "13 d7:call-id2:c17:command6:deletee",
+                reply: "13 d6:result2:oke",
+                open: &[],
+            },
+        ],
+    },
+    Scenario {
+        name: "sections of an offer that no answer committed",
+        range: (30_000, 30_015),
+        max_sessions: 16,
+        failing_opens: &[],
+        keys: &[],
+        failing_draws: &[],
+        exchanges: &[
+            Exchange {
+                from: PROXY,
+                at: 0,
+                ask: "1 d7:call-id2:c17:command5:offer8:from-tag1:a3:sdp117:v=0\r\no=alice 1 1 IN IP4 192.0.2.10\r\ns=-\r\nc=IN IP4 192.0.2.10\r\nt=0 0\r\nm=audio 6000 RTP/AVP 0\r\nm=audio 6010 RTP/AVP 8\r\ne",
+                reply: "1 d6:result2:ok3:sdp163:v=0\r\no=alice 1 1 IN IP4 192.0.2.10\r\ns=-\r\nc=IN IP4 192.0.2.10\r\nt=0 0\r\nm=audio 30000 RTP/AVP 0\r\nc=IN IP4 203.0.113.1\r\nm=audio 30004 RTP/AVP 8\r\nc=IN IP4 203.0.113.1\r\ne",
+                open: &[
+                    30_000, 30_001, 30_002, 30_003, 30_004, 30_005, 30_006, 30_007,
+                ],
+            },
+            Exchange {
+                from: PROXY,
+                at: 0,
+                ask: "2 d7:call-id2:c17:command5:offer8:from-tag1:a3:sdp114:v=0\r\no=alice 1 1 IN IP4 192.0.2.10\r\ns=-\r\nc=IN IP4 192.0.2.10\r\nt=0 0\r\nm=audio 6000 RTP/AVP 0\r\nm=audio 0 RTP/AVP 8\r\ne",
+                reply: "2 d6:result2:ok3:sdp159:v=0\r\no=alice 1 1 IN IP4 192.0.2.10\r\ns=-\r\nc=IN IP4 192.0.2.10\r\nt=0 0\r\nm=audio 30000 RTP/AVP 0\r\nc=IN IP4 203.0.113.1\r\nm=audio 0 RTP/AVP 8\r\nc=IN IP4 203.0.113.1\r\ne",
+                open: &[30_000, 30_001, 30_002, 30_003],
+            },
+            Exchange {
+                from: PROXY,
+                at: 0,
+                ask: "3 d7:call-id2:c17:command5:offer8:from-tag1:a3:sdp114:v=0\r\no=alice 1 1 IN IP4 192.0.2.10\r\ns=-\r\nc=IN IP4 192.0.2.10\r\nt=0 0\r\nm=audio 0 RTP/AVP 0\r\nm=audio 6010 RTP/AVP 8\r\ne",
+                reply: "3 d6:result2:ok3:sdp159:v=0\r\no=alice 1 1 IN IP4 192.0.2.10\r\ns=-\r\nc=IN IP4 192.0.2.10\r\nt=0 0\r\nm=audio 0 RTP/AVP 0\r\nc=IN IP4 203.0.113.1\r\nm=audio 30008 RTP/AVP 8\r\nc=IN IP4 203.0.113.1\r\ne",
+                open: &[30_008, 30_009, 30_010, 30_011],
+            },
+            Exchange {
+                from: PROXY,
+                at: 0,
+                ask: "4 d7:call-id2:c17:command5:offer8:from-tag1:a3:sdp138:v=0\r\no=alice 1 1 IN IP4 192.0.2.10\r\ns=-\r\nc=IN IP4 192.0.2.10\r\nt=0 0\r\nm=audio 0 RTP/AVP 0\r\nm=audio 6010 RTP/AVP 8\r\nm=audio 6020 RTP/AVP 9\r\ne",
+                reply: "4 d6:result2:ok3:sdp206:v=0\r\no=alice 1 1 IN IP4 192.0.2.10\r\ns=-\r\nc=IN IP4 192.0.2.10\r\nt=0 0\r\nm=audio 0 RTP/AVP 0\r\nc=IN IP4 203.0.113.1\r\nm=audio 30008 RTP/AVP 8\r\nc=IN IP4 203.0.113.1\r\nm=audio 30012 RTP/AVP 9\r\nc=IN IP4 203.0.113.1\r\ne",
+                open: &[
+                    30_008, 30_009, 30_010, 30_011, 30_012, 30_013, 30_014, 30_015,
+                ],
+            },
+            Exchange {
+                from: PROXY,
+                at: 0,
+                ask: "5 d7:call-id2:c17:command5:offer8:from-tag1:a3:sdp93:v=0\r\no=alice 1 1 IN IP4 192.0.2.10\r\ns=-\r\nc=IN IP4 192.0.2.10\r\nt=0 0\r\nm=audio 6000 RTP/AVP 0\r\ne",
+                reply: "5 d6:result2:ok3:sdp116:v=0\r\no=alice 1 1 IN IP4 192.0.2.10\r\ns=-\r\nc=IN IP4 192.0.2.10\r\nt=0 0\r\nm=audio 30004 RTP/AVP 0\r\nc=IN IP4 203.0.113.1\r\ne",
+                open: &[30_004, 30_005, 30_006, 30_007],
+            },
+            Exchange {
+                from: PROXY,
+                at: 0,
+                ask: "6 d7:call-id2:c17:command6:answer8:from-tag1:a3:sdp97:v=0\r\no=bob 2 2 IN IP4 198.51.100.20\r\ns=-\r\nc=IN IP4 198.51.100.20\r\nt=0 0\r\nm=audio 7000 RTP/AVP 0\r\n6:to-tag1:be",
+                reply: "6 d6:result2:ok3:sdp120:v=0\r\no=bob 2 2 IN IP4 198.51.100.20\r\ns=-\r\nc=IN IP4 198.51.100.20\r\nt=0 0\r\nm=audio 30006 RTP/AVP 0\r\nc=IN IP4 203.0.113.1\r\ne",
+                open: &[30_004, 30_005, 30_006, 30_007],
+            },
+        ],
+    },
+];
+
+/// Rejected sections, and sections of other kinds than audio.
+pub(crate) static SECTION_KINDS: [Scenario; 3] = [
+    Scenario {
+        name: "the only section is rejected, and offered again",
+        range: (30_000, 30_007),
+        max_sessions: 16,
+        failing_opens: &[],
+        keys: &[],
+        failing_draws: &[],
+        exchanges: &[
+            Exchange {
+                from: PROXY,
+                at: 0,
+                ask: "1 d7:call-id2:c17:command5:offer8:from-tag1:a3:sdp129:v=0\r\no=alice 1 1 IN IP4 192.0.2.10\r\ns=-\r\nc=IN IP4 192.0.2.10\r\nt=0 0\r\nm=audio 6000 RTP/AVP 0 8\r\na=rtpmap:0 PCMU/8000\r\na=sendrecv\r\ne",
+                reply: "1 d6:result2:ok3:sdp152:v=0\r\no=alice 1 1 IN IP4 192.0.2.10\r\ns=-\r\nc=IN IP4 192.0.2.10\r\nt=0 0\r\nm=audio 30000 RTP/AVP 0 8\r\nc=IN IP4 203.0.113.1\r\na=rtpmap:0 PCMU/8000\r\na=sendrecv\r\ne",
+                open: &[30_000, 30_001, 30_002, 30_003],
+            },
+            Exchange {
+                from: PROXY,
+                at: 0,
+                ask: "2 d7:call-id2:c17:command6:answer8:from-tag1:a3:sdp94:v=0\r\no=bob 2 2 IN IP4 198.51.100.20\r\ns=-\r\nc=IN IP4 198.51.100.20\r\nt=0 0\r\nm=audio 0 RTP/AVP 0\r\n6:to-tag1:be",
+                reply: "2 d6:result2:ok3:sdp116:v=0\r\no=bob 2 2 IN IP4 198.51.100.20\r\ns=-\r\nc=IN IP4 198.51.100.20\r\nt=0 0\r\nm=audio 0 RTP/AVP 0\r\nc=IN IP4 203.0.113.1\r\ne",
+                open: &[],
+            },
+            Exchange {
+                from: PROXY,
+                at: 0,
+                ask: "3 d7:call-id2:c17:command6:answer8:from-tag1:a3:sdp97:v=0\r\no=bob 2 2 IN IP4 198.51.100.20\r\ns=-\r\nc=IN IP4 198.51.100.20\r\nt=0 0\r\nm=audio 7000 RTP/AVP 0\r\n6:to-tag1:be",
+                reply: "3 d6:result2:ok3:sdp116:v=0\r\no=bob 2 2 IN IP4 198.51.100.20\r\ns=-\r\nc=IN IP4 198.51.100.20\r\nt=0 0\r\nm=audio 0 RTP/AVP 0\r\nc=IN IP4 203.0.113.1\r\ne",
+                open: &[],
+            },
+            Exchange {
+                from: PROXY,
+                at: 0,
+                ask: "4 d7:call-id2:c17:command5:offer8:from-tag1:a3:sdp90:v=0\r\no=alice 1 1 IN IP4 192.0.2.10\r\ns=-\r\nc=IN IP4 192.0.2.10\r\nt=0 0\r\nm=audio 0 RTP/AVP 0\r\ne",
+                reply: "4 d6:result2:ok3:sdp112:v=0\r\no=alice 1 1 IN IP4 192.0.2.10\r\ns=-\r\nc=IN IP4 192.0.2.10\r\nt=0 0\r\nm=audio 0 RTP/AVP 0\r\nc=IN IP4 203.0.113.1\r\ne",
+                open: &[],
+            },
+            Exchange {
+                from: PROXY,
+                at: 0,
+                ask: "5 d7:call-id2:c17:command6:answer8:from-tag1:a3:sdp94:v=0\r\no=bob 2 2 IN IP4 198.51.100.20\r\ns=-\r\nc=IN IP4 198.51.100.20\r\nt=0 0\r\nm=audio 0 RTP/AVP 0\r\n6:to-tag1:be",
+                reply: "5 d6:result2:ok3:sdp116:v=0\r\no=bob 2 2 IN IP4 198.51.100.20\r\ns=-\r\nc=IN IP4 198.51.100.20\r\nt=0 0\r\nm=audio 0 RTP/AVP 0\r\nc=IN IP4 203.0.113.1\r\ne",
+                open: &[],
+            },
+            Exchange {
+                from: PROXY,
+                at: 0,
+                ask: "6 d7:call-id2:c17:command5:offer8:from-tag1:b3:sdp97:v=0\r\no=bob 2 2 IN IP4 198.51.100.20\r\ns=-\r\nc=IN IP4 198.51.100.20\r\nt=0 0\r\nm=audio 7000 RTP/AVP 0\r\ne",
+                reply: "6 d6:result2:ok3:sdp120:v=0\r\no=bob 2 2 IN IP4 198.51.100.20\r\ns=-\r\nc=IN IP4 198.51.100.20\r\nt=0 0\r\nm=audio 30004 RTP/AVP 0\r\nc=IN IP4 203.0.113.1\r\ne",
+                open: &[30_004, 30_005, 30_006, 30_007],
+            },
+            Exchange {
+                from: PROXY,
+                at: 0,
+                ask: "7 d7:call-id2:c17:command6:answer8:from-tag1:b3:sdp129:v=0\r\no=alice 1 1 IN IP4 192.0.2.10\r\ns=-\r\nc=IN IP4 192.0.2.10\r\nt=0 0\r\nm=audio 6000 RTP/AVP 0 8\r\na=rtpmap:0 PCMU/8000\r\na=sendrecv\r\n6:to-tag1:ae",
+                reply: "7 d6:result2:ok3:sdp152:v=0\r\no=alice 1 1 IN IP4 192.0.2.10\r\ns=-\r\nc=IN IP4 192.0.2.10\r\nt=0 0\r\nm=audio 30006 RTP/AVP 0 8\r\nc=IN IP4 203.0.113.1\r\na=rtpmap:0 PCMU/8000\r\na=sendrecv\r\ne",
+                open: &[30_004, 30_005, 30_006, 30_007],
+            },
+            Exchange {
+                from: PROXY,
+                at: 0,
+                ask: "8 d7:call-id2:c17:command5:offer8:from-tag1:a3:sdp92:v=0\r\no=alice 1 1 IN IP4 192.0.2.10\r\ns=-\r\nc=IN IP4 192.0.2.10\r\nt=0 0\r\nm=audio 0 RTP/AVP 0 8\r\ne",
+                reply: "8 d6:result2:ok3:sdp114:v=0\r\no=alice 1 1 IN IP4 192.0.2.10\r\ns=-\r\nc=IN IP4 192.0.2.10\r\nt=0 0\r\nm=audio 0 RTP/AVP 0 8\r\nc=IN IP4 203.0.113.1\r\ne",
+                open: &[30_004, 30_005, 30_006, 30_007],
+            },
+            Exchange {
+                from: PROXY,
+                at: 0,
+                ask: "9 d7:call-id2:c17:command6:answer8:from-tag1:a3:sdp97:v=0\r\no=bob 2 2 IN IP4 198.51.100.20\r\ns=-\r\nc=IN IP4 198.51.100.20\r\nt=0 0\r\nm=audio 7000 RTP/AVP 0\r\n6:to-tag1:be",
+                reply: "9 d6:result2:ok3:sdp116:v=0\r\no=bob 2 2 IN IP4 198.51.100.20\r\ns=-\r\nc=IN IP4 198.51.100.20\r\nt=0 0\r\nm=audio 0 RTP/AVP 0\r\nc=IN IP4 203.0.113.1\r\ne",
+                open: &[],
+            },
+            Exchange {
+                from: PROXY,
+                at: 0,
+                ask: "10 d7:call-id2:c17:command6:delete8:from-tag1:be",
+                reply: "10 d6:result2:oke",
+                open: &[],
+            },
+        ],
+    },
+    Scenario {
+        name: "sections of other protocols beside audio",
+        range: (30_000, 30_007),
+        max_sessions: 16,
+        failing_opens: &[],
+        keys: &[],
+        failing_draws: &[],
+        exchanges: &[
+            Exchange {
+                from: PROXY,
+                at: 0,
+                ask: "1 d7:call-id2:c17:command5:offer8:from-tag1:a3:sdp136:v=0\r\no=alice 1 1 IN IP4 192.0.2.10\r\ns=-\r\nc=IN IP4 192.0.2.10\r\nt=0 0\r\nm=audio 6000 RTP/AVP 0\r\nm=image 4000 udptl t38\r\na=T38FaxVersion:0\r\ne",
+                reply: "1 d6:result2:ok3:sdp178:v=0\r\no=alice 1 1 IN IP4 192.0.2.10\r\ns=-\r\nc=IN IP4 192.0.2.10\r\nt=0 0\r\nm=audio 30000 RTP/AVP 0\r\nc=IN IP4 203.0.113.1\r\nm=image 0 udptl t38\r\nc=IN IP4 203.0.113.1\r\na=T38FaxVersion:0\r\ne",
+                open: &[30_000, 30_001, 30_002, 30_003],
+            },
+            Exchange {
+                from: PROXY,
+                at: 0,
+                ask: "2 d7:call-id2:c17:command6:answer8:from-tag1:a3:sdp118:v=0\r\no=bob 2 2 IN IP4 198.51.100.20\r\ns=-\r\nc=IN IP4 198.51.100.20\r\nt=0 0\r\nm=audio 7000 RTP/AVP 0\r\nm=image 0 udptl t38\r\n6:to-tag1:be",
+                reply: "2 d6:result2:ok3:sdp163:v=0\r\no=bob 2 2 IN IP4 198.51.100.20\r\ns=-\r\nc=IN IP4 198.51.100.20\r\nt=0 0\r\nm=audio 30002 RTP/AVP 0\r\nc=IN IP4 203.0.113.1\r\nm=image 0 udptl t38\r\nc=IN IP4 203.0.113.1\r\ne",
+                open: &[30_000, 30_001, 30_002, 30_003],
+            },
+            Exchange {
+                from: PROXY,
+                at: 0,
+                ask: "3 d7:call-id2:c17:command5:offer8:from-tag1:a18:transport protocol9:RTP/SAVPF3:sdp117:v=0\r\no=alice 1 1 IN IP4 192.0.2.10\r\ns=-\r\nc=IN IP4 192.0.2.10\r\nt=0 0\r\nm=audio 6000 RTP/AVP 0\r\nm=image 4000 udptl t38\r\ne",
+                reply: "3 d12:error-reason16:key source fault6:result5:errore",
+                open: &[30_000, 30_001, 30_002, 30_003],
+            },
+            Exchange {
+                from: PROXY,
+                at: 0,
+                ask: "4 d7:call-id2:c17:command5:offer8:from-tag1:a3:sdp151:v=0\r\no=alice 1 1 IN IP4 192.0.2.10\r\ns=-\r\nc=IN IP4 192.0.2.10\r\nt=0 0\r\nm=audio 6000 RTP/AVP 0\r\nm=video 0 UDP/TLS/RTP/SAVPF 96\r\nm=image 4000/2 udptl t38\r\ne",
+                reply: "4 d6:result2:ok3:sdp213:v=0\r\no=alice 1 1 IN IP4 192.0.2.10\r\ns=-\r\nc=IN IP4 192.0.2.10\r\nt=0 0\r\nm=audio 30000 RTP/AVP 0\r\nc=IN IP4 203.0.113.1\r\nm=video 0 UDP/TLS/RTP/SAVPF 96\r\nc=IN IP4 203.0.113.1\r\nm=image 0 udptl t38\r\nc=IN IP4 203.0.113.1\r\ne",
+                open: &[30_000, 30_001, 30_002, 30_003],
+            },
+            Exchange {
+                from: PROXY,
+                at: 0,
+                ask: "5 d7:call-id2:c17:command6:answer8:from-tag1:a3:sdp150:v=0\r\no=bob 2 2 IN IP4 198.51.100.20\r\ns=-\r\nc=IN IP4 198.51.100.20\r\nt=0 0\r\nm=audio 7000 RTP/AVP 0\r\nm=video 0 UDP/TLS/RTP/SAVPF 96\r\nm=image 0 udptl t38\r\n6:to-tag1:be",
+                reply: "5 d6:result2:ok3:sdp217:v=0\r\no=bob 2 2 IN IP4 198.51.100.20\r\ns=-\r\nc=IN IP4 198.51.100.20\r\nt=0 0\r\nm=audio 30002 RTP/AVP 0\r\nc=IN IP4 203.0.113.1\r\nm=video 0 UDP/TLS/RTP/SAVPF 96\r\nc=IN IP4 203.0.113.1\r\nm=image 0 udptl t38\r\nc=IN IP4 203.0.113.1\r\ne",
+                open: &[30_000, 30_001, 30_002, 30_003],
+            },
+        ],
+    },
+    Scenario {
+        name: "audio and video",
+        range: (30_000, 40_000),
+        max_sessions: 16,
+        failing_opens: &[],
+        keys: &[],
+        failing_draws: &[],
+        exchanges: &[
+            Exchange {
+                from: PROXY,
+                at: 0,
+                ask: "1 d7:call-id2:c17:command5:offer8:from-tag1:a3:sdp181:v=0\r\no=alice 1 1 IN IP4 192.0.2.10\r\ns=-\r\nc=IN IP4 192.0.2.10\r\nt=0 0\r\nb=AS:600\r\nm=audio 6000 RTP/AVP 0\r\nm=video 6002 RTP/AVPF 96\r\nb=AS:512\r\na=rtcp-fb:96 nack\r\na=rtpmap:96 VP8/90000\r\ne",
+                reply: "1 d6:result2:ok3:sdp227:v=0\r\no=alice 1 1 IN IP4 192.0.2.10\r\ns=-\r\nc=IN IP4 192.0.2.10\r\nt=0 0\r\nb=AS:600\r\nm=audio 30000 RTP/AVP 0\r\nc=IN IP4 203.0.113.1\r\nm=video 30004 RTP/AVPF 96\r\nc=IN IP4 203.0.113.1\r\nb=AS:512\r\na=rtcp-fb:96 nack\r\na=rtpmap:96 VP8/90000\r\ne",
+                open: &[
+                    30_000, 30_001, 30_002, 30_003, 30_004, 30_005, 30_006, 30_007,
+                ],
+            },
+            Exchange {
+                from: PROXY,
+                at: 0,
+                ask: "2 d7:call-id2:c17:command6:answer8:from-tag1:a3:sdp146:v=0\r\no=bob 2 2 IN IP4 198.51.100.20\r\ns=-\r\nc=IN IP4 198.51.100.20\r\nt=0 0\r\nm=audio 7000 RTP/AVP 0\r\nm=video 7002 RTP/AVPF 96\r\na=rtcp-fb:96 nack pli\r\n6:to-tag1:be",
+                reply: "2 d6:result2:ok3:sdp192:v=0\r\no=bob 2 2 IN IP4 198.51.100.20\r\ns=-\r\nc=IN IP4 198.51.100.20\r\nt=0 0\r\nm=audio 30002 RTP/AVP 0\r\nc=IN IP4 203.0.113.1\r\nm=video 30006 RTP/AVPF 96\r\nc=IN IP4 203.0.113.1\r\na=rtcp-fb:96 nack pli\r\ne",
+                open: &[
+                    30_000, 30_001, 30_002, 30_003, 30_004, 30_005, 30_006, 30_007,
+                ],
+            },
+            Exchange {
+                from: PROXY,
+                at: 0,
+                ask: "3 d7:call-id2:c17:command5:offer8:from-tag1:b18:transport protocol7:RTP/AVP3:sdp146:v=0\r\no=bob 2 2 IN IP4 198.51.100.20\r\ns=-\r\nc=IN IP4 198.51.100.20\r\nt=0 0\r\nm=audio 7000 RTP/AVP 0\r\nm=video 7002 RTP/AVPF 96\r\na=rtcp-fb:96 nack pli\r\ne",
+                reply: "3 d6:result2:ok3:sdp168:v=0\r\no=bob 2 2 IN IP4 198.51.100.20\r\ns=-\r\nc=IN IP4 198.51.100.20\r\nt=0 0\r\nm=audio 30002 RTP/AVP 0\r\nc=IN IP4 203.0.113.1\r\nm=video 30006 RTP/AVP 96\r\nc=IN IP4 203.0.113.1\r\ne",
+                open: &[
+                    30_000, 30_001, 30_002, 30_003, 30_004, 30_005, 30_006, 30_007,
+                ],
+            },
+            Exchange {
+                from: PROXY,
+                at: 0,
+                ask: "4 d7:call-id2:c17:command6:answer8:from-tag1:b3:sdp115:v=0\r\no=alice 1 1 IN IP4 192.0.2.10\r\ns=-\r\nc=IN IP4 192.0.2.10\r\nt=0 0\r\nm=audio 6000 RTP/AVP 0\r\nm=video 0 RTP/AVP 96\r\n6:to-tag1:ae",
+                reply: "4 d6:result2:ok3:sdp161:v=0\r\no=alice 1 1 IN IP4 192.0.2.10\r\ns=-\r\nc=IN IP4 192.0.2.10\r\nt=0 0\r\nm=audio 30000 RTP/AVP 0\r\nc=IN IP4 203.0.113.1\r\nm=video 0 RTP/AVPF 96\r\nc=IN IP4 203.0.113.1\r\ne",
+                open: &[30_000, 30_001, 30_002, 30_003],
+            },
+            Exchange {
+                from: PROXY,
+                at: 0,
+                ask: "5 d7:call-id2:c17:command6:deletee",
+                reply: "5 d6:result2:oke",
+                open: &[],
+            },
+        ],
+    },
+];
