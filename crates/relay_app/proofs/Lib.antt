@@ -4,3 +4,4 @@ mod Runs
 mod Single
 mod Steps
 mod Values
+pub mod Wholes

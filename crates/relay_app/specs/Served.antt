@@ -1,17 +1,29 @@
--- What a run of `serve` took and sent, over the calls of its control link after the bind.
+-- What a run of `serve` took, sent and did, over the calls of its control link after the bind.
 use Rattle.std.specs.Prelude.{◌≡◌, ◌⊎◌, ℕ, ◌<◌, Bool, true, false, List, [], ◌∷◌, ◌++◌, length, Option, Some, None, filter_map, count_by, codes, decimal}
 use Rattle.std.specs.List.{zip}
+use Rattle.std.specs.Option.{option_to_list}
 use Rattle.ng_frame.specs.Frame.{frame}
 use Rattle.relay_outside.specs.declared.address.Addr.{Addr}
+use Rattle.relay_outside.specs.declared.keys.KeyCall.{KeyCall}
 use Rattle.relay_outside.specs.declared.link.LinkGiven.{LinkGiven}
 use Rattle.relay_outside.specs.declared.link.LinkGiven.TheVariants as given
 use Rattle.relay_outside.specs.declared.link.LinkCall.{LinkCall}
 use Rattle.relay_outside.specs.declared.link.LinkCall.TheVariants as call
-use Rattle.relay_outside.specs.Told.{Gained}
+use Rattle.relay_outside.specs.declared.settings.Config.{Config}
+use Rattle.relay_outside.specs.Told.{Gained, Rose}
 use Rattle.relay_outside.specs.Link.{datagrams, sends, sent}
-use Rattle.ng_server.specs.Histories.{ControlEntry}
-use Rattle.ng_server.specs.Due.{IsNext}
-use Rattle.ng_server.specs.Turns.{is_too_long}
+use Rattle.histories.specs.Words.{In}
+use Rattle.call_board.specs.Acts.{BoardEvent, Turn, Tick, Stop, BoardEntry, Given}
+use Rattle.relay_core.specs.Entries.{Entry}
+use Rattle.relay_core.specs.Legal.{Legal}
+use Rattle.relay_core.specs.Safe.{Safe}
+use Rattle.board_turns.specs.Between.{board_of}
+use Rattle.board_turns.specs.Stopping.{stop_entry}
+use Rattle.control_entries.specs.Controls.{Hearing, entry_at, moment_at}
+use Rattle.control_entries.specs.Giving.{draws_of}
+use Rattle.control_turns.specs.Taking.{is_too_long}
+use Rattle.media_lane.specs.declared.answers.Totals.{Totals}
+use Rattle.main_sweeps.specs.Totals.{HasTotals}
 use Rattle.relay_app.specs.declared.status.Status.{Status}
 use Rattle.relay_app.specs.declared.status.Status.TheVariants as status
 
@@ -52,41 +64,97 @@ request_at taken = request_of taken.0 taken.1
 abbrev pub requests : List LinkCall → List ℕ → List Request
 requests calls moments = filter_map request_at (zip (gifts calls) moments)
 
--- the entry of a request that comes after this history: its reply is the one that is due
-pub record IsEntryOf (request : Request) (history : List ControlEntry) (entry : ControlEntry) : Type 0 where
-  pub source_is : entry.source ≡ request.source
-  pub cookie_is : entry.cookie ≡ request.cookie
-  pub body_is : entry.body ≡ request.body
-  pub length_is : entry.too_long ≡ request.too_long
-  pub next : IsNext history request.handed entry
+-- the board's entry of a request that comes after this history: the one that the history demands at the request's moment, for what
+-- was heard of it and what the ports and keys gave
+pub record IsEntryOf (config : Config) (request : Request) (history : List BoardEntry) (entry : BoardEntry) : Type 0 where
+  pub hearing : Hearing
+  pub source_is : hearing.source ≡ request.source
+  pub cookie_is : hearing.cookie ≡ request.cookie
+  pub body_is : hearing.body ≡ request.body
+  pub length_is : hearing.too_long ≡ request.too_long
+  pub entry_is : entry ≡ entry_at config history (moment_at history request.handed) hearing
 
--- the history, latest first, of these requests: one entry for each, in order
-abbrev pub IsHistory : List ControlEntry → List Request → Type 0
-IsHistory [] requests = requests ≡ []
-IsHistory (entry ∷ history) requests =
-    (before : List Request) × (last : Request) × (requests ≡ before ++ last ∷ []) × IsEntryOf last history entry × IsHistory history before
+-- the board's history, latest first, of these requests: one entry for each, in order
+abbrev pub IsHistory : Config → List BoardEntry → List Request → Type 0
+IsHistory config [] requests = requests ≡ []
+IsHistory config (entry ∷ history) requests =
+    (before : List Request) × (last : Request) × (requests ≡ before ++ last ∷ []) × IsEntryOf config last history entry × IsHistory config history before
+
+-- the reply of an entry, with its target
+abbrev pub reply_in : BoardEvent → Option (Addr × List ℕ)
+reply_in (Turn c) = Some (c.source, c.reply)
+reply_in (Tick calls) = None
+reply_in (Stop calls) = None
 
 -- the replies of a history, each with its target, in order
-abbrev pub replies : List ControlEntry → List (Addr × List ℕ)
+abbrev pub replies : List BoardEntry → List (Addr × List ℕ)
 replies [] = []
-replies (entry ∷ history) = replies history ++ (entry.source, entry.reply) ∷ []
+replies (entry ∷ history) = replies history ++ option_to_list (reply_in entry.event)
+
+-- what the outside gave for an entry
+abbrev pub given_in : BoardEvent → Option Given
+given_in (Turn c) = Some c.given
+given_in (Tick calls) = None
+given_in (Stop calls) = None
+
+abbrev pub draws_in : Option Given → List KeyCall
+draws_in None = []
+draws_in (Some given) = draws_of given
+
+-- the draws of a history, in order
+abbrev pub draws : List BoardEntry → List KeyCall
+draws [] = []
+draws (entry ∷ history) = draws history ++ draws_in (given_in entry.event)
+
+-- What the timer and the key source told before a run and tell after it, and how many faults of ports and keys were counted
+pub record Outside : Type 0 where
+  pub timer : Option (List ℕ)
+  pub timer_now : Option (List ℕ)
+  pub drew : Option (List KeyCall)
+  pub drew_now : Option (List KeyCall)
+  pub port_faults : ℕ
+  pub port_faults_now : ℕ
+  pub key_faults : ℕ
+  pub key_faults_now : ℕ
+
+-- where a device tells its calls, these were added
+abbrev pub Gave : {C : Type 0} → Option (List C) → Option (List C) → List C → Type 0
+Gave before after more = Gained before after (λ added. added ≡ more)
+
+-- a port could not be opened, or a key not be drawn, only where the count of these faults rose
+pub record IsCaused (outside : Outside) (given : Given) : Type 0 where
+  pub port_fault : In false given.opens → Rose outside.port_faults outside.port_faults_now
+  pub key_fault : given.draw_failed ≡ true → Rose outside.key_faults outside.key_faults_now
+
+-- for each entry what the outside gave has its cause
+abbrev pub HaveCauses : Outside → List BoardEntry → Type 0
+HaveCauses outside history = (entry : BoardEntry) (given : Given) → In entry history → given_in entry.event ≡ Some given → IsCaused outside given
 
 -- one moment was handed in for each take, the history is that of the requests, and the sends are its replies
-pub record Served (history : List ControlEntry) (moments : List ℕ) (calls : List LinkCall) : Type 0 where
+pub record Served (config : Config) (history : List BoardEntry) (moments : List ℕ) (calls : List LinkCall) : Type 0 where
   pub each_take : length moments ≡ length (gifts calls)
-  pub history_is : IsHistory history (requests calls moments)
+  pub history_is : IsHistory config history (requests calls moments)
   pub sends_are : sends calls ≡ replies history
 
--- where a timer tells its moments, these were added
-abbrev pub Gave : Option (List ℕ) → Option (List ℕ) → List ℕ → Type 0
-Gave before after moments = Gained before after (λ more. more ≡ moments)
+-- The list of all steps of the relay: it is legal, and so safe, the board's entries in it are this history and then the stop, and these
+-- are the counts of its takes and relays
+pub record IsWhole (config : Config) (history : List BoardEntry) (totals : Totals) : Type 0 where
+  pub list : List Entry
+  pub legal : Legal config list
+  pub safe : Safe config list
+  pub board_is : board_of list ≡ stop_entry history ∷ history
+  pub totals_are : HasTotals list totals
 
--- every request was answered as a history demands, by moments that the timer gave
-pub record IsServed (gave : List ℕ → Type 0) (calls : List LinkCall) : Type 0 where
-  pub history : List ControlEntry
+-- Every request was answered as a history of the board demands, by moments that the timer gave, keys that the key source gave, and
+-- ports; and that history is the board's in the whole list of the relay's steps
+pub record IsServed (config : Config) (outside : Outside) (totals : Totals) (calls : List LinkCall) : Type 0 where
+  pub history : List BoardEntry
   pub moments : List ℕ
-  pub handed : gave moments
-  pub served : Served history moments calls
+  pub handed : Gave outside.timer outside.timer_now moments
+  pub drawn : Gave outside.drew outside.drew_now (draws history)
+  pub causes : HaveCauses outside history
+  pub served : Served config history moments calls
+  pub whole : IsWhole config history totals
 
 -- a take that gave a datagram or nothing
 abbrev pub is_turn : LinkCall → Bool
@@ -130,28 +198,29 @@ pub record Ended (calls : List LinkCall) (end failed : ℕ) : Type 0 where
   pub faults_are : failed_takes calls ≡ failed
 
 -- what a run of at most `limit` turns did, by the status at its end; memory for a reply is no cause to end
-abbrev pub DidServe : Status → ℕ → (List ℕ → Type 0) → List LinkCall → Type 0
-DidServe status.Ok limit gave calls = IsServed gave calls × Ended calls 1 0 × (turns calls < limit)
-DidServe status.ControlFault limit gave calls = IsServed gave calls × Ended calls 0 1 × (turns calls < limit)
-DidServe status.TurnsSpent limit gave calls = IsServed gave calls × Ended calls 0 0 × (turns calls ≡ limit)
-DidServe status.OutOfMemory limit gave calls = ⊥
-DidServe status.PrintFault limit gave calls = ⊥
-DidServe status.Usage limit gave calls = ⊥
-DidServe status.ScriptFault limit gave calls = ⊥
-DidServe status.ScriptRead limit gave calls = ⊥
+abbrev pub DidServe : Status → ℕ → Config → Outside → Totals → List LinkCall → Type 0
+DidServe status.Ok limit config outside totals calls = IsServed config outside totals calls × Ended calls 1 0 × (turns calls < limit)
+DidServe status.ControlFault limit config outside totals calls = IsServed config outside totals calls × Ended calls 0 1 × (turns calls < limit)
+DidServe status.TurnsSpent limit config outside totals calls = IsServed config outside totals calls × Ended calls 0 0 × (turns calls ≡ limit)
+DidServe status.OutOfMemory limit config outside totals calls = ⊥
+DidServe status.PrintFault limit config outside totals calls = ⊥
+DidServe status.Usage limit config outside totals calls = ⊥
+DidServe status.ScriptFault limit config outside totals calls = ⊥
+DidServe status.ScriptRead limit config outside totals calls = ⊥
 
--- the line of totals, for these numbers of turns, datagrams and replies
-abbrev pub totals_line : ℕ → ℕ → ℕ → List ℕ
-totals_line turns datagrams replies =
-    codes "turns " ++ decimal turns ++ codes " datagrams " ++ decimal datagrams ++ codes " replies " ++ decimal replies ++ codes " sent 0 refused 0 lost 0" ++ 10 ∷ []
+-- the line of totals, for these numbers of turns, datagrams and replies, and these counts of relays
+abbrev pub totals_line : ℕ → ℕ → ℕ → Totals → List ℕ
+totals_line turns datagrams replies totals =
+    codes "turns " ++ decimal turns ++ codes " datagrams " ++ decimal datagrams ++ codes " replies " ++ decimal replies ++ codes " sent " ++ decimal totals.sent
+    ++ codes " refused " ++ decimal totals.refused ++ codes " lost " ++ decimal totals.lost ++ 10 ∷ []
 
--- The line of totals: the takes that gave a datagram or nothing, the datagrams taken, the replies sent. No media is
--- relayed yet, so that the last three numbers are 0
-abbrev pub totals : List LinkCall → List ℕ
-totals calls = totals_line (turns calls) (length (datagrams calls)) (length (sent calls))
+-- The line of totals of a run: the takes of the link that gave a datagram or nothing, the datagrams taken, the replies sent; and the packets
+-- that were relayed, by their outcome
+abbrev pub line_of : List LinkCall → Totals → List ℕ
+line_of calls totals = totals_line (turns calls) (length (datagrams calls)) (length (sent calls)) totals
 
 -- a run that was bound: the status at its end, unless a fault of the sink took its place
-pub record DidRun (answer : Status) (limit : ℕ) (gave : List ℕ → Type 0) (calls : List LinkCall) : Type 0 where
+pub record DidRun (answer : Status) (limit : ℕ) (config : Config) (outside : Outside) (totals : Totals) (calls : List LinkCall) : Type 0 where
   pub ended : Status
-  pub did : DidServe ended limit gave calls
+  pub did : DidServe ended limit config outside totals calls
   pub told : (answer ≡ ended) ⊎ (answer ≡ status.PrintFault)

@@ -1,13 +1,15 @@
 -- The words of the command `serve`.
-use Rattle.std.specs.Prelude.{ℕ, ◌+◌, ◌==◌, List, [], ◌∷◌, length, take, drop, position, filter_map, Bool, ◌||◌, Option, Some, None, nat_eq, nat_le, if◌then◌else◌, codes}
+use Rattle.std.specs.Prelude.{◌≡◌, ℕ, ◌+◌, ◌%◌, ◌≤◌, ◌<◌, ◌==◌, List, [], ◌∷◌, length, take, drop, position, filter_map, Bool, ◌||◌, Option, Some, None, nat_eq, nat_lt, if◌then◌else◌, codes}
 use Rattle.std.specs.List.{list_all, starts_with}
 use Rattle.std.specs.Option.{option_map}
 use Rattle.std.specs.Str.{bytes_eq}
 use Rattle.relay_outside.specs.declared.address.Addr.{Addr}
 use Rattle.relay_outside.specs.declared.address.Ip.{Ip}
-use Rattle.relay_outside.specs.declared.address.Ip.TheVariants.{V4}
+use Rattle.relay_outside.specs.declared.address.Ip.TheVariants.{V4, V6}
+use Rattle.relay_outside.specs.declared.settings.Config.{Config}
+use Rattle.port_pool.specs.Ports.{pair_count}
 use Rattle.sdp_text.specs.Hosts.{ipv4_bytes}
-use Rattle.relay_app.specs.Numbers.{whole_number}
+use Rattle.relay_app.specs.Numbers.{whole_number, number_within}
 use Rattle.relay_app.specs.declared.words.Settings.{Settings}
 
 -- an IPv4 address
@@ -29,13 +31,17 @@ address_and_port text (Some at) = with_port (ipv4 (take at text)) (whole_number 
 abbrev pub listen_address : List ℕ → Option Addr
 listen_address text = address_and_port text (position (λ byte. byte == 58) text)
 
--- a number of 1 to 10 ^ 15
-abbrev pub positive : Option ℕ → Option ℕ
-positive None = None
-positive (Some n) = if nat_le 1 n then Some n else None
+-- a port of the range for media: those below 1,024 are the system's (RFC 6335 section 6)
+abbrev pub media_port : List ℕ → Option ℕ
+media_port text = number_within 1024 65535 text
 
+-- how many calls may be live at a time
+abbrev pub session_count : List ℕ → Option ℕ
+session_count text = number_within 1 2048 text
+
+-- a number of 1 to 10 ^ 15
 abbrev pub turn_count : List ℕ → Option ℕ
-turn_count text = positive (whole_number 1000000000000000 text)
+turn_count text = number_within 1 1000000000000000 text
 
 -- the value that a word gives to an option, where it is that option's word
 abbrev pub value_after : List ℕ → List ℕ → Option (List ℕ)
@@ -47,7 +53,13 @@ values_of name words = filter_map (value_after name) words
 
 -- whether a word is that of an option of `serve`
 abbrev pub is_option : List ℕ → Bool
-is_option word = starts_with nat_eq word (codes "--interface=") || starts_with nat_eq word (codes "--listen-ng=") || starts_with nat_eq word (codes "--turns=")
+is_option word =
+    starts_with nat_eq word (codes "--interface=")
+    || starts_with nat_eq word (codes "--listen-ng=")
+    || starts_with nat_eq word (codes "--port-min=")
+    || starts_with nat_eq word (codes "--port-max=")
+    || starts_with nat_eq word (codes "--max-sessions=")
+    || starts_with nat_eq word (codes "--turns=")
 
 -- what the one value reads as; where there is none, the default; an option stands once at most
 abbrev pub one_value : {X : Type 0} → (List ℕ → Option X) → Option X → List (List ℕ) → Option X
@@ -59,20 +71,58 @@ one_value read default (value ∷ again ∷ values) = None
 abbrev pub default_listen : Addr
 default_listen = record { ip = V4 (127 ∷ 0 ∷ 0 ∷ 1 ∷ []); port = 2223 }
 
--- what the options say, where each says something
-abbrev pub settings_from : Option Ip → Option Addr → Option ℕ → Option Settings
-settings_from None listen turns = None
-settings_from (Some interface) None turns = None
-settings_from (Some interface) (Some listen) None = None
-settings_from (Some interface) (Some listen) (Some turns) = Some (record { interface = interface; listen = listen; turns = turns })
+-- the configuration of a relay of this interface, these ports and so many calls: a call without packets ends after a minute,
+-- an offer without an answer after an hour
+abbrev pub config_with : Ip → ℕ → ℕ → ℕ → Config
+config_with interface port_min port_max max_sessions = record {
+  interface = interface;
+  interface6 = None;
+  port_min = port_min;
+  port_max = port_max;
+  timeout_ms = 60000;
+  offer_timeout_ms = 3600000;
+  max_sessions = max_sessions;
+}
 
--- what the words behind `serve` say: `--interface=` with an IPv4 address, which is required, `--listen-ng=` with
--- an IPv4 address and a port, and `--turns=` with a number
+-- this port and the next one are a pair of the range of ports: the first is even
+abbrev pub IsPair : Config → ℕ → Type 0
+IsPair config port = (port % 2 ≡ 0) × (config.port_min ≤ port) × (port + 1 ≤ config.port_max)
+
+-- whether the range of ports holds a pair
+abbrev pub has_pair : Config → Bool
+has_pair config = nat_lt 0 (pair_count config)
+
+-- the configuration, where its range of ports holds a pair
+abbrev pub with_pair : Config → Option Config
+with_pair config = if has_pair config then Some config else None
+
+-- the configuration that the options say, where each says something and the range of ports holds a pair
+abbrev pub config_from : Option Ip → Option ℕ → Option ℕ → Option ℕ → Option Config
+config_from (Some interface) (Some port_min) (Some port_max) (Some max_sessions) = with_pair (config_with interface port_min port_max max_sessions)
+config_from interface port_min port_max max_sessions = None
+
+-- `--interface=` with an IPv4 address, which is required, `--port-min=` and `--port-max=` with a port each, and
+-- `--max-sessions=` with a number
+abbrev pub configuration : List (List ℕ) → Option Config
+configuration words =
+    config_from
+    (one_value ipv4 None (values_of (codes "--interface=") words))
+    (one_value media_port (Some 30000) (values_of (codes "--port-min=") words))
+    (one_value media_port (Some 40000) (values_of (codes "--port-max=") words))
+    (one_value session_count (Some 2048) (values_of (codes "--max-sessions=") words))
+
+-- what the options say, where each says something
+abbrev pub settings_from : Option Config → Option Addr → Option ℕ → Option Settings
+settings_from (Some config) (Some listen) (Some turns) = Some (record { config = config; listen = listen; turns = turns })
+settings_from config listen turns = None
+
+-- what the words behind `serve` say: those of the configuration, `--listen-ng=` with an IPv4 address and a port, and
+-- `--turns=` with a number
 abbrev pub option_settings : List (List ℕ) → Option Settings
 option_settings words =
     if list_all is_option words
     then settings_from
-    (one_value ipv4 None (values_of (codes "--interface=") words))
+    (configuration words)
     (one_value listen_address (Some default_listen) (values_of (codes "--listen-ng=") words))
     (one_value turn_count (Some 1000000000000000) (values_of (codes "--turns=") words))
     else None
@@ -81,3 +131,18 @@ option_settings words =
 abbrev pub settings : List (List ℕ) → Option Settings
 settings [] = None
 settings (command ∷ words) = if bytes_eq command (codes "serve") then option_settings words else None
+
+-- an address of version 4
+abbrev pub IsV4 : Ip → Type 0
+IsV4 (V4 bytes) = Unit {0}
+IsV4 (V6 bytes) = ⊥
+
+-- what holds of each configuration that words say
+pub record IsInLimits (config : Config) : Type 0 where
+  pub interface : IsV4 config.interface
+  pub interface6 : config.interface6 ≡ None
+  pub port_min : 1024 ≤ config.port_min
+  pub port_max : config.port_max ≤ 65535
+  pub pairs : 0 < pair_count config
+  pub least_sessions : 1 ≤ config.max_sessions
+  pub most_sessions : config.max_sessions ≤ 2048

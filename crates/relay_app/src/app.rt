@@ -1,11 +1,10 @@
 ghost use Rattle.std.specs.Prelude.{◌≡◌, ◌≢◌, ◌⊎◌, ◌≤◌, ◌<◌, ◌^◌, ℕ, List, [], ◌∷◌, None, Some, IfOk, length, map};
 ghost use Rattle.relay_outside.specs.Told.{Gained, Rose};
-ghost use Rattle.ng_server.specs.Servers.{StandsFor};
+ghost use Rattle.media_ports.specs.Held.{TellsHeld};
 ghost use Rattle.relay_app.specs.Words.{settings};
-ghost use Rattle.relay_app.specs.Served.{Gave};
-ghost use Rattle.relay_app.specs.Run.{DidCall, DidPrint, UsageByWords};
+ghost use Rattle.relay_app.specs.Run.{DidCall, DidPrint, PrintsUsage, UsageByWords, TellsNone};
 
-use crate::serve::make_turns;
+use crate::serve::{close_table, serve_turns};
 use crate::status::Status;
 use crate::totals::put_totals;
 use crate::words::{Settings, read_settings};
@@ -15,45 +14,30 @@ use relay_outside::{
     Clock, ControlLink, Gate, KeySource, LineSink, LineSource, OutOfMemory, PortMaker, Timer,
 };
 use std::alloc::Global;
+use std::sync::Wait;
 
 /// The usage text.
 const USAGE: &[u8] =
-    b"usage: rtpengine serve --interface=ADDRESS [--listen-ng=ADDRESS:PORT] [--turns=NUMBER]\n";
+    b"usage: rtpengine serve --interface=ADDRESS [--listen-ng=ADDRESS:PORT] [--port-min=PORT] [--port-max=PORT] [--max-sessions=NUMBER] [--turns=NUMBER]\n";
 
 /// How many bytes the line of totals has at the most.
-const LINE: usize = 256;
+const LINE: usize = 512;
 
-/// What a run needs beside its devices. Its memory is taken before its link is bound.
-#[derive(Drop)]
-struct Workplace {
-    server: Server,
-    desk: Desk,
-    line: Text,
-}
-
-impl Workplace {
-    fn new(alloc: Global) -> Result<Workplace, OutOfMemory>
-        ensures server { IfOk result (λ place. StandsFor place.server []) }
-        ensures line { IfOk result (λ place. (place.line.list ≡ []) × (256 ≤ place.line.spare)) }
-    {
-        let Ok(server) = Server::start(alloc) else {
-            return Err(OutOfMemory);
-        };
-        let Ok(desk) = Desk::new(alloc) else {
-            return Err(OutOfMemory);
-        };
-        let mut line = Text::new(alloc);
-        let Ok(()) = line.reserve(LINE) else {
-            return Err(OutOfMemory);
-        };
-        Ok(Workplace { server, desk, line })
+/// An empty text with room for the line of totals.
+fn line_room(alloc: Global) -> Result<Text, OutOfMemory>
+    ensures { IfOk result (λ line. (line.list ≡ []) × (512 ≤ line.spare)) }
+{
+    let mut line = Text::new(alloc);
+    match line.reserve(LINE) {
+        Ok(()) => Ok(line),
+        Err(_) => Err(OutOfMemory),
     }
 }
 
 /// Prints the usage text.
 fn print_usage<O: LineSink>(out: &mut O) -> Status
     ensures status { UsageByWords None result }
-    ensures printed { Gained (O.told out.old) (O.told out.new) (DidPrint None result []) }
+    ensures printed { Gained (O.told out.old) (O.told out.new) (PrintsUsage result) }
     ensures later { O.faults out.old ≤ O.faults out.new }
     ensures print_fault { result ≡ Status.PrintFault → Rose (O.faults out.old) (O.faults out.new) }
 {
@@ -64,42 +48,92 @@ fn print_usage<O: LineSink>(out: &mut O) -> Status
 }
 
 /// Serves the ng control protocol.
-fn serve<N: ControlLink, T: Timer, O: LineSink>(
+fn serve<
+    N: ControlLink,
+    P: PortMaker,
+    K: KeySource,
+    T: Timer,
+    C: Clock,
+    G: Gate,
+    O: LineSink,
+    R: Wait,
+>(
+    rt: &R,
     alloc: Global,
     settings: &Settings,
     control: &mut N,
+    ports: &mut P,
+    keys: &mut K,
     timer: &mut T,
+    clock: &C,
+    gate: &G,
     out: &mut O,
 ) -> Status
-    requires { settings.now.turns < 2 ^ 63 }
-    ensures calls { Gained (N.told control.old) (N.told control.new) (DidCall (Gave (T.told timer.old) (T.told timer.new)) (Some settings.now) result) }
-    ensures printed { Gained (N.told control.old) (N.told control.new) (λ calls. Gained (O.told out.old) (O.told out.new) (DidPrint (Some settings.now) result calls)) }
+where
+    P::In: Drop,
+    P::Out: Drop,
+    requires turns { settings.now.turns < 2 ^ 63 }
+    requires open { TellsHeld settings.now.config (P.told ports.old) [] }
+    ensures calls { Gained (N.told control.old) (N.told control.new) (DidCall
+        (record {
+          timer = T.told timer.old;
+          timer_now = T.told timer.new;
+          drew = K.told keys.old;
+          drew_now = K.told keys.new;
+          port_faults = P.faults ports.old;
+          port_faults_now = P.faults ports.new;
+          key_faults = K.faults keys.old;
+          key_faults_now = K.faults keys.new;
+        })
+        (Some settings.now) result) }
+    ensures printed { Gained (N.told control.old) (N.told control.new) (λ calls. Gained (O.told out.old) (O.told out.new) (DidPrint
+        (record {
+          timer = T.told timer.old;
+          timer_now = T.told timer.new;
+          drew = K.told keys.old;
+          drew_now = K.told keys.new;
+          port_faults = P.faults ports.old;
+          port_faults_now = P.faults ports.new;
+          key_faults = K.faults keys.old;
+          key_faults_now = K.faults keys.new;
+        })
+        (Some settings.now) result calls)) }
     ensures status { UsageByWords (Some settings.now) result }
-    ensures memory { result ≡ Status.OutOfMemory → (control.new ≡ control.old) × (timer.new ≡ timer.old) × (out.new ≡ out.old) }
-    ensures later { (N.faults control.old ≤ N.faults control.new) × (O.faults out.old ≤ O.faults out.new) }
+    ensures memory { result ≡ Status.OutOfMemory → (control.new ≡ control.old) × (ports.new ≡ ports.old) × (keys.new ≡ keys.old) × (timer.new ≡ timer.old) × (out.new ≡ out.old) }
+    ensures shut { TellsHeld settings.now.config (P.told ports.new) [] }
+    ensures later { (N.faults control.old ≤ N.faults control.new) × (P.faults ports.old ≤ P.faults ports.new) × (K.faults keys.old ≤ K.faults keys.new) × (O.faults out.old ≤ O.faults out.new) }
     ensures control_fault { result ≡ Status.ControlFault → Rose (N.faults control.old) (N.faults control.new) }
     ensures print_fault { result ≡ Status.PrintFault → Rose (O.faults out.old) (O.faults out.new) }
 {
-    let Ok(place) = Workplace::new(alloc) else {
+    let Ok(mut line) = line_room(alloc) else {
         return Status::OutOfMemory;
     };
-    let Workplace {
-        mut server,
-        mut desk,
-        mut line,
-    } = place;
+    let Ok(desk) = Desk::new(alloc) else {
+        return Status::OutOfMemory;
+    };
+    let Ok((server, hand)) = Server::start(alloc, settings.config) else {
+        return Status::OutOfMemory;
+    };
     let Ok(()) = control.bind(settings.listen) else {
+        close_table(server, hand);
         return Status::ControlFault;
     };
-    let looped = make_turns(
+    let looped = serve_turns(
+        rt,
         alloc,
         settings.turns,
-        &mut server,
-        &mut desk,
+        &settings.config,
+        server,
+        hand,
+        desk,
         control,
+        ports,
+        keys,
         timer,
+        clock,
+        gate,
     );
-    put_totals(&mut line, looped.counts);
+    put_totals(&mut line, looped.counts, looped.totals);
     match out.write(line.as_slice()) {
         Ok(()) => looped.status,
         Err(_) => Status::PrintFault,
@@ -109,11 +143,13 @@ fn serve<N: ControlLink, T: Timer, O: LineSink>(
 /// Runs the relay as the words of a command line say, over the devices that it is handed, and answers how
 /// it ended.
 ///
-/// `serve --interface=ADDRESS [--listen-ng=ADDRESS:PORT] [--turns=NUMBER]` is the one command so far. It
-/// binds the control link and answers the datagrams that it takes until the link gives no more, a take
-/// fails, or `--turns` takes gave a datagram or nothing; then it prints a line of totals. The timer, in
-/// milliseconds, is asked once for each take. Any other words are answered `Usage`. The devices that no
-/// command uses yet are left alone.
+/// `serve --interface=ADDRESS [--listen-ng=ADDRESS:PORT] [--port-min=PORT] [--port-max=PORT] [--max-sessions=NUMBER] [--turns=NUMBER]`
+/// is the one command so far. It binds the control link and answers the datagrams that it takes until the link gives no more, a take
+/// fails, or `--turns` takes gave a datagram or nothing. Calls begin, are answered and end as the datagrams ask: their ports are
+/// opened and closed by the port maker, their keys drawn from the key source. After each take at most one packet of each port is
+/// relayed, handed a moment of the clock. At the end all calls are ended, and a line of totals is printed. The timer, in
+/// milliseconds, is asked once for each take of the link. Any other words are answered `Usage`. The script, which no command uses
+/// yet, is left alone. It may wait for the turns of its own table.
 pub fn run<R, N, P, K, T, C, G, S, O>(
     rt: &R,
     alloc: Global,
@@ -128,25 +164,54 @@ pub fn run<R, N, P, K, T, C, G, S, O>(
     out: &mut O,
 ) -> Status
 where
+    R: Wait,
     N: ControlLink,
     P: PortMaker,
+    P::In: Drop,
+    P::Out: Drop,
     K: KeySource,
     T: Timer,
     C: Clock + Sync,
     G: Gate + Sync,
     S: LineSource,
     O: LineSink,
-    ensures calls { Gained (N.told control.old) (N.told control.new) (DidCall (Gave (T.told timer.old) (T.told timer.new)) (settings (map (λ word. word.now) words.now)) result) }
-    ensures printed { Gained (N.told control.old) (N.told control.new) (λ calls. Gained (O.told out.old) (O.told out.new) (DidPrint (settings (map (λ word. word.now) words.now)) result calls)) }
+    requires open { TellsNone (settings (map (λ word. word.now) words.now)) (P.told ports.old) }
+    ensures calls { Gained (N.told control.old) (N.told control.new) (DidCall
+        (record {
+          timer = T.told timer.old;
+          timer_now = T.told timer.new;
+          drew = K.told keys.old;
+          drew_now = K.told keys.new;
+          port_faults = P.faults ports.old;
+          port_faults_now = P.faults ports.new;
+          key_faults = K.faults keys.old;
+          key_faults_now = K.faults keys.new;
+        })
+        (settings (map (λ word. word.now) words.now)) result) }
+    ensures printed { Gained (N.told control.old) (N.told control.new) (λ calls. Gained (O.told out.old) (O.told out.new) (DidPrint
+        (record {
+          timer = T.told timer.old;
+          timer_now = T.told timer.new;
+          drew = K.told keys.old;
+          drew_now = K.told keys.new;
+          port_faults = P.faults ports.old;
+          port_faults_now = P.faults ports.new;
+          key_faults = K.faults keys.old;
+          key_faults_now = K.faults keys.new;
+        })
+        (settings (map (λ word. word.now) words.now)) result calls)) }
     ensures usage { UsageByWords (settings (map (λ word. word.now) words.now)) result }
     ensures control_fault { result ≡ Status.ControlFault → Rose (N.faults control.old) (N.faults control.new) }
     ensures print_fault { result ≡ Status.PrintFault → Rose (O.faults out.old) (O.faults out.new) }
-    ensures memory { result ≡ Status.OutOfMemory → (control.new ≡ control.old) × (timer.new ≡ timer.old) × (out.new ≡ out.old) }
-    ensures unasked { settings (map (λ word. word.now) words.now) ≡ None → timer.new ≡ timer.old }
-    ensures unused { (ports.new ≡ ports.old) × (keys.new ≡ keys.old) × (script.new ≡ script.old) }
+    ensures memory { result ≡ Status.OutOfMemory → (control.new ≡ control.old) × (ports.new ≡ ports.old) × (keys.new ≡ keys.old) × (timer.new ≡ timer.old) × (out.new ≡ out.old) }
+    ensures shut { TellsNone (settings (map (λ word. word.now) words.now)) (P.told ports.new) }
+    ensures unasked { settings (map (λ word. word.now) words.now) ≡ None → (timer.new ≡ timer.old) × (ports.new ≡ ports.old) × (keys.new ≡ keys.old) }
+    ensures unused { script.new ≡ script.old }
 {
     match read_settings(words) {
-        Some(settings) => serve(alloc, &settings, control, timer, out),
+        Some(settings) => serve(
+            rt, alloc, &settings, control, ports, keys, timer, clock, gate, out,
+        ),
         None => print_usage(out),
     }
 }

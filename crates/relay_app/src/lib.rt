@@ -15,3 +15,5 @@ pub use status::Status;
 
 #[cfg(test)]
 mod tests;
+#[cfg(test)]
+mod words_tests;

@@ -1,7 +1,14 @@
 ghost use Rattle.std.specs.Prelude.{◌≡◌, ◌≤◌, ◌<◌, ◌^◌, min, IfSome};
 ghost use Rattle.std.specs.Option.{option_map};
 ghost use Rattle.sdp_text.specs.Pieces.{is_digit, number, at_most};
-ghost use Rattle.relay_app.specs.Numbers.{has_leading_zero, whole_number};
+ghost use Rattle.relay_app.specs.Numbers.{has_leading_zero, whole_number, number_within};
+
+/// The least and the greatest number that a text may say.
+#[derive(Clone, Copy)]
+pub(crate) struct Limits {
+    pub(crate) least: u64,
+    pub(crate) most: u64,
+}
 
 /// The decimal number that a text is, where it is no greater than the limit; leading zeros are allowed.
 fn read_number(text: &[u8], limit: u64) -> Option<u64>
@@ -57,5 +64,19 @@ pub(crate) fn read_whole_number(text: &[u8], limit: u64) -> Option<u64>
         None
     } else {
         read_number(text, limit)
+    }
+}
+
+/// A decimal number without a leading zero, within the limits.
+pub(crate) fn read_number_within(text: &[u8], limits: Limits) -> Option<u64>
+    requires { limits.most < 2 ^ 60 }
+    ensures value { result ≡ number_within limits.least limits.most text.now }
+    ensures within { IfSome result (λ value. (limits.least ≤ value) × (value ≤ limits.most)) }
+{
+    let value = read_whole_number(text, limits.most)?;
+    if limits.least <= value {
+        Some(value)
+    } else {
+        None
     }
 }

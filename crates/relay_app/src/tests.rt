@@ -1,10 +1,12 @@
 use crate::{Status, run};
 use relay_outside::{
-    Addr, ControlLink, HandClock, HandTimer, Ip, LineSink, LinkGift, MemoryLink, MemorySink,
-    OpenGate, SteadyKeys, SteadyLines, SteadyLink, SteadyMaker, SteadySink, WriteCall,
+    Addr, Arrivals, ControlLink, HandClock, HandTimer, Ip, LineSink, LinkGift, MemoryLink,
+    MemorySink, OpenGate, Packet, SteadyKeys, SteadyLines, SteadyLink, SteadyMaker, SteadySink,
+    WriteCall,
 };
 use std::alloc::Global;
 use std::process::Abort;
+use std::sync::Wait;
 use std::test::Fail;
 
 const CALLER: Addr = Addr {
@@ -15,30 +17,33 @@ const CALLER: Addr = Addr {
 const SERVE: [&str; 2] = ["serve", "--interface=203.0.113.1"];
 
 /// Runs the words over this link and sink, and a timer that stands still.
-fn run_over<N: ControlLink, O: LineSink>(
+fn run_over<R: Wait, N: ControlLink, O: LineSink>(
+    rt: &R,
     alloc: Global,
     words: &[&str],
     link: &mut N,
     sink: &mut O,
 ) -> Status {
     let mut timer = HandTimer::new(alloc, Vec::new(alloc));
-    run_at(alloc, words, link, &mut timer, sink)
+    run_at(rt, alloc, words, link, Vec::new(alloc), &mut timer, sink)
 }
 
-/// Runs the words over this link, timer and sink, and devices in memory beside them.
-fn run_at<N: ControlLink, O: LineSink>(
+/// Runs the words over this link, timer and sink, ports at which these packets arrive, and devices in memory beside them.
+fn run_at<R: Wait, N: ControlLink, O: LineSink>(
+    rt: &R,
     alloc: Global,
     words: &[&str],
     link: &mut N,
+    arrivals: Vec<Arrivals>,
     timer: &mut HandTimer,
     sink: &mut O,
 ) -> Status {
     run(
-        &(),
+        rt,
         alloc,
         words,
         link,
-        &mut SteadyMaker::new(alloc, Vec::new(alloc)),
+        &mut SteadyMaker::new(alloc, arrivals),
         &mut SteadyKeys::new(alloc),
         timer,
         &HandClock::new(0),
@@ -67,7 +72,7 @@ fn assert_line(rt: &impl Abort, calls: Option<&[WriteCall]>, want: &[u8]) {
 #[test]
 fn each_datagram_gets_its_reply(rt: HostRuntime) -> Result<(), Fail> {
     let alloc = rt.alloc();
-    let cases: [(&[u8], &[u8]); 6] = [
+    let cases: [(&[u8], &[u8]); 8] = [
         (b"5323_1 d7:command4:pinge", b"5323_1 d6:result4:ponge"),
         (
             b"1 d7:command3:fooe",
@@ -83,6 +88,14 @@ fn each_datagram_gets_its_reply(rt: HostRuntime) -> Result<(), Fail> {
             b"4 d12:error-reason29:missing or wrong key: call-id6:result5:errore",
         ),
         (
+            b"6 d7:call-id2:c17:command5:offer8:from-tag1:a7:replacel6:origin18:session connectione3:sdp129:v=0\r\no=alice 1 1 IN IP4 192.0.2.10\r\ns=-\r\nc=IN IP4 192.0.2.10\r\nt=0 0\r\nm=audio 6000 RTP/AVP 0 8\r\na=rtpmap:0 PCMU/8000\r\na=sendrecv\r\ne",
+            b"6 d6:result2:ok3:sdp154:v=0\r\no=alice 1 1 IN IP4 203.0.113.1\r\ns=-\r\nc=IN IP4 203.0.113.1\r\nt=0 0\r\nm=audio 30000 RTP/AVP 0 8\r\nc=IN IP4 203.0.113.1\r\na=rtpmap:0 PCMU/8000\r\na=sendrecv\r\ne",
+        ),
+        (
+            b"7 d7:call-id2:c17:command6:deletee",
+            b"7 d6:result2:ok7:warning15:unknown call-ide",
+        ),
+        (
             b"5 d7:command4:liste",
             b"5 d12:error-reason20:unrecognized command6:result5:errore",
         ),
@@ -90,7 +103,10 @@ fn each_datagram_gets_its_reply(rt: HostRuntime) -> Result<(), Fail> {
     for (datagram, want) in cases {
         let mut link = link_of(alloc, &[datagram])?;
         let mut sink = SteadySink::new(alloc);
-        assert_eq!(rt; run_over(alloc, &SERVE, &mut link, &mut sink), Status::Ok);
+        assert_eq!(rt;
+            run_over(&rt, alloc, &SERVE, &mut link, &mut sink),
+            Status::Ok
+        );
         let Some((to, reply)) = link.last_sent() else {
             assert!(rt; false, "no reply");
             return Ok(());
@@ -125,10 +141,61 @@ fn the_timer_gives_one_moment_for_each_take(rt: HostRuntime) -> Result<(), Fail>
         let mut link = link_of(alloc, &[ping, other, other])?;
         let mut timer = HandTimer::new(alloc, moments.to_vec(alloc)?);
         let mut sink = SteadySink::new(alloc);
-        let status = run_at(alloc, &SERVE, &mut link, &mut timer, &mut sink);
+        let status = run_at(
+            &rt,
+            alloc,
+            &SERVE,
+            &mut link,
+            Vec::new(alloc),
+            &mut timer,
+            &mut sink,
+        );
         assert_eq!(rt; status, Status::Ok);
         assert!(rt; link.last_sent() == Some((CALLER, want)), "{moments:?}");
     }
+    Ok(())
+}
+
+/// The offer and the answer of a call with one audio section.
+const CALL: [&[u8]; 2] = [
+    b"1 d7:call-id2:c17:command5:offer8:from-tag1:a3:sdp89:v=0\r\no=- 1 1 IN IP4 192.0.2.10\r\ns=-\r\nc=IN IP4 192.0.2.10\r\nt=0 0\r\nm=audio 6000 RTP/AVP 0\r\ne",
+    b"2 d7:call-id2:c17:command6:answer8:from-tag1:a3:sdp95:v=0\r\no=- 1 1 IN IP4 198.51.100.20\r\ns=-\r\nc=IN IP4 198.51.100.20\r\nt=0 0\r\nm=audio 7000 RTP/AVP 0\r\n6:to-tag1:be",
+];
+
+#[test]
+fn packets_are_relayed_once_a_call_is_answered(rt: HostRuntime) -> Result<(), Fail> {
+    let alloc = rt.alloc();
+    let caller = Addr {
+        ip: Ip::V4([192, 0, 2, 10]),
+        port: 6000,
+    };
+    // one packet is taken after each of the two turns, and one at the end
+    let mut packets = Vec::new(alloc);
+    for last in 1..=3 {
+        packets.push(Packet::datagram(
+            alloc,
+            caller,
+            &[0x80, 0, 0, last, 0, 0, 0, 0, 0x11, 0x11, 0x11, 0x11, last],
+        )?)?;
+    }
+    let at = Addr {
+        ip: Ip::V4([203, 0, 113, 1]),
+        port: 30_002,
+    };
+    let mut arrivals = Vec::new(alloc);
+    arrivals.push(Arrivals::new(at, packets))?;
+    let mut link = link_of(alloc, &CALL)?;
+    let mut timer = HandTimer::new(alloc, Vec::new(alloc));
+    let mut sink = SteadySink::new(alloc);
+    let status = run_at(
+        &rt, alloc, &SERVE, &mut link, arrivals, &mut timer, &mut sink,
+    );
+    assert_eq!(rt; status, Status::Ok);
+    assert_line(
+        &rt,
+        sink.calls(),
+        b"turns 2 datagrams 2 replies 2 sent 2 refused 1 lost 0\n",
+    );
     Ok(())
 }
 
@@ -138,7 +205,10 @@ fn a_datagram_without_a_frame_gets_silence(rt: HostRuntime) -> Result<(), Fail> 
     for datagram in [b"abc".as_slice(), b"", b" d7:command4:pinge"] {
         let mut link = link_of(alloc, &[datagram])?;
         let mut sink = SteadySink::new(alloc);
-        assert_eq!(rt; run_over(alloc, &SERVE, &mut link, &mut sink), Status::Ok);
+        assert_eq!(rt;
+            run_over(&rt, alloc, &SERVE, &mut link, &mut sink),
+            Status::Ok
+        );
         assert!(rt; link.tells() && link.last_sent().is_none());
         assert_line(
             &rt,
@@ -162,7 +232,7 @@ fn the_turns_are_spent(rt: HostRuntime) -> Result<(), Fail> {
         "--listen-ng=127.0.0.1:7000",
     ];
     assert_eq!(rt;
-        run_over(alloc, &words, &mut link, &mut sink),
+        run_over(&rt, alloc, &words, &mut link, &mut sink),
         Status::TurnsSpent
     );
     assert_line(
@@ -208,7 +278,7 @@ fn faults_end_the_run_or_are_counted_out(rt: HostRuntime) -> Result<(), Fail> {
         gifts.push(LinkGift::datagram(alloc, CALLER, b"5323_1 d7:command4:pinge")?)?;
         let mut link = MemoryLink::new(alloc, gifts, [link_fails].to_vec(alloc)?);
         let mut sink = MemorySink::new(alloc, [sink_fails].to_vec(alloc)?);
-        assert_eq!(rt; run_over(alloc, &SERVE, &mut link, &mut sink), status);
+        assert_eq!(rt; run_over(&rt, alloc, &SERVE, &mut link, &mut sink), status);
         assert_line(&rt, sink.calls(), line);
     }
     Ok(())
@@ -220,7 +290,7 @@ fn a_bind_that_fails_prints_no_line(rt: HostRuntime) -> Result<(), Fail> {
     let mut link = MemoryLink::new(alloc, Vec::new(alloc), [1].to_vec(alloc)?);
     let mut sink = SteadySink::new(alloc);
     assert_eq!(rt;
-        run_over(alloc, &SERVE, &mut link, &mut sink),
+        run_over(&rt, alloc, &SERVE, &mut link, &mut sink),
         Status::ControlFault
     );
     assert!(rt; matches!(sink.calls(), Some([])));
@@ -256,14 +326,17 @@ fn other_words_print_the_usage(rt: HostRuntime) -> Result<(), Fail> {
             "--interface=203.0.113.1",
             "--listen-ng=127.0.0.1:65536",
         ],
-        &["serve", "--interface=203.0.113.1", "--port-min=1024"],
+        &["serve", "--interface=203.0.113.1", "--port-min=1023"],
         &["--interface=203.0.113.1", "serve"],
         &["serve", "--interface=203.0.113.1", "serve"],
     ];
     for words in cases {
         let mut link = link_of(alloc, &[])?;
         let mut sink = SteadySink::new(alloc);
-        assert_eq!(rt; run_over(alloc, words, &mut link, &mut sink), Status::Usage);
+        assert_eq!(rt;
+            run_over(&rt, alloc, words, &mut link, &mut sink),
+            Status::Usage
+        );
         let Some([WriteCall::Write { line, done: true }]) = sink.calls() else {
             assert!(rt; false, "not one line");
             return Ok(());
@@ -293,7 +366,7 @@ fn words_of_serve_are_read(rt: HostRuntime) -> Result<(), Fail> {
     for words in cases {
         let mut link = link_of(alloc, &[])?;
         assert_eq!(rt;
-            run_over(alloc, words, &mut link, &mut SteadySink::new(alloc)),
+            run_over(&rt, alloc, words, &mut link, &mut SteadySink::new(alloc)),
             Status::Ok
         );
     }

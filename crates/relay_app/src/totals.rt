@@ -2,6 +2,7 @@ ghost use Rattle.std.specs.Prelude.{◌≡◌, ◌+◌, ◌≤◌, ◌<◌, ◌^
 ghost use Rattle.relay_app.specs.Served.{totals_line};
 ghost use Rattle.relay_app.specs.Turned.{sum_of, turn_counts};
 
+use media_lane::Totals;
 use ng_bencode::Text;
 use ng_server::ControlTurn;
 
@@ -62,10 +63,10 @@ fn put_number(line: &mut Text, number: u64)
 }
 
 /// Writes the line of totals into an empty text. It takes no memory.
-pub(crate) fn put_totals(line: &mut Text, counts: Counts)
+pub(crate) fn put_totals(line: &mut Text, counts: Counts, totals: Totals)
     requires empty { line.old.list ≡ [] }
-    requires room { 256 ≤ line.old.spare }
-    ensures { line.new.list ≡ totals_line counts.turns counts.datagrams counts.replies }
+    requires room { 512 ≤ line.old.spare }
+    ensures { line.new.list ≡ totals_line counts.turns counts.datagrams counts.replies totals }
 {
     line.extend(b"turns ");
     put_number(line, counts.turns);
@@ -73,6 +74,11 @@ pub(crate) fn put_totals(line: &mut Text, counts: Counts)
     put_number(line, counts.datagrams);
     line.extend(b" replies ");
     put_number(line, counts.replies);
-    line.extend(b" sent 0 refused 0 lost 0");
+    line.extend(b" sent ");
+    put_number(line, totals.sent);
+    line.extend(b" refused ");
+    put_number(line, totals.refused);
+    line.extend(b" lost ");
+    put_number(line, totals.lost);
     line.push(b'\n');
 }

@@ -1,18 +1,18 @@
-ghost use Rattle.std.specs.Prelude.{◌≡◌, ◌≤◌, ◌<◌, ◌==◌, ◌∷◌, ◌++◌, [], ℕ, List, Some, None, IfSome, MatchOption, codes, length, map, position};
+ghost use Rattle.std.specs.Prelude.{◌≡◌, ◌≤◌, ◌<◌, ◌^◌, ◌==◌, ◌∷◌, ◌++◌, [], ℕ, List, Some, None, IfSome, MatchOption, IsTrue, ◌↔◌, codes, length, map, position};
 ghost use Rattle.std.specs.List.{list_all};
-ghost use Rattle.relay_app.specs.Words.{value_after, values_of, is_option, ipv4, listen_address, turn_count, one_value, default_listen, option_settings, settings};
-ghost use Rattle.relay_app.specs.Numbers.{whole_number};
+ghost use Rattle.relay_app.specs.Words.{value_after, values_of, is_option, ipv4, listen_address, media_port, session_count, turn_count, one_value, default_listen, has_pair, configuration, option_settings, settings, IsV4, IsPair, IsInLimits};
+ghost use Rattle.relay_app.specs.Numbers.{whole_number, number_within};
 ghost use Rattle.relay_app.specs.Given.{IsGiven};
 
-use crate::numbers::read_whole_number;
-use relay_outside::{Addr, Ip};
+use crate::numbers::{Limits, read_number_within, read_whole_number};
+use relay_outside::{Addr, Config, Ip};
 use sdp_text::{Host, read_ipv4};
 
 /// What the words of `serve` say.
-#[derive(Clone, Copy)]
+#[derive(Clone, Copy, PartialEq, Eq, Debug)]
 pub(crate) struct Settings {
-    /// The address for media.
-    pub(crate) interface: Ip,
+    /// What the relay is run with: its interface has version 4, and its range of ports holds a pair.
+    pub(crate) config: Config,
     /// Where the control link is bound.
     pub(crate) listen: Addr,
     /// After how many takes that gave a datagram or nothing the run ends.
@@ -33,10 +33,22 @@ const INTERFACE: &[u8] = b"--interface=";
 
 const LISTEN: &[u8] = b"--listen-ng=";
 
+const PORT_MIN: &[u8] = b"--port-min=";
+
+const PORT_MAX: &[u8] = b"--port-max=";
+
+const MAX_SESSIONS: &[u8] = b"--max-sessions=";
+
 const TURNS: &[u8] = b"--turns=";
 
 /// The greatest number of turns, and the default.
 const MOST_TURNS: u64 = 1_000_000_000_000_000;
+
+/// After how many milliseconds without a packet a committed call ends.
+const TIMEOUT_MS: u64 = 60_000;
+
+/// After how many milliseconds an offer that was never answered ends.
+const OFFER_TIMEOUT_MS: u64 = 3_600_000;
 
 /// The value that a word gives to an option, where it is that option's word.
 fn value_after<'a>(name: &[u8], word: &'a [u8]) -> Option<&'a [u8]>
@@ -74,7 +86,12 @@ fn is_option(word: &str) -> bool
     ensures { result ≡ is_option word.now }
 {
     let word = word.as_bytes();
-    word.starts_with(INTERFACE) || word.starts_with(LISTEN) || word.starts_with(TURNS)
+    word.starts_with(INTERFACE)
+        || word.starts_with(LISTEN)
+        || word.starts_with(PORT_MIN)
+        || word.starts_with(PORT_MAX)
+        || word.starts_with(MAX_SESSIONS)
+        || word.starts_with(TURNS)
 }
 
 fn are_options(words: &[&str]) -> bool
@@ -84,7 +101,8 @@ fn are_options(words: &[&str]) -> bool
 }
 
 fn read_ip(text: &[u8]) -> Option<Ip>
-    ensures { result ≡ ipv4 text.now }
+    ensures value { result ≡ ipv4 text.now }
+    ensures version { IfSome result IsV4 }
 {
     match read_ipv4(text) {
         Some(Host::V4(bytes)) => Some(Ip::V4(bytes)),
@@ -119,20 +137,9 @@ fn read_port(text: &[u8]) -> Option<u16>
     }
 }
 
-/// A number of 1 to 10^15.
-fn read_turns(text: &[u8]) -> Option<u64>
-    ensures value { result ≡ turn_count text.now }
-    ensures within { IfSome result (λ turns. turns ≤ MOST_TURNS) }
-{
-    let turns = read_whole_number(text, MOST_TURNS)?;
-    if turns == 0 {
-        return None;
-    }
-    Some(turns)
-}
-
 fn find_interface(words: &[&str]) -> Option<Ip>
-    ensures { result ≡ one_value ipv4 None (values_of (codes "--interface=") (map (λ word. word.now) words.now)) }
+    ensures value { result ≡ one_value ipv4 None (values_of (codes "--interface=") (map (λ word. word.now) words.now)) }
+    ensures version { IfSome result IsV4 }
 {
     match find_values(words, INTERFACE) {
         Given::Missing => None,
@@ -154,29 +161,111 @@ fn find_listen(words: &[&str]) -> Option<Addr>
     }
 }
 
+/// The whole number within the limits that the words give to an option, and the default where they give none.
+fn find_number(words: &[&str], name: &[u8], limits: Limits, default: u64) -> Option<u64>
+    requires limits { limits.most < 2 ^ 60 }
+    requires default { (limits.least ≤ default) × (default ≤ limits.most) }
+    ensures value { result ≡ one_value (number_within limits.least limits.most) (Some default) (values_of name.now (map (λ word. word.now) words.now)) }
+    ensures within { IfSome result (λ number. (limits.least ≤ number) × (number ≤ limits.most)) }
+{
+    match find_values(words, name) {
+        Given::Missing => Some(default),
+        Given::Once(value) => read_number_within(value, limits),
+        Given::Repeated => None,
+    }
+}
+
+/// The port for media, 1,024 or above, that the words give to an option, and the default where they give none.
+fn find_port(words: &[&str], name: &[u8], default: u16) -> Option<u16>
+    requires { 1024 ≤ default }
+    ensures value { result ≡ one_value media_port (Some default) (values_of name.now (map (λ word. word.now) words.now)) }
+    ensures within { IfSome result (λ port. 1024 ≤ port) }
+{
+    let limits = Limits {
+        least: 1024,
+        most: 65_535,
+    };
+    match find_number(words, name, limits, u64::from(default)) {
+        Some(port) => Some(port as u16),
+        None => None,
+    }
+}
+
+/// How many calls may be live at a time: 1 to 2,048.
+fn find_sessions(words: &[&str]) -> Option<u32>
+    ensures value { result ≡ one_value session_count (Some 2048) (values_of (codes "--max-sessions=") (map (λ word. word.now) words.now)) }
+    ensures within { IfSome result (λ sessions. (1 ≤ sessions) × (sessions ≤ 2048)) }
+{
+    let limits = Limits {
+        least: 1,
+        most: 2048,
+    };
+    match find_number(words, MAX_SESSIONS, limits, 2048) {
+        Some(sessions) => Some(sessions as u32),
+        None => None,
+    }
+}
+
+/// A number of turns of 1 to 10^15.
 fn find_turns(words: &[&str]) -> Option<u64>
     ensures value { result ≡ one_value turn_count (Some 1000000000000000) (values_of (codes "--turns=") (map (λ word. word.now) words.now)) }
     ensures within { IfSome result (λ turns. turns ≤ MOST_TURNS) }
 {
-    match find_values(words, TURNS) {
-        Given::Missing => Some(MOST_TURNS),
-        Given::Once(value) => read_turns(value),
-        Given::Repeated => None,
+    let limits = Limits {
+        least: 1,
+        most: MOST_TURNS,
+    };
+    find_number(words, TURNS, limits, MOST_TURNS)
+}
+
+/// Whether the range of ports holds a pair: an even port and the next one.
+fn has_pair(config: &Config) -> bool
+    ensures value { result ≡ has_pair config.now }
+    ensures pair { IsTrue result ↔ ((port : ℕ) × IsPair config.now port) }
+{
+    let port_min = u32::from(config.port_min);
+    let first_port = port_min + port_min % 2;
+    first_port < u32::from(config.port_max)
+}
+
+/// What the relay is run with, where the range of ports holds a pair.
+fn find_config(words: &[&str]) -> Option<Config>
+    ensures value { result ≡ configuration (map (λ word. word.now) words.now) }
+    ensures limits { IfSome result IsInLimits }
+{
+    let interface = find_interface(words)?;
+    let port_min = find_port(words, PORT_MIN, 30_000)?;
+    let port_max = find_port(words, PORT_MAX, 40_000)?;
+    let max_sessions = find_sessions(words)?;
+    let config = Config {
+        interface,
+        interface6: None,
+        port_min,
+        port_max,
+        timeout_ms: TIMEOUT_MS,
+        offer_timeout_ms: OFFER_TIMEOUT_MS,
+        max_sessions,
+    };
+    if has_pair(&config) {
+        Some(config)
+    } else {
+        None
     }
 }
 
 fn option_settings(words: &[&str]) -> Option<Settings>
     ensures value { result ≡ option_settings (map (λ word. word.now) words.now) }
+    ensures config { IfSome result (λ settings. IsInLimits settings.config) }
     ensures within { IfSome result (λ settings. settings.turns ≤ MOST_TURNS) }
 {
     if !are_options(words) {
         return None;
     }
-    let interface = find_interface(words)?;
+    let config = find_config(words)?;
     let listen = find_listen(words)?;
     let turns = find_turns(words)?;
     Some(Settings {
-        interface,
+        config,
         listen,
         turns,
     })
@@ -185,6 +274,7 @@ fn option_settings(words: &[&str]) -> Option<Settings>
 /// What the words of a command line say: `None` where they are no words of `serve`.
 pub(crate) fn read_settings(words: &[&str]) -> Option<Settings>
     ensures value { result ≡ settings (map (λ word. word.now) words.now) }
+    ensures config { IfSome result (λ settings. IsInLimits settings.config) }
     ensures within { IfSome result (λ settings. settings.turns ≤ MOST_TURNS) }
 {
     let (command, options) = words.split_first()?;
