@@ -6,9 +6,9 @@ use std::net::{Net, UdpSocket};
 use std::time::Duration;
 
 /// How long a take waits for a datagram, in milliseconds.
-const WAIT_MILLIS: u64 = 20;
+const WAIT_MILLIS: u64 = 10;
 
-/// A UDP socket as the control link. A take waits 20 ms at the most; the link never ends by itself. It
+/// A UDP socket as the control link. A take waits 10 ms at the most; the link never ends by itself. It
 /// tells nothing.
 #[derive(Drop)]
 pub struct UdpLink<'a, R: Net> {

@@ -12,8 +12,12 @@ use outside_real::{ChaChaKeys, StdLines, StdSink, SystemClock, SystemTimer, UdpL
 use relay_app::{Status, run};
 use relay_outside::OpenGate;
 use std::alloc::Global;
-use std::io::BufReader;
+use std::io::{self, BufReader};
+use std::net::Net;
 use std::process::ExitCode;
+use std::random::RandomSource;
+use std::rt::Clock;
+use std::sync::Wait;
 
 fn main(rt: HostRuntime) -> ExitCode {
     let alloc = rt.alloc();
@@ -28,7 +32,10 @@ fn main(rt: HostRuntime) -> ExitCode {
 /// Makes the devices and runs the relay: sockets, the system's clock, keys from a seed of the runtime's
 /// random source, standard input and output. Without a seed nothing is run, and the answer is that of a
 /// run that got no memory.
-fn start(rt: &HostRuntime, alloc: Global, words: &Vec<String>) -> Status {
+fn start<R>(rt: &R, alloc: Global, words: &Vec<String>) -> Status
+where
+    R: Wait + Sync + Net + Clock + RandomSource + Input + Print,
+{
     let mut texts = Vec::new(alloc);
     for word in words {
         if texts.push(word.as_str()).is_err() {
@@ -52,7 +59,7 @@ fn start(rt: &HostRuntime, alloc: Global, words: &Vec<String>) -> Status {
         &SystemClock::new(rt),
         &OpenGate::new(),
         &mut StdLines::new(input),
-        &mut StdSink::new(rt.stdout()),
+        &mut StdSink::new(io::writer(rt)),
     )
 }
 

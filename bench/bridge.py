@@ -1,0 +1,126 @@
+"""Bridges a plain telephone and an SRTP one over the built program, by an SRTP of its own (Python's cryptography).
+
+Usage: bench/bridge.py [PACKETS]. It starts the program on the loopback, offers and answers a call with RTP/AVP on one side and
+RTP/SAVP on the other, sends so many packets each way, one at a time, and compares each; then a packet with a wrong tag and a
+replay, which must not come through.
+"""
+import base64
+import hashlib
+import hmac
+import os
+import re
+import socket
+import struct
+import subprocess
+import sys
+import time
+
+from cryptography.hazmat.primitives.ciphers import Cipher, algorithms, modes
+
+TOP = os.path.dirname(os.path.dirname(os.path.abspath(__file__)))
+PACKETS = int(sys.argv[1]) if len(sys.argv) > 1 else 100
+
+
+def keystream(key, counter, length):
+    """AES-128 in counter mode (RFC 3711 section 4.1.1)."""
+    encryptor = Cipher(algorithms.AES(key), modes.CTR(counter.to_bytes(16, "big"))).encryptor()
+    return encryptor.update(bytes(length))
+
+
+def derive(key, salt, label, length):
+    """A session key at rate 0 (RFC 3711 section 4.3)."""
+    return keystream(key, (int.from_bytes(salt, "big") ^ (label << 48)) << 16, length)
+
+
+class Srtp:
+    """AES_CM_128_HMAC_SHA1_80 with roll-over counter 0."""
+
+    def __init__(self, master):
+        key, salt = master[:16], master[16:30]
+        self.cipher, self.mac, self.salt = (derive(key, salt, label, n) for label, n in ((0, 16), (1, 20), (2, 14)))
+
+    def crypt(self, packet):
+        index = struct.unpack(">H", packet[2:4])[0]
+        ssrc = struct.unpack(">I", packet[8:12])[0]
+        counter = (int.from_bytes(self.salt, "big") << 16) ^ (ssrc << 64) ^ (index << 16)
+        stream = keystream(self.cipher, counter, len(packet) - 12)
+        return packet[:12] + bytes(a ^ b for a, b in zip(packet[12:], stream))
+
+    def tag(self, packet):
+        return hmac.new(self.mac, packet + bytes(4), hashlib.sha1).digest()[:10]
+
+    def protect(self, packet):
+        sealed = self.crypt(packet)
+        return sealed + self.tag(sealed)
+
+    def unprotect(self, datagram):
+        assert self.tag(datagram[:-10]) == datagram[-10:], "tag"
+        return self.crypt(datagram[:-10])
+
+
+def bound(port):
+    end = socket.socket(socket.AF_INET, socket.SOCK_DGRAM)
+    end.bind(("127.0.0.1", port))
+    end.settimeout(1)
+    return end
+
+
+def description(port, protocol, more=""):
+    return (f"v=0\r\no=- 1 1 IN IP4 127.0.0.1\r\ns=-\r\nc=IN IP4 127.0.0.1\r\nt=0 0\r\n"
+            f"m=audio {port} {protocol} 0\r\n{more}")
+
+
+def packet(number):
+    return bytes([0x80, 0]) + struct.pack(">HII", number, number * 160, 0x11223344) + bytes([number & 255]) * 160
+
+
+def ask(command):
+    link.send(command.encode())
+    reply = link.recv(65535).decode()
+    if "6:result2:ok" not in reply:
+        sys.exit(reply)
+    return reply
+
+
+def comes_through(datagram):
+    secure.sendto(datagram, ("127.0.0.1", secure_port))
+    try:
+        return plain.recvfrom(3000)[0]
+    except socket.timeout:
+        return None
+
+
+server = subprocess.Popen([f"{TOP}/crates/rtpengine/out/rtpengine", "serve", "--interface=127.0.0.1",
+                           "--listen-ng=127.0.0.1:22347", "--port-min=31000", "--port-max=31099"],
+                          stdout=subprocess.DEVNULL)
+try:
+    time.sleep(0.5)
+    link = socket.socket(socket.AF_INET, socket.SOCK_DGRAM)
+    link.settimeout(3)
+    link.connect(("127.0.0.1", 22347))
+    plain, secure = bound(6100), bound(7100)
+    offer = description(6100, "RTP/AVP")
+    reply = ask(f"1 d7:call-id2:c17:command5:offer8:from-tag1:a3:sdp{len(offer)}:{offer}18:transport protocol8:RTP/SAVPe")
+    secure_port = int(re.search(r"m=audio (\d+)", reply).group(1))
+    drawn = base64.b64decode(re.search(r"crypto:1 AES_CM_128_HMAC_SHA1_80 inline:(\S{40})", reply).group(1))
+    own = os.urandom(30)
+    line = f"a=crypto:1 AES_CM_128_HMAC_SHA1_80 inline:{base64.b64encode(own).decode()}\r\n"
+    answer = description(7100, "RTP/SAVP", line)
+    reply = ask(f"2 d7:call-id2:c17:command6:answer8:from-tag1:a3:sdp{len(answer)}:{answer}6:to-tag1:be")
+    plain_port = int(re.search(r"m=audio (\d+)", reply).group(1))
+    into, out_of = Srtp(own), Srtp(drawn)
+    began = time.time()
+    for number in range(PACKETS):
+        plain.sendto(packet(number), ("127.0.0.1", plain_port))
+        datagram, source = secure.recvfrom(3000)
+        assert source == ("127.0.0.1", secure_port) and out_of.unprotect(datagram) == packet(number), number
+        assert comes_through(into.protect(packet(number))) == packet(number), number
+    print(f"{PACKETS} packets each way in {time.time() - began:.2f} s")
+    last = into.protect(packet(PACKETS))
+    assert comes_through(last[:-1] + bytes([last[-1] ^ 1])) is None, "a wrong tag came through"
+    assert comes_through(last) == packet(PACKETS), "the true packet was lost"
+    assert comes_through(last) is None, "a replay came through"
+    print("a wrong tag and a replay were dropped")
+    ask("3 d7:call-id2:c17:command6:deletee")
+finally:
+    server.kill()
