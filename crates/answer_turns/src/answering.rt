@@ -1,5 +1,6 @@
 //! An accepted answer.
 ghost use Rattle.std.specs.Prelude.{◌≡◌, ◌≤◌, [], length};
+ghost use Rattle.relay_outside.specs.Told.{Gained};
 ghost use Rattle.turn_table.specs.Hands.{IsSameHand, SameTurns};
 ghost use Rattle.offer_answer.specs.Plan.{answer_text};
 ghost use Rattle.offer_answer.specs.Rounds.{AnswerAsk};
@@ -9,6 +10,7 @@ ghost use Rattle.call_board.specs.Boards.{KeepsReplies};
 ghost use Rattle.call_board.specs.Calls.{rounds};
 ghost use Rattle.relay_core.specs.Entries.{board_history};
 ghost use Rattle.relay_core.specs.Turning.{made_by};
+ghost use Rattle.media_ports.specs.Asked.{OpensNone};
 ghost use Rattle.nested_steps.specs.Nesting.{MayNest};
 ghost use Rattle.board_turns.specs.Acting.{InTurn, DoesAct};
 ghost use Rattle.answer_turns.specs.Due.{IsAnswerOf};
@@ -56,6 +58,7 @@ pub fn answer_act<P: PortMaker, R: Wait>(
     ensures does { (e : BoardEntry) (of : Call) (ask : AnswerAsk) → IsAnswerOf config.now (board_history (made_by hand.old) nest.number) nest.moment e of ask sdp.now plan →
         DoesAct config.now hand.old hand.new nest e board.new (P.told ports.new) }
     ensures replies { KeepsReplies board.old board.new }
+    ensures closes { Gained (P.told ports.old) (P.told ports.new) OpensNone }
     ensures later { P.faults ports.old ≤ P.faults ports.new }
     ensures empty { gone.new ≡ [] }
 {

@@ -1,5 +1,5 @@
 -- The board's turn, from the main hand that takes it to the main hand that has put it.
-use Rattle.std.proofs.Common.{◌≡◌, ◌≢◌, refl, sym, ◌∙◌, ap, subst, ℕ, zero, suc, ◌+◌, ◌<◌, ◌≤◌, ◌^◌, ◌⊎◌, inl, inr, Bool, true, false, eqb, eqb-true, List, [], ◌∷◌, ◌++◌, Option, Some, None, map, filter, length, max, arith}
+use Rattle.std.proofs.Common.{◌≡◌, ◌≢◌, refl, sym, ◌∙◌, ap, subst, ℕ, zero, suc, ◌+◌, ◌<◌, ◌≤◌, ◌^◌, ◌⊎◌, inl, inr, Bool, true, false, eqb, eqb-true, List, [], ◌∷◌, ◌++◌, Option, Some, filter, length, max, arith}
 use Rattle.std.specs.Prelude.{◌==◌}
 use Rattle.std.proofs.lemmas.Bool.{eqb-false}
 use Rattle.std.specs.List.{filter_map}
@@ -18,7 +18,7 @@ use Rattle.histories.proofs.Lists.{maps, keeps}
 use Rattle.call_board.specs.declared.board.Board as board
 use Rattle.call_board.specs.Acts.{BoardEvent, BoardEntry}
 use Rattle.call_board.specs.Boards.{Shows, BoardFor}
-use Rattle.call_board.specs.Fits.{FitsBoard, IsFitting}
+use Rattle.call_board.specs.Fits.{FitsBoard}
 use Rattle.call_board.specs.Pairs.{held}
 use Rattle.call_board.specs.Views.{View, view_of, at_moment, last_moment}
 use Rattle.relay_core.specs.declared.part.Part.{Part}
@@ -31,7 +31,7 @@ use Rattle.relay_core.specs.Beginning.{AreParts}
 use Rattle.relay_core.specs.Scripts.{Owed, owed_by, script}
 use Rattle.relay_core.specs.Standing.{BoardIs}
 use Rattle.relay_core.specs.Joining.{IsSound}
-use Rattle.relay_core.specs.Turning.{Numbered, IsAbove, IsTurn, IsReceiving, Gained, GainsNested, made_by}
+use Rattle.relay_core.specs.Turning.{Numbered, IsAbove, IsTurn, Gained, GainsNested, made_by}
 use Rattle.relay_core.proofs.Elsewhere.{owed_elsewhere}
 use Rattle.relay_core.proofs.Histories.{at_place, good_history}
 use Rattle.relay_core.proofs.Turns.{filter_none, false_if, same_board}

@@ -1,5 +1,5 @@
 -- The legs of a call that a board entry closes may be closed when the call's cell has made its step.
-use Rattle.std.proofs.Common.{◌≡◌, ◌∙◌, refl, sym, ap, subst, ℕ, ◌≤◌, true, List, [], ◌∷◌, Option, map, arith, IsSome}
+use Rattle.std.proofs.Common.{◌≡◌, refl, sym, ap, subst, ℕ, ◌≤◌, true, List, [], ◌∷◌, Option, arith, IsSome}
 use Rattle.relay_outside.specs.declared.ports.PortCall.{PortCall}
 use Rattle.relay_outside.specs.declared.settings.Config.{Config}
 use Rattle.turn_table.specs.declared.hands.Hand.{Hand}
@@ -11,7 +11,7 @@ use Rattle.call_board.specs.declared.board.Board.{Board}
 use Rattle.call_board.specs.Acts.{Call, BoardEntry}
 use Rattle.call_board.specs.Boards.{Shows, pairs_in}
 use Rattle.call_board.specs.Pairs.{held, free, closed_of}
-use Rattle.call_board.specs.Returns.{leg_lease, MayReturnAll}
+use Rattle.call_board.specs.Returns.{MayReturnAll}
 use Rattle.call_board.specs.Views.{View, times_leased}
 use Rattle.call_board.proofs.Held.{closed_of_held}
 use Rattle.call_board.proofs.Outs.{ended_return}

@@ -1,35 +1,30 @@
 -- A delete, as the end of one call.
-use Rattle.std.proofs.Common.{◌≡◌, ◌∙◌, refl, sym, ap, subst, ℕ, Bool, true, false, not, cond, List, [], ◌∷◌, ◌++◌, Option, map, filter, max, arith}
+use Rattle.std.proofs.Common.{◌≡◌, ◌∙◌, refl, sym, ap, subst, ℕ, Bool, true, false, not, cond, List, [], ◌∷◌, ◌++◌, Option, map, filter}
 use Rattle.std.specs.Prelude.{◌&&◌, ◌==◌}
-use Rattle.std.specs.List.{flat_map}
 use Rattle.relay_outside.specs.declared.ports.PortCall.{PortCall}
 use Rattle.relay_outside.specs.declared.settings.Config.{Config}
-use Rattle.relay_outside.specs.Told.{WhereTold}
 use Rattle.turn_table.specs.declared.hands.Turns.{Turns}
 use Rattle.turn_table.specs.declared.hands.Hand.{Hand}
-use Rattle.histories.specs.Words.{In, here, there, has}
+use Rattle.histories.specs.Words.{In, has}
 use Rattle.histories.proofs.Lists.{equal, equal_if}
 use Rattle.port_pool.specs.declared.holder.Holder.{Holder}
 use Rattle.call_board.specs.declared.board.Board.{Board}
 use Rattle.call_board.specs.Acts as act
 use Rattle.call_board.specs.Acts.{Call, Act, Control, Turn, Tick, Stop, BoardEvent, BoardEntry, act_in, act}
-use Rattle.call_board.specs.Boards.{Shows, CellsApart}
 use Rattle.call_board.specs.Calls.{live, ended_by, ended_in, ended_by_act}
 use Rattle.call_board.specs.Fits.{IsFitting}
 use Rattle.call_board.specs.Pairs.{held, closed_of, closes_leg, closes_leg_act, legs_of_act}
-use Rattle.call_board.specs.Views.{View, view_of, at_moment, without_call}
+use Rattle.call_board.specs.Views.{View, view_of, at_moment}
 use Rattle.relay_core.specs.declared.part.Part.{Part}
 use Rattle.relay_core.specs.Entries.{Entry, board_history}
 use Rattle.relay_core.specs.Made.{Made}
-use Rattle.relay_core.specs.Scripts.{Owed, script, script_of, script_of_act, ending}
-use Rattle.relay_core.specs.Turning.{GainsNested, made_by}
-use Rattle.relay_core.proofs.Histories.{good_history}
+use Rattle.relay_core.specs.Scripts.{script, script_of, script_of_act, ending}
+use Rattle.relay_core.specs.Turning.{made_by}
 use Rattle.relay_core.proofs.Turns.{nothing_more}
-use Rattle.media_ports.specs.Held.{OpensHeld, TellsHeld}
 use Rattle.nested_steps.specs.declared.nest.Nest.{Nest}
 use Rattle.board_turns.specs.Closing.{pairs_left}
-use Rattle.board_turns.specs.Ending.{CanEnd, leg_pairs, ending_of, with_end}
-use Rattle.board_turns.specs.Acting.{acted, InTurn, DoesAct}
+use Rattle.board_turns.specs.Ending.{CanEnd, leg_pairs, with_end}
+use Rattle.board_turns.specs.Acting.{acted, InTurn}
 use Rattle.call_board.proofs.Free.{held_once}
 use Rattle.board_turns.proofs.Lefts.{told_alike, left_none}
 use Rattle.board_turns.proofs.Next.{next_can}

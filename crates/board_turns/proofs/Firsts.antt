@@ -1,8 +1,7 @@
 -- The main hand before the board's first turn.
-use Rattle.std.proofs.Common.{◌≡◌, sym, subst, ap, ◌<◌, ℕ, List, [], ◌∷◌, ◌++◌, length, length-append, Option, Some, arith, false, true}
+use Rattle.std.proofs.Common.{◌≡◌, sym, subst, ap, List, [], ◌∷◌, ◌++◌, length, length-append, Option, Some, arith, false, true}
 use Rattle.relay_outside.specs.declared.ports.PortCall.{PortCall}
 use Rattle.relay_outside.specs.declared.settings.Config.{Config}
-use Rattle.relay_outside.specs.Ports.{IsOpen}
 use Rattle.turn_table.specs.declared.machine.Entry as table
 use Rattle.turn_table.specs.declared.hands.Turns.{Turns}
 use Rattle.turn_table.specs.declared.hands.Hand.{Hand}

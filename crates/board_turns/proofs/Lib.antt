@@ -1,5 +1,6 @@
 pub mod Lefts
 pub mod Closed
+pub mod Unopened
 pub mod Ended
 pub mod Next
 pub mod StayHeld

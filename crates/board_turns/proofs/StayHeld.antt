@@ -1,10 +1,8 @@
 -- Which pairs are held when legs were closed: those that were held, without the pairs of these legs.
-use Rattle.std.proofs.Common.{◌≡◌, ◌∙◌, refl, sym, ap, subst, ℕ, Bool, true, false, not, cond, List, [], ◌∷◌, ◌++◌, Option, map, filter}
+use Rattle.std.proofs.Common.{◌≡◌, ◌∙◌, refl, sym, ap, subst, ℕ, Bool, true, false, not, cond, List, [], ◌∷◌, filter}
 use Rattle.std.specs.Prelude.{◌&&◌, ◌==◌}
-use Rattle.relay_outside.specs.declared.ports.PortCall.{PortCall}
-use Rattle.relay_outside.specs.declared.settings.Config.{Config}
 use Rattle.histories.specs.Words.{In, here, there, has}
-use Rattle.histories.proofs.Lists.{equal_if, maps, filtered, has_it}
+use Rattle.histories.proofs.Lists.{equal_if, has_it}
 use Rattle.port_pool.specs.declared.holder.Holder.{Holder}
 use Rattle.call_board.specs.Pairs.{Once}
 use Rattle.board_turns.specs.Closing.{pairs_left}

@@ -1,5 +1,5 @@
 -- After a stop no pair is held.
-use Rattle.std.proofs.Common.{◌≡◌, ◌∙◌, sym, ap, subst, refl, ℕ, Bool, true, false, not, List, [], ◌∷◌, map, filter}
+use Rattle.std.proofs.Common.{◌≡◌, sym, ap, subst, ℕ, Bool, true, not, List, [], map}
 use Rattle.std.specs.Prelude.{if◌then◌else◌}
 use Rattle.std.specs.List.{flat_map}
 use Rattle.relay_outside.specs.declared.settings.Config.{Config}

@@ -1,18 +1,17 @@
 -- What a command does in the board's turn: between the look for a kept reply, which it finds none of, and the keeping of its own.
-use Rattle.std.specs.Prelude.{◌≡◌, ◌≤◌, ◌<◌, ◌^◌, ℕ, List, [], ◌∷◌, Option, map, length, if◌then◌else◌}
+use Rattle.std.specs.Prelude.{◌≤◌, ◌<◌, ◌^◌, ℕ, List, ◌∷◌, Option, map, length, if◌then◌else◌}
 use Rattle.relay_outside.specs.declared.ports.PortCall.{PortCall}
 use Rattle.relay_outside.specs.declared.settings.Config.{Config}
 use Rattle.turn_table.specs.declared.hands.Turns.{Turns}
 use Rattle.turn_table.specs.declared.hands.Hand.{Hand}
-use Rattle.turn_table.specs.Hands.{IsSameHand, SameTurns}
 use Rattle.offer_answer.specs.Rounds as round
 use Rattle.call_board.specs.declared.board.Board.{Board}
-use Rattle.call_board.specs.Acts.{Lease, Offer, Answer, Act, Repeated, Starved, Failed, Undone, Offered, Answered, Deleted, Queried, Told, BoardEntry, act}
+use Rattle.call_board.specs.Acts.{Lease, Offer, Act, Repeated, Starved, Failed, Undone, Offered, Answered, Deleted, Queried, Told, BoardEntry, act}
 use Rattle.call_board.specs.Pairs.{held}
 use Rattle.call_board.specs.Boards.{Shows}
 use Rattle.call_board.specs.Views.{View, view_of, last_moment, at_moment, with_leases, with_returned, without_call}
 use Rattle.call_board.specs.Whole.{with_draws, with_closed, with_more, with_first}
-use Rattle.relay_core.specs.Entries.{Entry, board_history}
+use Rattle.relay_core.specs.Entries.{board_history}
 use Rattle.relay_core.specs.Legal.{Orderly}
 use Rattle.relay_core.specs.Made.{Made}
 use Rattle.relay_core.specs.Scripts.{script}

@@ -1,5 +1,6 @@
 //! A call that is deleted.
 ghost use Rattle.std.specs.Prelude.{◌≡◌, ◌≤◌, []};
+ghost use Rattle.relay_outside.specs.Told.{Gained};
 ghost use Rattle.turn_table.specs.Hands.{IsSameHand, SameTurns};
 ghost use Rattle.histories.specs.Words.{In};
 ghost use Rattle.call_board.specs.Acts.{Call, BoardEntry, Deleted, act};
@@ -7,6 +8,7 @@ ghost use Rattle.call_board.specs.Boards.{KeepsReplies};
 ghost use Rattle.call_board.specs.Calls.{live};
 ghost use Rattle.relay_core.specs.Entries.{board_history};
 ghost use Rattle.relay_core.specs.Turning.{made_by};
+ghost use Rattle.media_ports.specs.Asked.{OpensNone};
 ghost use Rattle.nested_steps.specs.Nesting.{MayNest};
 ghost use Rattle.board_turns.specs.Acting.{InTurn, DoesAct};
 
@@ -40,6 +42,7 @@ pub fn delete_call<P: PortMaker, R: Wait>(
     ensures does { (e : BoardEntry) (of : Call) → act e ≡ Deleted of → of.number ≡ call → In of (live (board_history (made_by hand.old) nest.number)) →
         e.moment ≡ nest.moment → DoesAct config.now hand.old hand.new nest e board.new (P.told ports.new) }
     ensures replies { KeepsReplies board.old board.new }
+    ensures closes { Gained (P.told ports.old) (P.told ports.new) OpensNone }
     ensures later { P.faults ports.old ≤ P.faults ports.new }
     ensures empty { gone.new ≡ [] }
 {

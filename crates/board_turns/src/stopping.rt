@@ -1,6 +1,6 @@
 //! All live calls, ended in order, and the turn of the board in which a stop does so.
 ghost use Rattle.std.specs.Prelude.{◌≡◌, ◌≤◌, [], ◌∷◌, length};
-ghost use Rattle.relay_outside.specs.Told.{WhereTold};
+ghost use Rattle.relay_outside.specs.Told.{Gained, WhereTold};
 ghost use Rattle.turn_table.specs.Hands.{IsSameHand, SameTurns};
 ghost use Rattle.call_board.specs.Boards.{BoardFor, KeepsReplies};
 ghost use Rattle.call_board.specs.Calls.{live};
@@ -11,6 +11,7 @@ ghost use Rattle.relay_core.specs.Scripts.{script};
 ghost use Rattle.relay_core.specs.Turning.{GainsNested, IsAbove, made_by};
 ghost use Rattle.call_board.specs.Views.{last_moment};
 ghost use Rattle.relay_core.specs.Standing.{BoardIs};
+ghost use Rattle.media_ports.specs.Asked.{OpensNone};
 ghost use Rattle.media_ports.specs.Held.{OpensHeld, TellsHeld};
 ghost use Rattle.nested_steps.specs.Nesting.{MayNest};
 ghost use Rattle.board_turns.specs.Between.{board_of, IsBetween, MakesTurn};
@@ -56,6 +57,7 @@ pub fn end_live<P: PortMaker, R: Wait>(
     ensures replies { KeepsReplies board.old board.new }
     ensures open { let h = board_history (made_by hand.old) nest.number in
         WhereTold (P.told ports.new) (λ calls. OpensHeld config.now calls (still_held h (stop_entry h) (live h))) }
+    ensures closes { Gained (P.told ports.old) (P.told ports.new) OpensNone }
     ensures later { P.faults ports.old ≤ P.faults ports.new }
     ensures empty { gone.new ≡ [] }
 {
@@ -92,6 +94,7 @@ fn stop_part<P: PortMaker, R: Wait>(
     ensures board { let h = board_history (made_by hand.old) number in BoardIs config.now part.new (stop_entry h ∷ h) }
     ensures count { result ≡ length (live (board_history (made_by hand.old) number)) }
     ensures shut { TellsHeld config.now (P.told ports.new) [] }
+    ensures closes { Gained (P.told ports.old) (P.told ports.new) OpensNone }
     ensures later { P.faults ports.old ≤ P.faults ports.new }
     ensures empty { gone.new ≡ [] }
 {
@@ -125,6 +128,7 @@ pub fn stop_turn<P: PortMaker, R: Wait>(
     ensures makes { MakesTurn config.now hand.old hand.new (stop_entry (board_of (made_by hand.old))) }
     ensures count { result ≡ length (live (board_of (made_by hand.old))) }
     ensures shut { TellsHeld config.now (P.told ports.new) [] }
+    ensures closes { Gained (P.told ports.old) (P.told ports.new) OpensNone }
     ensures later { P.faults ports.old ≤ P.faults ports.new }
     ensures empty { gone.new ≡ [] }
 {

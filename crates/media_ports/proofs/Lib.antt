@@ -5,3 +5,4 @@ pub mod Apart
 pub mod Leased
 pub mod UpTo
 pub mod Held
+pub mod Asked

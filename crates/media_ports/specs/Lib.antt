@@ -1,4 +1,5 @@
 pub mod Addresses
+pub mod Asked
 pub mod Calls
 pub mod Draws
 pub mod Ends

@@ -1,5 +1,5 @@
 -- What a board's history leaves of the counts: each entry leases a pair once and draws at most 24 keys.
-use Rattle.std.proofs.Common.{◌≡◌, ◌∙◌, sym, ap, subst, ℕ, zero, suc, ◌+◌, ◌*◌, ◌^◌, ◌≤◌, ◌<◌, List, [], ◌∷◌, ◌++◌, Option, Some, None, length, map, filter, arith, length-append}
+use Rattle.std.proofs.Common.{◌≡◌, ◌∙◌, sym, ap, subst, ℕ, ◌+◌, ◌*◌, ◌^◌, ◌≤◌, List, Option, None, length, map, arith}
 use Rattle.std.proofs.lemmas.List.{length-map}
 use Rattle.histories.proofs.Lists.{mapped, has_it}
 use Rattle.relay_outside.specs.declared.settings.Config.{Config}

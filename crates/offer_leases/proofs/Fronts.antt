@@ -1,5 +1,5 @@
 -- The front of the free pairs: what holds of its leases.
-use Rattle.std.proofs.Common.{◌≡◌, ◌∙◌, refl, sym, ap, subst, ℕ, zero, suc, ◌+◌, ◌≤◌, ◌<◌, ◌^◌, ◌⊎◌, inl, inr, Bool, true, false, cond, List, [], ◌∷◌, map, length, take, drop, arith}
+use Rattle.std.proofs.Common.{◌≡◌, ◌∙◌, refl, sym, ap, subst, ℕ, zero, suc, ◌+◌, ◌≤◌, ◌<◌, ◌^◌, ◌⊎◌, inl, inr, Bool, true, false, List, [], ◌∷◌, map, length, take, drop, arith}
 use Rattle.std.specs.Prelude.{count_by, nat_lt, ◌==◌}
 use Rattle.std.proofs.lemmas.List.{length-map, length-take-le, get_or_past}
 use Rattle.std.proofs.lemmas.Bool.Decides.{nat_tests}
@@ -11,9 +11,8 @@ use Rattle.port_pool.specs.Pools.{AreFree, generation}
 use Rattle.media_ports.specs.Addresses.{pairs_of, HavePorts, AreLeased}
 use Rattle.media_ports.specs.Held.{AreOthers}
 use Rattle.call_board.specs.Views.{View, with_leases}
-use Rattle.call_board.specs.Boards.{Shows, lease_at, leases_of, pairs_in, AreOut}
+use Rattle.call_board.specs.Boards.{Shows, lease_at, leases_of, AreOut}
 use Rattle.call_board.specs.Returns.{MayReturnAll}
-use Rattle.call_board.specs.Whole.{with_draws}
 use Rattle.call_board.specs.declared.board.Board.{Board}
 use Rattle.call_board.proofs.Once.{Once}
 use Rattle.call_board.proofs.Sieves.{is_out}

@@ -3,3 +3,4 @@ pub mod Numbered
 pub mod Taken
 pub mod Undone
 pub mod Counted
+pub mod Asked

@@ -1,5 +1,5 @@
 -- Drawn keys, numbered one after the other.
-use Rattle.std.proofs.Common.{◌≡◌, subst, ℕ, ◌+◌}
+use Rattle.std.proofs.Common.{subst, ℕ, ◌+◌}
 use Rattle.relay_outside.specs.declared.settings.Config.{Config}
 use Rattle.call_board.specs.declared.board.Board.{Board}
 use Rattle.call_board.specs.Views.{View, one_drawn}

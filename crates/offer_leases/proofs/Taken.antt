@@ -1,5 +1,5 @@
 -- What is known of the leases that an offer took, by what is shown of the board before it.
-use Rattle.std.proofs.Common.{◌≡◌, ◌∙◌, sym, ap, subst, ℕ, ◌+◌, ◌≤◌, ◌<◌, ◌^◌, List, [], Option, length, take, arith}
+use Rattle.std.proofs.Common.{◌≡◌, ◌∙◌, sym, ap, subst, ℕ, ◌+◌, ◌≤◌, ◌<◌, ◌^◌, List, Option, length, take, arith}
 use Rattle.relay_outside.specs.declared.settings.Config.{Config}
 use Rattle.relay_outside.specs.declared.ports.PortCall.{PortCall}
 use Rattle.relay_outside.specs.Told.{Gained, WhereTold}
@@ -16,7 +16,6 @@ use Rattle.call_board.specs.declared.board_plan.BoardPlan.{BoardPlan}
 use Rattle.call_board.specs.Views.{View, with_leases, with_returned}
 use Rattle.call_board.specs.Boards.{Shows, leases_of, pairs_in, AreOut}
 use Rattle.call_board.proofs.Outs.{lease_pairs}
-use Rattle.call_board.proofs.Entries.{draws_keep}
 use Rattle.offer_leases.specs.declared.fault.LeaseFault.{LeaseFault}
 use Rattle.offer_leases.specs.declared.fault.LeaseFault.TheVariants.{Port, Key}
 use Rattle.offer_leases.specs.Leasing.{CanLease, pairs_of_plan, keys_of_plan, with_taken}

@@ -1,5 +1,5 @@
 -- The ports of an offer that is undone: all are opened, and closed again.
-use Rattle.std.proofs.Common.{◌≡◌, ◌∙◌, ap, sym, subst, Bool, true, List, ◌++◌, ◌⊎◌, inl, inr, Option, Some, None, length, replicate, append_assoc}
+use Rattle.std.proofs.Common.{◌≡◌, ◌∙◌, ap, sym, subst, true, List, ◌++◌, inl, inr, Option, Some, None, length, replicate, append_assoc}
 use Rattle.std.specs.List.{AllZip}
 use Rattle.relay_outside.specs.declared.address.Addr.{Addr}
 use Rattle.relay_outside.specs.declared.address.Ip.{Ip}

@@ -1,5 +1,5 @@
 -- What an offer takes by its plan: when it may take it, and which pairs and keys these are.
-use Rattle.std.specs.Prelude.{◌≤◌, ◌+◌, ◌^◌, ℕ, Option, List, length}
+use Rattle.std.specs.Prelude.{◌≤◌, ◌+◌, ◌^◌, ℕ, Option, List}
 use Rattle.relay_outside.specs.declared.ports.PortCall.{PortCall}
 use Rattle.relay_outside.specs.declared.settings.Config.{Config}
 use Rattle.port_pool.specs.Ports as ports

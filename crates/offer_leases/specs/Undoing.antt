@@ -1,5 +1,5 @@
 -- An offer that is undone: what it gives back, and what the port maker and the key source were asked.
-use Rattle.std.specs.Prelude.{◌≡◌, ◌<◌, ◌*◌, ◌++◌, ℕ, true, Option, List, [], length, replicate, take}
+use Rattle.std.specs.Prelude.{◌≡◌, ◌<◌, ◌*◌, ◌++◌, ℕ, Bool, true, false, Option, List, [], ◌∷◌, length, replicate, take}
 use Rattle.std.specs.List.{AllZip}
 use Rattle.relay_outside.specs.declared.address.Addr.{Addr}
 use Rattle.relay_outside.specs.declared.keys.KeyCall.{KeyCall}
@@ -16,6 +16,12 @@ use Rattle.offer_leases.specs.Leasing.{with_taken}
 abbrev pub keys_before : LeaseFault → List (List ℕ)
 keys_before (Port opened) = []
 keys_before (Key drawn) = drawn.list
+
+-- the answers of the openings up to the fault, of an offer of that many pairs: those of the ports that were opened, and the one that
+-- failed; or those of all its ports, where a draw failed
+abbrev pub opens_before : (pairs : ℕ) → LeaseFault → List Bool
+opens_before pairs (Port opened) = replicate opened true ++ false ∷ []
+opens_before pairs (Key drawn) = replicate (2 * pairs) true
 
 -- what the board keeps once an offer that leased that many pairs and drew that many keys is undone: the keys are used up, the
 -- pairs wait behind all that were free

@@ -1,22 +1,23 @@
 //! A planned offer, from its first lease to its last close.
-ghost use Rattle.std.specs.Prelude.{◌≡◌, ◌≤◌, ℕ, List, [], length, IfOk, IfErr};
+ghost use Rattle.std.specs.Prelude.{◌≡◌, ◌≤◌, ◌*◌, ℕ, true, List, [], length, replicate, IfOk, IfErr};
 ghost use Rattle.relay_outside.specs.Told.{Gained};
 ghost use Rattle.turn_table.specs.Hands.{IsSameHand, SameTurns};
 ghost use Rattle.offer_answer.specs.Rounds.{OfferAsk};
-ghost use Rattle.offer_answer.specs.Offering.{key_count};
+ghost use Rattle.offer_answer.specs.Offering.{pair_count, key_count};
 ghost use Rattle.offer_answer.specs.Widths.{WritesFrom};
 ghost use Rattle.ng_reply.specs.declared.code.ErrorCode.{ErrorCode};
 ghost use Rattle.call_board.specs.Acts.{Offered, Undone, BoardEntry, act};
 ghost use Rattle.call_board.specs.Boards.{KeepsReplies};
 ghost use Rattle.call_board.specs.Fits.{FitsBoard};
 ghost use Rattle.call_board.specs.Planned.{HasRoom};
+ghost use Rattle.media_ports.specs.Asked.{OpensWith};
 ghost use Rattle.media_ports.specs.Draws.{DrawsAll};
 ghost use Rattle.relay_core.specs.Entries.{board_history};
 ghost use Rattle.relay_core.specs.Turning.{made_by};
 ghost use Rattle.nested_steps.specs.Nesting.{MayNest};
 ghost use Rattle.board_turns.specs.Acting.{InTurn, DoesAct};
 ghost use Rattle.offer_leases.specs.Leasing.{pairs_of_plan, keys_of_plan};
-ghost use Rattle.offer_leases.specs.Undoing.{ComesEarly, DrawsBefore, HasRisen, keys_before};
+ghost use Rattle.offer_leases.specs.Undoing.{ComesEarly, DrawsBefore, HasRisen, keys_before, opens_before};
 ghost use Rattle.offer_turns.specs.Offers.{CanOffer, offer_of, undone_leases, text_of};
 ghost use Rattle.offer_turns.specs.Brings.{HasOfferRoom};
 
@@ -83,6 +84,7 @@ pub fn offer_act<P: PortMaker, K: KeySource, R: Wait>(
         accepted.text.list ≡ text_of config.now (board_history (made_by hand.old) nest.number) id (offer_of config.now (board_history (made_by hand.old) nest.number) id ask accepted.drawn.list)) }
     ensures within { IfOk result (λ accepted. length accepted.text.list ≤ plan.plan.reply_len) }
     ensures count { IfOk result (λ accepted. length accepted.drawn.list ≡ key_count plan.plan) }
+    ensures opens { IfOk result (λ accepted. Gained (P.told ports.old) (P.told ports.new) (OpensWith (replicate (2 * pair_count plan.plan) true))) }
     ensures draws { IfOk result (λ accepted. Gained (K.told keys.old) (K.told keys.new) (DrawsAll accepted.drawn.list)) }
 
     // One that is undone does what its entry owes.
@@ -90,6 +92,7 @@ pub fn offer_act<P: PortMaker, K: KeySource, R: Wait>(
         (e : BoardEntry) (code : ErrorCode) → act e ≡ Undone code (undone_leases config.now (board_history (made_by hand.old) nest.number) id ask) (keys_before fault) →
         DoesAct config.now hand.old hand.new nest e board.new (P.told ports.new)) }
     ensures early { IfErr result (ComesEarly (pairs_of_plan plan) (keys_of_plan plan)) }
+    ensures opens_before { IfErr result (λ fault. Gained (P.told ports.old) (P.told ports.new) (OpensWith (opens_before (pair_count plan.plan) fault))) }
     ensures draws_before { IfErr result (λ fault. DrawsBefore fault (K.told keys.old) (K.told keys.new)) }
     ensures cause { IfErr result (λ fault. HasRisen fault (P.faults ports.old) (P.faults ports.new) (K.faults keys.old) (K.faults keys.new)) }
 {

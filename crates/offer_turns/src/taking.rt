@@ -1,6 +1,7 @@
 //! An accepted offer, taken in once it has its pairs, its ports and its keys.
 ghost use Rattle.std.specs.Prelude.{◌≡◌, ◌≤◌, ◌+◌, ◌^◌, ◌++◌, ℕ, List, [], length, vec_capacity};
 ghost use Rattle.sdp_text.specs.Lines.{lines_of};
+ghost use Rattle.relay_outside.specs.Told.{Gained};
 ghost use Rattle.turn_table.specs.Hands.{IsSameHand, SameTurns};
 ghost use Rattle.offer_answer.specs.Rounds.{OfferAsk};
 ghost use Rattle.offer_answer.specs.Offering.{pair_count, key_count};
@@ -11,6 +12,7 @@ ghost use Rattle.call_board.specs.Pairs.{held};
 ghost use Rattle.call_board.specs.Views.{view_of};
 ghost use Rattle.call_board.specs.Fits.{FitsBoard};
 ghost use Rattle.call_board.specs.Applied.{MayApply};
+ghost use Rattle.media_ports.specs.Asked.{OpensNone};
 ghost use Rattle.media_ports.specs.Ends.{AreUncalled};
 ghost use Rattle.media_ports.specs.Held.{TellsHeld};
 ghost use Rattle.relay_core.specs.Entries.{board_history};
@@ -85,6 +87,7 @@ pub(crate) fn take_in<P: PortMaker, R: Wait>(
     ensures same { IsSameHand hand.old hand.new × SameTurns hand.old hand.new }
     ensures may { MayNest config.now turns.now hand.new }
     ensures empty { gone.new ≡ [] }
+    ensures closes { Gained (P.told ports.old) (P.told ports.new) OpensNone }
     ensures later { P.faults ports.old ≤ P.faults ports.new }
     ensures replies { KeepsReplies board.old board.new }
     ensures within { length out.new.list ≤ length out.old.list + plan.plan.reply_len }

@@ -20,6 +20,7 @@ use Rattle.nested_steps.specs.InCells.{in_cell_of}
 use Rattle.nested_steps.proofs.Nesting.{above_rows}
 use Rattle.board_turns.specs.Ending.{leg_pairs}
 use Rattle.board_turns.proofs.CloseAfter.{can_close_after}
+use Rattle.board_turns.proofs.Unopened.{gone_open_none}
 use Rattle.answer_turns.specs.Due.{answer_of}
 use Rattle.answer_turns.proofs.Taken.{no_pairs, no_keys, may_apply, takes_in, taken_with}
 use Rattle.answer_turns.proofs.Done.{went_closed, does_answer}
@@ -131,3 +132,8 @@ returns-clause-does g c e of ask d =
     c.args.plan cell signal gone o d at said are c.commit_cell.ensures.gained c.close_legs.ensures.gained
     (c.close_legs.ensures.returned config (with_more of (round.Answered ask) moment v) shows)
     (c.close_legs.ensures.«open» (leg_pairs (held h)) c.requires.turn.opens)
+
+pub returns-clause-closes : goal.returns-clause-closes
+returns-clause-closes g c =
+    gone_open_none g.P.Out.OutEnd.told c.args.config.now.interface c.commit_cell.new.gone (g.P.PortMaker.told c.args.ports.now) (g.P.PortMaker.told c.close_legs.new.ports)
+    c.close_legs.ensures.closes

@@ -1,10 +1,7 @@
-use Rattle.std.proofs.Common.{◌≡◌, ◌∙◌, refl, sym, ap, subst, ℕ, List, ◌∷◌}
-use Rattle.relay_outside.specs.declared.ports.PortCall.{PortCall}
+use Rattle.std.proofs.Common.{◌∙◌, refl, sym, ap, subst, ℕ, List, ◌∷◌}
 use Rattle.histories.specs.Words.{In, here}
-use Rattle.port_pool.specs.declared.holder.Holder.{Holder}
 use Rattle.call_board.specs.Acts.{Call}
 use Rattle.call_board.specs.Boards.{Shows}
-use Rattle.call_board.specs.Calls.{live}
 use Rattle.call_board.specs.Pairs.{held, closed_of}
 use Rattle.call_board.specs.Views.{View, view_of, at_moment}
 use Rattle.call_board.proofs.Found.{live_cells_apart}
@@ -13,9 +10,10 @@ use Rattle.relay_core.specs.Scripts.{Owed}
 use Rattle.relay_core.specs.Turning.{GainsNested, made_by}
 use Rattle.relay_core.proofs.Histories.{good_history}
 use Rattle.board_turns.specs.Closing.{pairs_left}
-use Rattle.board_turns.specs.Ending.{CanEnd, leg_pairs, ending_of, with_end}
+use Rattle.board_turns.specs.Ending.{CanEnd, leg_pairs, with_end}
 use Rattle.board_turns.specs.Stopping.{stop_entry}
 use Rattle.board_turns.proofs.Lefts.{told_alike}
+use Rattle.board_turns.proofs.Unopened.{theirs_open_none}
 use Rattle.board_turns.proofs.Deleted.{ends_one, may_delete, deleted_held, deleted_owes, deleted_acts}
 use Rattle.board_turns.proofs.deleting.delete_call.Goals as goal
 
@@ -31,6 +29,17 @@ end_call-requires-clause-can g c =
       subst (λ (k : ℕ). CanEnd config (made_by c.args.hand.now) c.args.board.now told k of legs) c.requires.live.2
           (may_delete config c.args.turns.now c.args.hand.now c.args.nest c.args.board.now told (stop_entry h) of c.requires.turn c.requires.live.1 c.requires.live.1),
     )
+
+pub returns-clause-closes : goal.returns-clause-closes
+returns-clause-closes g c =
+    let config = c.args.config.now in
+    let h = board_history (made_by c.args.hand.now) c.args.nest.number in
+    let of : Call = c.requires.live.0 in
+    let told = g.P.PortMaker.told c.args.ports.now in
+    let legs = closed_of h (stop_entry h) of in
+    let can = subst (λ (k : ℕ). CanEnd config (made_by c.args.hand.now) c.args.board.now told k of legs) c.requires.live.2
+    (may_delete config c.args.turns.now c.args.hand.now c.args.nest c.args.board.now told (stop_entry h) of c.requires.turn c.requires.live.1 c.requires.live.1) in
+    theirs_open_none g.P.Out.OutEnd.told config legs told (g.P.PortMaker.told c.end_call.new.ports) (c.end_call.ensures.closes of legs can)
 
 pub returns-clause-does : goal.returns-clause-does
 returns-clause-does g c e of is number alive moment =

@@ -19,6 +19,7 @@ use Rattle.relay_core.specs.Scripts.{Owed, ending}
 use Rattle.relay_core.specs.Turning.{GainsNested, made_by}
 use Rattle.relay_core.proofs.Histories.{good_history}
 use Rattle.media_ports.specs.Held.{OpensHeld}
+use Rattle.media_ports.proofs.Asked.{gained_no_opening, gained_no_openings}
 use Rattle.media_ports.proofs.Leased.{take_next}
 use Rattle.nested_steps.proofs.Nesting.{gains_more, same_again}
 use Rattle.board_turns.specs.Closing.{pairs_left}
@@ -26,6 +27,7 @@ use Rattle.board_turns.specs.Ending.{CanEnd, leg_pairs, with_end}
 use Rattle.board_turns.specs.Stopping.{stop_entry, still_held}
 use Rattle.board_turns.proofs.Lefts.{left_none, left_twice, told_alike}
 use Rattle.board_turns.proofs.Closed.{gains_nothing}
+use Rattle.board_turns.proofs.Unopened.{theirs_open_none}
 use Rattle.board_turns.proofs.Stopped.{nth, spread_more, next_number, one_left, stop_can}
 use Rattle.board_turns.proofs.stopping.end_live.Goals as goal
 
@@ -38,6 +40,7 @@ loop-ended-init g c =
       gained = gains_nothing c.args.nest.number c.args.nest.moment c.args.hand.now;
       shows = c.requires.board;
       opens = told_alike c.args.config.now (g.P.PortMaker.told c.args.ports.now) (leg_pairs (held h)) (pairs_left [] (leg_pairs (held h))) (left_none (leg_pairs (held h))) c.requires.«open»;
+      closes = gained_no_opening (g.P.PortMaker.told c.args.ports.now);
       replies = refl;
       later = omega arith;
       empty = c.requires.empty;
@@ -133,6 +136,8 @@ loop-ended-preserved g c =
       opens = told_alike config (g.P.PortMaker.told c.end_call.new.ports) (pairs_left (leg_pairs legs) (pairs_left pairs (leg_pairs (held h)))) (still_held h e (take (i + 1) (live h)))
           (λ q. left_twice pairs (leg_pairs legs) (leg_pairs (held h)) q ∙ ap (λ (ps : List ℕ). has (pairs_left ps (leg_pairs (held h))) q) all_pairs)
           (now.«open» of legs can (pairs_left pairs (leg_pairs (held h))) was.opens);
+      closes = gained_no_openings (g.P.PortMaker.told c.args.ports.now) told (g.P.PortMaker.told c.end_call.new.ports) was.closes
+          (theirs_open_none g.P.Out.OutEnd.told config legs told (g.P.PortMaker.told c.end_call.new.ports) (now.closes of legs can));
       replies = now.replies ∙ was.replies;
       later = omega (arith, first_later, second_later);
       empty = now.empty;

@@ -1,6 +1,6 @@
 use Rattle.std.proofs.Common.{◌≡◌, ◌≤◌, take, []}
 use Rattle.std.specs.List.{flat_map}
-use Rattle.relay_outside.specs.Told.{WhereTold}
+use Rattle.relay_outside.specs.Told.{Gained, WhereTold}
 use Rattle.turn_table.specs.Hands.{IsSameHand, SameTurns}
 use Rattle.call_board.specs.Boards.{Shows, KeepsReplies}
 use Rattle.call_board.specs.Calls.{live}
@@ -9,6 +9,7 @@ use Rattle.call_board.specs.Whole.{with_ended}
 use Rattle.relay_core.specs.Entries.{board_history}
 use Rattle.relay_core.specs.Scripts.{ending}
 use Rattle.relay_core.specs.Turning.{GainsNested, made_by}
+use Rattle.media_ports.specs.Asked.{OpensNone}
 use Rattle.media_ports.specs.Held.{OpensHeld}
 use Rattle.nested_steps.specs.Nesting.{MayNest}
 use Rattle.board_turns.specs.Stopping.{stop_entry, still_held}
@@ -25,6 +26,7 @@ invariant-loop-ended g l =
       gained : GainsNested l.nest.number l.nest.moment (flat_map (ending l.config h e) gone) l.initial.hand l.hand;
       shows : Shows l.config l.board (with_ended h e gone (view_of l.config h));
       opens : WhereTold (g.P.PortMaker.told l.ports) (λ calls. OpensHeld l.config calls (still_held h e gone));
+      closes : Gained (g.P.PortMaker.told l.initial.ports) (g.P.PortMaker.told l.ports) OpensNone;
       replies : KeepsReplies l.initial.board l.board;
       later : g.P.PortMaker.faults l.initial.ports ≤ g.P.PortMaker.faults l.ports;
       empty : l.gone ≡ [];

@@ -1,11 +1,8 @@
-use Rattle.std.proofs.Common.{◌≡◌, ◌∙◌, ap, subst, refl, ℕ, max, List, [], ◌∷◌, arith}
-use Rattle.call_board.specs.Calls.{live}
+use Rattle.std.proofs.Common.{◌≡◌, ◌∙◌, subst, refl, ℕ, max, List, arith}
 use Rattle.call_board.specs.Views.{view_of, last_moment}
 use Rattle.media_ports.specs.Held.{TellsHeld}
-use Rattle.relay_core.specs.declared.part.Part.{Part}
 use Rattle.relay_core.specs.Entries.{board_history}
 use Rattle.relay_core.specs.Scripts.{script}
-use Rattle.relay_core.specs.Standing.{BoardIs}
 use Rattle.relay_core.specs.Turning.{GainsNested, made_by}
 use Rattle.board_turns.specs.Stopping.{stop_entry}
 use Rattle.board_turns.proofs.Betweens.{at_last}

@@ -1,5 +1,4 @@
-use Rattle.std.proofs.Common.{◌≡◌, ◌∙◌, ◌+◌, refl, arith, subst}
-use Rattle.call_board.specs.Boards.{Shows}
+use Rattle.std.proofs.Common.{◌∙◌, refl, arith}
 use Rattle.call_board.specs.Whole.{with_draws}
 use Rattle.call_board.proofs.Entries.{draws_keep}
 use Rattle.offer_leases.proofs.Numbered.{shows_next}

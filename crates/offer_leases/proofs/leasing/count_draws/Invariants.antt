@@ -1,4 +1,3 @@
-use Rattle.std.proofs.Common.{◌≡◌, ◌+◌}
 use Rattle.relay_outside.specs.declared.settings.Config.{Config}
 use Rattle.call_board.specs.Views.{View}
 use Rattle.call_board.specs.Boards.{Shows, KeepsCalls, KeepsReplies}

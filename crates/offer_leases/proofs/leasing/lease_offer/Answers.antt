@@ -1,14 +1,14 @@
-use Rattle.std.proofs.Common.{◌≡◌, ◌∙◌, ◌≤◌, ◌<◌, ◌^◌, sym, ap, subst, ℕ, List, length, arith}
+use Rattle.std.proofs.Common.{◌≡◌, ◌∙◌, ◌≤◌, ◌<◌, ◌^◌, ap, subst, ℕ, List, length, arith}
 use Rattle.port_pool.specs.declared.pairs.Lease.{Lease}
 use Rattle.relay_outside.specs.Told.{Gained}
 use Rattle.media_ports.specs.Addresses.{addresses_of}
 use Rattle.offer_answer.specs.Offering.{key_count}
 use Rattle.call_board.specs.declared.board_plan.BoardPlan.{BoardPlan}
 use Rattle.call_board.specs.Views.{with_leases}
-use Rattle.call_board.specs.Boards.{Shows, leases_of}
+use Rattle.call_board.specs.Boards.{Shows}
 use Rattle.offer_leases.specs.Leasing.{pairs_of_plan, keys_of_plan, with_taken}
-use Rattle.offer_leases.specs.Undoing.{UndoesPorts, ComesEarly, keys_before, with_undone}
-use Rattle.offer_leases.proofs.Taken.{free_alike, taken_count, taken_ports, taken_closed, taken_open, taken_generations, taken_draws, taken_out, few_before, undone_is}
+use Rattle.offer_leases.specs.Undoing.{UndoesPorts, ComesEarly, with_undone}
+use Rattle.offer_leases.proofs.Taken.{free_alike, taken_ports, taken_closed, taken_open, taken_generations, taken_draws, taken_out, few_before, undone_is}
 use Rattle.offer_leases.proofs.Undone.{held_after}
 use Rattle.offer_leases.proofs.leasing.lease_offer.Goals as goal
 

@@ -1,7 +1,8 @@
-use Rattle.std.proofs.Common.{◌∙◌, ◌++◌, refl, sym, ap, subst, ℕ, List, length, take, arith}
+use Rattle.std.proofs.Common.{◌∙◌, ◌++◌, refl, sym, ap, subst, ℕ, ◌*◌, true, List, length, take, replicate, arith}
+use Rattle.std.proofs.lemmas.List.{length-map}
 use Rattle.offer_answer.specs.Offering.{pair_count, key_count}
 use Rattle.call_board.specs.declared.board_plan.BoardPlan.{BoardPlan}
-use Rattle.call_board.specs.Boards.{Shows, leases_of, pairs_in}
+use Rattle.call_board.specs.Boards.{Shows, lease_at, leases_of, pairs_in}
 use Rattle.call_board.specs.Pairs.{free, held}
 use Rattle.call_board.specs.Planned.{CallRoom}
 use Rattle.call_board.specs.Views.{view_of, at_moment, with_leases}
@@ -9,9 +10,11 @@ use Rattle.call_board.proofs.Entries.{draws_keep}
 use Rattle.relay_core.specs.Entries.{board_history}
 use Rattle.relay_core.specs.Turning.{made_by}
 use Rattle.relay_core.proofs.Histories.{good_history}
+use Rattle.media_ports.proofs.Asked.{gained_openings_alone}
 use Rattle.board_turns.specs.Ending.{leg_pairs}
 use Rattle.offer_leases.specs.Leasing.{with_taken}
 use Rattle.offer_leases.specs.Undoing.{keys_before}
+use Rattle.offer_leases.proofs.Asked.{gained_pairs, gained_undone}
 use Rattle.offer_leases.proofs.Counted.{plan_few, may_lease}
 use Rattle.offer_turns.specs.Offers.{target_of, offer_of, leased_view, text_of}
 use Rattle.offer_turns.proofs.Kept.{both_held}
@@ -124,3 +127,23 @@ returns-in-Ok-clause-within g c =
     let none = ap length c.requires.room.text.0 in
     let same = ap (λ (q : BoardPlan). q.plan.reply_len) c.in-Ok.ensures.plan in
     omega (arith, within, none, same)
+
+pub returns-in-Ok-clause-opens : goal.returns-in-Ok-clause-opens
+returns-in-Ok-clause-opens g c =
+    let told = g.P.PortMaker.told in
+    let pairs = pair_count c.args.plan.plan in
+    let leased = c.in-Ok.leased.leases.list in
+    gained_openings_alone (replicate (2 * pairs) true) (told c.args.ports.now) (told c.lease_offer.new.ports) (told c.take_in.new.ports)
+    (gained_pairs c.args.config.now.interface leased pairs (told c.args.ports.now) (told c.lease_offer.new.ports) c.in-Ok.ensures.pairs c.in-Ok.ensures.opens) c.take_in.ensures.closes
+
+pub returns-in-Err-clause-opens_before : goal.returns-in-Err-clause-opens_before
+returns-in-Err-clause-opens_before g c =
+    let told = g.P.PortMaker.told in
+    let config = c.args.config.now in
+    let h = board_history (made_by c.args.hand.now) c.args.nest.number in
+    let v = at_moment (view_of config h) c.args.nest.moment in
+    let pairs = pair_count c.args.plan.plan in
+    let turn = c.requires.turn in
+    let many = length-map (take pairs (free config h)) (lease_at config v.leases) ∙ enough_free config h c.args.board.now c.args.plan v turn.shows refl c.requires.planned in
+    gained_undone config.interface (leases_of config v pairs) pairs (key_count c.args.plan.plan) c.in-Err.fault (told c.args.ports.now) (told c.lease_offer.new.ports) many c.in-Err.ensures.early
+    (c.in-Err.ensures.closes v turn.shows)

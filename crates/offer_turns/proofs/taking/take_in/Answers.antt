@@ -11,6 +11,7 @@ use Rattle.relay_core.specs.Turning.{made_by}
 use Rattle.relay_core.proofs.Histories.{good_history}
 use Rattle.nested_steps.proofs.Nesting.{same_again}
 use Rattle.board_turns.specs.Ending.{leg_pairs}
+use Rattle.board_turns.proofs.Unopened.{gone_open_none}
 use Rattle.offer_turns.specs.Offers.{leased_view, offer_of, next_key, demand_of, with_offer}
 use Rattle.offer_turns.proofs.Targets.{pairs_count, keys_count}
 use Rattle.offer_turns.proofs.Leased.{pairs_leased}
@@ -82,3 +83,8 @@ returns-clause-same g c = (
   same_again c.args.hand.now c.prepare_offer.new.hand c.close_legs.new.hand c.prepare_offer.ensures.same.0 c.close_legs.ensures.same.0,
   λ j. c.close_legs.ensures.same.1 j ∙ c.prepare_offer.ensures.same.1 j,
 )
+
+pub returns-clause-closes : goal.returns-clause-closes
+returns-clause-closes g c =
+    gone_open_none g.P.Out.OutEnd.told c.args.config.now.interface c.prepare_offer.new.gone (g.P.PortMaker.told c.args.ports.now) (g.P.PortMaker.told c.close_legs.new.ports)
+    c.close_legs.ensures.closes
