@@ -1,10 +1,12 @@
 //! An answer that the board plans.
 ghost use Rattle.std.specs.Prelude.{◌≡◌, ◌≤◌, ◌<◌, ◌^◌, [], Option};
+ghost use Rattle.relay_outside.specs.Told.{Gained};
 ghost use Rattle.turn_table.specs.Hands.{IsSameHand, SameTurns};
 ghost use Rattle.ng_bencode.specs.Tree.{Entries};
 ghost use Rattle.call_board.specs.Boards.{KeepsReplies};
 ghost use Rattle.relay_core.specs.Entries.{board_history};
 ghost use Rattle.relay_core.specs.Turning.{made_by};
+ghost use Rattle.media_ports.specs.Asked.{OpensNone};
 ghost use Rattle.nested_steps.specs.Nesting.{MayNest};
 ghost use Rattle.board_turns.specs.Acting.{InTurn};
 ghost use Rattle.control_replies.specs.Rooms.{IsReplyRoom};
@@ -63,6 +65,7 @@ fn carry_out<P: PortMaker, R: Wait>(
     ensures replies { KeepsReplies board.old board.new }
     ensures empty { gone.new ≡ [] }
     ensures later { P.faults ports.old ≤ P.faults ports.new }
+    ensures closes { Gained (P.told ports.old) (P.told ports.new) OpensNone }
     ensures unasked { IsUnasked result.gave }
 {
     let AnswerRoom {
@@ -109,6 +112,7 @@ pub(crate) fn accept_answer<P: PortMaker, R: Wait>(
     ensures replies { KeepsReplies board.old board.new }
     ensures empty { gone.new ≡ [] }
     ensures later { P.faults ports.old ≤ P.faults ports.new }
+    ensures closes { Gained (P.told ports.old) (P.told ports.new) OpensNone }
     ensures unasked { IsUnasked result.gave }
 {
     let length = plan.planned().reply_len();

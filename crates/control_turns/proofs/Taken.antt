@@ -12,6 +12,7 @@ use Rattle.relay_outside.specs.declared.link.LinkGiven.{LinkGiven}
 use Rattle.relay_outside.specs.declared.link.LinkGiven.TheVariants as given
 use Rattle.relay_outside.specs.declared.link.LinkCall.{LinkCall}
 use Rattle.relay_outside.specs.declared.link.LinkCall.TheVariants as call
+use Rattle.relay_outside.specs.declared.ports.PortCall.{PortCall}
 use Rattle.relay_outside.specs.declared.settings.Config.{Config}
 use Rattle.relay_outside.specs.Link.{link_given}
 use Rattle.relay_outside.proofs.Telling.{gained_none, gained_one, gained_both}
@@ -57,10 +58,10 @@ exchanged_so config h now from request too_long answer x done source cookie body
 
 module _ {M I O T : Type 0} {g : _} where
   pub responded : (config : Config) (old new : Hand M (Part I O) Made T g) (now : ℕ) (from : Addr) (datagram : List ℕ) (request : Request) (answer : ControlTurn)
-      (sent : Result (Unit {0}) Failed) (ports ports_now keys keys_now : ℕ) (drew drew_now : Option (List KeyCall)) (before after : Option (List LinkCall))
+      (sent : Result (Unit {0}) Failed) (ports ports_now keys keys_now : ℕ) (opened opened_now : Option (List PortCall)) (drew drew_now : Option (List KeyCall)) (before after : Option (List LinkCall))
       → frame datagram ≡ Some (request.cookie.now, request.body.now) → request.source ≡ from → request.too_long ≡ is_too_long datagram → answer ≡ turn_after (is_done sent)
-      → Answers config old new request now sent ports ports_now keys keys_now drew drew_now before after → Responded config old new now from datagram answer ports ports_now keys keys_now drew drew_now before after
-  responded config old new now from datagram request answer sent ports ports_now keys keys_now drew drew_now before after framed source_is length_is answer_is a =
+      → Answers config old new request now sent ports ports_now keys keys_now opened opened_now drew drew_now before after → Responded config old new now from datagram answer ports ports_now keys keys_now opened opened_now drew drew_now before after
+  responded config old new now from datagram request answer sent ports ports_now keys keys_now opened opened_now drew drew_now before after framed source_is length_is answer_is a =
       let h = board_of (made_by old) in
       let x = a.hearing in
       let reply = (control_of config h (moment_at h now) x).reply in
@@ -75,37 +76,37 @@ module _ {M I O T : Type 0} {g : _} where
             source_is length_is answer_is));
       }
 
-  pub silent : (config : Config) (hand : Hand M (Part I O) Made T g) (now : ℕ) (from : Addr) (datagram : List ℕ) (ports ports_now keys keys_now : ℕ) (drew : Option (List KeyCall))
-      (before : Option (List LinkCall)) → frame datagram ≡ None → Responded config hand hand now from datagram turn.Silent ports ports_now keys keys_now drew drew before before
-  silent config hand now from datagram ports ports_now keys keys_now drew before framed =
+  pub silent : (config : Config) (hand : Hand M (Part I O) Made T g) (now : ℕ) (from : Addr) (datagram : List ℕ) (ports ports_now keys keys_now : ℕ) (opened : Option (List PortCall)) (drew : Option (List KeyCall))
+      (before : Option (List LinkCall)) → frame datagram ≡ None → Responded config hand hand now from datagram turn.Silent ports ports_now keys keys_now opened opened drew drew before before
+  silent config hand now from datagram ports ports_now keys keys_now opened drew before framed =
       let h = board_of (made_by hand) in
       record {
         made = None;
         follows = (refl, refl);
-        given = refl;
+        given = (refl, refl);
         calls = subst (λ (parts : Option (List ℕ × List ℕ)). Gained before before (DidReply config h now from parts (is_too_long datagram) turn.Silent None)) (sym framed)
             (gained_none before (DidReply config h now from None (is_too_long datagram) turn.Silent None) (refl, refl, refl));
       }
 
-  turned_alone : (config : Config) (hand : Hand M (Part I O) Made T g) (now : ℕ) (answer : ControlTurn) (ports ports_now keys keys_now : ℕ) (drew : Option (List KeyCall))
+  turned_alone : (config : Config) (hand : Hand M (Part I O) Made T g) (now : ℕ) (answer : ControlTurn) (ports ports_now keys keys_now : ℕ) (opened : Option (List PortCall)) (drew : Option (List KeyCall))
       (before after : Option (List LinkCall)) (gave : LinkGiven)
       → is_answered answer ≡ false → DidFollow config (board_of (made_by hand)) now gave answer None [] → Gains before after (call.Take 16385 gave)
-      → Turned config hand hand now answer ports ports_now keys keys_now drew drew before after
-  turned_alone config hand now answer ports ports_now keys keys_now drew before after gave none followed gains =
+      → Turned config hand hand now answer ports ports_now keys keys_now opened opened drew drew before after
+  turned_alone config hand now answer ports ports_now keys keys_now opened drew before after gave none followed gains =
       let h = board_of (made_by hand) in
       record {
         made = None;
         follows = (none, refl);
-        given = refl;
+        given = (refl, refl);
         calls = gained_one before after (call.Take 16385 gave) (DidTurn config h now answer None) gains
             (record { gave = gave; sends = []; calls_are = refl; followed = followed });
       }
 
-  turned_by : (config : Config) (old new : Hand M (Part I O) Made T g) (now : ℕ) (answer : ControlTurn) (ports ports_now keys keys_now : ℕ) (drew drew_now : Option (List KeyCall))
+  turned_by : (config : Config) (old new : Hand M (Part I O) Made T g) (now : ℕ) (answer : ControlTurn) (ports ports_now keys keys_now : ℕ) (opened opened_now : Option (List PortCall)) (drew drew_now : Option (List KeyCall))
       (before mid after : Option (List LinkCall)) (from : Addr) (datagram : List ℕ)
-      → Gains before mid (call.Take 16385 (given.Datagram from datagram)) → Responded config old new now from datagram answer ports ports_now keys keys_now drew drew_now mid after
-      → Turned config old new now answer ports ports_now keys keys_now drew drew_now before after
-  turned_by config old new now answer ports ports_now keys keys_now drew drew_now before mid after from datagram gains did =
+      → Gains before mid (call.Take 16385 (given.Datagram from datagram)) → Responded config old new now from datagram answer ports ports_now keys keys_now opened opened_now drew drew_now mid after
+      → Turned config old new now answer ports ports_now keys keys_now opened opened_now drew drew_now before after
+  turned_by config old new now answer ports ports_now keys keys_now opened opened_now drew drew_now before mid after from datagram gains did =
       let h = board_of (made_by old) in
       let it : LinkCall = call.Take 16385 (given.Datagram from datagram) in
       record {
@@ -125,25 +126,25 @@ known old new room result answer buf r e gains =
     subst (λ (a : Result Taken Failed). Gains old new (call.Take 16385 (link_given a buf))) e (subst (λ (n : ℕ). Gains old new (call.Take n (link_given result buf))) r gains)
 
 module _ {M I O T : Type 0} {g : _} where
-  pub took : (config : Config) (old new : Hand M (Part I O) Made T g) (now : ℕ) (answer : ControlTurn) (ports ports_now keys keys_now : ℕ) (drew drew_now : Option (List KeyCall))
+  pub took : (config : Config) (old new : Hand M (Part I O) Made T g) (now : ℕ) (answer : ControlTurn) (ports ports_now keys keys_now : ℕ) (opened opened_now : Option (List PortCall)) (drew drew_now : Option (List KeyCall))
       (before mid after : Option (List LinkCall)) (room : ℕ)
       (result : Result Taken Failed) (buf : List ℕ) (from : Addr) (len : ℕ) → room ≡ 16385 → result ≡ Ok (taken.Datagram from len)
-      → Gains before mid (call.Take room (link_given result buf)) → Responded config old new now from (take len buf) answer ports ports_now keys keys_now drew drew_now mid after
-      → Turned config old new now answer ports ports_now keys keys_now drew drew_now before after
-  took config old new now answer ports ports_now keys keys_now drew drew_now before mid after room result buf from len room_is e gains did =
-      turned_by config old new now answer ports ports_now keys keys_now drew drew_now before mid after from (take len buf) (known before mid room result (Ok (taken.Datagram from len)) buf room_is e gains) did
+      → Gains before mid (call.Take room (link_given result buf)) → Responded config old new now from (take len buf) answer ports ports_now keys keys_now opened opened_now drew drew_now mid after
+      → Turned config old new now answer ports ports_now keys keys_now opened opened_now drew drew_now before after
+  took config old new now answer ports ports_now keys keys_now opened opened_now drew drew_now before mid after room result buf from len room_is e gains did =
+      turned_by config old new now answer ports ports_now keys keys_now opened opened_now drew drew_now before mid after from (take len buf) (known before mid room result (Ok (taken.Datagram from len)) buf room_is e gains) did
 
-  pub took_nothing : (config : Config) (hand : Hand M (Part I O) Made T g) (now : ℕ) (ports ports_now keys keys_now : ℕ) (drew : Option (List KeyCall)) (before after : Option (List LinkCall)) (room : ℕ) (result : Result Taken Failed) (buf : List ℕ)
-      → room ≡ 16385 → result ≡ Ok taken.Nothing → Gains before after (call.Take room (link_given result buf)) → Turned config hand hand now turn.Nothing ports ports_now keys keys_now drew drew before after
-  took_nothing config hand now ports ports_now keys keys_now drew before after room result buf room_is e gains =
-      turned_alone config hand now turn.Nothing ports ports_now keys keys_now drew before after given.Nothing refl (refl, refl, refl) (known before after room result (Ok taken.Nothing) buf room_is e gains)
+  pub took_nothing : (config : Config) (hand : Hand M (Part I O) Made T g) (now : ℕ) (ports ports_now keys keys_now : ℕ) (opened : Option (List PortCall)) (drew : Option (List KeyCall)) (before after : Option (List LinkCall)) (room : ℕ) (result : Result Taken Failed) (buf : List ℕ)
+      → room ≡ 16385 → result ≡ Ok taken.Nothing → Gains before after (call.Take room (link_given result buf)) → Turned config hand hand now turn.Nothing ports ports_now keys keys_now opened opened drew drew before after
+  took_nothing config hand now ports ports_now keys keys_now opened drew before after room result buf room_is e gains =
+      turned_alone config hand now turn.Nothing ports ports_now keys keys_now opened drew before after given.Nothing refl (refl, refl, refl) (known before after room result (Ok taken.Nothing) buf room_is e gains)
 
-  pub took_end : (config : Config) (hand : Hand M (Part I O) Made T g) (now : ℕ) (ports ports_now keys keys_now : ℕ) (drew : Option (List KeyCall)) (before after : Option (List LinkCall)) (room : ℕ) (result : Result Taken Failed) (buf : List ℕ)
-      → room ≡ 16385 → result ≡ Ok taken.End → Gains before after (call.Take room (link_given result buf)) → Turned config hand hand now turn.End ports ports_now keys keys_now drew drew before after
-  took_end config hand now ports ports_now keys keys_now drew before after room result buf room_is e gains =
-      turned_alone config hand now turn.End ports ports_now keys keys_now drew before after given.End refl (refl, refl, refl) (known before after room result (Ok taken.End) buf room_is e gains)
+  pub took_end : (config : Config) (hand : Hand M (Part I O) Made T g) (now : ℕ) (ports ports_now keys keys_now : ℕ) (opened : Option (List PortCall)) (drew : Option (List KeyCall)) (before after : Option (List LinkCall)) (room : ℕ) (result : Result Taken Failed) (buf : List ℕ)
+      → room ≡ 16385 → result ≡ Ok taken.End → Gains before after (call.Take room (link_given result buf)) → Turned config hand hand now turn.End ports ports_now keys keys_now opened opened drew drew before after
+  took_end config hand now ports ports_now keys keys_now opened drew before after room result buf room_is e gains =
+      turned_alone config hand now turn.End ports ports_now keys keys_now opened drew before after given.End refl (refl, refl, refl) (known before after room result (Ok taken.End) buf room_is e gains)
 
-  pub take_failed : (config : Config) (hand : Hand M (Part I O) Made T g) (now : ℕ) (ports ports_now keys keys_now : ℕ) (drew : Option (List KeyCall)) (before after : Option (List LinkCall)) (room : ℕ) (result : Result Taken Failed) (buf : List ℕ)
-      (failed : Failed) → room ≡ 16385 → result ≡ Err failed → Gains before after (call.Take room (link_given result buf)) → Turned config hand hand now turn.ReadFault ports ports_now keys keys_now drew drew before after
-  take_failed config hand now ports ports_now keys keys_now drew before after room result buf failed room_is e gains =
-      turned_alone config hand now turn.ReadFault ports ports_now keys keys_now drew before after given.Failed refl (refl, refl, refl) (known before after room result (Err failed) buf room_is e gains)
+  pub take_failed : (config : Config) (hand : Hand M (Part I O) Made T g) (now : ℕ) (ports ports_now keys keys_now : ℕ) (opened : Option (List PortCall)) (drew : Option (List KeyCall)) (before after : Option (List LinkCall)) (room : ℕ) (result : Result Taken Failed) (buf : List ℕ)
+      (failed : Failed) → room ≡ 16385 → result ≡ Err failed → Gains before after (call.Take room (link_given result buf)) → Turned config hand hand now turn.ReadFault ports ports_now keys keys_now opened opened drew drew before after
+  take_failed config hand now ports ports_now keys keys_now opened drew before after room result buf failed room_is e gains =
+      turned_alone config hand now turn.ReadFault ports ports_now keys keys_now opened drew before after given.Failed refl (refl, refl, refl) (known before after room result (Err failed) buf room_is e gains)

@@ -3,6 +3,7 @@ use Rattle.std.specs.Prelude.{◌≡◌, ℕ, List, ◌∷◌, ◌++◌, Option,
 use Rattle.relay_outside.specs.declared.answers.Failed.{Failed}
 use Rattle.relay_outside.specs.declared.keys.KeyCall.{KeyCall}
 use Rattle.relay_outside.specs.declared.link.LinkCall.{LinkCall}
+use Rattle.relay_outside.specs.declared.ports.PortCall.{PortCall}
 use Rattle.relay_outside.specs.declared.settings.Config.{Config}
 use Rattle.turn_table.specs.declared.hands.Hand.{Hand}
 use Rattle.ng_frame.specs.Frame.{frame}
@@ -34,9 +35,9 @@ module _ {M I O T : Type 0} {g : _} where
   -- board's history demands; what the entry says that the outside gave is what the devices told; and the entry's reply was sent
   -- once, to the request's source, with this answer
   pub record Answers (config : Config) (old new : Hand M (Part I O) Made T g) (request : Request) (now : ℕ) (sent : Result (Unit {0}) Failed)
-      (ports ports_now keys keys_now : ℕ) (drew drew_now : Option (List KeyCall)) (before after : Option (List LinkCall)) : Type 0 where
+      (ports ports_now keys keys_now : ℕ) (opened opened_now : Option (List PortCall)) (drew drew_now : Option (List KeyCall)) (before after : Option (List LinkCall)) : Type 0 where
     pub hearing : Hearing
     pub is_heard : IsHeard request hearing
     pub makes : MakesTurn config old new (entry_at config (board_of (made_by old)) (moment_at (board_of (made_by old)) now) hearing)
-    pub given : IsGivenBy hearing.given ports ports_now keys keys_now drew drew_now
+    pub given : IsGivenBy hearing.given ports ports_now keys keys_now opened opened_now drew drew_now
     pub sends : Sends request.source (control_of config (board_of (made_by old)) (moment_at (board_of (made_by old)) now) hearing).reply sent before after

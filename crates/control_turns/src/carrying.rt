@@ -69,7 +69,7 @@ fn carry_out_known<P: PortMaker, K: KeySource, R: Wait>(
     ensures replies { KeepsReplies board.old board.new }
     ensures empty { gone.new ≡ [] }
     ensures later { (P.faults ports.old ≤ P.faults ports.new) × (K.faults keys.old ≤ K.faults keys.new) }
-    ensures given { IsGivenBy (given_by result.gave) (P.faults ports.old) (P.faults ports.new) (K.faults keys.old) (K.faults keys.new) (K.told keys.old) (K.told keys.new) }
+    ensures given { IsGivenBy (given_by result.gave) (P.faults ports.old) (P.faults ports.new) (K.faults keys.old) (K.faults keys.new) (P.told ports.old) (P.told ports.new) (K.told keys.old) (K.told keys.new) }
 {
     match command {
         Command::Ping => told(Heard::none(), pong_datagram(alloc, request.cookie)),
@@ -114,7 +114,7 @@ fn carry_out_command<P: PortMaker, K: KeySource, R: Wait>(
     ensures replies { KeepsReplies board.old board.new }
     ensures empty { gone.new ≡ [] }
     ensures later { (P.faults ports.old ≤ P.faults ports.new) × (K.faults keys.old ≤ K.faults keys.new) }
-    ensures given { IsGivenBy (given_by result.gave) (P.faults ports.old) (P.faults ports.new) (K.faults keys.old) (K.faults keys.new) (K.told keys.old) (K.told keys.new) }
+    ensures given { IsGivenBy (given_by result.gave) (P.faults ports.old) (P.faults ports.new) (K.faults keys.old) (K.faults keys.new) (P.told ports.old) (P.told ports.new) (K.told keys.old) (K.told keys.new) }
 {
     match command {
         Ok(command) => carry_out_known(
@@ -147,7 +147,7 @@ pub(crate) fn carry_out<P: PortMaker, K: KeySource, R: Wait>(
     ensures replies { KeepsReplies board.old board.new }
     ensures empty { gone.new ≡ [] }
     ensures later { (P.faults ports.old ≤ P.faults ports.new) × (K.faults keys.old ≤ K.faults keys.new) }
-    ensures given { IsGivenBy (given_by result.done.gave) (P.faults ports.old) (P.faults ports.new) (K.faults keys.old) (K.faults keys.new) (K.told keys.old) (K.told keys.new) }
+    ensures given { IsGivenBy (given_by result.done.gave) (P.faults ports.old) (P.faults ports.new) (K.faults keys.old) (K.faults keys.new) (P.told ports.old) (P.told ports.new) (K.told keys.old) (K.told keys.new) }
 {
     if request.too_long {
         let done = refused(alloc, request.cookie, ErrorCode::E18, Heard::none());

@@ -84,7 +84,7 @@ fn answer_anew<N: ControlLink, P: PortMaker, K: KeySource, R: Wait>(
     ensures cause { HasCause (N.faults link.old) (N.faults link.new) result.sent }
     ensures empty { gone.new ≡ [] }
     ensures later { (P.faults ports.old ≤ P.faults ports.new) × (K.faults keys.old ≤ K.faults keys.new) }
-    ensures given { IsGivenBy (given_by result.dealt.gave) (P.faults ports.old) (P.faults ports.new) (K.faults keys.old) (K.faults keys.new) (K.told keys.old) (K.told keys.new) }
+    ensures given { IsGivenBy (given_by result.dealt.gave) (P.faults ports.old) (P.faults ports.new) (K.faults keys.old) (K.faults keys.new) (P.told ports.old) (P.told ports.new) (K.told keys.old) (K.told keys.new) }
 {
     if board.reserve_reply().is_err() {
         return answer_short(link, request);
@@ -131,7 +131,7 @@ fn deal<N: ControlLink, P: PortMaker, K: KeySource, R: Wait>(
     ensures cause { HasCause (N.faults link.old) (N.faults link.new) result.sent }
     ensures empty { gone.new ≡ [] }
     ensures later { (P.faults ports.old ≤ P.faults ports.new) × (K.faults keys.old ≤ K.faults keys.new) }
-    ensures given { IsGivenBy (given_by result.dealt.gave) (P.faults ports.old) (P.faults ports.new) (K.faults keys.old) (K.faults keys.new) (K.told keys.old) (K.told keys.new) }
+    ensures given { IsGivenBy (given_by result.dealt.gave) (P.faults ports.old) (P.faults ports.new) (K.faults keys.old) (K.faults keys.new) (P.told ports.old) (P.told ports.new) (K.told keys.old) (K.told keys.new) }
 {
     if let Some(kept) = board.find_reply(request.source, request.cookie, nest.moment) {
         let sent = send(link, request.source, kept);
@@ -175,7 +175,7 @@ pub(crate) fn deal_part<N: ControlLink, P: PortMaker, K: KeySource, R: Wait>(
     ensures cause { HasCause (N.faults link.old) (N.faults link.new) result.sent }
     ensures empty { gone.new ≡ [] }
     ensures later { (P.faults ports.old ≤ P.faults ports.new) × (K.faults keys.old ≤ K.faults keys.new) }
-    ensures given { IsGivenBy (given_by result.dealt.gave) (P.faults ports.old) (P.faults ports.new) (K.faults keys.old) (K.faults keys.new) (K.told keys.old) (K.told keys.new) }
+    ensures given { IsGivenBy (given_by result.dealt.gave) (P.faults ports.old) (P.faults ports.new) (K.faults keys.old) (K.faults keys.new) (P.told ports.old) (P.told ports.new) (K.told keys.old) (K.told keys.new) }
 {
     match part {
         Part::Board(board) => {

@@ -60,7 +60,7 @@ fn respond<N: ControlLink, P: PortMaker, K: KeySource, R: Wait>(
     ensures same { IsSameHand hand.old hand.new }
     ensures between { IsBetween config.now turns.now hand.new }
     ensures open { TellsHeld config.now (P.told ports.new) (leg_pairs (held (board_of (made_by hand.new)))) }
-    ensures responded { Responded config.now hand.old hand.new now from datagram.now result (P.faults ports.old) (P.faults ports.new) (K.faults keys.old) (K.faults keys.new) (K.told keys.old) (K.told keys.new) (N.told link.old) (N.told link.new) }
+    ensures responded { Responded config.now hand.old hand.new now from datagram.now result (P.faults ports.old) (P.faults ports.new) (K.faults keys.old) (K.faults keys.new) (P.told ports.old) (P.told ports.new) (K.told keys.old) (K.told keys.new) (N.told link.old) (N.told link.new) }
     ensures no_read_fault { result ≢ ControlTurn.ReadFault }
     ensures reply_fault { result ≡ ControlTurn.ReplyFault → Rose (N.faults link.old) (N.faults link.new) }
     ensures later { (N.faults link.old ≤ N.faults link.new) × (P.faults ports.old ≤ P.faults ports.new) × (K.faults keys.old ≤ K.faults keys.new) }
@@ -109,7 +109,7 @@ pub fn control_turn<N: ControlLink, P: PortMaker, K: KeySource, R: Wait>(
     ensures same { IsSameHand hand.old hand.new }
     ensures between { IsBetween config.now turns.now hand.new }
     ensures open { TellsHeld config.now (P.told ports.new) (leg_pairs (held (board_of (made_by hand.new)))) }
-    ensures turned { Turned config.now hand.old hand.new now result (P.faults ports.old) (P.faults ports.new) (K.faults keys.old) (K.faults keys.new) (K.told keys.old) (K.told keys.new) (N.told link.old) (N.told link.new) }
+    ensures turned { Turned config.now hand.old hand.new now result (P.faults ports.old) (P.faults ports.new) (K.faults keys.old) (K.faults keys.new) (P.told ports.old) (P.told ports.new) (K.told keys.old) (K.told keys.new) (N.told link.old) (N.told link.new) }
     ensures read_fault { result ≡ ControlTurn.ReadFault → Rose (N.faults link.old) (N.faults link.new) }
     ensures reply_fault { result ≡ ControlTurn.ReplyFault → Rose (N.faults link.old) (N.faults link.new) }
     ensures later { (N.faults link.old ≤ N.faults link.new) × (P.faults ports.old ≤ P.faults ports.new) × (K.faults keys.old ≤ K.faults keys.new) }

@@ -47,7 +47,7 @@ pub fn answer_datagram<N: ControlLink, P: PortMaker, K: KeySource, R: Wait>(
     ensures same { IsSameHand hand.old hand.new }
     ensures between { IsBetween config.now turns.now hand.new }
     ensures open { TellsHeld config.now (P.told ports.new) (leg_pairs (held (board_of (made_by hand.new)))) }
-    ensures answers { Answers config.now hand.old hand.new request.now now result (P.faults ports.old) (P.faults ports.new) (K.faults keys.old) (K.faults keys.new) (K.told keys.old) (K.told keys.new) (N.told link.old) (N.told link.new) }
+    ensures answers { Answers config.now hand.old hand.new request.now now result (P.faults ports.old) (P.faults ports.new) (K.faults keys.old) (K.faults keys.new) (P.told ports.old) (P.told ports.new) (K.told keys.old) (K.told keys.new) (N.told link.old) (N.told link.new) }
     ensures cause { HasCause (N.faults link.old) (N.faults link.new) result }
     ensures later { (P.faults ports.old ≤ P.faults ports.new) × (K.faults keys.old ≤ K.faults keys.new) }
     ensures empty { gone.new ≡ [] }

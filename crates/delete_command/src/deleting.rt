@@ -1,6 +1,7 @@
 //! A delete.
 ghost use Rattle.std.specs.Prelude.{◌≡◌, ◌≤◌, [], Option, Some};
 ghost use Rattle.relay_outside.specs.declared.settings.Config.{Config};
+ghost use Rattle.relay_outside.specs.Told.{Gained};
 ghost use Rattle.turn_table.specs.Hands.{IsSameHand, SameTurns};
 ghost use Rattle.ng_bencode.specs.Tree.{Entries};
 ghost use Rattle.ng_command.specs.Said.{Delete, list_of};
@@ -10,6 +11,7 @@ ghost use Rattle.call_board.specs.Boards.{Shows, IsLive, KeepsReplies};
 ghost use Rattle.call_board.specs.Views.{View, CallView, call_numbered};
 ghost use Rattle.relay_core.specs.Entries.{board_history};
 ghost use Rattle.relay_core.specs.Turning.{made_by};
+ghost use Rattle.media_ports.specs.Asked.{OpensNone};
 ghost use Rattle.nested_steps.specs.Nesting.{MayNest};
 ghost use Rattle.board_turns.specs.Acting.{InTurn};
 ghost use Rattle.control_entries.specs.Carrying.{hearing_by, Carries};
@@ -84,6 +86,7 @@ pub fn delete<P: PortMaker, R: Wait>(
     ensures replies { KeepsReplies board.old board.new }
     ensures empty { gone.new ≡ [] }
     ensures later { P.faults ports.old ≤ P.faults ports.new }
+    ensures closes { Gained (P.told ports.old) (P.told ports.new) OpensNone }
     ensures unasked { IsUnasked result.gave }
 {
     let Some(call) = board.find_call(input.call_id.as_slice()) else {

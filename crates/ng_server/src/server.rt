@@ -1,5 +1,5 @@
 ghost use Rattle.std.specs.Prelude.{◌≡◌, ◌≤◌, ◌≢◌, List, [], map, length, IfOk};
-ghost use Rattle.relay_outside.specs.Told.{Rose};
+ghost use Rattle.relay_outside.specs.Told.{Gained, Rose};
 ghost use Rattle.relay_outside.specs.declared.settings.Config.{Config};
 ghost use Rattle.turn_table.specs.Hands.{IsSameHand, IsHandOf, HasNoTurn, parts, starts, entries};
 ghost use Rattle.call_board.specs.Calls.{live};
@@ -10,6 +10,7 @@ ghost use Rattle.relay_core.specs.Made.{told};
 ghost use Rattle.relay_core.specs.Turning.{made_by};
 ghost use Rattle.relay_core.specs.Beginning.{AreParts};
 ghost use Rattle.relay_core.specs.Joining.{IsSound, AreStanding};
+ghost use Rattle.media_ports.specs.Asked.{OpensNone};
 ghost use Rattle.media_ports.specs.Held.{TellsHeld};
 ghost use Rattle.board_turns.specs.Between.{IsBetween, MakesTurn};
 ghost use Rattle.board_turns.specs.Stopping.{stop_entry};
@@ -97,7 +98,7 @@ impl<P: PortMaker> Server<P> {
         ensures between { IsBetween self.now.config self.now.turns hand.new }
         ensures safe { BoardSafe self.now.config (made_by hand.new) }
         ensures open { OpensJust self.now.config (history_of hand.new) (P.told ports.new) }
-        ensures turned { Turned self.now.config hand.old hand.new now result (P.faults ports.old) (P.faults ports.new) (K.faults keys.old) (K.faults keys.new) (K.told keys.old) (K.told keys.new) (N.told link.old) (N.told link.new) }
+        ensures turned { Turned self.now.config hand.old hand.new now result (P.faults ports.old) (P.faults ports.new) (K.faults keys.old) (K.faults keys.new) (P.told ports.old) (P.told ports.new) (K.told keys.old) (K.told keys.new) (N.told link.old) (N.told link.new) }
         ensures read_fault { result ≡ ControlTurn.ReadFault → Rose (N.faults link.old) (N.faults link.new) }
         ensures reply_fault { result ≡ ControlTurn.ReplyFault → Rose (N.faults link.old) (N.faults link.new) }
         ensures later { (N.faults link.old ≤ N.faults link.new) × (P.faults ports.old ≤ P.faults ports.new) × (K.faults keys.old ≤ K.faults keys.new) }
@@ -133,6 +134,7 @@ impl<P: PortMaker> Server<P> {
         ensures makes { MakesTurn self.now.config hand.old hand.new (stop_entry (history_of hand.old)) }
         ensures count { result ≡ length (live (history_of hand.old)) }
         ensures shut { TellsHeld self.now.config (P.told ports.new) [] }
+        ensures closes { Gained (P.told ports.old) (P.told ports.new) OpensNone }
         ensures later { P.faults ports.old ≤ P.faults ports.new }
     {
         stop_turn(rt, &self.turns, hand, &self.config, ports, &mut desk.gone)

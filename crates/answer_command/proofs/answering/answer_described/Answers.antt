@@ -1,4 +1,5 @@
 use Rattle.std.proofs.Common.{◌∙◌, refl, sym, ap, subst, ℕ, List, Option}
+use Rattle.media_ports.proofs.Asked.{gained_no_opening}
 use Rattle.std.specs.Prelude.{option_map}
 use Rattle.call_board.specs.declared.board.Board.{Board}
 use Rattle.call_board.specs.Acts.{Call}
@@ -46,3 +47,6 @@ returns-in-Err-clause-carries g c pairs asks =
     (λ of is. c.hear_answer-heard.ensures.heard config v (call_view h of) ask c.requires.turn.shows
     (ap (λ (i : List ℕ). call_of_id v i) c.as_slice.ensures ∙ found_by_id config h id ∙ ap (λ (o : Option Call). option_map (call_view h) o) is) c.requires.read refl))
     (c.in-Err.ensures.plans config v c.requires.turn.shows) c.unplanned.ensures.refuses
+
+pub returns-in-Err-clause-closes : goal.returns-in-Err-clause-closes
+returns-in-Err-clause-closes g c = gained_no_opening (g.P.PortMaker.told c.args.ports.now)

@@ -21,9 +21,9 @@ returns-in_default-clause-carries g c =
 pub returns-then-request-clause-given : goal.returns-then-request-clause-given
 returns-then-request-clause-given g c =
     unasked_given c.refused-done.result.gave (g.P.PortMaker.faults c.args.ports.now) (g.P.PortMaker.faults c.args.ports.now) (g.K.KeySource.faults c.args.keys.now) (g.K.KeySource.faults c.args.keys.now)
-    (g.K.KeySource.told c.args.keys.now) c.refused-done.ensures.unasked
+    (g.P.PortMaker.told c.args.ports.now) (g.K.KeySource.told c.args.keys.now) c.refused-done.ensures.unasked
 
 pub returns-in_default-clause-given : goal.returns-in_default-clause-given
 returns-in_default-clause-given g c =
     unasked_given c.short.result.gave (g.P.PortMaker.faults c.args.ports.now) (g.P.PortMaker.faults c.args.ports.now) (g.K.KeySource.faults c.args.keys.now) (g.K.KeySource.faults c.args.keys.now)
-    (g.K.KeySource.told c.args.keys.now) c.short.ensures.unasked
+    (g.P.PortMaker.told c.args.ports.now) (g.K.KeySource.told c.args.keys.now) c.short.ensures.unasked

@@ -3,7 +3,7 @@ use Rattle.ng_command.specs.Said.{said}
 use Rattle.ng_command.specs.declared.command.Command.{Command}
 use Rattle.call_board.specs.Asked.{command_in}
 use Rattle.call_board.specs.Replies.{Pong, reply_datagram}
-use Rattle.control_entries.proofs.Givings.{unasked_given}
+use Rattle.control_entries.proofs.Givings.{unasked_given, closing_given}
 use Rattle.control_turns.proofs.Commands.{no_list, no_query, ping_carries}
 use Rattle.control_turns.proofs.carrying.carry_out_known.Goals as goal
 
@@ -25,14 +25,14 @@ unreachable-requires-in-List g c =
 pub returns-in-Ping-clause-given : goal.returns-in-Ping-clause-given
 returns-in-Ping-clause-given g c =
     unasked_given c.told.result.gave (g.P.PortMaker.faults c.args.ports.now) (g.P.PortMaker.faults c.args.ports.now) (g.K.KeySource.faults c.args.keys.now) (g.K.KeySource.faults c.args.keys.now)
-    (g.K.KeySource.told c.args.keys.now) c.told.ensures.unasked
+    (g.P.PortMaker.told c.args.ports.now) (g.K.KeySource.told c.args.keys.now) c.told.ensures.unasked
 
 pub returns-in-Answer-clause-given : goal.returns-in-Answer-clause-given
 returns-in-Answer-clause-given g c =
-    unasked_given c.answer.result.gave (g.P.PortMaker.faults c.args.ports.now) (g.P.PortMaker.faults c.answer.new.ports) (g.K.KeySource.faults c.args.keys.now) (g.K.KeySource.faults c.args.keys.now)
-    (g.K.KeySource.told c.args.keys.now) c.answer.ensures.unasked
+    closing_given c.answer.result.gave (g.P.PortMaker.faults c.args.ports.now) (g.P.PortMaker.faults c.answer.new.ports) (g.K.KeySource.faults c.args.keys.now) (g.K.KeySource.faults c.args.keys.now)
+    (g.P.PortMaker.told c.args.ports.now) (g.P.PortMaker.told c.answer.new.ports) (g.K.KeySource.told c.args.keys.now) c.answer.ensures.closes c.answer.ensures.unasked
 
 pub returns-in-Delete-clause-given : goal.returns-in-Delete-clause-given
 returns-in-Delete-clause-given g c =
-    unasked_given c.delete.result.gave (g.P.PortMaker.faults c.args.ports.now) (g.P.PortMaker.faults c.delete.new.ports) (g.K.KeySource.faults c.args.keys.now) (g.K.KeySource.faults c.args.keys.now)
-    (g.K.KeySource.told c.args.keys.now) c.delete.ensures.unasked
+    closing_given c.delete.result.gave (g.P.PortMaker.faults c.args.ports.now) (g.P.PortMaker.faults c.delete.new.ports) (g.K.KeySource.faults c.args.keys.now) (g.K.KeySource.faults c.args.keys.now)
+    (g.P.PortMaker.told c.args.ports.now) (g.P.PortMaker.told c.delete.new.ports) (g.K.KeySource.told c.args.keys.now) c.delete.ensures.closes c.delete.ensures.unasked

@@ -47,9 +47,9 @@ returns-clause-deals g c =
 pub returns-then-is_err-clause-given : goal.returns-then-is_err-clause-given
 returns-then-is_err-clause-given g c =
     unasked_given c.answer_short.result.dealt.gave (g.P.PortMaker.faults c.args.ports.now) (g.P.PortMaker.faults c.args.ports.now) (g.K.KeySource.faults c.args.keys.now) (g.K.KeySource.faults c.args.keys.now)
-    (g.K.KeySource.told c.args.keys.now) c.answer_short.ensures.unasked
+    (g.P.PortMaker.told c.args.ports.now) (g.K.KeySource.told c.args.keys.now) c.answer_short.ensures.unasked
 
 pub returns-in_default-clause-given : goal.returns-in_default-clause-given
 returns-in_default-clause-given g c =
     unasked_given c.answer_short-in_default.result.dealt.gave (g.P.PortMaker.faults c.args.ports.now) (g.P.PortMaker.faults c.args.ports.now) (g.K.KeySource.faults c.args.keys.now) (g.K.KeySource.faults c.args.keys.now)
-    (g.K.KeySource.told c.args.keys.now) c.answer_short-in_default.ensures.unasked
+    (g.P.PortMaker.told c.args.ports.now) (g.K.KeySource.told c.args.keys.now) c.answer_short-in_default.ensures.unasked

@@ -41,4 +41,4 @@ answer_anew-requires-clause-anew g c =
 pub returns-in-Some-clause-given : goal.returns-in-Some-clause-given
 returns-in-Some-clause-given g c =
     unasked_given Nothing (g.P.PortMaker.faults c.args.ports.now) (g.P.PortMaker.faults c.args.ports.now) (g.K.KeySource.faults c.args.keys.now)
-    (g.K.KeySource.faults c.args.keys.now) (g.K.KeySource.told c.args.keys.now) tt
+    (g.K.KeySource.faults c.args.keys.now) (g.P.PortMaker.told c.args.ports.now) (g.K.KeySource.told c.args.keys.now) tt

@@ -1,4 +1,5 @@
 use Rattle.std.proofs.Common.{◌∙◌, refl, sym}
+use Rattle.media_ports.proofs.Asked.{gained_no_opening}
 use Rattle.ng_command.specs.Said.{list_of}
 use Rattle.call_board.specs.Views.{call_view, view_of, at_moment}
 use Rattle.call_board.proofs.Found.{found_is_live}
@@ -82,3 +83,12 @@ returns-clause-carries g c pairs asking =
     c.delete_call.new.board (g.P.PortMaker.told c.delete_call.new.ports) c.requires.anew asking found.is (sym names ∙ c.if-not-names_side.false)
     (c.delete_call.ensures.does (deleting_entry config nest.moment request pairs found.of) found.of refl found.number_is found.alive refl)
     (c.in-Ok.ensures config) c.none.ensures
+
+pub returns-in_default-clause-closes : goal.returns-in_default-clause-closes
+returns-in_default-clause-closes g c = gained_no_opening (g.P.PortMaker.told c.args.ports.now)
+
+pub returns-then-not-names_side-clause-closes : goal.returns-then-not-names_side-clause-closes
+returns-then-not-names_side-clause-closes g c = gained_no_opening (g.P.PortMaker.told c.args.ports.now)
+
+pub returns-in_default-done_datagram-clause-closes : goal.returns-in_default-done_datagram-clause-closes
+returns-in_default-done_datagram-clause-closes g c = gained_no_opening (g.P.PortMaker.told c.args.ports.now)

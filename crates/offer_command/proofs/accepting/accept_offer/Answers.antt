@@ -21,14 +21,14 @@ returns-in_default-reserve-clause-carries g c pairs asks =
 pub returns-then-length-ge-MOST_BYTES-clause-given : goal.returns-then-length-ge-MOST_BYTES-clause-given
 returns-then-length-ge-MOST_BYTES-clause-given g c =
     unasked_given c.short.result.gave (g.P.PortMaker.faults c.args.ports.now) (g.P.PortMaker.faults c.args.ports.now) (g.K.KeySource.faults c.args.keys.now) (g.K.KeySource.faults c.args.keys.now)
-    (g.K.KeySource.told c.args.keys.now) c.short.ensures.unasked
+    (g.P.PortMaker.told c.args.ports.now) (g.K.KeySource.told c.args.keys.now) c.short.ensures.unasked
 
 pub returns-in_default-clause-given : goal.returns-in_default-clause-given
 returns-in_default-clause-given g c =
     unasked_given c.short-in_default.result.gave (g.P.PortMaker.faults c.args.ports.now) (g.P.PortMaker.faults c.args.ports.now) (g.K.KeySource.faults c.args.keys.now) (g.K.KeySource.faults c.args.keys.now)
-    (g.K.KeySource.told c.args.keys.now) c.short-in_default.ensures.unasked
+    (g.P.PortMaker.told c.args.ports.now) (g.K.KeySource.told c.args.keys.now) c.short-in_default.ensures.unasked
 
 pub returns-in_default-reserve-clause-given : goal.returns-in_default-reserve-clause-given
 returns-in_default-reserve-clause-given g c =
     unasked_given c.short-in_default-reserve.result.gave (g.P.PortMaker.faults c.args.ports.now) (g.P.PortMaker.faults c.args.ports.now) (g.K.KeySource.faults c.args.keys.now) (g.K.KeySource.faults c.args.keys.now)
-    (g.K.KeySource.told c.args.keys.now) c.short-in_default-reserve.ensures.unasked
+    (g.P.PortMaker.told c.args.ports.now) (g.K.KeySource.told c.args.keys.now) c.short-in_default-reserve.ensures.unasked

@@ -73,16 +73,22 @@ returns-in-Err-clause-carries g c pairs asks =
 
 pub returns-in-Ok-clause-given : goal.returns-in-Ok-clause-given
 returns-in-Ok-clause-given g c =
-    let opens = 2 * c.pairs-opens.result in
-    given_as c.accepted.result.gave (gave.Offered opens c.in-Ok.offered.drawn) (g.P.PortMaker.faults c.args.ports.now) (g.P.PortMaker.faults c.offer_act.new.ports) (g.K.KeySource.faults c.args.keys.now) (g.K.KeySource.faults c.offer_act.new.keys)
-    (g.K.KeySource.told c.args.keys.now) (g.K.KeySource.told c.offer_act.new.keys) c.accepted.ensures.gave_is
-    (offered_given opens c.in-Ok.offered.drawn (g.P.PortMaker.faults c.args.ports.now) (g.P.PortMaker.faults c.offer_act.new.ports) (g.K.KeySource.faults c.args.keys.now) (g.K.KeySource.faults c.offer_act.new.keys)
-    (g.K.KeySource.told c.args.keys.now) (g.K.KeySource.told c.offer_act.new.keys) c.in-Ok.ensures.draws)
+    let opens : c.pairs-opens.result ≡ pair_count c.args.plan.plan = c.pairs-opens.ensures.count ∙ ap pair_count c.planned.ensures in
+    let count = 2 * pair_count c.args.plan.plan in
+    given_as c.accepted.result.gave (gave.Offered count c.in-Ok.offered.drawn) (g.P.PortMaker.faults c.args.ports.now) (g.P.PortMaker.faults c.offer_act.new.ports) (g.K.KeySource.faults c.args.keys.now) (g.K.KeySource.faults c.offer_act.new.keys)
+    (g.P.PortMaker.told c.args.ports.now) (g.P.PortMaker.told c.offer_act.new.ports) (g.K.KeySource.told c.args.keys.now) (g.K.KeySource.told c.offer_act.new.keys)
+    (c.accepted.ensures.gave_is ∙ ap (λ (n : ℕ). gave.Offered (2 * n) c.in-Ok.offered.drawn) opens)
+    (offered_given count c.in-Ok.offered.drawn (g.P.PortMaker.faults c.args.ports.now) (g.P.PortMaker.faults c.offer_act.new.ports) (g.K.KeySource.faults c.args.keys.now) (g.K.KeySource.faults c.offer_act.new.keys)
+    (g.P.PortMaker.told c.args.ports.now) (g.P.PortMaker.told c.offer_act.new.ports) (g.K.KeySource.told c.args.keys.now) (g.K.KeySource.told c.offer_act.new.keys)
+    c.in-Ok.ensures.opens c.in-Ok.ensures.draws)
 
 pub returns-in-Err-clause-given : goal.returns-in-Err-clause-given
 returns-in-Err-clause-given g c =
-    let opens = 2 * c.pairs-opens.result in
-    given_as c.undone.result.gave (undone_gave opens c.in-Err.fault) (g.P.PortMaker.faults c.args.ports.now) (g.P.PortMaker.faults c.offer_act.new.ports) (g.K.KeySource.faults c.args.keys.now) (g.K.KeySource.faults c.offer_act.new.keys)
-    (g.K.KeySource.told c.args.keys.now) (g.K.KeySource.told c.offer_act.new.keys) c.undone.ensures.gave_is
-    (undone_given opens c.in-Err.fault (g.P.PortMaker.faults c.args.ports.now) (g.P.PortMaker.faults c.offer_act.new.ports) (g.K.KeySource.faults c.args.keys.now) (g.K.KeySource.faults c.offer_act.new.keys)
-    (g.K.KeySource.told c.args.keys.now) (g.K.KeySource.told c.offer_act.new.keys) c.in-Err.ensures.cause c.in-Err.ensures.draws_before)
+    let opens : c.pairs-opens.result ≡ pair_count c.args.plan.plan = c.pairs-opens.ensures.count ∙ ap pair_count c.planned.ensures in
+    let pairs = pair_count c.args.plan.plan in
+    given_as c.undone.result.gave (undone_gave (2 * pairs) c.in-Err.fault) (g.P.PortMaker.faults c.args.ports.now) (g.P.PortMaker.faults c.offer_act.new.ports) (g.K.KeySource.faults c.args.keys.now) (g.K.KeySource.faults c.offer_act.new.keys)
+    (g.P.PortMaker.told c.args.ports.now) (g.P.PortMaker.told c.offer_act.new.ports) (g.K.KeySource.told c.args.keys.now) (g.K.KeySource.told c.offer_act.new.keys)
+    (c.undone.ensures.gave_is ∙ ap (λ (n : ℕ). undone_gave (2 * n) c.in-Err.fault) opens)
+    (undone_given pairs c.in-Err.fault (g.P.PortMaker.faults c.args.ports.now) (g.P.PortMaker.faults c.offer_act.new.ports) (g.K.KeySource.faults c.args.keys.now) (g.K.KeySource.faults c.offer_act.new.keys)
+    (g.P.PortMaker.told c.args.ports.now) (g.P.PortMaker.told c.offer_act.new.ports) (g.K.KeySource.told c.args.keys.now) (g.K.KeySource.told c.offer_act.new.keys)
+    c.in-Err.ensures.cause c.in-Err.ensures.opens_before c.in-Err.ensures.draws_before)

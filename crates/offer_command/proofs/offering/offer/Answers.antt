@@ -15,4 +15,4 @@ returns-in-Err-clause-carries g c pairs asking =
 pub returns-in-Err-clause-given : goal.returns-in-Err-clause-given
 returns-in-Err-clause-given g c =
     unasked_given c.misdescribed.result.gave (g.P.PortMaker.faults c.args.ports.now) (g.P.PortMaker.faults c.args.ports.now) (g.K.KeySource.faults c.args.keys.now) (g.K.KeySource.faults c.args.keys.now)
-    (g.K.KeySource.told c.args.keys.now) c.misdescribed.ensures.unasked
+    (g.P.PortMaker.told c.args.ports.now) (g.K.KeySource.told c.args.keys.now) c.misdescribed.ensures.unasked
