@@ -4,7 +4,7 @@ use Rattle.relay_outside.specs.declared.ports.InCall.{InCall}
 use Rattle.relay_outside.specs.declared.ports.OutCall.{OutCall}
 use Rattle.turn_table.specs.declared.machine.Entry as table
 use Rattle.turn_table.specs.declared.hands.Hand.{Hand}
-use Rattle.turn_table.specs.Hands.{entries}
+use Rattle.turn_table.specs.Hands.{entries, tries, TriedUntilFree}
 use Rattle.turn_table.specs.Steps.{entry}
 use Rattle.relay_core.specs.declared.part.Part.{Part}
 use Rattle.relay_core.specs.Entries.{Entry}
@@ -40,3 +40,7 @@ list_gained old mid new place place' number number' made put kept at numbered =
     put ∙ ap (λ (rows : List (table.Entry Made (Unit {0}))). rows ++ entry place number made (tt {0}) ∷ []) kept
     ∙ ap (λ (k : ℕ). entries old ++ entry k number made (tt {0}) ∷ []) at
     ∙ ap (λ (n : ℕ). entries old ++ entry place' n made (tt {0}) ∷ []) (sym numbered)
+
+-- a mark that was tried until it was free, of a hand that tried none since
+pub tried_still : {M S E O : Type 0} {g : _} (k : ℕ) (old mid new : Hand M S E O g) → TriedUntilFree k old mid → tries new ≡ tries mid → TriedUntilFree k old new
+tried_still k old mid new tried same = (tried.0, same ∙ tried.1, tried.2)

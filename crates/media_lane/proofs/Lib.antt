@@ -3,6 +3,5 @@ pub mod Above
 pub mod Keeping
 pub mod Taken
 pub mod Relays
-pub mod Waiting
 pub mod Visiting
 pub mod Counting

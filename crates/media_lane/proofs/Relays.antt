@@ -5,7 +5,7 @@ use Rattle.relay_outside.specs.declared.settings.Config.{Config}
 use Rattle.relay_outside.specs.declared.ports.InCall.{InCall}
 use Rattle.relay_outside.specs.declared.ports.OutCall.{OutCall}
 use Rattle.turn_table.specs.declared.hands.Hand.{Hand}
-use Rattle.turn_table.specs.Hands.{entries, TriedOnce}
+use Rattle.turn_table.specs.Hands.{entries}
 use Rattle.turn_table.specs.Steps.{entry}
 use Rattle.call_cell.specs.declared.outcome.Outcome.{Outcome}
 use Rattle.call_cell.specs.declared.outcome.Outcome.TheVariants as outcomes
@@ -24,7 +24,7 @@ use Rattle.relay_core.specs.Steps.{Relates, CellRelayed}
 use Rattle.relay_core.specs.Turning.{made_by}
 use Rattle.media_lane.specs.Busy.{Gives}
 use Rattle.media_lane.specs.Receipts.{IsReceiptOf, KeepsList}
-use Rattle.media_lane.specs.Relaying.{relay_made, relay_by, bytes_left, AreSent, RelaysPart, Relays}
+use Rattle.media_lane.specs.Relaying.{relay_made, relay_by, bytes_left, AreSent, RelaysPart, MakesRelay}
 use Rattle.media_lane.proofs.Above.{above, made_more}
 use Rattle.media_lane.proofs.Keeping.{relay_keeps}
 
@@ -74,11 +74,11 @@ module _ {I O : Type 0} (it : I → Option (List InCall)) (ic : I → ℕ) (ot :
   relates p now buf outcome (part.Pair old) y r = absurd r
 
   module _ {M : Type 0} {g : _} (p : cells.Receipt) (now : ℕ) (outcome : Outcome) (old new : Hand M (Part I O) Made (Unit {0}) g) (number : ℕ) (buf bytes : List ℕ)
-      (found : TriedOnce p.holder.cell 0 old new) (are : bytes ≡ take (bytes_left outcome) buf) where
+      (Tried : Type 0) (found : Tried) (are : bytes ≡ take (bytes_left outcome) buf) where
     made_of : (a b : cell.Cell O) → Gives it ic ot oc old p.holder.cell number (part.Cell a)
         → ((config : Config) (h : List CellEntry) → CellFor config a h → CellRelays ot oc config a b h p now buf outcome)
         → entries new ≡ entries old ++ entry p.holder.cell number (relay_made p now (max now a.moment) outcome) (tt {0}) ∷ []
-        → Relays it ic ot oc p now outcome bytes old new
+        → MakesRelay it ic ot oc Tried p now outcome bytes old new
     made_of a b given relays list_is = record {
       number = number;
       moment = max now a.moment;
@@ -92,9 +92,9 @@ module _ {I O : Type 0} (it : I → Option (List InCall)) (ic : I → ℕ) (ot :
           subst (λ (s : List ℕ). AreSent outcome (deed config (since_end h) p (sent_ok outcome)).sending s) (sym are) (sent_bytes config h p buf outcome r.outcome r.front));
     }
 
-    -- the call's answer
+    -- what a call that tried so has made
     pub relays_by : (x y : Part I O) → Gives it ic ot oc old p.holder.cell number x → RelaysPart ot oc p now x buf outcome y
-        → entries new ≡ entries old ++ entry p.holder.cell number (relay_by x p now outcome) (tt {0}) ∷ [] → Relays it ic ot oc p now outcome bytes old new
+        → entries new ≡ entries old ++ entry p.holder.cell number (relay_by x p now outcome) (tt {0}) ∷ [] → MakesRelay it ic ot oc Tried p now outcome bytes old new
     relays_by (part.Cell a) (part.Cell b) given r list_is = made_of a b given r list_is
     relays_by (part.Cell a) (part.Board b) given r list_is = absurd r
     relays_by (part.Cell a) (part.Pair b) given r list_is = absurd r

@@ -6,26 +6,29 @@ use Rattle.relay_outside.specs.declared.ports.InCall.{InCall}
 use Rattle.relay_outside.specs.declared.ports.OutCall.{OutCall}
 use Rattle.rtp_packet.specs.declared.head.Half.{Half}
 use Rattle.turn_table.specs.declared.hands.Hand.{Hand}
-use Rattle.turn_table.specs.Hands.{starts, entries, TriedOnce}
+use Rattle.turn_table.specs.Hands.{starts, entries, TriedOnce, TriedUntilFree}
 use Rattle.turn_table.specs.Steps.{entry}
 use Rattle.port_pool.specs.declared.holder.Holder.{Holder}
 use Rattle.port_pool.specs.declared.boxes.PairBox.{PairBox}
 use Rattle.port_pool.specs.Boxes as box
 use Rattle.port_pool.specs.Boxes.{Taken, FitsTaken, BoxEvent}
 use Rattle.port_pool.specs.PairBoxes.{holder_in}
+use Rattle.call_cell.specs.Cells as cells
 use Rattle.relay_core.specs.declared.part.Part.{Part}
 use Rattle.relay_core.specs.declared.part.Part.TheVariants as part
 use Rattle.relay_core.specs.Entries.{Box, Entry, box_of}
 use Rattle.relay_core.specs.Made.{Made, entry_of}
 use Rattle.relay_core.specs.Steps.{Relates, BoxStep}
 use Rattle.relay_core.specs.Turning.{IsAbove, made_by}
+use Rattle.media_lane.specs.declared.receipt.Receipt.{Receipt}
 use Rattle.media_lane.specs.declared.answers.Received.{Received}
 use Rattle.media_lane.specs.declared.answers.Received.TheVariants as answer
 use Rattle.media_lane.specs.Starts.{HasCells, IsBoxOf, HasLaneStarts}
-use Rattle.media_lane.specs.Lanes.{packet_of, pair_of}
+use Rattle.media_lane.specs.Lanes.{packet_of}
 use Rattle.media_lane.specs.Busy.{Gives}
 use Rattle.media_lane.specs.Receipts.{IsReceiptOf, KeepsList}
-use Rattle.media_lane.specs.Taking.{take_made, Tells, IsShort, HasReceipt, Takes, Receives}
+use Rattle.media_lane.specs.Taking.{take_made, IsOfTake, Tells, IsShort, HasReceipt, MakesTake, Receives, TakesAtLast}
+use Rattle.media_lane.specs.Visits.{packet_by}
 use Rattle.media_lane.proofs.Places.{stands_for, gives_box}
 use Rattle.media_lane.proofs.Above.{above, made_more}
 use Rattle.media_lane.proofs.Keeping.{take_keeps, take_receipt}
@@ -41,6 +44,24 @@ fits_short o box.Fault fits = tt
 fits_holder : (o : Option Holder) (held : Holder) (source : Addr) (bytes : List ℕ) → FitsTaken o (box.Datagram held source bytes) → o ≡ Some held
 fits_holder None held source bytes fits = absurd (let z = fits in cc)
 fits_holder (Some leg) held source bytes fits = ap (λ (x : Holder). Some x) (sym fits.0)
+
+-- Packets.
+
+taken_packet : (r : Receipt) (pair number : ℕ) (half : Half) (taken : Taken) → IsOfTake r pair number half taken → packet_by number half taken ≡ Some (packet_of r)
+taken_packet r pair number half taken t =
+    ap (λ (x : Taken). packet_by number half x) t.gave
+    ∙ ap (λ (n : ℕ). packet_by n half (box.Datagram (packet_of r).holder (packet_of r).source (packet_of r).bytes)) (sym t.number_is)
+    ∙ ap (λ (h : Half). packet_by (packet_of r).take h (box.Datagram (packet_of r).holder (packet_of r).source (packet_of r).bytes)) (sym t.half_is)
+
+packet_fields : (number : ℕ) (half : Half) (taken : Taken) (p : cells.Receipt) → packet_by number half taken ≡ Some p
+    → (p.take ≡ number) × (p.half ≡ half) × (taken ≡ box.Datagram p.holder p.source p.bytes)
+packet_fields number half (box.Datagram holder source bytes) p is =
+    let q : record { take = number; half = half; source = source; bytes = bytes; holder = holder } ≡ p = cc in
+    (ap (λ (x : cells.Receipt). x.take) (sym q), ap (λ (x : cells.Receipt). x.half) (sym q), ap (λ (x : cells.Receipt). box.Datagram x.holder x.source x.bytes) q)
+packet_fields number half box.Closed p is = absurd (let z = is in cc)
+packet_fields number half box.Nothing p is = absurd (let z = is in cc)
+packet_fields number half (box.TooLong source bytes) p is = absurd (let z = is in cc)
+packet_fields number half box.Fault p is = absurd (let z = is in cc)
 
 module _ {I O : Type 0} (it : I → Option (List InCall)) (ic : I → ℕ) (ot : O → Option (List OutCall)) (oc : O → ℕ) where
   -- a step that takes from a box
@@ -82,9 +103,9 @@ module _ {I O : Type 0} (it : I → Option (List InCall)) (ic : I → ℕ) (ot :
     gave = took config.max_sessions half taken x y
         (gives_box it ic ot oc config _ (box_of config pair) number x begins (omega arith) given) step
 
-    made_of : TriedOnce (box_of config pair) 0 old new → (result : Received) → Tells result pair number half taken → Takes it ic ot oc config pair half result old new
+    made_of : (Tried : Type 0) → Tried → (result : Received) → Tells result pair number half taken → MakesTake it ic ot oc Tried config pair half result old new
     unfolding gave
-    made_of found result tells = record {
+    made_of Tried found result tells = record {
       number = number;
       taken = taken;
       list_is = list_is;
@@ -97,13 +118,18 @@ module _ {I O : Type 0} (it : I → Option (List InCall)) (ic : I → ℕ) (ot :
       step = gave.step;
     }
 
-    -- the call's answer
+    -- the answer of a call that tried once
     pub receives : TriedOnce (box_of config pair) 0 old new → (result : Received) → Tells result pair number half taken → Receives it ic ot oc config pair half result old new
-    receives found (answer.Got r) tells = made_of found (answer.Got r) tells
-    receives found answer.Nothing tells = made_of found answer.Nothing tells
+    receives found (answer.Got r) tells = made_of _ found (answer.Got r) tells
+    receives found answer.Nothing tells = made_of _ found answer.Nothing tells
     receives found (answer.Busy front) tells = absurd tells
-    receives found answer.TooLong tells = made_of found answer.TooLong tells
-    receives found answer.TakeFault tells = made_of found answer.TakeFault tells
+    receives found answer.TooLong tells = made_of _ found answer.TooLong tells
+    receives found answer.TakeFault tells = made_of _ found answer.TakeFault tells
+
+    -- that of one that tried until the mark was free
+    pub takes_at_last : TriedUntilFree (box_of config pair) old new → (result : Received) → Tells result pair number half taken
+        → TakesAtLast it ic ot oc config pair half result old new
+    takes_at_last found result tells = made_of _ found result tells
 
     row_above : IsAbove (made_by old) (box_of config pair) number
     row_above = above it ic ot oc old (box_of config pair) number x given
@@ -116,14 +142,21 @@ module _ {I O : Type 0} (it : I → Option (List InCall)) (ic : I → ℕ) (ot :
     cell_of held source bytes is =
         gave.has.held_by held (fits_holder (holder_in gave.before) held source bytes (subst (λ (t : Taken). FitsTaken (holder_in gave.before) t) is gave.fits))
 
-    pub has_receipt : (result : Received) → Tells result pair number half taken → HasReceipt config (made_by new) result
-    has_receipt (answer.Got r) tells =
-        subst (λ (l : List Entry). IsReceiptOf config l (pair_of r) (packet_of r)) (sym (made_more old new (entry (box_of config pair) number (take_made half taken) (tt {0})) list_is))
-        (take_receipt config (made_by old) (entry_of {T = Unit {0}} (entry (box_of config pair) number (take_made half taken) (tt {0}))) (pair_of r) (packet_of r)
-        (ap (λ (t : Taken). Box (box.Take half t)) tells.gave ∙ ap (λ (h : Half). Box (box.Take h (box.Datagram (packet_of r).holder (packet_of r).source (packet_of r).bytes))) (sym tells.half_is))
-        (ap (λ (n : ℕ). box_of config n) (sym tells.pair_is)) (sym tells.number_is) row_above
-        (cell_of (packet_of r).holder (packet_of r).source (packet_of r).bytes tells.gave))
-    has_receipt answer.Nothing tells = tt {0}
-    has_receipt (answer.Busy front) tells = tt {0}
-    has_receipt answer.TooLong tells = tt {0}
-    has_receipt answer.TakeFault tells = tt {0}
+    -- the packet of a datagram that it gave
+    pub packet_receipt : (p : cells.Receipt) → packet_by number half taken ≡ Some p → IsReceiptOf config (made_by new) pair p
+    packet_receipt p is =
+        let f = packet_fields number half taken p is in
+        subst (λ (l : List Entry). IsReceiptOf config l pair p) (sym (made_more old new (entry (box_of config pair) number (take_made half taken) (tt {0})) list_is))
+        (take_receipt config (made_by old) (entry_of {T = Unit {0}} (entry (box_of config pair) number (take_made half taken) (tt {0}))) pair p
+        (ap (λ (t : Taken). Box (box.Take half t)) f.2 ∙ ap (λ (h : Half). Box (box.Take h (box.Datagram p.holder p.source p.bytes))) (sym f.1))
+        refl (sym f.0) row_above (cell_of p.holder p.source p.bytes f.2))
+
+-- a receipt that is answered is of that packet
+pub has_receipt : (config : Config) (l : List Entry) (pair number : ℕ) (half : Half) (taken : Taken) → ((p : cells.Receipt) → packet_by number half taken ≡ Some p → IsReceiptOf config l pair p)
+    → (result : Received) → Tells result pair number half taken → HasReceipt config l result
+has_receipt config l pair number half taken each (answer.Got r) tells =
+    subst (λ (n : ℕ). IsReceiptOf config l n (packet_of r)) (sym tells.pair_is) (each (packet_of r) (taken_packet r pair number half taken tells))
+has_receipt config l pair number half taken each answer.Nothing tells = tt {0}
+has_receipt config l pair number half taken each (answer.Busy front) tells = tt {0}
+has_receipt config l pair number half taken each answer.TooLong tells = tt {0}
+has_receipt config l pair number half taken each answer.TakeFault tells = tt {0}

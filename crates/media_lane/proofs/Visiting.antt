@@ -1,5 +1,5 @@
 -- A visit, from the take and the relay that it made.
-use Rattle.std.proofs.Common.{◌≡◌, refl, sym, ◌∙◌, ap, subst, ℕ, ◌+◌, ◌-◌, ◌^◌, Bool, true, false, cond, min, List, [], ◌∷◌, ◌++◌, Option, Some, None, filter, length, length-append, append_assoc, arith, inl, inr}
+use Rattle.std.proofs.Common.{◌≡◌, refl, sym, ◌∙◌, ap, subst, ℕ, ◌+◌, ◌-◌, ◌^◌, Bool, true, false, cond, min, List, [], ◌∷◌, ◌++◌, Option, Some, None, filter, length, length-append, append_assoc, arith}
 use Rattle.relay_outside.specs.declared.settings.Config.{Config}
 use Rattle.relay_outside.specs.Told.{WhereInRange}
 use Rattle.rtp_packet.specs.declared.head.Half.{Half}
@@ -8,7 +8,6 @@ use Rattle.turn_table.specs.declared.hands.Hand.{Hand}
 use Rattle.turn_table.specs.declared.machine.Entry as table
 use Rattle.turn_table.specs.Hands.{entries}
 use Rattle.turn_table.specs.Steps.{entry}
-use Rattle.port_pool.specs.Boxes as box
 use Rattle.port_pool.specs.Boxes.{Taken}
 use Rattle.call_cell.specs.declared.outcome.Outcome.{Outcome}
 use Rattle.call_cell.specs.Cells as cells
@@ -17,15 +16,12 @@ use Rattle.relay_core.specs.Made.{Made, entry_of, list_of}
 use Rattle.relay_core.specs.Joining.{TakesOwnPairs}
 use Rattle.relay_core.specs.Turning.{made_by}
 use Rattle.relay_core.proofs.Turns.{filter_append}
-use Rattle.media_lane.specs.declared.receipt.Receipt.{Receipt}
-use Rattle.media_lane.specs.declared.answers.Received.{Received}
-use Rattle.media_lane.specs.declared.answers.Received.TheVariants as answer
 use Rattle.media_lane.specs.declared.answers.Totals.{Totals}
-use Rattle.media_lane.specs.Lanes.{packet_of}
 use Rattle.media_lane.specs.Receipts.{KeepsList}
-use Rattle.media_lane.specs.Taking.{take_made, IsOfTake, Tells}
+use Rattle.media_lane.specs.Taking.{take_made}
+use Rattle.media_lane.specs.Relaying.{relay_made}
 use Rattle.media_lane.specs.Visits.{Row, Visit, Passing, packet_by, relay_rows, rows_of, IsPassed, has_packet, is_there, ends_so, ends_with, is_sent, is_refused, is_lost, count, one_more, AreTotals, CountsRelay}
-use Rattle.media_lane.specs.Sweeping.{TakesOnce, RelaysOnce, VisitsOnce}
+use Rattle.media_lane.specs.Sweeping.{VisitsOnce}
 
 -- One list after another.
 
@@ -94,54 +90,36 @@ more_totals vs v outcome s t packet sent refused lost c a = record {
 
 -- The visit.
 
-taken_packet : (r : Receipt) (pair number : ℕ) (half : Half) (taken : Taken) → IsOfTake r pair number half taken → packet_by number half taken ≡ Some (packet_of r)
-taken_packet r pair number half taken t =
-    ap (λ (x : Taken). packet_by number half x) t.gave
-    ∙ ap (λ (n : ℕ). packet_by n half (box.Datagram (packet_of r).holder (packet_of r).source (packet_of r).bytes)) (sym t.number_is)
-    ∙ ap (λ (h : Half). packet_by (packet_of r).take h (box.Datagram (packet_of r).holder (packet_of r).source (packet_of r).bytes)) (sym t.half_is)
-
-nothing_taken : (result : Received) (pair number : ℕ) (half : Half) (taken : Taken) → ((r : Receipt) → result ≡ answer.Got r → ⊥) → Tells result pair number half taken
-    → packet_by number half taken ≡ None
-nothing_taken (answer.Got r) pair number half taken not_got tells = absurd (not_got r refl)
-nothing_taken answer.Nothing pair number half taken not_got tells =
-    elim tells [ inl q ↦ ap (λ (x : Taken). packet_by number half x) q | inr q ↦ ap (λ (x : Taken). packet_by number half x) q ]
-nothing_taken (answer.Busy front) pair number half taken not_got tells = absurd tells
-nothing_taken answer.TooLong pair number half taken not_got tells = ap (λ (x : Taken). packet_by number half x) tells.2
-nothing_taken answer.TakeFault pair number half taken not_got tells = ap (λ (x : Taken). packet_by number half x) tells
-
-module _ {M S : Type 0} {g : _} (config : Config) (range : Option (ℕ × ℕ)) (pair : ℕ) (half : Half) (old mid new : Hand M S Made (Unit {0}) g) where
-  take_row : (number : ℕ) (taken : Taken) → Row
-  take_row number taken = entry (box_of config pair) number (take_made half taken) (tt {0})
-
+module _ {M S : Type 0} {g : _} (config : Config) (range : Option (ℕ × ℕ)) (pair : ℕ) (half : Half) (old mid new : Hand M S Made (Unit {0}) g) (number : ℕ) (taken : Taken) where
   -- a visit that took no datagram
-  pub visits_nothing : (result : Received) (t : Totals) → ((r : Receipt) → result ≡ answer.Got r → ⊥) → TakesOnce config pair half result old new
+  pub visits_nothing : (t : Totals) → packet_by number half taken ≡ None → entries new ≡ entries old ++ entry (box_of config pair) number (take_made half taken) (tt {0}) ∷ []
       → VisitsOnce config range pair half old new t t
-  visits_nothing result t not_got takes =
-      let none : packet_by takes.number half takes.taken ≡ None = nothing_taken result pair takes.number half takes.taken not_got takes.tells in
-      let v : Visit = record { pair = pair; half = half; number = takes.number; taken = takes.taken; passing = None } in record {
+  visits_nothing t none list_is =
+      let v : Visit = record { pair = pair; half = half; number = number; taken = taken; passing = None } in record {
         visit = v;
         pair_is = refl;
         half_is = refl;
-        list_is = takes.list_is
-            ∙ ap (λ (o : Option cells.Receipt). entries old ++ entry (box_of config pair) takes.number (take_made half takes.taken) (tt {0}) ∷ relay_rows o None) (sym none);
+        list_is = list_is
+            ∙ ap (λ (o : Option cells.Receipt). entries old ++ entry (box_of config pair) number (take_made half taken) (tt {0}) ∷ relay_rows o None) (sym none);
         passed = subst (λ (o : Option cells.Receipt). IsPassed range o None) (sym none) (tt {0});
         counted = λ vs a. same_totals vs v t (ap is_there none) refl a;
       }
 
   -- a visit that took a datagram and relayed it
-  pub visits_packet : (r : Receipt) (now : ℕ) (outcome : Outcome) (s t : Totals) → TakesOnce config pair half (answer.Got r) old mid → RelaysOnce (packet_of r) now outcome mid new
+  pub visits_packet : (p : cells.Receipt) (now : ℕ) (outcome : Outcome) (s t : Totals) (relay_number moment : ℕ) → packet_by number half taken ≡ Some p
+      → entries mid ≡ entries old ++ entry (box_of config pair) number (take_made half taken) (tt {0}) ∷ []
+      → entries new ≡ entries mid ++ entry p.holder.cell relay_number (relay_made p now moment outcome) (tt {0}) ∷ []
       → WhereInRange range now → CountsRelay outcome s t → VisitsOnce config range pair half old new s t
-  visits_packet r now outcome s t takes relays within counts =
-      let is : packet_by takes.number half takes.taken ≡ Some (packet_of r) = taken_packet r pair takes.number half takes.taken takes.tells in
-      let passing : Passing = record { number = relays.number; handed = now; moment = relays.moment; outcome = outcome } in
-      let v : Visit = record { pair = pair; half = half; number = takes.number; taken = takes.taken; passing = Some passing } in
-      let row : Row = entry (box_of config pair) takes.number (take_made half takes.taken) (tt {0}) in record {
+  visits_packet p now outcome s t relay_number moment is taken_row relayed_row within counts =
+      let passing : Passing = record { number = relay_number; handed = now; moment = moment; outcome = outcome } in
+      let v : Visit = record { pair = pair; half = half; number = number; taken = taken; passing = Some passing } in
+      let row : Row = entry (box_of config pair) number (take_made half taken) (tt {0}) in record {
         visit = v;
         pair_is = refl;
         half_is = refl;
-        list_is = relays.list_is
-            ∙ ap (λ (rows : List Row). rows ++ relay_rows (Some (packet_of r)) (Some passing)) takes.list_is
-            ∙ append_assoc (entries old) (row ∷ []) (relay_rows (Some (packet_of r)) (Some passing))
+        list_is = relayed_row
+            ∙ ap (λ (rows : List Row). rows ++ relay_rows (Some p) (Some passing)) taken_row
+            ∙ append_assoc (entries old) (row ∷ []) (relay_rows (Some p) (Some passing))
             ∙ ap (λ (o : Option cells.Receipt). entries old ++ row ∷ relay_rows o (Some passing)) (sym is);
         passed = subst (λ (o : Option cells.Receipt). IsPassed range o (Some passing)) (sym is) within;
         counted = λ vs a. more_totals vs v outcome s t (ap is_there is) refl refl refl counts a;

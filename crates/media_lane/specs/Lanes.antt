@@ -43,6 +43,10 @@ module _ {I O : Type 0} {gi : _} {go : _} {gm : _} where
   abbrev pub sent_of : Lane I O gi go gm → List ℕ
   sent_of lane = take lane.sent lane.packet
 
+  -- its room for a datagram that is taken: the bytes of the last one stand at the front
+  abbrev pub room_of : Lane I O gi go gm → List ℕ
+  room_of lane = lane.taken
+
   -- the same lane of the same table
   pub record IsSameLane (old new : Lane I O gi go gm) : Type 0 where
     pub hand : IsSameHand (hand_of old) (hand_of new)

@@ -4,7 +4,7 @@ use Rattle.relay_outside.specs.declared.settings.Config.{Config}
 use Rattle.relay_outside.specs.declared.ports.InCall.{InCall}
 use Rattle.relay_outside.specs.declared.ports.OutCall.{OutCall}
 use Rattle.turn_table.specs.declared.hands.Hand.{Hand}
-use Rattle.turn_table.specs.Hands.{entries, TriedOnce}
+use Rattle.turn_table.specs.Hands.{entries, TriedOnce, TriedUntilFree}
 use Rattle.turn_table.specs.Steps.{entry}
 use Rattle.call_cell.specs.declared.outcome.Outcome.{Outcome}
 use Rattle.call_cell.specs.declared.outcome.Outcome.TheVariants as outcomes
@@ -59,18 +59,26 @@ AreSent (outcomes.Refused cause) sending bytes = bytes ≡ []
 
 module _ {I O : Type 0} (in_told : I → Option (List InCall)) (in_faults : I → ℕ) (out_told : O → Option (List OutCall)) (out_faults : O → ℕ) {M : Type 0} {g : _} where
   -- The hand relayed this packet in its leg's cell, handed this moment, and did nothing else: a step from the state that its turn
-  -- gave, which sent these bytes.
-  pub record Relays (p : cells.Receipt) (now : ℕ) (outcome : Outcome) (bytes : List ℕ) (old new : Hand M (Part I O) Made (Unit {0}) g) : Type 0 where
+  -- gave, which sent these bytes. It tried the marks of places so.
+  pub record MakesRelay (Tried : Type 0) (p : cells.Receipt) (now : ℕ) (outcome : Outcome) (bytes : List ℕ) (old new : Hand M (Part I O) Made (Unit {0}) g) : Type 0 where
     pub number : ℕ
     pub moment : ℕ
     pub list_is : entries new ≡ entries old ++ entry p.holder.cell number (relay_made p now moment outcome) tt ∷ []
-    pub found : TriedOnce p.holder.cell 0 old new
+    pub found : Tried
     pub before : cell.Cell O
     pub after : cell.Cell O
     pub given : Gives in_told in_faults out_told out_faults old p.holder.cell number (part.Cell before)
     pub step : CellRelayed out_told out_faults before (relay_made p now moment outcome) (told_relay p outcome) after
     pub are_sent : (config : Config) (h : List CellEntry) → CellFor config before h
         → AreSent outcome (deed config (since_end h) p (sent_ok outcome)).sending bytes
+
+  -- it relayed so, and the one compare-exchange of the cell's mark found it free
+  abbrev pub Relays : cells.Receipt → ℕ → Outcome → List ℕ → Hand M (Part I O) Made (Unit {0}) g → Hand M (Part I O) Made (Unit {0}) g → Type 0
+  Relays p now outcome bytes old new = MakesRelay (TriedOnce p.holder.cell 0 old new) p now outcome bytes old new
+
+  -- it relayed so, and tried the cell's mark until it was free
+  abbrev pub RelaysAtLast : cells.Receipt → ℕ → Outcome → List ℕ → Hand M (Part I O) Made (Unit {0}) g → Hand M (Part I O) Made (Unit {0}) g → Type 0
+  RelaysAtLast p now outcome bytes old new = MakesRelay (TriedUntilFree p.holder.cell old new) p now outcome bytes old new
 
   -- the packet of the receipt was relayed, or the cell was busy, and the receipt comes back unspent
   abbrev pub RelaysBy : Receipt → ℕ → Relayed → List ℕ → List ℕ → Hand M (Part I O) Made (Unit {0}) g → Hand M (Part I O) Made (Unit {0}) g → Type 0

@@ -1,35 +1,14 @@
--- What the calls of a lane that may wait add to the list of its hand.
+-- What a sweep adds to the list of its hand.
 use Rattle.std.specs.Prelude.{◌≡◌, ℕ, List, [], ◌∷◌, ◌++◌, Option}
 use Rattle.relay_outside.specs.declared.settings.Config.{Config}
 use Rattle.rtp_packet.specs.declared.head.Half.{Half}
 use Rattle.turn_table.specs.declared.hands.Hand.{Hand}
 use Rattle.turn_table.specs.Hands.{entries}
-use Rattle.turn_table.specs.Steps.{entry}
-use Rattle.port_pool.specs.Boxes.{Taken}
-use Rattle.call_cell.specs.declared.outcome.Outcome.{Outcome}
-use Rattle.call_cell.specs.Cells as cells
-use Rattle.relay_core.specs.Entries.{box_of}
 use Rattle.relay_core.specs.Made.{Made}
-use Rattle.media_lane.specs.declared.answers.Received.{Received}
 use Rattle.media_lane.specs.declared.answers.Totals.{Totals}
-use Rattle.media_lane.specs.Taking.{take_made, Tells}
-use Rattle.media_lane.specs.Relaying.{relay_made}
 use Rattle.media_lane.specs.Visits.{Visit, rows_of, all_rows, IsPassed, packet_at, ArePassed, times, is_own, one_if, AreTotals}
 
 module _ {M S : Type 0} {g : _} where
-  -- one take was made of this half at the box of this pair, and this is its answer
-  pub record TakesOnce (config : Config) (pair : ℕ) (half : Half) (answer : Received) (old new : Hand M S Made (Unit {0}) g) : Type 0 where
-    pub number : ℕ
-    pub taken : Taken
-    pub list_is : entries new ≡ entries old ++ entry (box_of config pair) number (take_made half taken) (tt {0}) ∷ []
-    pub tells : Tells answer pair number half taken
-
-  -- the packet was relayed once, handed this moment
-  pub record RelaysOnce (p : cells.Receipt) (now : ℕ) (outcome : Outcome) (old new : Hand M S Made (Unit {0}) g) : Type 0 where
-    pub number : ℕ
-    pub moment : ℕ
-    pub list_is : entries new ≡ entries old ++ entry p.holder.cell number (relay_made p now moment outcome) (tt {0}) ∷ []
-
   -- a half of a pair was visited once
   pub record VisitsOnce (config : Config) (range : Option (ℕ × ℕ)) (pair : ℕ) (half : Half) (old new : Hand M S Made (Unit {0}) g) (before after : Totals) : Type 0 where
     pub visit : Visit

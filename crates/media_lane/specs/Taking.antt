@@ -6,7 +6,7 @@ use Rattle.relay_outside.specs.declared.ports.InCall.{InCall}
 use Rattle.relay_outside.specs.declared.ports.OutCall.{OutCall}
 use Rattle.rtp_packet.specs.declared.head.Half.{Half}
 use Rattle.turn_table.specs.declared.hands.Hand.{Hand}
-use Rattle.turn_table.specs.Hands.{entries, TriedOnce}
+use Rattle.turn_table.specs.Hands.{entries, TriedOnce, TriedUntilFree}
 use Rattle.turn_table.specs.Steps.{entry}
 use Rattle.port_pool.specs.declared.boxes.BoxTake.{BoxTake}
 use Rattle.port_pool.specs.declared.boxes.PairBox.{PairBox}
@@ -60,13 +60,14 @@ HasReceipt config l (answer.Got r) = IsReceiptOf config l (pair_of r) (packet_of
 HasReceipt config l _ = Unit {0}
 
 module _ {I O : Type 0} (in_told : I → Option (List InCall)) (in_faults : I → ℕ) (out_told : O → Option (List OutCall)) (out_faults : O → ℕ) {M : Type 0} {g : _} where
-  -- The hand made one take of this half at the box of this pair, and nothing else: a step from the state that its turn gave.
-  pub record Takes (config : Config) (pair : ℕ) (half : Half) (answer : Received) (old new : Hand M (Part I O) Made (Unit {0}) g) : Type 0 where
+  -- The hand made one take of this half at the box of this pair, and nothing else: a step from the state that its turn gave. It tried
+  -- the marks of places so.
+  pub record MakesTake (Tried : Type 0) (config : Config) (pair : ℕ) (half : Half) (answer : Received) (old new : Hand M (Part I O) Made (Unit {0}) g) : Type 0 where
     pub number : ℕ
     pub taken : Taken
     pub list_is : entries new ≡ entries old ++ entry (box_of config pair) number (take_made half taken) tt ∷ []
     pub tells : Tells answer pair number half taken
-    pub found : TriedOnce (box_of config pair) 0 old new
+    pub found : Tried
     pub before : PairBox I
     pub after : PairBox I
     pub given : Gives in_told in_faults out_told out_faults old (box_of config pair) number (part.Pair before)
@@ -74,6 +75,14 @@ module _ {I O : Type 0} (in_told : I → Option (List InCall)) (in_faults : I �
     pub fits : FitsTaken (holder_in before) taken
     -- one take of the end, which gave this; a fault only where its count rose
     pub step : BoxStep in_told in_faults before (take_made half taken) (box.Take half taken) after
+
+  -- it took so, and the one compare-exchange of the box's mark found it free
+  abbrev pub Takes : Config → ℕ → Half → Received → Hand M (Part I O) Made (Unit {0}) g → Hand M (Part I O) Made (Unit {0}) g → Type 0
+  Takes config pair half answer old new = MakesTake (TriedOnce (box_of config pair) 0 old new) config pair half answer old new
+
+  -- it took so, and tried the box's mark until it was free
+  abbrev pub TakesAtLast : Config → ℕ → Half → Received → Hand M (Part I O) Made (Unit {0}) g → Hand M (Part I O) Made (Unit {0}) g → Type 0
+  TakesAtLast config pair half answer old new = MakesTake (TriedUntilFree (box_of config pair) old new) config pair half answer old new
 
   -- the place was busy, or one take was made
   abbrev pub Receives : Config → ℕ → Half → Received → Hand M (Part I O) Made (Unit {0}) g → Hand M (Part I O) Made (Unit {0}) g → Type 0

@@ -2,9 +2,11 @@
 //!
 //! A lane has a hand of the turn table, and holds one turn at a time. `receive_try` and `relay_try` never wait and take no
 //! memory: each makes one compare-exchange, and is busy exactly where another hand has the turn of that very place.
+//! `receive` and `relay` do the same by a hand that may wait, and try the place's mark until it is free.
 //!
 //! Module `receipt` has what a take gave, `answers` what the calls answer, `lane` the lane, `receiving` and `relaying` its two
-//! steps, `sweeping` a round over its pairs, which may wait, `puts` the way to put each kind of turn, `laws` what callers know.
+//! steps, `sweeping` a round over its pairs, which may wait and keeps each datagram in the lane's room, `puts` the way to put each
+//! kind of turn, `laws` what callers know.
 //!
 //! `specs/Starts.antt` says what the places of a lane's table begin as, `specs/Lanes.antt` what contracts see in a lane,
 //! `specs/Receipts.antt` what a receipt of a hand's list is, `specs/Busy.antt` what a busy call does, `specs/Taking.antt` and

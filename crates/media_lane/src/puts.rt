@@ -1,13 +1,12 @@
 //! One way to put a turn for each kind of event. All data of the event are arguments, so that the proof of a call can pick the event from them.
 ghost use Rattle.std.specs.Prelude.{◌≡◌, ◌+◌};
 ghost use Rattle.turn_table.specs.Hands.{IsHandOf, HasTurn, IsSameHand, EndsTurn, tries, place_of, front_of, state_of, taken_of};
+ghost use Rattle.call_cell.specs.Standing.{receipt_of};
 ghost use Rattle.relay_core.specs.Steps.{Relates};
 ghost use Rattle.media_lane.specs.Taking.{box_take_made};
-ghost use Rattle.media_lane.specs.Lanes.{packet_of};
 ghost use Rattle.media_lane.specs.Relaying.{relay_by};
 
-use crate::receipt::Receipt;
-use call_cell::Outcome;
+use call_cell::{Incoming, Outcome};
 use port_pool::BoxTake;
 use relay_core::{Relay, Says, Told};
 use relay_outside::{InEnd, OutEnd};
@@ -35,23 +34,25 @@ pub(crate) fn put_take<I: InEnd, O: OutEnd, X: Says>(
     turns.put::<Told<X>>(hand, turn)
 }
 
-/// A packet was relayed in a cell, handed this moment, with this outcome.
+/// A packet that this take gave was relayed in a cell, handed this moment, with this outcome.
 pub(crate) fn put_relay<I: InEnd, O: OutEnd, X: Says>(
     turns: &Turns<Relay<I, O>>,
     hand: &mut Hand<Relay<I, O>>,
     turn: Turn<Relay<I, O>>,
-    receipt: &Receipt,
+    take: u64,
+    packet: &Incoming,
+    bytes: &[u8; 2001],
     now: u64,
     outcome: Outcome,
 ) -> u64
     requires table { IsHandOf turns.now hand.old }
     requires turn { HasTurn hand.old turn }
-    requires step { Relates I.told I.faults O.told O.faults (taken_of turn) (relay_by (taken_of turn) (packet_of receipt.now) now outcome) (state_of turn) }
-    requires said { X.made ≡ relay_by (taken_of turn) (packet_of receipt.now) now outcome }
+    requires step { Relates I.told I.faults O.told O.faults (taken_of turn) (relay_by (taken_of turn) (receipt_of take packet.now bytes.now) now outcome) (state_of turn) }
+    requires said { X.made ≡ relay_by (taken_of turn) (receipt_of take packet.now bytes.now) now outcome }
     ensures same { IsSameHand hand.old hand.new }
     ensures tried { tries hand.new ≡ tries hand.old }
     ensures number { result ≡ front_of turn }
-    ensures entry { EndsTurn (place_of turn) (front_of turn) (relay_by (taken_of turn) (packet_of receipt.now) now outcome) tt hand.old hand.new }
+    ensures entry { EndsTurn (place_of turn) (front_of turn) (relay_by (taken_of turn) (receipt_of take packet.now bytes.now) now outcome) tt hand.old hand.new }
 {
     turns.put::<Told<X>>(hand, turn)
 }

@@ -1,13 +1,21 @@
 //! Datagrams are taken from boxes.
-ghost use Rattle.std.specs.Prelude.{◌≡◌, ◌<◌, ◌≤◌, ◌+◌};
+ghost use Rattle.std.specs.Prelude.{◌≡◌, ◌<◌, ◌≤◌, ◌+◌, ℕ, [], ◌∷◌, ◌++◌, None, Some, MatchOption};
 ghost use Rattle.port_pool.specs.Ports.{pair_count};
 ghost use Rattle.port_pool.specs.Taking.{taken_of};
-ghost use Rattle.turn_table.specs.Hands.{IsHandOf};
+ghost use Rattle.turn_table.specs.Hands as hands;
+ghost use Rattle.turn_table.specs.Hands.{IsHandOf, HasTurn, IsSameHand, EndsTurn, entries, tries, place_of, front_of, state_of};
+ghost use Rattle.turn_table.specs.Steps.{entry};
+ghost use Rattle.call_cell.specs.Cells as cells;
+ghost use Rattle.call_cell.specs.Standing.{receipt_of};
+ghost use Rattle.relay_core.specs.Entries.{box_of};
+ghost use Rattle.relay_core.specs.declared.part.Part.{Part};
 ghost use Rattle.relay_core.specs.Steps.{Relates};
+ghost use Rattle.media_lane.specs.declared.answers.Received.{Received};
 ghost use Rattle.media_lane.specs.Starts.{IsPair};
-ghost use Rattle.media_lane.specs.Taking.{box_take_made, Tells, IsShort, HasReceipt, Receives};
-ghost use Rattle.media_lane.specs.Lanes.{hand_of, list_of, config_of, sent_of, IsSameLane};
-ghost use Rattle.media_lane.specs.Receipts.{KeepsList};
+ghost use Rattle.media_lane.specs.Taking.{box_take_made, Tells, IsShort, HasReceipt, Receives, TakesAtLast};
+ghost use Rattle.media_lane.specs.Lanes.{hand_of, list_of, config_of, sent_of, room_of, IsSameLane};
+ghost use Rattle.media_lane.specs.Receipts.{IsReceiptOf, KeepsList};
+ghost use Rattle.media_lane.specs.Visits.{packet_by};
 
 use crate::answers::Received;
 use crate::lane::Lane;
@@ -19,7 +27,15 @@ use relay_core::{Part, Relay};
 use relay_outside::{InEnd, OutEnd};
 use rtp_packet::Half;
 use std::marker::Brand;
-use turn_table::Turns;
+use std::sync::Wait;
+use turn_table::{Hand, Turn, Turns};
+
+/// What a take of a box gave, and its number among the box's events, from 0. The bytes of a datagram are in the lane's room.
+#[derive(Clone, Copy)]
+pub(crate) struct NumberedTake {
+    pub(crate) number: u64,
+    pub(crate) given: BoxTake,
+}
 
 /// Takes from a box.
 pub(crate) fn take_from<I: InEnd, O: OutEnd>(
@@ -35,6 +51,30 @@ pub(crate) fn take_from<I: InEnd, O: OutEnd>(
         Part::Board(_) => unreachable!(),
         Part::Cell(_) => unreachable!(),
     }
+}
+
+/// Takes once of a half at the box whose turn this is, into the buffer, and puts the turn.
+fn take_in_turn<I: InEnd, O: OutEnd>(
+    turns: &Turns<Relay<I, O>>,
+    hand: &mut Hand<Relay<I, O>>,
+    turn: Turn<Relay<I, O>>,
+    half: Half,
+    buf: &mut [u8; 2001],
+) -> NumberedTake
+    requires table { IsHandOf turns.now hand.old }
+    requires turn { HasTurn hand.old turn }
+    requires untouched { hands.taken_of turn ≡ state_of turn }
+    requires at_box { IsPair (state_of turn) }
+    ensures same { IsSameHand hand.old hand.new }
+    ensures tried { tries hand.new ≡ tries hand.old }
+    ensures number { result.number ≡ front_of turn }
+    ensures step { (after : Part I O) × Relates I.told I.faults O.told O.faults (state_of turn) (box_take_made half result.given buf.new) after }
+    ensures entry { EndsTurn (place_of turn) (front_of turn) (box_take_made half result.given buf.new) tt hand.old hand.new }
+{
+    let mut turn = turn;
+    let given = take_from(turn.state(), half, buf);
+    let number = put_take::<I, O, Brand>(turns, hand, turn, half, &given, buf);
+    NumberedTake { number, given }
 }
 
 /// What is answered of the take with this number at the box of this pair.
@@ -65,6 +105,30 @@ fn received(pair: u32, take: u64, half: Half, given: BoxTake, buf: &[u8; 2001]) 
     }
 }
 
+/// The packet of the datagram that a take of this half gave into the buffer, where it gave one.
+pub(crate) fn packet_in(half: Half, given: BoxTake, buf: &[u8; 2001]) -> Option<Incoming>
+    requires { IsShort (taken_of given buf.now) }
+    ensures packet { (number : ℕ) → MatchOption result (packet_by number half (taken_of given buf.now) ≡ None)
+        (λ p. packet_by number half (taken_of given buf.now) ≡ Some (receipt_of number p buf.now)) }
+    ensures short { MatchOption result (Unit {0}) (λ p. p.len ≤ 2000) }
+{
+    match given {
+        BoxTake::Datagram {
+            holder,
+            source,
+            len,
+        } => Some(Incoming {
+            holder,
+            half,
+            source,
+            len,
+        }),
+        BoxTake::Closed | BoxTake::Nothing => None,
+        BoxTake::TooLong { .. } => None,
+        BoxTake::Fault => None,
+    }
+}
+
 impl<I: InEnd, O: OutEnd> Lane<I, O> {
     /// Takes one datagram of a half at the box of a pair, under one turn of that box. It never waits and takes no memory.
     ///
@@ -78,12 +142,57 @@ impl<I: InEnd, O: OutEnd> Lane<I, O> {
         ensures list { KeepsList (config_of self.old) (list_of self.old) (list_of self.new) }
     {
         let place = self.config.max_sessions as usize + 1 + pair as usize;
-        let mut turn = match turns.try_turn(&mut self.hand, place) {
+        let turn = match turns.try_turn(&mut self.hand, place) {
             Ok(turn) => turn,
             Err(busy) => return Received::Busy { front: busy.front },
         };
-        let given = take_from(turn.state(), half, &mut self.taken);
-        let take = put_take::<I, O, Brand>(turns, &mut self.hand, turn, half, &given, &self.taken);
-        received(pair, take, half, given, &self.taken)
+        let take = take_in_turn(turns, &mut self.hand, turn, half, &mut self.taken);
+        received(pair, take.number, half, take.given, &self.taken)
+    }
+
+    /// Takes one datagram of a half at the box of a pair, under one turn of that box, into the lane's room. It tries again until
+    /// it has the turn.
+    pub(crate) fn take<W: Wait>(
+        &mut self,
+        rt: &W,
+        turns: &Turns<Relay<I, O>>,
+        pair: u32,
+        half: Half,
+    ) -> NumberedTake
+        requires table { IsHandOf turns.now (hand_of self.old) }
+        requires pair { pair < pair_count (config_of self.old) }
+        ensures same { IsSameLane self.old self.new × (sent_of self.new ≡ sent_of self.old) }
+        ensures short { IsShort (taken_of result.given (room_of self.new)) }
+        ensures entry { entries (hand_of self.new) ≡ entries (hand_of self.old)
+            ++ entry (box_of (config_of self.old) pair) result.number (box_take_made half result.given (room_of self.new)) tt ∷ [] }
+        ensures taken { (answer : Received) → Tells answer pair result.number half (taken_of result.given (room_of self.new))
+            → TakesAtLast I.told I.faults O.told O.faults (config_of self.old) pair half answer (hand_of self.old) (hand_of self.new) }
+        ensures receipt { (p : cells.Receipt) → packet_by result.number half (taken_of result.given (room_of self.new)) ≡ Some p
+            → IsReceiptOf (config_of self.old) (list_of self.new) pair p }
+        ensures list { KeepsList (config_of self.old) (list_of self.old) (list_of self.new) }
+    {
+        let at_box = self.config.max_sessions as usize + 1 + pair as usize;
+        let turn = turns.turn(rt, &mut self.hand, at_box);
+        take_in_turn(turns, &mut self.hand, turn, half, &mut self.taken)
+    }
+
+    /// Takes one datagram of a half at the box of a pair, under one turn of that box. It takes no memory, and may wait: it tries
+    /// again until it has the turn, so that it never answers `Busy`. At a box that has made 2^56 events it waits forever.
+    pub fn receive<W: Wait>(
+        &mut self,
+        rt: &W,
+        turns: &Turns<Relay<I, O>>,
+        pair: u32,
+        half: Half,
+    ) -> Received
+        requires table { IsHandOf turns.now (hand_of self.old) }
+        requires pair { pair < pair_count (config_of self.old) }
+        ensures same { IsSameLane self.old self.new × (sent_of self.new ≡ sent_of self.old) }
+        ensures received { TakesAtLast I.told I.faults O.told O.faults (config_of self.old) pair half result (hand_of self.old) (hand_of self.new) }
+        ensures receipt { HasReceipt (config_of self.old) (list_of self.new) result }
+        ensures list { KeepsList (config_of self.old) (list_of self.old) (list_of self.new) }
+    {
+        let taken = self.take(rt, turns, pair, half);
+        received(pair, taken.number, half, taken.given, &self.taken)
     }
 }

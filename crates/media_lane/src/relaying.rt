@@ -1,40 +1,73 @@
 //! Packets are relayed in cells.
 ghost use Rattle.std.specs.Prelude.{◌≡◌, ◌≤◌, ℕ, List, length, min};
 ghost use Rattle.relay_outside.specs.declared.settings.Config.{Config};
-ghost use Rattle.turn_table.specs.Hands.{IsHandOf};
+ghost use Rattle.turn_table.specs.Hands.{IsHandOf, HasTurn, IsSameHand, EndsTurn, tries, place_of, front_of, state_of, taken_of};
 ghost use Rattle.call_cell.specs.Cells.{CellEntry};
+ghost use Rattle.call_cell.specs.Standing.{receipt_of};
+ghost use Rattle.relay_core.specs.declared.part.Part.{Part};
 ghost use Rattle.relay_core.specs.Standing.{IsCellPart};
-ghost use Rattle.media_lane.specs.Relaying.{RelaysPart, RelaysBy, bytes_left};
-ghost use Rattle.media_lane.specs.Lanes.{packet_of, pair_of, hand_of, list_of, config_of, sent_of, IsSameLane};
+ghost use Rattle.media_lane.specs.Relaying.{relay_by, RelaysPart, RelaysBy, RelaysAtLast, bytes_left};
+ghost use Rattle.media_lane.specs.Lanes.{packet_of, pair_of, hand_of, list_of, config_of, sent_of, room_of, IsSameLane};
 ghost use Rattle.media_lane.specs.Receipts.{IsReceiptOf, KeepsList};
 
 use crate::answers::Relayed;
 use crate::lane::Lane;
 use crate::puts::put_relay;
 use crate::receipt::Receipt;
-use call_cell::Outcome;
+use call_cell::{Incoming, Outcome};
 use relay_core::{Part, Relay};
 use relay_outside::{Gate, InEnd, OutEnd};
 use std::marker::Brand;
-use turn_table::Turns;
+use std::sync::Wait;
+use turn_table::{Hand, Turn, Turns};
 
-/// Relays a packet in a cell, by way of the buffer.
+/// Relays a packet that this take gave in a cell, by way of the buffer. Its bytes stand at the front.
 pub(crate) fn relay_in<I: InEnd, O: OutEnd>(
     part: &mut Part<I, O>,
-    receipt: &Receipt,
+    take: u64,
+    packet: &Incoming,
+    bytes: &[u8; 2001],
     buf: &mut [u8; 2064],
     now: u64,
 ) -> Outcome
-    requires { IsCellPart part.old }
-    ensures { RelaysPart O.told O.faults (packet_of receipt.now) now part.old buf.new result part.new }
+    requires cell { IsCellPart part.old }
+    requires short { packet.now.len ≤ 2000 }
+    ensures { RelaysPart O.told O.faults (receipt_of take packet.now bytes.now) now part.old buf.new result part.new }
 {
-    let len = receipt.packet.len;
-    buf[..len].copy_from_slice(&receipt.bytes[..len]);
+    let len = packet.len;
+    buf[..len].copy_from_slice(&bytes[..len]);
     match part {
-        Part::Cell(cell) => cell.relay(&receipt.packet, buf, now),
+        Part::Cell(cell) => cell.relay(packet, buf, now),
         Part::Board(_) => unreachable!(),
         Part::Pair(_) => unreachable!(),
     }
+}
+
+/// Relays a packet that this take gave in the cell whose turn this is, by way of the buffer, and puts the turn.
+fn relay_in_turn<I: InEnd, O: OutEnd>(
+    turns: &Turns<Relay<I, O>>,
+    hand: &mut Hand<Relay<I, O>>,
+    turn: Turn<Relay<I, O>>,
+    take: u64,
+    packet: &Incoming,
+    bytes: &[u8; 2001],
+    buf: &mut [u8; 2064],
+    now: u64,
+) -> Outcome
+    requires table { IsHandOf turns.now hand.old }
+    requires turn { HasTurn hand.old turn }
+    requires untouched { taken_of turn ≡ state_of turn }
+    requires at_cell { IsCellPart (state_of turn) }
+    requires short { packet.now.len ≤ 2000 }
+    ensures same { IsSameHand hand.old hand.new }
+    ensures tried { tries hand.new ≡ tries hand.old }
+    ensures step { (after : Part I O) × RelaysPart O.told O.faults (receipt_of take packet.now bytes.now) now (state_of turn) buf.new result after }
+    ensures entry { EndsTurn (place_of turn) (front_of turn) (relay_by (state_of turn) (receipt_of take packet.now bytes.now) now result) tt hand.old hand.new }
+{
+    let mut turn = turn;
+    let outcome = relay_in(turn.state(), take, packet, bytes, buf, now);
+    put_relay::<I, O, Brand>(turns, hand, turn, take, packet, bytes, now, outcome);
+    outcome
 }
 
 /// How many of a packet's bytes left with this outcome.
@@ -68,7 +101,7 @@ impl<I: InEnd, O: OutEnd> Lane<I, O> {
         ensures list { KeepsList (config_of self.old) (list_of self.old) (list_of self.new) }
     {
         let cell = receipt.packet.holder.cell;
-        let mut turn = match turns.try_turn(&mut self.hand, cell as usize) {
+        let turn = match turns.try_turn(&mut self.hand, cell as usize) {
             Ok(turn) => turn,
             Err(busy) => {
                 return Relayed::Busy {
@@ -78,9 +111,73 @@ impl<I: InEnd, O: OutEnd> Lane<I, O> {
             }
         };
         gate.inside(cell);
-        let outcome = relay_in(turn.state(), &receipt, &mut self.packet, now);
-        put_relay::<I, O, Brand>(turns, &mut self.hand, turn, &receipt, now, outcome);
+        let done = relay_in_turn(
+            turns,
+            &mut self.hand,
+            turn,
+            receipt.take,
+            &receipt.packet,
+            &receipt.bytes,
+            &mut self.packet,
+            now,
+        );
+        self.sent = bytes_left(done, &self.packet);
+        Relayed::Done(done)
+    }
+
+    /// Relays the packet in the lane's room, which this take gave, in the cell of its leg, under one turn of that cell. It tries
+    /// again until it has the turn.
+    pub(crate) fn relay_taken<W: Wait, G: Gate>(
+        &mut self,
+        rt: &W,
+        turns: &Turns<Relay<I, O>>,
+        gate: &G,
+        take: u64,
+        packet: &Incoming,
+        now: u64,
+    ) -> Outcome
+        requires table { IsHandOf turns.now (hand_of self.old) }
+        requires receipt { (pair : ℕ) × IsReceiptOf (config_of self.old) (list_of self.old) pair (receipt_of take packet.now (room_of self.old)) }
+        requires short { packet.now.len ≤ 2000 }
+        ensures same { IsSameLane self.old self.new }
+        ensures relayed { RelaysAtLast I.told I.faults O.told O.faults (receipt_of take packet.now (room_of self.old)) now result (sent_of self.new) (hand_of self.old) (hand_of self.new) }
+        ensures list { KeepsList (config_of self.old) (list_of self.old) (list_of self.new) }
+    {
+        let cell = packet.holder.cell;
+        let turn = turns.turn(rt, &mut self.hand, cell as usize);
+        gate.inside(cell);
+        let outcome = relay_in_turn(
+            turns,
+            &mut self.hand,
+            turn,
+            take,
+            packet,
+            &self.taken,
+            &mut self.packet,
+            now,
+        );
         self.sent = bytes_left(outcome, &self.packet);
-        Relayed::Done(outcome)
+        outcome
+    }
+
+    /// Relays the packet of a receipt in the cell of its leg, handed the moment `now` in milliseconds, under one turn of that
+    /// cell. It takes no memory, and may wait: it tries again until it has the turn. At a cell that has made 2^56 events it waits
+    /// forever. The receipt is one of this lane's list.
+    pub fn relay<W: Wait, G: Gate>(
+        &mut self,
+        rt: &W,
+        turns: &Turns<Relay<I, O>>,
+        gate: &G,
+        receipt: Receipt,
+        now: u64,
+    ) -> Outcome
+        requires table { IsHandOf turns.now (hand_of self.old) }
+        requires receipt { IsReceiptOf (config_of self.old) (list_of self.old) (pair_of receipt) (packet_of receipt) }
+        ensures same { IsSameLane self.old self.new }
+        ensures relayed { RelaysAtLast I.told I.faults O.told O.faults (packet_of receipt) now result (sent_of self.new) (hand_of self.old) (hand_of self.new) }
+        ensures list { KeepsList (config_of self.old) (list_of self.old) (list_of self.new) }
+    {
+        self.taken = receipt.bytes;
+        self.relay_taken(rt, turns, gate, receipt.take, &receipt.packet, now)
     }
 }

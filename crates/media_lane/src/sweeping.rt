@@ -3,17 +3,15 @@ ghost use Rattle.std.specs.Prelude.{◌≡◌, ◌<◌, ℕ, List, [], ◌∷◌
 ghost use Rattle.relay_outside.specs.declared.settings.Config.{Config};
 ghost use Rattle.port_pool.specs.Ports.{pair_count};
 ghost use Rattle.turn_table.specs.Hands.{IsHandOf};
-ghost use Rattle.media_lane.specs.Taking.{HasReceipt};
-ghost use Rattle.media_lane.specs.Lanes.{packet_of, pair_of, hand_of, list_of, config_of, index_of, lanes_of, IsSameLane};
-ghost use Rattle.media_lane.specs.Receipts.{IsReceiptOf, KeepsList};
+ghost use Rattle.media_lane.specs.Lanes.{hand_of, list_of, config_of, index_of, lanes_of, IsSameLane};
+ghost use Rattle.media_lane.specs.Receipts.{KeepsList};
 ghost use Rattle.media_lane.specs.Visits.{Visit, AreTotals, CountsRelay};
-ghost use Rattle.media_lane.specs.Sweeping.{TakesOnce, RelaysOnce, VisitsOnce, Sweeps};
+ghost use Rattle.media_lane.specs.Sweeping.{VisitsOnce, Sweeps};
 
-use crate::answers::{Received, Relayed, Totals};
+use crate::answers::Totals;
 use crate::lane::Lane;
-use crate::receipt::Receipt;
+use crate::receiving::packet_in;
 use call_cell::Outcome;
-use crossbeam_utils::Backoff;
 use relay_core::Relay;
 use relay_outside::{Clock, Config, Gate, InEnd, OutEnd};
 use rtp_packet::Half;
@@ -56,58 +54,6 @@ impl Totals {
 }
 
 impl<I: InEnd, O: OutEnd> Lane<I, O> {
-    /// Takes one datagram of a half at the box of a pair, and tries again until it has the box's turn.
-    fn receive<W: Wait>(
-        &mut self,
-        rt: &W,
-        turns: &Turns<Relay<I, O>>,
-        pair: u32,
-        half: Half,
-    ) -> Received
-        requires table { IsHandOf turns.now (hand_of self.old) }
-        requires pair { pair < pair_count (config_of self.old) }
-        ensures same { IsSameLane self.old self.new }
-        ensures taken { TakesOnce (config_of self.old) pair half result (hand_of self.old) (hand_of self.new) }
-        ensures receipt { HasReceipt (config_of self.old) (list_of self.new) result }
-        ensures list { KeepsList (config_of self.old) (list_of self.old) (list_of self.new) }
-    {
-        let backoff = Backoff::new();
-        for _ in rt.forever() {
-            match self.receive_try(turns, pair, half) {
-                Received::Busy { front: _ } => backoff.snooze(),
-                received => return received,
-            }
-        }
-        unreachable!()
-    }
-
-    /// Relays the packet of a receipt, and tries again until it has the cell's turn.
-    fn relay<W: Wait, G: Gate>(
-        &mut self,
-        rt: &W,
-        turns: &Turns<Relay<I, O>>,
-        gate: &G,
-        receipt: Receipt,
-        now: u64,
-    ) -> Outcome
-        requires table { IsHandOf turns.now (hand_of self.old) }
-        requires receipt { IsReceiptOf (config_of self.old) (list_of self.old) (pair_of receipt) (packet_of receipt) }
-        ensures same { IsSameLane self.old self.new }
-        ensures relayed { RelaysOnce (packet_of receipt) now result (hand_of self.old) (hand_of self.new) }
-        ensures list { KeepsList (config_of self.old) (list_of self.old) (list_of self.new) }
-    {
-        let backoff = Backoff::new();
-        let mut held = receipt;
-        for _ in rt.forever() {
-            match self.relay_try(turns, gate, held, now) {
-                Relayed::Done(outcome) => return outcome,
-                Relayed::Busy { front: _, receipt } => held = receipt,
-            }
-            backoff.snooze();
-        }
-        unreachable!()
-    }
-
     /// Takes once of a half at the box of a pair, and relays what it gave.
     fn visit<W: Wait, G: Gate, C: Clock>(
         &mut self,
@@ -125,8 +71,9 @@ impl<I: InEnd, O: OutEnd> Lane<I, O> {
         ensures visited { VisitsOnce (config_of self.old) (C.range clock.now) pair half (hand_of self.old) (hand_of self.new) totals.old totals.new }
         ensures list { KeepsList (config_of self.old) (list_of self.old) (list_of self.new) }
     {
-        if let Received::Got(receipt) = self.receive(rt, turns, pair, half) {
-            let outcome = self.relay(rt, turns, gate, receipt, clock.now());
+        let take = self.take(rt, turns, pair, half);
+        if let Some(packet) = packet_in(half, take.given, &self.taken) {
+            let outcome = self.relay_taken(rt, turns, gate, take.number, &packet, clock.now());
             totals.count(outcome);
         }
     }

@@ -224,15 +224,10 @@ fn relay_beside<I: InEnd, O: OutEnd, R: Wait>(
         source: SOURCE,
         len: 0,
     };
-    let other = Receipt {
-        pair: 0,
-        take: 9,
-        packet,
-        bytes: [0; 2001],
-    };
+    let bytes = [0; 2001];
     let mut buf = [0; 2064];
-    let outcome = relay_in(turn.state(), &other, &mut buf, 3);
-    put_relay::<I, O, Brand>(turns, hand, turn, &other, 3, outcome);
+    let outcome = relay_in(turn.state(), 9, &packet, &bytes, &mut buf, 3);
+    put_relay::<I, O, Brand>(turns, hand, turn, 9, &packet, &bytes, 3, outcome);
     relayed
 }
 
@@ -261,6 +256,27 @@ fn a_receipt_comes_back_while_another_hand_has_the_turn_of_its_cell(
         done == Some(Outcome::Refused(Refused::Stale)),
         "the cell has no call"
     );
+    Ok(())
+}
+
+#[test]
+#[tactic(auto, unfolding(port_pool::specs::Ports::pair_count))]
+fn a_hand_that_may_wait_receives_and_relays(rt: HostRuntime) -> Result<(), Fail> {
+    let (turns, hand) = begin(rt.alloc(), 1)?;
+    let mut lane = Lane::new(hand, 0, 1, &CONFIG);
+    let Received::Got(receipt) = lane.receive(&rt, &turns, 0, Half::Rtp) else {
+        panic!(rt; "a datagram is there");
+    };
+    let is_it = receipt.source() == SOURCE && receipt.bytes() == [1, 2, 3].as_slice();
+    let outcome = lane.relay(&rt, &turns, &OpenGate::new(), receipt, 5);
+    let rtp = lane.receive(&rt, &turns, 0, Half::Rtp);
+    drop(turns.close(lane.into_hand()));
+    assert!(rt; is_it, "it is the datagram that the end gave");
+    assert!(rt;
+        outcome == Outcome::Refused(Refused::Stale),
+        "the cell has no call"
+    );
+    assert!(rt; is_nothing(rtp), "it was the only one");
     Ok(())
 }
 

@@ -7,8 +7,8 @@ use Rattle.media_lane.proofs.Places.{gives_cell}
 use Rattle.media_lane.proofs.Relays.{relates}
 use Rattle.media_lane.proofs.tests.relay_beside.Goals as goal
 
-pub relay_in-outcome-requires : goal.relay_in-outcome-requires
-relay_in-outcome-requires g c =
+pub relay_in-outcome-requires-clause-cell : goal.relay_in-outcome-requires-clause-cell
+relay_in-outcome-requires-clause-cell g c =
     subst IsCellPart (sym c.state.ensures.value)
     (gives_cell g.I.InEnd.told g.I.InEnd.faults g.O.OutEnd.told g.O.OutEnd.faults CONFIG _ _ _ _ c.requires.begins (omega arith) (omega arith) c.turn-turn.ensures.turn.1)
 

@@ -1,5 +1,5 @@
 use Rattle.media_lane.specs.Taking.{box_take_made}
-use Rattle.media_lane.proofs.lane.Lane.receive_try.Given as goal
+use Rattle.media_lane.proofs.receiving.take_in_turn.Given as goal
 
 abbrev pub ghosts-put_take : goal.ghosts-put_take
 ghosts-put_take g a = record { made = box_take_made a.half a.given.now a.buf.now }
