@@ -1,2 +1,4 @@
 pub mod Counts
+pub mod Between
+pub mod Receipts
 pub mod Sweeps

@@ -1,38 +1,29 @@
 -- What a sweep by the main hand keeps, and what it adds to the totals.
-use Rattle.std.proofs.Common.{◌≡◌, ◌∙◌, refl, sym, ap, subst, ℕ, ◌+◌, ◌-◌, ◌^◌, ◌<◌, inl, inr, Bool, true, false, cond, min, List, [], ◌∷◌, ◌++◌, Option, Some, None, filter, length, arith}
+use Rattle.std.proofs.Common.{◌≡◌, ◌∙◌, refl, sym, ap, subst, ℕ, ◌+◌, ◌-◌, ◌^◌, inl, inr, Bool, true, false, cond, min, List, [], ◌∷◌, Option, Some, None, filter, length, arith}
 use Rattle.std.proofs.lemmas.List.{map-append}
 use Rattle.relay_outside.specs.declared.settings.Config.{Config}
 use Rattle.rtp_packet.specs.declared.head.Half.{Half}
-use Rattle.turn_table.specs.declared.hands.Turns.{Turns}
 use Rattle.turn_table.specs.declared.hands.Hand.{Hand}
 use Rattle.turn_table.specs.Histories as table_lists
 use Rattle.turn_table.specs.Hands.{IsSameHand, HasNoTurn, entries}
 use Rattle.turn_table.specs.Steps.{entry}
-use Rattle.histories.specs.Words.{In, here, there}
-use Rattle.histories.proofs.Lists.{in_left}
 use Rattle.port_pool.specs.Boxes as box
 use Rattle.port_pool.specs.Boxes.{Taken}
 use Rattle.call_cell.specs.declared.outcome.Outcome.{Outcome}
 use Rattle.call_cell.specs.Cells as cells
 use Rattle.relay_core.specs.declared.part.Part.{Part}
-use Rattle.relay_core.specs.Entries.{Event, Entry, board_history, box_of}
+use Rattle.relay_core.specs.Entries.{Event, box_of}
 use Rattle.relay_core.specs.Made.{Made, entry_of, list_of}
-use Rattle.relay_core.specs.Beginning.{AreParts}
-use Rattle.relay_core.specs.Handed.{IsHanded}
-use Rattle.relay_core.specs.Joining.{TakesOwnPairs}
-use Rattle.relay_core.specs.Recorded.{IsRecorded, is_boards}
-use Rattle.relay_core.specs.Turning.{Numbered, IsAbove, IsOfLane, made_by}
-use Rattle.relay_core.proofs.Joins.{row_append, handed_joined}
-use Rattle.relay_core.proofs.Recording.{lane_no_boards, unseen_rows, recorded_behind}
+use Rattle.relay_core.specs.Turning.{IsOfLane, made_by}
+use Rattle.relay_core.proofs.Joins.{row_append}
 use Rattle.media_lane.specs.declared.answers.Totals.{Totals}
 use Rattle.media_lane.specs.Receipts.{KeepsList}
 use Rattle.media_lane.specs.Sweeping.{Sweeps}
 use Rattle.media_lane.specs.Taking.{take_made}
 use Rattle.media_lane.specs.Visits as visits
 use Rattle.media_lane.specs.Visits.{Row, Passing, Visit, packet_by, packet_at, relay_rows, rows_of, all_rows, IsPassed, ArePassed, one_if, is_there, has_packet, ends_so, ends_with, is_sent, is_refused, is_lost}
-use Rattle.board_turns.specs.Between.{board_of, IsBetween}
-use Rattle.board_turns.proofs.Betweens.{whole_board}
 use Rattle.main_sweeps.specs.Totals.{is_datagram, gave, relayed, capped, counted, HasTotals, AddsTotals}
+use Rattle.main_sweeps.proofs.Between.{StepsBy}
 use Rattle.main_sweeps.proofs.Counts.{counted_append, counted_cons}
 
 -- The rows of a sweep are takes and relays.
@@ -52,18 +43,6 @@ rows_in config [] row i = elim i [ ]
 rows_in config (v ∷ vs) row i =
     elim (row_append (rows_of config v) (all_rows config vs) i) [ inl j ↦ visit_in config v row j | inr j ↦ rows_in config vs row j ]
 
--- A number above all.
-
-top : List Entry → ℕ
-top [] = 0
-top (e ∷ l) = (e.number + 1) + top l
-
-below_top : (l : List Entry) (e : Entry) → In e l → e.number < top l
-unfolding top
-below_top [] e i = elim i [ ]
-below_top (x ∷ l) e (here q) = let same = ap (λ (y : Entry). y.number) q in omega (arith, same)
-below_top (x ∷ l) e (there i) = let low = below_top l e i in omega (arith, low)
-
 -- What a sweep keeps.
 
 module _ {M I O : Type 0} {g : _} where
@@ -74,56 +53,11 @@ module _ {M I O : Type 0} {g : _} where
     pub list : KeepsList config (made_by old) (made_by new)
     pub sweeps : Sweeps config 0 1 range old new swept
 
-  module _ (config : Config) (turns : Turns M (Part I O) Made (Unit {0})) (range : Option (ℕ × ℕ)) (old new : Hand M (Part I O) Made (Unit {0}) g) (swept : Totals)
-      (b : IsBetween config turns old) (s : SweptBy config range old new swept) where
-    rows : List Row
-    rows = all_rows config s.sweeps.visits
-
-    rows_are : entries new ≡ entries old ++ rows
-    unfolding rows
-    rows_are = s.sweeps.list_is
-
-    list_is : made_by new ≡ made_by old ++ list_of rows
-    list_is = ap (λ (xs : List Row). list_of xs) rows_are ∙ map-append entry_of (entries old) rows
-
-    lanes : (row : Row) → table_lists.In row rows → IsOfLane row.event.event
-    unfolding rows
-    lanes row i = rows_in config s.sweeps.visits row i
-
-    no_boards : (row : Row) → table_lists.In row rows → is_boards row.event.event ≡ false
-    no_boards row i = lane_no_boards row.event.event (lanes row i)
-
-    own_before : TakesOwnPairs config (made_by new) → TakesOwnPairs config (made_by old)
-    own_before own e half leg source bytes i q =
-        own e half leg source bytes (subst (λ (l : List Entry). In e l) (sym list_is) (in_left (made_by old) (list_of rows) i)) q
-
-    -- all that is known of the main hand between the board's turns
-    pub swept_between : IsBetween config turns new
-    swept_between =
-        let numbered = s.list.numbered b.numbered in record {
-          of_table = s.same.0 ∙ b.of_table;
-          main = s.same.3 ∙ b.main;
-          idle = s.idle;
-          parts = subst (λ (l : List (Part I O)). AreParts config l) (sym s.same.1) b.parts;
-          numbered = numbered;
-          orderly = s.list.orderly b.orderly;
-          handed = subst (λ (xs : List Row). IsHanded xs) (sym rows_are)
-              (handed_joined config (entries old) rows b.orderly lanes (subst Numbered list_is numbered) b.handed);
-          recorded = subst (λ (xs : List Row). IsRecorded xs) (sym rows_are) (recorded_behind (entries old) rows no_boards b.recorded);
-          receiving = λ own. s.list.receiving own (b.receiving (own_before own));
-        }
-
-    -- and the board's whole history
-    pub swept_board : board_of (made_by new) ≡ board_of (made_by old)
-    swept_board =
-        let n = top (made_by new) in
-        let after : IsAbove (made_by new) 0 n = λ e i p. below_top (made_by new) e i in
-        let before : IsAbove (made_by old) 0 n = λ e i p.
-        below_top (made_by new) e (subst (λ (l : List Entry). In e l) (sym list_is) (in_left (made_by old) (list_of rows) i)) in
-        sym (whole_board (made_by new) n after)
-        ∙ ap (λ (xs : List Row). board_history (list_of xs) n) rows_are
-        ∙ unseen_rows (entries old) rows no_boards n
-        ∙ whole_board (made_by old) n before
+  -- its rows are takes and relays
+  pub swept_by_lane : (config : Config) (range : Option (ℕ × ℕ)) (old new : Hand M (Part I O) Made (Unit {0}) g) (swept : Totals)
+      → (s : SweptBy config range old new swept) → StepsBy config old new (all_rows config s.sweeps.visits)
+  swept_by_lane config range old new swept s =
+      record { same = s.same; idle = s.idle; list = s.list; rows_are = s.sweeps.list_is; of_lane = λ row i. rows_in config s.sweeps.visits row i }
 
 -- What a sweep adds to the totals.
 

@@ -1,7 +1,9 @@
 use Rattle.turn_table.specs.Hands.{starts}
 use Rattle.media_lane.specs.Lanes.{config_of, hand_of, index_of, lanes_of}
 use Rattle.media_lane.proofs.Places.{parts_begin}
-use Rattle.main_sweeps.proofs.Sweeps.{SweptBy, swept_at, swept_between, swept_board, swept_totals}
+use Rattle.media_lane.specs.Visits.{all_rows}
+use Rattle.main_sweeps.proofs.Between.{StepsBy, stepped_between, stepped_board}
+use Rattle.main_sweeps.proofs.Sweeps.{SweptBy, swept_at, swept_by_lane, swept_totals}
 use Rattle.main_sweeps.proofs.sweep.sweep_between.Goals as goal
 
 pub new-lane-requires-clause-begins : goal.new-lane-requires-clause-begins
@@ -15,13 +17,17 @@ swept g c =
     (hand_of c.sweep-swept.new.self) c.into_hand.result c.sweep-swept.result c.new-lane.ensures.hand c.into_hand.ensures.hand c.new-lane.ensures.config
     c.new-lane.ensures.number.0 c.new-lane.ensures.number.1 c.sweep-swept.ensures.same.hand c.into_hand.ensures.idle c.sweep-swept.ensures.list c.sweep-swept.ensures.swept
 
+-- the rows that were added
+steps : (g : _) (c : goal.After-into_hand g) → StepsBy c.args.config.now c.args.hand c.into_hand.result (all_rows c.args.config.now (swept g c).sweeps.visits)
+steps g c = swept_by_lane c.args.config.now (g.C.Clock.range c.args.clock.now) c.args.hand c.into_hand.result c.sweep-swept.result (swept g c)
+
 pub returns-clause-between : goal.returns-clause-between
 returns-clause-between g c =
-    swept_between c.args.config.now c.args.turns.now (g.C.Clock.range c.args.clock.now) c.args.hand c.into_hand.result c.sweep-swept.result c.requires.between (swept g c)
+    stepped_between c.args.config.now c.args.turns.now c.args.hand c.into_hand.result (all_rows c.args.config.now (swept g c).sweeps.visits) c.requires.between (steps g c)
 
 pub returns-clause-board : goal.returns-clause-board
 returns-clause-board g c =
-    swept_board c.args.config.now c.args.turns.now (g.C.Clock.range c.args.clock.now) c.args.hand c.into_hand.result c.sweep-swept.result c.requires.between (swept g c)
+    stepped_board c.args.config.now c.args.turns.now c.args.hand c.into_hand.result (all_rows c.args.config.now (swept g c).sweeps.visits) c.requires.between (steps g c)
 
 pub returns-clause-totals : goal.returns-clause-totals
 returns-clause-totals g c =

@@ -1,0 +1,60 @@
+-- What a take and a relay by the main hand leave of its list.
+use Rattle.std.specs.Prelude.{◌≡◌, ℕ, List, [], ◌∷◌, ◌++◌}
+use Rattle.relay_outside.specs.declared.settings.Config.{Config}
+use Rattle.rtp_packet.specs.declared.head.Half.{Half}
+use Rattle.port_pool.specs.Boxes as box
+use Rattle.port_pool.specs.Boxes.{Taken}
+use Rattle.call_cell.specs.declared.outcome.Outcome.{Outcome}
+use Rattle.call_cell.specs.Cells as cells
+use Rattle.call_cell.specs.Cells.{Receipt}
+use Rattle.relay_core.specs.Entries.{Entry, Cell, Box, box_of}
+use Rattle.relay_core.specs.Made.{told_relay}
+use Rattle.media_lane.specs.declared.answers.Received.{Received}
+use Rattle.media_lane.specs.declared.answers.Received.TheVariants as answer
+use Rattle.media_lane.specs.Lanes.{packet_of, pair_of}
+use Rattle.media_lane.specs.Receipts.{IsReceiptOf}
+use Rattle.media_lane.specs.Taking.{Tells}
+
+-- a take of a half at the box of a pair, as the table records it
+abbrev pub take_entry : Config → (pair : ℕ) → Half → (number : ℕ) → Taken → Entry
+take_entry config pair half number taken =
+    record { place = box_of config pair; number = number; moment = 0; board = 0; event = Box (box.Take half taken) }
+
+-- one take of it was made, of which this is answered
+pub record Took (config : Config) (l : List Entry) (pair : ℕ) (half : Half) (answer : Received) (new : List Entry) : Type 0 where
+  pub number : ℕ
+  pub taken : Taken
+  pub list_is : new ≡ l ++ take_entry config pair half number taken ∷ []
+  pub tells : Tells answer pair number half taken
+
+-- a relay as the table records it: by its packet and its outcome
+abbrev pub relay_entry : Receipt → (number moment : ℕ) → Outcome → Entry
+relay_entry p number moment outcome =
+    record { place = p.holder.cell; number = number; moment = moment; board = 0; event = Cell (cells.Relay (told_relay p outcome)) }
+
+-- the packet was relayed once, with this outcome
+pub record Relayed (l : List Entry) (p : Receipt) (outcome : Outcome) (new : List Entry) : Type 0 where
+  pub number : ℕ
+  pub moment : ℕ
+  pub list_is : new ≡ l ++ relay_entry p number moment outcome ∷ []
+
+-- a receipt with the pair whose box it was taken from is one of the list
+abbrev pub IsIn : Config → List Entry → ℕ × Receipt → Type 0
+IsIn config l r = IsReceiptOf config l r.0 r.1
+
+-- what is a receipt of the one list is one of the other
+abbrev pub KeepsReceipts : Config → List Entry → List Entry → Type 0
+KeepsReceipts config l new = (r : ℕ × Receipt) → IsIn config l r → IsIn config new r
+
+-- they are of different takes
+abbrev pub AreApart : ℕ × Receipt → ℕ × Receipt → Type 0
+AreApart r s = r.0 ≡ s.0 → r.1.take ≡ s.1.take → ⊥
+
+-- but for those of this take
+abbrev pub KeepsOthers : Config → List Entry → ℕ × Receipt → List Entry → Type 0
+KeepsOthers config l one new = (r : ℕ × Receipt) → AreApart one r → IsIn config l r → IsIn config new r
+
+-- a receipt that is answered is of another take than all receipts of this list
+abbrev pub IsNew : Config → List Entry → Received → Type 0
+IsNew config l (answer.Got r) = (s : ℕ × Receipt) → IsIn config l s → AreApart (pair_of r, packet_of r) s
+IsNew config l _ = Unit {0}

@@ -1,0 +1,55 @@
+//! Packets are relayed by the main hand.
+ghost use Rattle.std.specs.Prelude.{◌≡◌, IfOk};
+ghost use Rattle.turn_table.specs.Hands.{IsSameHand};
+ghost use Rattle.relay_core.specs.Turning.{made_by};
+ghost use Rattle.media_lane.specs.Lanes.{packet_of, pair_of};
+ghost use Rattle.media_lane.specs.Receipts.{IsReceiptOf};
+ghost use Rattle.board_turns.specs.Between.{board_of, IsBetween};
+ghost use Rattle.main_sweeps.specs.Steps.{Relayed, KeepsOthers};
+
+use call_cell::Outcome;
+use media_lane::{Lane, Receipt};
+use ng_bencode::Text;
+use relay_core::Relay;
+use relay_outside::{Config, InEnd, OpenGate, OutEnd, OutOfMemory};
+use std::alloc::Global;
+use std::sync::Wait;
+use turn_table::{Hand, Turns};
+
+/// A copy of bytes.
+fn copy_bytes(alloc: Global, bytes: &[u8]) -> Result<Text, OutOfMemory>
+    ensures { IfOk result (λ text. text.list ≡ bytes.now) }
+{
+    let mut text = Text::new(alloc);
+    match text.reserve(bytes.len()) {
+        Ok(()) => text.extend(bytes),
+        Err(_) => return Err(OutOfMemory),
+    }
+    Ok(text)
+}
+
+/// Relays the packet of a receipt in the cell of its leg, handed the moment `now` in milliseconds, by the main hand, which holds no
+/// turn. With the outcome a copy of the bytes that were sent is answered, none where none were; `Err`: there was no memory for it.
+/// It may wait, where a lane has the cell's turn.
+pub fn relay_between<I: InEnd, O: OutEnd, R: Wait>(
+    rt: &R,
+    alloc: Global,
+    turns: &Turns<Relay<I, O>>,
+    hand: Hand<Relay<I, O>>,
+    config: &Config,
+    receipt: Receipt,
+    now: u64,
+) -> (Outcome, Result<Text, OutOfMemory>, Hand<Relay<I, O>>)
+    requires between { IsBetween config.now turns.now hand }
+    requires receipt { IsReceiptOf config.now (made_by hand) (pair_of receipt) (packet_of receipt) }
+    ensures same { IsSameHand hand result.2 }
+    ensures between { IsBetween config.now turns.now result.2 }
+    ensures board { board_of (made_by result.2) ≡ board_of (made_by hand) }
+    ensures relayed { Relayed (made_by hand) (packet_of receipt) result.0 (made_by result.2) }
+    ensures others { KeepsOthers config.now (made_by hand) (pair_of receipt, packet_of receipt) (made_by result.2) }
+{
+    let mut lane = Lane::new(hand, 0, 1, config);
+    let outcome = lane.relay(rt, turns, &OpenGate::new(), receipt, now);
+    let sent = copy_bytes(alloc, lane.sent_bytes());
+    (outcome, sent, lane.into_hand())
+}
