@@ -1,0 +1,4 @@
+pub mod Counting
+pub mod Lists
+pub mod Opened
+pub mod Places

@@ -1,0 +1,10 @@
+use Rattle.relay_outside.specs.Link.{sent_of}
+use Rattle.replay_devices.proofs.Lists.{gives, gives_nothing}
+use Rattle.replay_devices.proofs.link.last_sent_of.Goals as goal
+use Rattle.replay_devices.proofs.link.last_sent_of.Goals.{in-Some, in_default}
+
+pub loop-call-preserved : goal.loop-call-preserved
+loop-call-preserved c = elim c.match-sent_by.branch [
+  | in-Some w ↦ rw w.found-is (gives sent_of _ _ _ _ c.loop-call-test.true c.call-item.is w.in-Some.ensures)
+  | in_default w ↦ rw (w.found-is, gives_nothing sent_of _ _ _ c.loop-call-test.true c.call-item.is w.in_default.ensures) c.loop-call.invariant
+]

@@ -1,0 +1,5 @@
+pub mod Countdowns
+pub mod Keys
+pub mod Lines
+pub mod Link
+pub mod Ports
