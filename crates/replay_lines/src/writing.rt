@@ -1,0 +1,42 @@
+ghost use Rattle.std.specs.Prelude.{◌≡◌, ◌≤◌, ◌++◌, ◌∷◌, [], true, false, OnOk, IsErrOf};
+ghost use Rattle.relay_outside.specs.Told.{Gains, Rose};
+ghost use Rattle.relay_outside.specs.declared.lines.WriteCall.TheVariants.{Write};
+ghost use Rattle.relay_script.specs.Printing.{event_of, line_of};
+
+use relay_outside::LineSink;
+use relay_script::{Printed, print};
+use std::alloc::Global;
+
+/// Why a line was not written.
+#[derive(Clone, Copy, PartialEq, Eq, Debug)]
+pub enum WriteFault {
+    /// There was no memory for the line. The sink was not called.
+    OutOfMemory,
+    /// The sink failed.
+    Failed,
+}
+
+/// Writes the line that an event is printed as, with its line feed, in one call of the sink.
+pub fn write_event<O: LineSink>(
+    alloc: Global,
+    out: &mut O,
+    event: &Printed,
+) -> Result<(), WriteFault>
+    ensures written { OnOk result (Gains (O.told out.old) (O.told out.new) (Write (line_of (event_of event.now) ++ 10 ∷ []) true)) }
+    ensures failed { IsErrOf result WriteFault.Failed → Gains (O.told out.old) (O.told out.new) (Write (line_of (event_of event.now) ++ 10 ∷ []) false) }
+    ensures fault { IsErrOf result WriteFault.Failed → Rose (O.faults out.old) (O.faults out.new) }
+    ensures memory { IsErrOf result WriteFault.OutOfMemory → out.new ≡ out.old }
+    ensures later { O.faults out.old ≤ O.faults out.new }
+{
+    let Ok(mut line) = print(alloc, event) else {
+        return Err(WriteFault::OutOfMemory);
+    };
+    let Ok(()) = line.reserve(1) else {
+        return Err(WriteFault::OutOfMemory);
+    };
+    line.push(b'\n');
+    match out.write(line.as_slice()) {
+        Ok(()) => Ok(()),
+        Err(_) => Err(WriteFault::Failed),
+    }
+}
