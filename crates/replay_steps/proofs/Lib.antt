@@ -1,0 +1,5 @@
+pub mod Holdings
+pub mod Turned
+pub mod Steps
+pub mod Writings
+pub mod Beginnings

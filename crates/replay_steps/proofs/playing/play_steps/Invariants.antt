@@ -1,0 +1,20 @@
+use Rattle.std.proofs.Common.{◌≡◌, ◌-◌, ◌≤◌, length}
+use Rattle.relay_outside.specs.Told.{Gained}
+use Rattle.turn_table.specs.Hands.{IsSameHand}
+use Rattle.replay_steps.specs.Ready.{IsReady}
+use Rattle.replay_steps.specs.Written.{Prints}
+use Rattle.replay_steps.proofs.playing.play_steps.Given as goal
+
+abbrev pub invariant-steps : goal.invariant-steps
+invariant-steps g l = record {
+  same : IsSameHand l.fn.hand l.hand;
+  ready : IsReady l.server.config l.server.turns l.hand l.devices.ports.told l.receipts;
+  received : l.receipts.received ≤ l.made;
+  below : l.made ≤ length l.steps;
+  numbered : l.line ≡ l.made;
+  told : Gained (g.O.LineSink.told l.fn.out) (g.O.LineSink.told l.out) Prints;
+  later : g.O.LineSink.faults l.fn.out ≤ g.O.LineSink.faults l.out;
+}
+
+abbrev pub decreases-steps : goal.decreases-steps
+decreases-steps g l = length l.steps - l.made

@@ -1,0 +1,22 @@
+use Rattle.std.proofs.Common.{sym, subst, List}
+use Rattle.relay_core.specs.Turning.{made_by}
+use Rattle.replay_steps.specs.Holding.{Numbered, AreReceipts}
+use Rattle.replay_steps.proofs.Holdings.{picked, receipts_passed}
+use Rattle.replay_steps.proofs.stepping.relay_receipt.Goals as goal
+
+pub pass-event-requires-clause-receipt : goal.pass-event-requires-clause-receipt
+pass-event-requires-clause-receipt g c =
+    let found = c.in-Some.ensures in
+    (picked c.args.config.now (made_by c.args.hand) found.before (c.args.number, c.in-Some.receipt) found.after
+    (subst (λ (list : List Numbered). AreReceipts c.args.config.now (made_by c.args.hand) list) found.old_is c.requires.receipts)).is
+
+pub returns-in-Some-clause-receipts : goal.returns-in-Some-clause-receipts
+returns-in-Some-clause-receipts g c =
+    let found = c.in-Some.ensures in
+    let config = c.args.config.now in
+    let l = made_by c.args.hand in
+    let new = made_by c.pass-event.result.1 in
+    let one = picked config l found.before (c.args.number, c.in-Some.receipt) found.after
+    (subst (λ (list : List Numbered). AreReceipts config l list) found.old_is c.requires.receipts) in
+    subst (λ (list : List Numbered). AreReceipts config new list) (sym found.new_is)
+    (receipts_passed config l new c.in-Some.receipt _ c.pass-event.ensures.receipts one.apart one.others)

@@ -1,0 +1,41 @@
+-- Which end of a pair a packet of a script arrives at, and what its take leaves.
+use Rattle.std.specs.Prelude.{◌≡◌, ◌<◌, ℕ, List, Option, Some, None}
+use Rattle.relay_outside.specs.declared.address.Ip.{Ip}
+use Rattle.relay_outside.specs.declared.address.Ip.TheVariants as ip
+use Rattle.relay_outside.specs.declared.settings.Config.{Config}
+use Rattle.rtp_packet.specs.declared.head.Half.{Half}
+use Rattle.port_pool.specs.Ports.{pair_count, half_port}
+use Rattle.call_cell.specs.Cells.{Receipt}
+use Rattle.relay_core.specs.Entries.{Entry}
+use Rattle.main_sweeps.specs.Steps.{IsIn, AreApart}
+use Rattle.replay_steps.specs.declared.arriving.Arrived.{Arrived}
+use Rattle.replay_steps.specs.declared.arriving.Arrived.TheVariants as arrived
+use Rattle.replay_steps.specs.Holding.{taken_by}
+
+-- an end of a pair: the pair, and the half
+abbrev pub End : Type 0
+End = ℕ × Half
+
+-- an address of version 4: all pairs are of that family
+abbrev pub IsV4 : Ip → Type 0
+IsV4 (ip.V4 bytes) = Unit {0}
+IsV4 (ip.V6 bytes) = ⊥
+
+-- The end has this port, in the family of the address beside it
+pub record IsEndAt (config : Config) (port : ℕ) (source : Ip) (e : End) : Type 0 where
+  pub in_range : e.0 < pair_count config
+  pub port_is : half_port config e.0 e.1 ≡ port
+  pub family : IsV4 source
+
+-- no pair of the range has the port in that family
+abbrev pub IsNoEnd : Config → (port : ℕ) → Ip → Type 0
+IsNoEnd config port source = (e : End) → IsEndAt config port source e → ⊥
+
+abbrev pub HasEnd : Config → (port : ℕ) → Ip → Option End → Type 0
+HasEnd config port source None = IsNoEnd config port source
+HasEnd config port source (Some e) = IsEndAt config port source e
+
+-- a packet that was taken is a receipt of the list after it, of another take than all receipts before
+abbrev pub IsGood : Config → List Entry → Arrived → List Entry → Type 0
+IsGood config l (arrived.Packet r) new = IsIn config new (taken_by r) × ((s : ℕ × Receipt) → IsIn config l s → AreApart (taken_by r) s)
+IsGood config l _ new = Unit {0}

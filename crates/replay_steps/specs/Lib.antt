@@ -1,0 +1,4 @@
+pub mod Holding
+pub mod Arrivals
+pub mod Ready
+pub mod Written

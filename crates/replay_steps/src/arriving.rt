@@ -1,0 +1,101 @@
+//! The packets of lines `take` and `packet`, and their relays.
+ghost use Rattle.std.specs.Prelude.{◌≡◌, List};
+ghost use Rattle.relay_outside.specs.declared.settings.Config.{Config};
+ghost use Rattle.turn_table.specs.Hands.{IsSameHand};
+ghost use Rattle.relay_core.specs.Entries.{Entry};
+ghost use Rattle.relay_core.specs.Turning.{made_by};
+ghost use Rattle.media_lane.specs.Taking.{HasReceipt};
+ghost use Rattle.board_turns.specs.Between.{board_of, IsBetween};
+ghost use Rattle.main_sweeps.specs.Steps.{IsIn, IsNew, KeepsReceipts, KeepsOthers};
+ghost use Rattle.replay_steps.specs.Arrivals.{IsGood};
+ghost use Rattle.replay_steps.specs.Holding.{taken_by};
+
+use crate::ends::find_end;
+use main_sweeps::{receive_between, relay_between};
+use media_lane::{Receipt, Received};
+use relay_core::Relay;
+use relay_outside::{Addr, Config, InEnd, OutEnd};
+use relay_script::Printed;
+use std::alloc::Global;
+use std::sync::Wait;
+use turn_table::{Hand, Turns};
+
+/// What came of the packet of a line.
+#[derive(Drop)]
+pub(crate) enum Arrived {
+    /// It was taken.
+    Packet(Receipt),
+    /// Nothing was taken, and this is printed.
+    Printed(Printed),
+    /// Another packet than the line's was taken.
+    Other,
+}
+
+/// What came of a take.
+fn tell_arrival(received: Received, source: Addr, bytes: &[u8]) -> Arrived
+    ensures { (config : Config) (l new : List Entry) → HasReceipt config new received → IsNew config l received → IsGood config l result new }
+{
+    match received {
+        Received::Got(receipt) => {
+            if receipt.source() == source && receipt.bytes() == bytes {
+                Arrived::Packet(receipt)
+            } else {
+                Arrived::Other
+            }
+        }
+        Received::Nothing => Arrived::Printed(Printed::Nothing),
+        Received::TooLong => Arrived::Printed(Printed::TooLong),
+        Received::TakeFault => Arrived::Printed(Printed::TakeFault),
+        Received::Busy { .. } => Arrived::Other,
+    }
+}
+
+/// The packet of a line arrives at its port and is taken there, once. A port that no pair of the range has is not open.
+pub(crate) fn arrive<I: InEnd, O: OutEnd, R: Wait>(
+    rt: &R,
+    turns: &Turns<Relay<I, O>>,
+    hand: Hand<Relay<I, O>>,
+    config: &Config,
+    port: u16,
+    source: Addr,
+    bytes: &[u8],
+) -> (Arrived, Hand<Relay<I, O>>)
+    requires between { IsBetween config.now turns.now hand }
+    ensures same { IsSameHand hand result.1 }
+    ensures between { IsBetween config.now turns.now result.1 }
+    ensures board { board_of (made_by result.1) ≡ board_of (made_by hand) }
+    ensures receipts { KeepsReceipts config.now (made_by hand) (made_by result.1) }
+    ensures packet { IsGood config.now (made_by hand) result.0 (made_by result.1) }
+{
+    match find_end(config, port, source.ip) {
+        Some((pair, half)) => {
+            let (received, hand) = receive_between(rt, turns, hand, config, pair, half);
+            (tell_arrival(received, source, bytes), hand)
+        }
+        None => (Arrived::Printed(Printed::Nothing), hand),
+    }
+}
+
+/// Relays a packet, handed a moment in milliseconds, and says what is printed. `None`: there was no memory for it.
+pub(crate) fn pass<I: InEnd, O: OutEnd, R: Wait>(
+    rt: &R,
+    alloc: Global,
+    turns: &Turns<Relay<I, O>>,
+    hand: Hand<Relay<I, O>>,
+    config: &Config,
+    receipt: Receipt,
+    now: u64,
+) -> (Option<Printed>, Hand<Relay<I, O>>)
+    requires between { IsBetween config.now turns.now hand }
+    requires receipt { IsIn config.now (made_by hand) (taken_by receipt) }
+    ensures same { IsSameHand hand result.1 }
+    ensures between { IsBetween config.now turns.now result.1 }
+    ensures board { board_of (made_by result.1) ≡ board_of (made_by hand) }
+    ensures receipts { KeepsOthers config.now (made_by hand) (taken_by receipt) (made_by result.1) }
+{
+    let (outcome, sent, hand) = relay_between(rt, alloc, turns, hand, config, receipt, now);
+    match sent {
+        Ok(bytes) => (Some(Printed::Relayed { outcome, bytes }), hand),
+        Err(_) => (None, hand),
+    }
+}

@@ -1,0 +1,84 @@
+//! The step of a line `ng`: one control turn.
+ghost use Rattle.turn_table.specs.Hands.{IsSameHand};
+ghost use Rattle.relay_core.specs.Turning.{made_by};
+ghost use Rattle.board_turns.specs.Between.{IsBetween};
+ghost use Rattle.main_sweeps.specs.Steps.{KeepsReceipts};
+ghost use Rattle.ng_server.specs.Servers.{OpensJust, history_of};
+
+use ng_bencode::Text;
+use ng_server::{ControlTurn, Desk, Server};
+use relay_core::Relay;
+use relay_outside::{Addr, KeySource, PortMaker};
+use relay_script::Printed;
+use replay_devices::ReplayLink;
+use std::alloc::Global;
+use std::sync::Wait;
+use turn_table::Hand;
+
+/// How many bytes of a datagram the link's room takes.
+const ROOM: usize = 16_385;
+
+/// Whether the last datagram that the link gave is the one of the line, as far as its room takes it.
+fn gave_line(link: &ReplayLink<'_>, source: Addr, bytes: &[u8]) -> bool {
+    match link.last_taken() {
+        Some((from, taken)) => from == source && taken == &bytes[..bytes.len().min(ROOM)],
+        None => false,
+    }
+}
+
+/// The reply that was sent last.
+fn reply_event(alloc: Global, link: &ReplayLink<'_>) -> Option<Printed> {
+    let (to, bytes) = link.last_sent()?;
+    let mut text = Text::new(alloc);
+    match text.reserve(bytes.len()) {
+        Ok(()) => text.extend(bytes),
+        Err(_) => return None,
+    }
+    Some(Printed::Reply(to, text))
+}
+
+/// What is printed of a control turn. `None`: there was no memory for it, or the link does not tell it.
+fn turn_event(
+    alloc: Global,
+    turn: ControlTurn,
+    link: &ReplayLink<'_>,
+    source: Addr,
+    bytes: &[u8],
+) -> Option<Printed> {
+    if turn != ControlTurn::ReadFault && !gave_line(link, source, bytes) {
+        return None;
+    }
+    match turn {
+        ControlTurn::ReadFault => Some(Printed::ReadFault),
+        ControlTurn::Silent => Some(Printed::Silent),
+        ControlTurn::ReplyFault => Some(Printed::ReplyFault),
+        ControlTurn::Replied => reply_event(alloc, link),
+        ControlTurn::Nothing | ControlTurn::End => None,
+    }
+}
+
+/// Makes the control turn of the present line, whose datagram is this, handed a moment in milliseconds, and says what is printed.
+/// `None`: there was no memory for it, or the link tells nothing any more.
+pub(crate) fn make_turn<P: PortMaker, K: KeySource, R: Wait>(
+    rt: &R,
+    alloc: Global,
+    server: &Server<P>,
+    hand: &mut Hand<Relay<P::In, P::Out>>,
+    desk: &mut Desk<P::Out>,
+    link: &mut ReplayLink<'_>,
+    ports: &mut P,
+    keys: &mut K,
+    source: Addr,
+    bytes: &[u8],
+    now: u64,
+) -> Option<Printed>
+    requires between { IsBetween server.now.config server.now.turns hand.old }
+    requires open { OpensJust server.now.config (history_of hand.old) (P.told ports.old) }
+    ensures same { IsSameHand hand.old hand.new }
+    ensures between { IsBetween server.now.config server.now.turns hand.new }
+    ensures open { OpensJust server.now.config (history_of hand.new) (P.told ports.new) }
+    ensures receipts { KeepsReceipts server.now.config (made_by hand.old) (made_by hand.new) }
+{
+    let turn = server.control_turn(rt, alloc, hand, desk, link, ports, keys, now);
+    turn_event(alloc, turn, link, source, bytes)
+}

@@ -1,0 +1,26 @@
+//! A replay: the steps of a script are made one after the other, by one hand, over devices in memory, and what each prints is
+//! written.
+//!
+//! Module `replaying` reads the script and plays it, `playing` makes its steps in order, `stepping` one step, `controlling` that of a
+//! line `ng`, `arriving` those of packets, `held` has the receipts that are held, `devices` the devices, `ends` which end has a port.
+//!
+//! `specs/Ready.antt` says what holds between two steps, `specs/Holding.antt` which receipts are held, `specs/Arrivals.antt` at which
+//! end a packet arrives, `specs/Written.antt` what a replay writes.
+#![tactic(auto)]
+
+mod arriving;
+mod controlling;
+mod devices;
+mod ended;
+mod ends;
+mod held;
+mod playing;
+mod replaying;
+#[cfg(test)]
+mod scripts;
+mod stepping;
+#[cfg(test)]
+mod tests;
+
+pub use ended::Ended;
+pub use replaying::replay;

@@ -1,0 +1,121 @@
+//! The steps of a script in order.
+ghost use Rattle.std.specs.Prelude.{◌≡◌, ◌+◌, ◌<◌, ◌≤◌, ◌≢◌, None, Some, length};
+ghost use Rattle.relay_outside.specs.Told.{Gained, Rose};
+ghost use Rattle.turn_table.specs.Hands.{IsSameHand};
+ghost use Rattle.replay_steps.specs.Ready.{IsReady};
+ghost use Rattle.replay_steps.specs.Written.{EndsFor, DidTell, DidSteps};
+
+use crate::devices::Devices;
+use crate::ended::Ended;
+use crate::held::Receipts;
+use crate::stepping::{Stepped, make_step};
+use ng_server::{Desk, Server};
+use relay_core::Relay;
+use relay_outside::{Config, LineSink};
+use relay_script::{Printed, Step};
+use replay_devices::{ReplayIn, ReplayOut, ReplayPorts};
+use replay_lines::{WriteFault, write_event};
+use std::alloc::Global;
+use std::sync::Wait;
+use turn_table::Hand;
+
+/// How a replay ends where an event could not be written.
+fn write_ended(fault: WriteFault) -> Ended
+    ensures { EndsFor fault result }
+{
+    match fault {
+        WriteFault::OutOfMemory => Ended::OutOfMemory,
+        WriteFault::Failed => Ended::PrintFault,
+    }
+}
+
+/// Tells the number of a faulty line, from 1.
+pub(crate) fn tell_fault<O: LineSink>(alloc: Global, out: &mut O, line: u32) -> Ended
+    ensures told { Gained (O.told out.old) (O.told out.new) (DidTell line result) }
+    ensures fault { result ≡ Ended.PrintFault → Rose (O.faults out.old) (O.faults out.new) }
+    ensures later { O.faults out.old ≤ O.faults out.new }
+    ensures end { result ≢ Ended.ScriptRead }
+{
+    match write_event(alloc, out, &Printed::ScriptFault(line)) {
+        Ok(()) => Ended::ScriptFault,
+        Err(fault) => write_ended(fault),
+    }
+}
+
+/// What a step did is written. `None`: the replay goes on.
+fn write_step<O: LineSink>(alloc: Global, out: &mut O, stepped: Stepped, line: u32) -> Option<Ended>
+    requires { 0 < line }
+    ensures told { Gained (O.told out.old) (O.told out.new) (DidSteps line result) }
+    ensures fault { result ≡ Some Ended.PrintFault → Rose (O.faults out.old) (O.faults out.new) }
+    ensures later { O.faults out.old ≤ O.faults out.new }
+    ensures end { result ≢ Some Ended.ScriptRead }
+{
+    match stepped {
+        Stepped::Quiet => None,
+        Stepped::Prints(event) => match write_event(alloc, out, &event) {
+            Ok(()) => None,
+            Err(fault) => Some(write_ended(fault)),
+        },
+        Stepped::Faulty => Some(tell_fault(alloc, out, line)),
+        Stepped::Starved => Some(Ended::OutOfMemory),
+    }
+}
+
+/// Makes the steps of a script, each after the ones before it, and writes what each prints, up to the first that is faulty. `None`:
+/// all were made. With it the number of the last line is answered whose step was due.
+pub(crate) fn play_steps<'a, O: LineSink, R: Wait>(
+    rt: &R,
+    alloc: Global,
+    server: &Server<ReplayPorts<'a>>,
+    hand: Hand<Relay<ReplayIn<'a>, ReplayOut<'a>>>,
+    config: &Config,
+    desk: &mut Desk<ReplayOut<'a>>,
+    devices: &mut Devices<'a>,
+    receipts: &mut Receipts,
+    steps: &'a [Step],
+    out: &mut O,
+) -> (Option<Ended>, u32, Hand<Relay<ReplayIn<'a>, ReplayOut<'a>>>)
+    requires config { server.now.config ≡ config.now }
+    requires ready { IsReady server.now.config server.now.turns hand devices.old.ports.told receipts.old }
+    requires none { receipts.old.received ≡ 0 }
+    requires most { length steps.now ≤ 50000 }
+    ensures same { IsSameHand hand.entry result.2 }
+    ensures ready { IsReady server.now.config server.now.turns result.2 devices.new.ports.told receipts.new }
+    ensures told { Gained (O.told out.old) (O.told out.new) (DidSteps (length steps.now) result.0) }
+    ensures all { result.0 ≡ None → result.1 ≡ length steps.now }
+    ensures few { result.1 ≤ 50000 }
+    ensures fault { result.0 ≡ Some Ended.PrintFault → Rose (O.faults out.old) (O.faults out.new) }
+    ensures later { O.faults out.old ≤ O.faults out.new }
+    ensures end { result.0 ≢ Some Ended.ScriptRead }
+{
+    let mut hand = hand;
+    let mut clock = 0;
+    let mut made = 0;
+    let mut line = 0;
+    'steps: while made < steps.len() {
+        devices.begin(made);
+        let (stepped, next) = make_step(
+            rt,
+            alloc,
+            server,
+            hand,
+            config,
+            desk,
+            devices,
+            receipts,
+            &mut clock,
+            &steps[made],
+        );
+        hand = next;
+        made += 1;
+        line += 1;
+        match write_step(alloc, out, stepped, line) {
+            Some(ended) => return (Some(ended), line, hand),
+            None => {}
+        }
+        if !devices.tell() {
+            return (Some(Ended::OutOfMemory), line, hand);
+        }
+    }
+    (None, line, hand)
+}

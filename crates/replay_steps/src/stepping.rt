@@ -1,0 +1,211 @@
+//! One step of a script.
+ghost use Rattle.std.specs.Prelude.{◌≡◌, ◌+◌, ◌<◌, ◌≤◌, ◌^◌};
+ghost use Rattle.turn_table.specs.Hands.{IsSameHand};
+ghost use Rattle.relay_core.specs.Turning.{made_by};
+ghost use Rattle.board_turns.specs.Between.{board_of, IsBetween};
+ghost use Rattle.main_sweeps.specs.Steps.{KeepsReceipts};
+ghost use Rattle.replay_steps.specs.Holding.{AreReceipts};
+ghost use Rattle.replay_steps.specs.Ready.{IsReady};
+
+use crate::arriving::{Arrived, arrive, pass};
+use crate::controlling::make_turn;
+use crate::devices::Devices;
+use crate::held::Receipts;
+use ng_server::{Desk, Server};
+use relay_core::Relay;
+use relay_outside::{Addr, Config, InEnd, OutEnd};
+use relay_script::{Printed, Step};
+use replay_devices::{ReplayIn, ReplayOut, ReplayPorts};
+use std::alloc::Global;
+use std::sync::Wait;
+use turn_table::{Hand, Turns};
+
+/// What a step did.
+#[derive(Drop)]
+pub(crate) enum Stepped {
+    /// Nothing is printed.
+    Quiet,
+    /// This is printed.
+    Prints(Printed),
+    /// Its line is faulty: a receipt that isn't held is to be relayed, or one more is to be taken than may be held. Nothing was done.
+    Faulty,
+    /// There was no memory, or a device did not tell what it did.
+    Starved,
+}
+
+/// What is printed, where there was memory for it.
+fn tell_event(event: Option<Printed>) -> Stepped {
+    match event {
+        Some(event) => Stepped::Prints(event),
+        None => Stepped::Starved,
+    }
+}
+
+/// The packet of a line arrives and is held for a later line `relay`.
+fn take_packet<I: InEnd, O: OutEnd, R: Wait>(
+    rt: &R,
+    turns: &Turns<Relay<I, O>>,
+    hand: Hand<Relay<I, O>>,
+    config: &Config,
+    receipts: &mut Receipts,
+    port: u16,
+    source: Addr,
+    bytes: &[u8],
+) -> (Stepped, Hand<Relay<I, O>>)
+    requires between { IsBetween config.now turns.now hand }
+    requires receipts { AreReceipts config.now (made_by hand) receipts.old.list }
+    requires room { receipts.old.room ≡ 64 }
+    requires number { receipts.old.received + 1 < 2 ^ 32 }
+    ensures same { IsSameHand hand result.1 }
+    ensures between { IsBetween config.now turns.now result.1 }
+    ensures board { board_of (made_by result.1) ≡ board_of (made_by hand) }
+    ensures receipts { AreReceipts config.now (made_by result.1) receipts.new.list }
+    ensures room { receipts.new.room ≡ 64 }
+    ensures received { receipts.new.received ≤ receipts.old.received + 1 }
+{
+    if receipts.is_full() {
+        return (Stepped::Faulty, hand);
+    }
+    let (arrived, hand) = arrive(rt, turns, hand, config, port, source, bytes);
+    match arrived {
+        Arrived::Packet(receipt) => (Stepped::Prints(Printed::Took(receipts.keep(receipt))), hand),
+        Arrived::Printed(event) => (Stepped::Prints(event), hand),
+        Arrived::Other => (Stepped::Starved, hand),
+    }
+}
+
+/// The receipt of a number is relayed.
+fn relay_receipt<I: InEnd, O: OutEnd, R: Wait>(
+    rt: &R,
+    alloc: Global,
+    turns: &Turns<Relay<I, O>>,
+    hand: Hand<Relay<I, O>>,
+    config: &Config,
+    receipts: &mut Receipts,
+    number: u32,
+    now: u64,
+) -> (Stepped, Hand<Relay<I, O>>)
+    requires between { IsBetween config.now turns.now hand }
+    requires receipts { AreReceipts config.now (made_by hand) receipts.old.list }
+    ensures same { IsSameHand hand result.1 }
+    ensures between { IsBetween config.now turns.now result.1 }
+    ensures board { board_of (made_by result.1) ≡ board_of (made_by hand) }
+    ensures receipts { AreReceipts config.now (made_by result.1) receipts.new.list }
+    ensures room { receipts.new.room ≡ receipts.old.room }
+    ensures received { receipts.new.received ≡ receipts.old.received }
+{
+    match receipts.take(number) {
+        Some(receipt) => {
+            let (event, hand) = pass(rt, alloc, turns, hand, config, receipt, now);
+            (tell_event(event), hand)
+        }
+        None => (Stepped::Faulty, hand),
+    }
+}
+
+/// The packet of a line arrives and is relayed at once.
+fn pass_packet<I: InEnd, O: OutEnd, R: Wait>(
+    rt: &R,
+    alloc: Global,
+    turns: &Turns<Relay<I, O>>,
+    hand: Hand<Relay<I, O>>,
+    config: &Config,
+    port: u16,
+    source: Addr,
+    bytes: &[u8],
+    now: u64,
+) -> (Stepped, Hand<Relay<I, O>>)
+    requires between { IsBetween config.now turns.now hand }
+    ensures same { IsSameHand hand result.1 }
+    ensures between { IsBetween config.now turns.now result.1 }
+    ensures board { board_of (made_by result.1) ≡ board_of (made_by hand) }
+    ensures receipts { KeepsReceipts config.now (made_by hand) (made_by result.1) }
+{
+    let (arrived, hand) = arrive(rt, turns, hand, config, port, source, bytes);
+    match arrived {
+        Arrived::Packet(receipt) => {
+            let (event, hand) = pass(rt, alloc, turns, hand, config, receipt, now);
+            (tell_event(event), hand)
+        }
+        Arrived::Printed(event) => (Stepped::Prints(event), hand),
+        Arrived::Other => (Stepped::Starved, hand),
+    }
+}
+
+/// Makes a step: the devices were told which.
+pub(crate) fn make_step<'a, R: Wait>(
+    rt: &R,
+    alloc: Global,
+    server: &Server<ReplayPorts<'a>>,
+    hand: Hand<Relay<ReplayIn<'a>, ReplayOut<'a>>>,
+    config: &Config,
+    desk: &mut Desk<ReplayOut<'a>>,
+    devices: &mut Devices<'a>,
+    receipts: &mut Receipts,
+    clock: &mut u64,
+    step: &Step,
+) -> (Stepped, Hand<Relay<ReplayIn<'a>, ReplayOut<'a>>>)
+    requires config { server.now.config ≡ config.now }
+    requires ready { IsReady server.now.config server.now.turns hand devices.old.ports.told receipts.old }
+    requires number { receipts.old.received + 1 < 2 ^ 32 }
+    ensures same { IsSameHand hand.entry result.1 }
+    ensures ready { IsReady server.now.config server.now.turns result.1 devices.new.ports.told receipts.new }
+    ensures received { receipts.new.received ≤ receipts.old.received + 1 }
+{
+    let turns = server.turns();
+    let mut hand = hand;
+    match step {
+        Step::At(moment) => {
+            *clock = *moment;
+            (Stepped::Quiet, hand)
+        }
+        Step::Ng(source, bytes) => {
+            let Devices { link, ports, keys } = devices;
+            let event = make_turn(
+                rt,
+                alloc,
+                server,
+                &mut hand,
+                desk,
+                link,
+                ports,
+                keys,
+                *source,
+                bytes.as_slice(),
+                *clock,
+            );
+            (tell_event(event), hand)
+        }
+        Step::Take(port, source, bytes) => {
+            take_packet(
+                rt,
+                turns,
+                hand,
+                config,
+                receipts,
+                *port,
+                *source,
+                bytes.as_slice(),
+            )
+        }
+        Step::Relay(number) => relay_receipt(
+            rt, alloc, turns, hand, config, receipts, *number, *clock,
+        ),
+        Step::Packet(port, source, bytes) => pass_packet(
+            rt,
+            alloc,
+            turns,
+            hand,
+            config,
+            *port,
+            *source,
+            bytes.as_slice(),
+            *clock,
+        ),
+        Step::Tick => (Stepped::Faulty, hand),
+        Step::Skip | Step::Key(_) | Step::Fail(_, _) | Step::FailSend(_, _) => (
+            Stepped::Quiet,
+            hand,
+        ),
+    }
+}
