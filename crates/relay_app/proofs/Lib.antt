@@ -1,5 +1,6 @@
 mod Loops
 mod Options
+mod Replays
 mod Runs
 mod Single
 mod Steps

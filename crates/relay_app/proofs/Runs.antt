@@ -7,6 +7,7 @@ use Rattle.relay_outside.specs.declared.lines.WriteCall.{WriteCall}
 use Rattle.relay_outside.specs.declared.lines.WriteCall.TheVariants as put
 use Rattle.relay_outside.specs.Link.{datagrams, sent}
 use Rattle.relay_outside.specs.declared.keys.KeyCall.{KeyCall}
+use Rattle.relay_outside.specs.declared.ports.PortCall.{PortCall}
 use Rattle.relay_outside.specs.declared.settings.Config.{Config}
 use Rattle.relay_outside.proofs.Telling.{gained_none, gained_one, gained_both}
 use Rattle.relay_app.specs.declared.status.Status.{Status}
@@ -31,29 +32,30 @@ loop_prints status.ScriptFault ends = absurd ends
 loop_prints status.ScriptRead ends = absurd ends
 
 -- no device was asked
-asked_nothing : (outside : Outside) → outside.timer ≡ outside.timer_now → outside.drew ≡ outside.drew_now → AskedNothing outside
-asked_nothing outside timer drew = record {
+asked_nothing : (outside : Outside) → outside.timer ≡ outside.timer_now → outside.opened ≡ outside.opened_now → outside.drew ≡ outside.drew_now → AskedNothing outside
+asked_nothing outside timer opened drew = record {
   no_moment = subst (λ (t : Option (List ℕ)). Gave outside.timer t []) timer (gained_none outside.timer (λ more. more ≡ []) refl);
+  no_port = subst (λ (o : Option (List PortCall)). Gave outside.opened o []) opened (gained_none outside.opened (λ more. more ≡ []) refl);
   no_draw = subst (λ (k : Option (List KeyCall)). Gave outside.drew k []) drew (gained_none outside.drew (λ more. more ≡ []) refl);
 }
 
 -- the words are none of `serve`
-pub not_served : (outside : Outside) (answer : Status) (told : Option (List LinkCall)) → outside.timer ≡ outside.timer_now → outside.drew ≡ outside.drew_now
+pub not_served : (outside : Outside) (answer : Status) (told : Option (List LinkCall)) → outside.timer ≡ outside.timer_now → outside.opened ≡ outside.opened_now → outside.drew ≡ outside.drew_now
     → Gained told told (DidCall outside None answer)
-not_served outside answer told timer drew = gained_none told (DidCall outside None answer) (asked_nothing outside timer drew, refl)
+not_served outside answer told timer opened drew = gained_none told (DidCall outside None answer) (asked_nothing outside timer opened drew, refl)
 
 -- memory was refused before the bind
-pub not_begun : (outside : Outside) (settings : Settings) (told : Option (List LinkCall)) → outside.timer ≡ outside.timer_now → outside.drew ≡ outside.drew_now
+pub not_begun : (outside : Outside) (settings : Settings) (told : Option (List LinkCall)) → outside.timer ≡ outside.timer_now → outside.opened ≡ outside.opened_now → outside.drew ≡ outside.drew_now
     → Gained told told (DidCall outside (Some settings) status.OutOfMemory)
-not_begun outside settings told timer drew =
-    gained_none told (DidCall outside (Some settings) status.OutOfMemory) (inl (asked_nothing outside timer drew, refl, refl))
+not_begun outside settings told timer opened drew =
+    gained_none told (DidCall outside (Some settings) status.OutOfMemory) (inl (asked_nothing outside timer opened drew, refl, refl))
 
 -- the bind failed
-pub not_bound : (outside : Outside) (settings : Settings) (l0 l1 : Option (List LinkCall)) → outside.timer ≡ outside.timer_now → outside.drew ≡ outside.drew_now
+pub not_bound : (outside : Outside) (settings : Settings) (l0 l1 : Option (List LinkCall)) → outside.timer ≡ outside.timer_now → outside.opened ≡ outside.opened_now → outside.drew ≡ outside.drew_now
     → Gains l0 l1 (call.Bind settings.listen false) → Gained l0 l1 (DidCall outside (Some settings) status.ControlFault)
-not_bound outside settings l0 l1 timer drew bound =
+not_bound outside settings l0 l1 timer opened drew bound =
     gained_one l0 l1 (call.Bind settings.listen false) (DidCall outside (Some settings) status.ControlFault) bound
-    (inr (inl (asked_nothing outside timer drew, refl, refl)))
+    (inr (inl (asked_nothing outside timer opened drew, refl, refl)))
 
 -- what a run did under the configuration of its words
 pub with_config : (limit : ℕ) (config same : Config) (outside : Outside) (ended : Status) (counts : Counts) (totals : Totals) (l0 l1 : Option (List LinkCall)) → config ≡ same

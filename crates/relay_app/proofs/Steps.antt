@@ -7,8 +7,10 @@ use Rattle.std.proofs.lemmas.List.Elements.{filter_map-append}
 use Rattle.relay_outside.specs.declared.address.Addr.{Addr}
 use Rattle.relay_outside.specs.declared.link.LinkGiven.{LinkGiven}
 use Rattle.relay_outside.specs.declared.link.LinkCall.{LinkCall}
+use Rattle.relay_outside.specs.Told.{Gained}
 use Rattle.relay_outside.specs.Link.{datagram_of, send_of, sent_of, datagrams, sends, sent}
 use Rattle.relay_outside.specs.declared.settings.Config.{Config}
+use Rattle.media_ports.specs.Asked.{OpensWith}
 use Rattle.call_board.specs.Acts.{BoardEntry}
 use Rattle.control_turns.specs.declared.taking.ControlTurn.{ControlTurn}
 use Rattle.control_turns.specs.declared.taking.ControlTurn.TheVariants as turn
@@ -16,7 +18,7 @@ use Rattle.media_lane.specs.declared.answers.Totals.{Totals}
 use Rattle.relay_app.specs.declared.status.Status.{Status}
 use Rattle.relay_app.specs.declared.status.Status.TheVariants as status
 use Rattle.relay_app.specs.declared.totals.Counts.{Counts}
-use Rattle.relay_app.specs.Served.{gift_of, gifts, Request, request_of, request_at, requests, IsHistory, replies, draws, Outside, Gave, HaveCauses, Served, IsWhole, IsServed, Ended, DidServe, is_turn, is_end, is_failed_take}
+use Rattle.relay_app.specs.Served.{gift_of, gifts, Request, request_of, request_at, requests, IsHistory, replies, openings, draws, Outside, Gave, HaveCauses, Served, IsWhole, IsServed, Ended, DidServe, is_turn, is_end, is_failed_take}
 use Rattle.relay_app.specs.Turned.{Counted, counts_of, turn_counts, sum_of, status_after, end_count, fault_count, with_entry, IsMade, OneTurn, GoesOn, DidTurns, AllTurns, DidLoop}
 
 zip_append : {K X : Type 0} (ks ls : List K) (xs ys : List X) → length ks ≡ length xs → zip (ks ++ ls) (xs ++ ys) ≡ zip ks xs ++ zip ls ys
@@ -140,13 +142,13 @@ all_spent limit config history moments counts spent xs before = record {
 
 -- what the turns did, with the whole list of steps beside it, is what a run did
 pub turns_served : (limit : ℕ) (config : Config) (history : List BoardEntry) (moments : List ℕ) (outside : Outside) (answer : Status) (counts : Counts) (totals : Totals)
-    → Gave outside.timer outside.timer_now moments → Gave outside.drew outside.drew_now (draws history) → HaveCauses outside history → IsWhole config history totals
+    → Gave outside.timer outside.timer_now moments → Gained outside.opened outside.opened_now (OpensWith (openings history)) → Gave outside.drew outside.drew_now (draws history) → HaveCauses outside history → IsWhole config history totals
     → (xs : List LinkCall) → AllTurns limit config history moments answer counts xs → DidLoop limit config outside answer counts totals xs
-turns_served limit config history moments outside answer counts totals gave drawn causes whole xs all =
+turns_served limit config history moments outside answer counts totals gave opened drawn causes whole xs all =
     record { counted = all.counted; did = by answer all.did }
   where
     served : Served config history moments xs → IsServed config outside totals xs
-    served s = record { history = history; moments = moments; handed = gave; drawn = drawn; causes = causes; served = s; whole = whole }
+    served s = record { history = history; moments = moments; handed = gave; opened = opened; drawn = drawn; causes = causes; served = s; whole = whole }
 
     by : (s : Status) → DidTurns s limit config history moments xs → DidServe s limit config outside totals xs
     by status.Ok did = (served did.0, did.1, did.2)

@@ -16,6 +16,8 @@ use Rattle.relay_core.specs.Safe.{Safe}
 use Rattle.relay_core.specs.Made.{Made, told}
 use Rattle.relay_core.specs.Turning.{made_by}
 use Rattle.board_turns.specs.Between.{board_of, IsBetween, MakesTurn}
+use Rattle.media_ports.specs.Asked as asked
+use Rattle.media_ports.proofs.Asked.{gained_openings_alone}
 use Rattle.media_ports.specs.Held.{TellsHeld}
 use Rattle.call_board.specs.Pairs.{held}
 use Rattle.board_turns.specs.Ending.{leg_pairs}
@@ -34,7 +36,7 @@ use Rattle.ng_server.specs.Servers.{OpensJust}
 use Rattle.ng_server.proofs.Tellings.{told_board}
 use Rattle.relay_app.specs.declared.status.Status.{Status}
 use Rattle.relay_app.specs.declared.totals.Counts.{Counts}
-use Rattle.relay_app.specs.Served.{Outside, HaveCauses, IsWhole}
+use Rattle.relay_app.specs.Served.{Outside, HaveCauses, IsWhole, openings}
 use Rattle.relay_app.specs.Turned.{Running, Ran, AllTurns, DidLoop}
 use Rattle.relay_app.proofs.Steps.{turns_served}
 
@@ -69,24 +71,24 @@ module _ {M I O T : Type 0} {g : _} where
       turn_totals config old new (entry_at config (board_of (made_by old)) (moment_at (board_of (made_by old)) now) x) totals before.orderly follows.1 counts
 
 -- what the turns caused, when more faults of ports were counted after them
-stopped_causes : (history : List BoardEntry) (t0 t1 : Option (List ℕ)) (k0 k1 : Option (List KeyCall)) (p0 p1 p2 q0 q1 : ℕ) → p1 ≤ p2
-    → HaveCauses (record { timer = t0; timer_now = t1; drew = k0; drew_now = k1; port_faults = p0; port_faults_now = p1; key_faults = q0; key_faults_now = q1 }) history
-    → HaveCauses (record { timer = t0; timer_now = t1; drew = k0; drew_now = k1; port_faults = p0; port_faults_now = p2; key_faults = q0; key_faults_now = q1 }) history
-stopped_causes history t0 t1 k0 k1 p0 p1 p2 q0 q1 later causes entry given i is =
+stopped_causes : (history : List BoardEntry) (t0 t1 : Option (List ℕ)) (o0 o1 o2 : Option (List PortCall)) (k0 k1 : Option (List KeyCall)) (p0 p1 p2 q0 q1 : ℕ) → p1 ≤ p2
+    → HaveCauses (record { timer = t0; timer_now = t1; opened = o0; opened_now = o1; drew = k0; drew_now = k1; port_faults = p0; port_faults_now = p1; key_faults = q0; key_faults_now = q1 }) history
+    → HaveCauses (record { timer = t0; timer_now = t1; opened = o0; opened_now = o2; drew = k0; drew_now = k1; port_faults = p0; port_faults_now = p2; key_faults = q0; key_faults_now = q1 }) history
+stopped_causes history t0 t1 o0 o1 o2 k0 k1 p0 p1 p2 q0 q1 later causes entry given i is =
     let caused = causes entry given i is in
     record { port_fault = λ f. (let rose = caused.port_fault f in omega (arith, rose, later)); key_fault = caused.key_fault }
 
 -- so the turns are those of a whole run
-pub ran_whole : (limit : ℕ) (config : Config) (history : List BoardEntry) (t0 t1 : Option (List ℕ)) (k0 k1 : Option (List KeyCall)) (p0 p1 p2 q0 q1 : ℕ)
-    (answer : Status) (counts : Counts) (totals : Totals) (l0 l1 : Option (List LinkCall)) → p1 ≤ p2
-    → Ran limit config history (record { timer = t0; timer_now = t1; drew = k0; drew_now = k1; port_faults = p0; port_faults_now = p1; key_faults = q0; key_faults_now = q1 })
+pub ran_whole : (limit : ℕ) (config : Config) (history : List BoardEntry) (t0 t1 : Option (List ℕ)) (o0 o1 o2 : Option (List PortCall)) (k0 k1 : Option (List KeyCall)) (p0 p1 p2 q0 q1 : ℕ)
+    (answer : Status) (counts : Counts) (totals : Totals) (l0 l1 : Option (List LinkCall)) → p1 ≤ p2 → Gained o1 o2 asked.OpensNone
+    → Ran limit config history (record { timer = t0; timer_now = t1; opened = o0; opened_now = o1; drew = k0; drew_now = k1; port_faults = p0; port_faults_now = p1; key_faults = q0; key_faults_now = q1 })
     answer counts l0 l1
     → IsWhole config history totals
-    → Gained l0 l1 (DidLoop limit config (record { timer = t0; timer_now = t1; drew = k0; drew_now = k1; port_faults = p0; port_faults_now = p2; key_faults = q0; key_faults_now = q1 })
+    → Gained l0 l1 (DidLoop limit config (record { timer = t0; timer_now = t1; opened = o0; opened_now = o2; drew = k0; drew_now = k1; port_faults = p0; port_faults_now = p2; key_faults = q0; key_faults_now = q1 })
     answer counts totals)
-ran_whole limit config history t0 t1 k0 k1 p0 p1 p2 q0 q1 answer counts totals l0 l1 later ran whole =
+ran_whole limit config history t0 t1 o0 o1 o2 k0 k1 p0 p1 p2 q0 q1 answer counts totals l0 l1 later closes ran whole =
     gained_less l0 l1 (AllTurns limit config history ran.moments answer counts) _
-    (λ xs all. turns_served limit config history ran.moments _ answer counts totals ran.gave ran.drawn (stopped_causes history t0 t1 k0 k1 p0 p1 p2 q0 q1 later ran.causes) whole xs all)
+    (λ xs all. turns_served limit config history ran.moments _ answer counts totals ran.gave (gained_openings_alone (openings history) o0 o1 o2 ran.opened closes) ran.drawn (stopped_causes history t0 t1 o0 o1 o2 k0 k1 p0 p1 p2 q0 q1 later ran.causes) whole xs all)
     ran.calls
 
 -- before the first turn no pair is held

@@ -9,10 +9,12 @@ use Rattle.relay_outside.specs.declared.link.LinkGiven.{LinkGiven}
 use Rattle.relay_outside.specs.declared.link.LinkGiven.TheVariants as given
 use Rattle.relay_outside.specs.declared.link.LinkCall.{LinkCall}
 use Rattle.relay_outside.specs.declared.link.LinkCall.TheVariants as call
+use Rattle.relay_outside.specs.declared.ports.PortCall.{PortCall}
 use Rattle.relay_outside.specs.declared.settings.Config.{Config}
 use Rattle.relay_outside.specs.Told.{Gained, Rose}
 use Rattle.relay_outside.specs.Link.{datagrams, sends, sent}
 use Rattle.histories.specs.Words.{In}
+use Rattle.media_ports.specs.Asked.{OpensWith}
 use Rattle.call_board.specs.Acts.{BoardEvent, Turn, Tick, Stop, BoardEntry, Given}
 use Rattle.relay_core.specs.Entries.{Entry}
 use Rattle.relay_core.specs.Legal.{Legal}
@@ -97,6 +99,15 @@ given_in (Turn c) = Some c.given
 given_in (Tick calls) = None
 given_in (Stop calls) = None
 
+abbrev pub openings_in : Option Given → List Bool
+openings_in None = []
+openings_in (Some given) = given.opens
+
+-- the answers of the openings of a history, in order
+abbrev pub openings : List BoardEntry → List Bool
+openings [] = []
+openings (entry ∷ history) = openings history ++ openings_in (given_in entry.event)
+
 abbrev pub draws_in : Option Given → List KeyCall
 draws_in None = []
 draws_in (Some given) = draws_of given
@@ -106,10 +117,13 @@ abbrev pub draws : List BoardEntry → List KeyCall
 draws [] = []
 draws (entry ∷ history) = draws history ++ draws_in (given_in entry.event)
 
--- What the timer and the key source told before a run and tell after it, and how many faults of ports and keys were counted
+-- What the timer, the port maker and the key source told before a run and tell after it, and how many faults of ports and keys were
+-- counted
 pub record Outside : Type 0 where
   pub timer : Option (List ℕ)
   pub timer_now : Option (List ℕ)
+  pub opened : Option (List PortCall)
+  pub opened_now : Option (List PortCall)
   pub drew : Option (List KeyCall)
   pub drew_now : Option (List KeyCall)
   pub port_faults : ℕ
@@ -145,12 +159,14 @@ pub record IsWhole (config : Config) (history : List BoardEntry) (totals : Total
   pub board_is : board_of list ≡ stop_entry history ∷ history
   pub totals_are : HasTotals list totals
 
--- Every request was answered as a history of the board demands, by moments that the timer gave, keys that the key source gave, and
--- ports; and that history is the board's in the whole list of the relay's steps
+-- Every request was answered as a history of the board demands, by moments that the timer gave, openings that the port maker
+-- answered and keys that the key source gave, each in order and no others; and that history is the board's in the whole list of the
+-- relay's steps
 pub record IsServed (config : Config) (outside : Outside) (totals : Totals) (calls : List LinkCall) : Type 0 where
   pub history : List BoardEntry
   pub moments : List ℕ
   pub handed : Gave outside.timer outside.timer_now moments
+  pub opened : Gained outside.opened outside.opened_now (OpensWith (openings history))
   pub drawn : Gave outside.drew outside.drew_now (draws history)
   pub causes : HaveCauses outside history
   pub served : Served config history moments calls

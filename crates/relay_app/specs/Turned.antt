@@ -6,6 +6,7 @@ use Rattle.relay_outside.specs.declared.link.LinkGiven.{LinkGiven}
 use Rattle.relay_outside.specs.declared.link.LinkCall.{LinkCall}
 use Rattle.relay_outside.specs.declared.settings.Config.{Config}
 use Rattle.relay_outside.specs.Link.{datagrams, sends, sent}
+use Rattle.media_ports.specs.Asked.{OpensWith}
 use Rattle.call_board.specs.Acts.{BoardEntry}
 use Rattle.control_entries.specs.Controls.{Hearing, entry_at, moment_at}
 use Rattle.control_turns.specs.declared.taking.ControlTurn.{ControlTurn}
@@ -14,7 +15,7 @@ use Rattle.media_lane.specs.declared.answers.Totals.{Totals}
 use Rattle.relay_app.specs.declared.status.Status.{Status}
 use Rattle.relay_app.specs.declared.status.Status.TheVariants as status
 use Rattle.relay_app.specs.declared.totals.Counts.{Counts}
-use Rattle.relay_app.specs.Served.{Request, gifts, request_of, IsEntryOf, replies, draws, Served, Gave, Outside, HaveCauses, Ended, DidServe, turns}
+use Rattle.relay_app.specs.Served.{Request, gifts, request_of, IsEntryOf, replies, openings, draws, Served, Gave, Outside, HaveCauses, Ended, DidServe, turns}
 
 -- the calls have these counts
 pub record Counted (counts : Counts) (calls : List LinkCall) : Type 0 where
@@ -98,6 +99,7 @@ pub record GoesOn (config : Config) (history : List BoardEntry) (moments : List 
 pub record Running (config : Config) (history : List BoardEntry) (counts : Counts) (outside : Outside) (before after : Option (List LinkCall)) : Type 0 where
   pub moments : List ℕ
   pub gave : Gave outside.timer outside.timer_now moments
+  pub opened : Gained outside.opened outside.opened_now (OpensWith (openings history))
   pub drawn : Gave outside.drew outside.drew_now (draws history)
   pub causes : HaveCauses outside history
   pub calls : Gained before after (GoesOn config history moments counts)
@@ -121,6 +123,7 @@ pub record AllTurns (limit : ℕ) (config : Config) (history : List BoardEntry) 
 pub record Ran (limit : ℕ) (config : Config) (history : List BoardEntry) (outside : Outside) (answer : Status) (counts : Counts) (before after : Option (List LinkCall)) : Type 0 where
   pub moments : List ℕ
   pub gave : Gave outside.timer outside.timer_now moments
+  pub opened : Gained outside.opened outside.opened_now (OpensWith (openings history))
   pub drawn : Gave outside.drew outside.drew_now (draws history)
   pub causes : HaveCauses outside history
   pub calls : Gained before after (AllTurns limit config history moments answer counts)

@@ -1,4 +1,4 @@
--- The words of the command `serve`.
+-- The words of the commands `serve` and `replay`.
 use Rattle.std.specs.Prelude.{◌≡◌, ℕ, ◌+◌, ◌%◌, ◌≤◌, ◌<◌, ◌==◌, List, [], ◌∷◌, length, take, drop, position, filter_map, Bool, ◌||◌, Option, Some, None, nat_eq, nat_lt, if◌then◌else◌, codes}
 use Rattle.std.specs.List.{list_all, starts_with}
 use Rattle.std.specs.Option.{option_map}
@@ -10,6 +10,7 @@ use Rattle.relay_outside.specs.declared.settings.Config.{Config}
 use Rattle.port_pool.specs.Ports.{pair_count}
 use Rattle.sdp_text.specs.Hosts.{ipv4_bytes}
 use Rattle.relay_app.specs.Numbers.{whole_number, number_within}
+use Rattle.relay_app.specs.declared.words.ReplaySettings.{ReplaySettings}
 use Rattle.relay_app.specs.declared.words.Settings.{Settings}
 
 -- an IPv4 address
@@ -43,6 +44,10 @@ session_count text = number_within 1 2048 text
 abbrev pub turn_count : List ℕ → Option ℕ
 turn_count text = number_within 1 1000000000000000 text
 
+-- a seed: a number that fits 64 bits
+abbrev pub seed_number : List ℕ → Option ℕ
+seed_number text = whole_number 18446744073709551615 text
+
 -- the value that a word gives to an option, where it is that option's word
 abbrev pub value_after : List ℕ → List ℕ → Option (List ℕ)
 value_after name word = if starts_with nat_eq word name then Some (drop (length name) word) else None
@@ -61,6 +66,15 @@ is_option word =
     || starts_with nat_eq word (codes "--max-sessions=")
     || starts_with nat_eq word (codes "--turns=")
 
+-- whether a word is that of an option of `replay`
+abbrev pub is_replay_option : List ℕ → Bool
+is_replay_option word =
+    starts_with nat_eq word (codes "--interface=")
+    || starts_with nat_eq word (codes "--seed=")
+    || starts_with nat_eq word (codes "--port-min=")
+    || starts_with nat_eq word (codes "--port-max=")
+    || starts_with nat_eq word (codes "--max-sessions=")
+
 -- what the one value reads as; where there is none, the default; an option stands once at most
 abbrev pub one_value : {X : Type 0} → (List ℕ → Option X) → Option X → List (List ℕ) → Option X
 one_value read default [] = default
@@ -70,6 +84,10 @@ one_value read default (value ∷ again ∷ values) = None
 -- 127.0.0.1:2223
 abbrev pub default_listen : Addr
 default_listen = record { ip = V4 (127 ∷ 0 ∷ 0 ∷ 1 ∷ []); port = 2223 }
+
+-- 203.0.113.1, an address that documents may use and no host has (RFC 5737)
+abbrev pub replay_interface : Ip
+replay_interface = V4 (203 ∷ 0 ∷ 113 ∷ 1 ∷ [])
 
 -- the configuration of a relay of this interface, these ports and so many calls: a call without packets ends after a minute,
 -- an offer without an answer after an hour
@@ -101,12 +119,12 @@ abbrev pub config_from : Option Ip → Option ℕ → Option ℕ → Option ℕ 
 config_from (Some interface) (Some port_min) (Some port_max) (Some max_sessions) = with_pair (config_with interface port_min port_max max_sessions)
 config_from interface port_min port_max max_sessions = None
 
--- `--interface=` with an IPv4 address, which is required, `--port-min=` and `--port-max=` with a port each, and
--- `--max-sessions=` with a number
-abbrev pub configuration : List (List ℕ) → Option Config
-configuration words =
+-- `--interface=` with an IPv4 address, which is required where no default is given for it, `--port-min=` and `--port-max=`
+-- with a port each, and `--max-sessions=` with a number
+abbrev pub configuration : Option Ip → List (List ℕ) → Option Config
+configuration interface words =
     config_from
-    (one_value ipv4 None (values_of (codes "--interface=") words))
+    (one_value ipv4 interface (values_of (codes "--interface=") words))
     (one_value media_port (Some 30000) (values_of (codes "--port-min=") words))
     (one_value media_port (Some 40000) (values_of (codes "--port-max=") words))
     (one_value session_count (Some 2048) (values_of (codes "--max-sessions=") words))
@@ -122,7 +140,7 @@ abbrev pub option_settings : List (List ℕ) → Option Settings
 option_settings words =
     if list_all is_option words
     then settings_from
-    (configuration words)
+    (configuration None words)
     (one_value listen_address (Some default_listen) (values_of (codes "--listen-ng=") words))
     (one_value turn_count (Some 1000000000000000) (values_of (codes "--turns=") words))
     else None
@@ -131,6 +149,25 @@ option_settings words =
 abbrev pub settings : List (List ℕ) → Option Settings
 settings [] = None
 settings (command ∷ words) = if bytes_eq command (codes "serve") then option_settings words else None
+
+-- what the options of a replay say, where each says something
+abbrev pub replay_from : Option Config → Option ℕ → Option ReplaySettings
+replay_from (Some config) (Some seed) = Some (record { config = config; seed = seed })
+replay_from config seed = None
+
+-- what the words behind `replay` say: those of the configuration, and `--seed=` with a number
+abbrev pub replay_options : List (List ℕ) → Option ReplaySettings
+replay_options words =
+    if list_all is_replay_option words
+    then replay_from
+    (configuration (Some replay_interface) words)
+    (one_value seed_number (Some 1) (values_of (codes "--seed=") words))
+    else None
+
+-- what a command line says, where its first word is `replay` and the others are as they have to be
+abbrev pub replay_settings : List (List ℕ) → Option ReplaySettings
+replay_settings [] = None
+replay_settings (command ∷ words) = if bytes_eq command (codes "replay") then replay_options words else None
 
 -- an address of version 4
 abbrev pub IsV4 : Ip → Type 0

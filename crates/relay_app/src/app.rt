@@ -1,9 +1,10 @@
 ghost use Rattle.std.specs.Prelude.{◌≡◌, ◌≢◌, ◌⊎◌, ◌≤◌, ◌<◌, ◌^◌, ℕ, List, [], ◌∷◌, None, Some, IfOk, length, map};
 ghost use Rattle.relay_outside.specs.Told.{Gained, Rose};
 ghost use Rattle.media_ports.specs.Held.{TellsHeld};
-ghost use Rattle.relay_app.specs.Words.{settings};
-ghost use Rattle.relay_app.specs.Run.{DidCall, DidPrint, PrintsUsage, UsageByWords, TellsNone};
+ghost use Rattle.relay_app.specs.Words.{settings, replay_settings};
+ghost use Rattle.relay_app.specs.Run.{DidCall, DidPrint, IsServed, StatusByWords, ReplayedBy, AreOfReplay, TellsNone};
 
+use crate::replaying::replay_else;
 use crate::serve::{close_table, serve_turns};
 use crate::status::Status;
 use crate::totals::put_totals;
@@ -16,10 +17,6 @@ use relay_outside::{
 use std::alloc::Global;
 use std::sync::Wait;
 
-/// The usage text.
-const USAGE: &[u8] =
-    b"usage: rtpengine serve --interface=ADDRESS [--listen-ng=ADDRESS:PORT] [--port-min=PORT] [--port-max=PORT] [--max-sessions=NUMBER] [--turns=NUMBER]\n";
-
 /// How many bytes the line of totals has at the most.
 const LINE: usize = 512;
 
@@ -31,19 +28,6 @@ fn line_room(alloc: Global) -> Result<Text, OutOfMemory>
     match line.reserve(LINE) {
         Ok(()) => Ok(line),
         Err(_) => Err(OutOfMemory),
-    }
-}
-
-/// Prints the usage text.
-fn print_usage<O: LineSink>(out: &mut O) -> Status
-    ensures status { UsageByWords None result }
-    ensures printed { Gained (O.told out.old) (O.told out.new) (PrintsUsage result) }
-    ensures later { O.faults out.old ≤ O.faults out.new }
-    ensures print_fault { result ≡ Status.PrintFault → Rose (O.faults out.old) (O.faults out.new) }
-{
-    match out.write(USAGE) {
-        Ok(()) => Status::Usage,
-        Err(_) => Status::PrintFault,
     }
 }
 
@@ -78,6 +62,8 @@ where
         (record {
           timer = T.told timer.old;
           timer_now = T.told timer.new;
+          opened = P.told ports.old;
+          opened_now = P.told ports.new;
           drew = K.told keys.old;
           drew_now = K.told keys.new;
           port_faults = P.faults ports.old;
@@ -90,6 +76,8 @@ where
         (record {
           timer = T.told timer.old;
           timer_now = T.told timer.new;
+          opened = P.told ports.old;
+          opened_now = P.told ports.new;
           drew = K.told keys.old;
           drew_now = K.told keys.new;
           port_faults = P.faults ports.old;
@@ -98,7 +86,7 @@ where
           key_faults_now = K.faults keys.new;
         })
         (Some settings.now) result calls)) }
-    ensures status { UsageByWords (Some settings.now) result }
+    ensures status { IsServed result }
     ensures memory { result ≡ Status.OutOfMemory → (control.new ≡ control.old) × (ports.new ≡ ports.old) × (keys.new ≡ keys.old) × (timer.new ≡ timer.old) × (out.new ≡ out.old) }
     ensures shut { TellsHeld settings.now.config (P.told ports.new) [] }
     ensures later { (N.faults control.old ≤ N.faults control.new) × (P.faults ports.old ≤ P.faults ports.new) × (K.faults keys.old ≤ K.faults keys.new) × (O.faults out.old ≤ O.faults out.new) }
@@ -144,12 +132,17 @@ where
 /// it ended.
 ///
 /// `serve --interface=ADDRESS [--listen-ng=ADDRESS:PORT] [--port-min=PORT] [--port-max=PORT] [--max-sessions=NUMBER] [--turns=NUMBER]`
-/// is the one command so far. It binds the control link and answers the datagrams that it takes until the link gives no more, a take
+/// binds the control link and answers the datagrams that it takes until the link gives no more, a take
 /// fails, or `--turns` takes gave a datagram or nothing. Calls begin, are answered and end as the datagrams ask: their ports are
 /// opened and closed by the port maker, their keys drawn from the key source. After each take at most one packet of each port is
 /// relayed, handed a moment of the clock. At the end all calls are ended, and a line of totals is printed. The timer, in
-/// milliseconds, is asked once for each take of the link. Any other words are answered `Usage`. The script, which no command uses
-/// yet, is left alone. It may wait for the turns of its own table.
+/// milliseconds, is asked once for each take of the link.
+///
+/// `replay [--interface=ADDRESS] [--seed=NUMBER] [--port-min=PORT] [--port-max=PORT] [--max-sessions=NUMBER]` reads the script, makes its
+/// steps over devices in memory, and prints a line for each event. It leaves the control link, the ports, the keys, the timer, the
+/// clock and the gate alone.
+///
+/// Any other words are answered `Usage`. It may wait for the turns of its own table.
 pub fn run<R, N, P, K, T, C, G, S, O>(
     rt: &R,
     alloc: Global,
@@ -180,6 +173,8 @@ where
         (record {
           timer = T.told timer.old;
           timer_now = T.told timer.new;
+          opened = P.told ports.old;
+          opened_now = P.told ports.new;
           drew = K.told keys.old;
           drew_now = K.told keys.new;
           port_faults = P.faults ports.old;
@@ -188,10 +183,12 @@ where
           key_faults_now = K.faults keys.new;
         })
         (settings (map (λ word. word.now) words.now)) result) }
-    ensures printed { Gained (N.told control.old) (N.told control.new) (λ calls. Gained (O.told out.old) (O.told out.new) (DidPrint
+    ensures printed { (AreOfReplay (settings (map (λ word. word.now) words.now)) (replay_settings (map (λ word. word.now) words.now)) → ⊥) → Gained (N.told control.old) (N.told control.new) (λ calls. Gained (O.told out.old) (O.told out.new) (DidPrint
         (record {
           timer = T.told timer.old;
           timer_now = T.told timer.new;
+          opened = P.told ports.old;
+          opened_now = P.told ports.new;
           drew = K.told keys.old;
           drew_now = K.told keys.new;
           port_faults = P.faults ports.old;
@@ -200,18 +197,21 @@ where
           key_faults_now = K.faults keys.new;
         })
         (settings (map (λ word. word.now) words.now)) result calls)) }
-    ensures usage { UsageByWords (settings (map (λ word. word.now) words.now)) result }
+    ensures status { StatusByWords (settings (map (λ word. word.now) words.now)) (replay_settings (map (λ word. word.now) words.now)) result }
+    ensures replayed { ReplayedBy (settings (map (λ word. word.now) words.now)) (replay_settings (map (λ word. word.now) words.now)) result (S.told script.old) (S.told script.new) (O.told out.old) (O.told out.new) }
     ensures control_fault { result ≡ Status.ControlFault → Rose (N.faults control.old) (N.faults control.new) }
     ensures print_fault { result ≡ Status.PrintFault → Rose (O.faults out.old) (O.faults out.new) }
-    ensures memory { result ≡ Status.OutOfMemory → (control.new ≡ control.old) × (ports.new ≡ ports.old) × (keys.new ≡ keys.old) × (timer.new ≡ timer.old) × (out.new ≡ out.old) }
+    ensures script_read { result ≡ Status.ScriptRead → Rose (S.faults script.old) (S.faults script.new) }
+    ensures memory { result ≡ Status.OutOfMemory → (AreOfReplay (settings (map (λ word. word.now) words.now)) (replay_settings (map (λ word. word.now) words.now)) → ⊥)
+        → (control.new ≡ control.old) × (ports.new ≡ ports.old) × (keys.new ≡ keys.old) × (timer.new ≡ timer.old) × (out.new ≡ out.old) }
     ensures shut { TellsNone (settings (map (λ word. word.now) words.now)) (P.told ports.new) }
     ensures unasked { settings (map (λ word. word.now) words.now) ≡ None → (timer.new ≡ timer.old) × (ports.new ≡ ports.old) × (keys.new ≡ keys.old) }
-    ensures unused { script.new ≡ script.old }
+    ensures unused { (AreOfReplay (settings (map (λ word. word.now) words.now)) (replay_settings (map (λ word. word.now) words.now)) → ⊥) → script.new ≡ script.old }
 {
     match read_settings(words) {
         Some(settings) => serve(
             rt, alloc, &settings, control, ports, keys, timer, clock, gate, out,
         ),
-        None => print_usage(out),
+        None => replay_else(rt, alloc, words, script, out),
     }
 }

@@ -5,14 +5,18 @@
 
 mod app;
 mod numbers;
+mod replaying;
 mod serve;
 mod status;
 mod totals;
+mod usage;
 mod words;
 
 pub use app::run;
 pub use status::Status;
 
+#[cfg(test)]
+mod replay_tests;
 #[cfg(test)]
 mod tests;
 #[cfg(test)]

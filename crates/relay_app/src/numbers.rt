@@ -1,4 +1,4 @@
-ghost use Rattle.std.specs.Prelude.{◌≡◌, ◌≤◌, ◌<◌, ◌^◌, min, IfSome};
+ghost use Rattle.std.specs.Prelude.{◌≡◌, ◌≤◌, ◌^◌, min, IfSome};
 ghost use Rattle.std.specs.Option.{option_map};
 ghost use Rattle.sdp_text.specs.Pieces.{is_digit, number, at_most};
 ghost use Rattle.relay_app.specs.Numbers.{has_leading_zero, whole_number, number_within};
@@ -12,17 +12,21 @@ pub(crate) struct Limits {
 
 /// The decimal number that a text is, where it is no greater than the limit; leading zeros are allowed.
 fn read_number(text: &[u8], limit: u64) -> Option<u64>
-    requires { limit < 2 ^ 60 }
     ensures value { result ≡ at_most limit (number text.now) }
     ensures within { IfSome result (λ value. value ≤ limit) }
 {
+    let limit = u128::from(limit);
     let value = digits_value(text, limit + 1)?;
-    if value <= limit { Some(value) } else { None }
+    if value <= limit {
+        Some(value as u64)
+    } else {
+        None
+    }
 }
 
 /// The decimal number that a text is, and `greatest` in place of any greater one.
-fn digits_value(text: &[u8], greatest: u64) -> Option<u64>
-    requires { greatest ≤ 2 ^ 60 }
+fn digits_value(text: &[u8], greatest: u128) -> Option<u128>
+    requires { greatest ≤ 2 ^ 64 }
     ensures { result ≡ option_map (min greatest) (number text.now) }
 {
     if text.is_empty() {
@@ -33,7 +37,7 @@ fn digits_value(text: &[u8], greatest: u64) -> Option<u64>
         if !is_digit(*byte) {
             return None;
         }
-        value = (10 * value + u64::from(*byte - b'0')).min(greatest);
+        value = (10 * value + u128::from(*byte - b'0')).min(greatest);
     }
     Some(value)
 }
@@ -56,7 +60,6 @@ fn has_leading_zero(text: &[u8]) -> bool
 
 /// A decimal number without a leading zero, where it is no greater than the limit.
 pub(crate) fn read_whole_number(text: &[u8], limit: u64) -> Option<u64>
-    requires { limit < 2 ^ 60 }
     ensures value { result ≡ whole_number limit text.now }
     ensures within { IfSome result (λ value. value ≤ limit) }
 {
@@ -69,7 +72,6 @@ pub(crate) fn read_whole_number(text: &[u8], limit: u64) -> Option<u64>
 
 /// A decimal number without a leading zero, within the limits.
 pub(crate) fn read_number_within(text: &[u8], limits: Limits) -> Option<u64>
-    requires { limits.most < 2 ^ 60 }
     ensures value { result ≡ number_within limits.least limits.most text.now }
     ensures within { IfSome result (λ value. (limits.least ≤ value) × (value ≤ limits.most)) }
 {

@@ -100,6 +100,8 @@ fn make_turns<N: ControlLink, P: PortMaker, K: KeySource, T: Timer, C: Clock, G:
         (record {
           timer = T.told timer.old;
           timer_now = T.told timer.new;
+          opened = P.told ports.old;
+          opened_now = P.told ports.new;
           drew = K.told keys.old;
           drew_now = K.told keys.new;
           port_faults = P.faults ports.old;
@@ -197,6 +199,8 @@ where
         (record {
           timer = T.told timer.old;
           timer_now = T.told timer.new;
+          opened = P.told ports.old;
+          opened_now = P.told ports.new;
           drew = K.told keys.old;
           drew_now = K.told keys.new;
           port_faults = P.faults ports.old;

@@ -1,7 +1,7 @@
 /// How a call of `run` ended.
 #[derive(Clone, Copy, PartialEq, Eq, Debug)]
 pub enum Status {
-    /// `serve`: the control link answered that it gives no more.
+    /// `serve`: the control link answered that it gives no more. `replay`: the script was read to its end.
     Ok,
     /// The words are not those of a command.
     Usage,
@@ -11,11 +11,11 @@ pub enum Status {
     PrintFault,
     /// Memory was refused.
     OutOfMemory,
-    /// `replay`: a line of the script is faulty. Not answered yet.
+    /// `replay`: a line of the script is not in the grammar, or names a receipt that is not held.
     ScriptFault,
     /// `serve`: as many takes as `--turns` allows gave a datagram or nothing.
     TurnsSpent,
-    /// `replay`: the script's source met a fault. Not answered yet.
+    /// `replay`: the script's source met a fault.
     ScriptRead,
 }
 

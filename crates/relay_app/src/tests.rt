@@ -300,9 +300,11 @@ fn a_bind_that_fails_prints_no_line(rt: HostRuntime) -> Result<(), Fail> {
 #[test]
 fn other_words_print_the_usage(rt: HostRuntime) -> Result<(), Fail> {
     let alloc = rt.alloc();
-    let cases: [&[&str]; 16] = [
+    let cases: [&[&str]; 18] = [
         &[],
-        &["replay"],
+        &["load"],
+        &["replay", "--turns=1"],
+        &["replay", "--seed=01"],
         &["serve"],
         &["serve", "--interface"],
         &["serve", "--interface=203.0.113"],

@@ -1,6 +1,6 @@
-ghost use Rattle.std.specs.Prelude.{◌≡◌, ◌≤◌, ◌<◌, ◌^◌, ◌==◌, ◌∷◌, ◌++◌, [], ℕ, List, Some, None, IfSome, MatchOption, IsTrue, ◌↔◌, codes, length, map, position};
+ghost use Rattle.std.specs.Prelude.{◌≡◌, ◌≤◌, ◌<◌, ◌==◌, ◌∷◌, ◌++◌, [], ℕ, List, Some, None, IfSome, MatchOption, IsTrue, ◌↔◌, codes, length, map, position};
 ghost use Rattle.std.specs.List.{list_all};
-ghost use Rattle.relay_app.specs.Words.{value_after, values_of, is_option, ipv4, listen_address, media_port, session_count, turn_count, one_value, default_listen, has_pair, configuration, option_settings, settings, IsV4, IsPair, IsInLimits};
+ghost use Rattle.relay_app.specs.Words.{value_after, values_of, is_option, is_replay_option, ipv4, listen_address, media_port, session_count, turn_count, seed_number, one_value, default_listen, has_pair, configuration, option_settings, settings, replay_options, replay_settings, IsV4, IsPair, IsInLimits};
 ghost use Rattle.relay_app.specs.Numbers.{whole_number, number_within};
 ghost use Rattle.relay_app.specs.Given.{IsGiven};
 
@@ -17,6 +17,15 @@ pub(crate) struct Settings {
     pub(crate) listen: Addr,
     /// After how many takes that gave a datagram or nothing the run ends.
     pub(crate) turns: u64,
+}
+
+/// What the words of `replay` say.
+#[derive(Clone, Copy, PartialEq, Eq, Debug)]
+pub(crate) struct ReplaySettings {
+    /// What the relay is replayed with: its interface has version 4, and its range of ports holds a pair.
+    pub(crate) config: Config,
+    /// From which number the keys are drawn that the script doesn't give.
+    pub(crate) seed: u64,
 }
 
 /// The values that the words give to one option.
@@ -40,6 +49,11 @@ const PORT_MAX: &[u8] = b"--port-max=";
 const MAX_SESSIONS: &[u8] = b"--max-sessions=";
 
 const TURNS: &[u8] = b"--turns=";
+
+const SEED: &[u8] = b"--seed=";
+
+/// The interface of a replay where the words give none: an address for documents (RFC 5737).
+const REPLAY_INTERFACE: Ip = Ip::V4([203, 0, 113, 1]);
 
 /// The greatest number of turns, and the default.
 const MOST_TURNS: u64 = 1_000_000_000_000_000;
@@ -94,10 +108,28 @@ fn is_option(word: &str) -> bool
         || word.starts_with(TURNS)
 }
 
+/// Whether a word is that of an option of `replay`.
+fn is_replay_option(word: &str) -> bool
+    ensures { result ≡ is_replay_option word.now }
+{
+    let word = word.as_bytes();
+    word.starts_with(INTERFACE)
+        || word.starts_with(SEED)
+        || word.starts_with(PORT_MIN)
+        || word.starts_with(PORT_MAX)
+        || word.starts_with(MAX_SESSIONS)
+}
+
 fn are_options(words: &[&str]) -> bool
     ensures { result ≡ list_all (λ word. is_option word.now) words.now }
 {
     words.iter().all(|word| is_option(word))
+}
+
+fn are_replay_options(words: &[&str]) -> bool
+    ensures { result ≡ list_all (λ word. is_replay_option word.now) words.now }
+{
+    words.iter().all(|word| is_replay_option(word))
 }
 
 fn read_ip(text: &[u8]) -> Option<Ip>
@@ -137,12 +169,14 @@ fn read_port(text: &[u8]) -> Option<u16>
     }
 }
 
-fn find_interface(words: &[&str]) -> Option<Ip>
-    ensures value { result ≡ one_value ipv4 None (values_of (codes "--interface=") (map (λ word. word.now) words.now)) }
+/// The interface that the words give, and the default where they give none.
+fn find_interface(words: &[&str], default: Option<Ip>) -> Option<Ip>
+    requires { IfSome default IsV4 }
+    ensures value { result ≡ one_value ipv4 default (values_of (codes "--interface=") (map (λ word. word.now) words.now)) }
     ensures version { IfSome result IsV4 }
 {
     match find_values(words, INTERFACE) {
-        Given::Missing => None,
+        Given::Missing => default,
         Given::Once(value) => read_ip(value),
         Given::Repeated => None,
     }
@@ -163,8 +197,7 @@ fn find_listen(words: &[&str]) -> Option<Addr>
 
 /// The whole number within the limits that the words give to an option, and the default where they give none.
 fn find_number(words: &[&str], name: &[u8], limits: Limits, default: u64) -> Option<u64>
-    requires limits { limits.most < 2 ^ 60 }
-    requires default { (limits.least ≤ default) × (default ≤ limits.most) }
+    requires { (limits.least ≤ default) × (default ≤ limits.most) }
     ensures value { result ≡ one_value (number_within limits.least limits.most) (Some default) (values_of name.now (map (λ word. word.now) words.now)) }
     ensures within { IfSome result (λ number. (limits.least ≤ number) × (number ≤ limits.most)) }
 {
@@ -218,6 +251,17 @@ fn find_turns(words: &[&str]) -> Option<u64>
     find_number(words, TURNS, limits, MOST_TURNS)
 }
 
+/// From which number keys are drawn: any that fits 64 bits.
+fn find_seed(words: &[&str]) -> Option<u64>
+    ensures { result ≡ one_value seed_number (Some 1) (values_of (codes "--seed=") (map (λ word. word.now) words.now)) }
+{
+    match find_values(words, SEED) {
+        Given::Missing => Some(1),
+        Given::Once(value) => read_whole_number(value, u64::MAX),
+        Given::Repeated => None,
+    }
+}
+
 /// Whether the range of ports holds a pair: an even port and the next one.
 fn has_pair(config: &Config) -> bool
     ensures value { result ≡ has_pair config.now }
@@ -228,12 +272,13 @@ fn has_pair(config: &Config) -> bool
     first_port < u32::from(config.port_max)
 }
 
-/// What the relay is run with, where the range of ports holds a pair.
-fn find_config(words: &[&str]) -> Option<Config>
-    ensures value { result ≡ configuration (map (λ word. word.now) words.now) }
+/// What the relay is run with, where the range of ports holds a pair: its interface may have a default.
+fn find_config(words: &[&str], interface: Option<Ip>) -> Option<Config>
+    requires { IfSome interface IsV4 }
+    ensures value { result ≡ configuration interface (map (λ word. word.now) words.now) }
     ensures limits { IfSome result IsInLimits }
 {
-    let interface = find_interface(words)?;
+    let interface = find_interface(words, interface)?;
     let port_min = find_port(words, PORT_MIN, 30_000)?;
     let port_max = find_port(words, PORT_MAX, 40_000)?;
     let max_sessions = find_sessions(words)?;
@@ -261,7 +306,7 @@ fn option_settings(words: &[&str]) -> Option<Settings>
     if !are_options(words) {
         return None;
     }
-    let config = find_config(words)?;
+    let config = find_config(words, None)?;
     let listen = find_listen(words)?;
     let turns = find_turns(words)?;
     Some(Settings {
@@ -282,4 +327,28 @@ pub(crate) fn read_settings(words: &[&str]) -> Option<Settings>
         return None;
     }
     option_settings(options)
+}
+
+fn replay_options(words: &[&str]) -> Option<ReplaySettings>
+    ensures value { result ≡ replay_options (map (λ word. word.now) words.now) }
+    ensures config { IfSome result (λ settings. IsInLimits settings.config) }
+{
+    if !are_replay_options(words) {
+        return None;
+    }
+    let config = find_config(words, Some(REPLAY_INTERFACE))?;
+    let seed = find_seed(words)?;
+    Some(ReplaySettings { config, seed })
+}
+
+/// What the words of a command line say: `None` where they are no words of `replay`.
+pub(crate) fn read_replay(words: &[&str]) -> Option<ReplaySettings>
+    ensures value { result ≡ replay_settings (map (λ word. word.now) words.now) }
+    ensures config { IfSome result (λ settings. IsInLimits settings.config) }
+{
+    let (command, options) = words.split_first()?;
+    if *command != "replay" {
+        return None;
+    }
+    replay_options(options)
 }

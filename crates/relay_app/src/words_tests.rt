@@ -1,4 +1,4 @@
-use crate::words::{Settings, read_settings};
+use crate::words::{ReplaySettings, Settings, read_replay, read_settings};
 use relay_outside::{Addr, Config, Ip};
 use std::process::Abort;
 
@@ -123,4 +123,95 @@ fn other_words_are_refused(rt: HostRuntime) {
         assert!(rt; read_settings(&words).is_none(), "{first} {second}");
     }
     assert!(rt; read_settings(&["serve", "--port-min=1024"]).is_none());
+}
+
+/// What words of `replay` say that give only this interface, this seed and these ports.
+fn replay_with(interface: [u8; 4], seed: u64, port_min: u16, port_max: u16) -> ReplaySettings {
+    let mut config = settings_with(port_min, port_max, 2048).config;
+    config.interface = Ip::V4(interface);
+    ReplaySettings { config, seed }
+}
+
+#[test]
+fn a_replay_needs_no_option(rt: HostRuntime) {
+    assert_eq!(rt;
+        read_replay(&["replay"]),
+        Some(replay_with([203, 0, 113, 1], 1, 30_000, 40_000))
+    );
+}
+
+#[test]
+fn each_option_of_a_replay_may_be_given(rt: HostRuntime) {
+    let words = [
+        "replay",
+        "--port-max=5101",
+        "--seed=18446744073709551615",
+        "--interface=198.51.100.7",
+        "--port-min=5000",
+        "--max-sessions=77",
+    ];
+    let mut wanted = replay_with([198, 51, 100, 7], u64::MAX, 5000, 5101);
+    wanted.config.max_sessions = 77;
+    assert_eq!(rt; read_replay(&words), Some(wanted));
+}
+
+#[test]
+fn a_seed_is_a_number_of_64_bits(rt: HostRuntime) {
+    let cases = [
+        ("--seed=0", 0),
+        ("--seed=1", 1),
+        ("--seed=10", 10),
+        ("--seed=4294967296", 4_294_967_296),
+        ("--seed=18446744073709551615", u64::MAX),
+    ];
+    for (word, seed) in cases {
+        assert_eq!(rt;
+            read_replay(&["replay", word]),
+            Some(replay_with([203, 0, 113, 1], seed, 30_000, 40_000))
+        );
+    }
+}
+
+#[test]
+fn words_that_are_none_of_a_replay_are_refused(rt: HostRuntime) {
+    let cases = [
+        ("--seed=18446744073709551616", "--port-min=30000"),
+        (
+            "--seed=99999999999999999999999999999999999999999",
+            "--port-min=30000",
+        ),
+        ("--seed=00", "--port-min=30000"),
+        ("--seed=01", "--port-min=30000"),
+        ("--seed=-1", "--port-min=30000"),
+        ("--seed=+1", "--port-min=30000"),
+        ("--seed=1 ", "--port-min=30000"),
+        ("--seed=0x1", "--port-min=30000"),
+        ("--seed=", "--port-min=30000"),
+        ("--seed", "--port-min=30000"),
+        ("--seed=1", "--seed=1"),
+        ("--interface=", "--port-min=30000"),
+        ("--interface=2001:db8::1", "--port-min=30000"),
+        (INTERFACE, INTERFACE),
+        // options of `serve` alone
+        ("--turns=9", "--port-min=30000"),
+        ("--listen-ng=127.0.0.1:2223", "--port-min=30000"),
+        // the range holds no pair
+        ("--port-min=39999", "--seed=1"),
+        ("--port-min=1023", "--seed=1"),
+        ("--max-sessions=2049", "--seed=1"),
+        ("replay", "--seed=1"),
+        ("", "--seed=1"),
+    ];
+    for (first, second) in cases {
+        assert!(rt;
+            read_replay(&["replay", first, second]).is_none(),
+            "{first} {second}"
+        );
+    }
+    for command in ["serve", "Replay", "replays", "repla", ""] {
+        assert!(rt; read_replay(&[command]).is_none(), "{command}");
+    }
+    assert!(rt; read_replay(&[]).is_none());
+    assert!(rt; read_settings(&["replay", INTERFACE]).is_none());
+    assert!(rt; read_settings(&["serve", INTERFACE, "--seed=1"]).is_none());
 }

@@ -4,16 +4,16 @@ use Rattle.relay_app.proofs.Runs.{loop_prints, not_begun, not_bound, bound_calls
 use Rattle.relay_app.proofs.app.serve.Goals as goal
 
 pub returns-in_default-clause-calls : goal.returns-in_default-clause-calls
-returns-in_default-clause-calls g c = not_begun _ c.args.settings.now _ refl refl
+returns-in_default-clause-calls g c = not_begun _ c.args.settings.now _ refl refl refl
 
 pub returns-in_default-new-clause-calls : goal.returns-in_default-new-clause-calls
-returns-in_default-new-clause-calls g c = not_begun _ c.args.settings.now _ refl refl
+returns-in_default-new-clause-calls g c = not_begun _ c.args.settings.now _ refl refl refl
 
 pub returns-in_default-start-clause-calls : goal.returns-in_default-start-clause-calls
-returns-in_default-start-clause-calls g c = not_begun _ c.args.settings.now _ refl refl
+returns-in_default-start-clause-calls g c = not_begun _ c.args.settings.now _ refl refl refl
 
 pub returns-in_default-bind-clause-calls : goal.returns-in_default-bind-clause-calls
-returns-in_default-bind-clause-calls g c = not_bound _ c.args.settings.now _ _ refl refl c.in_default-bind.ensures.told
+returns-in_default-bind-clause-calls g c = not_bound _ c.args.settings.now _ _ refl refl refl c.in_default-bind.ensures.told
 
 pub returns-in-Ok-write-clause-calls : goal.returns-in-Ok-write-clause-calls
 returns-in-Ok-write-clause-calls g c =

@@ -10,7 +10,7 @@ turns-init g c = record {
   same = (refl, refl, refl, refl);
   between = c.requires.between;
   opens = c.requires.open;
-  running = begins _ _ _ _ (first_board _ c.requires.nothing) refl refl;
+  running = begins _ _ _ _ (first_board _ c.requires.nothing) refl refl refl;
   totals = first_totals _ c.requires.nothing;
   later = omega arith;
   port_later = omega arith;
@@ -29,7 +29,7 @@ turns-preserved g c = record {
   opens = opens_again _ _ _ _ c.sweep-hand.ensures.history c.control_turn-turn.ensures.open;
   running =
       running_again _ _ _ _ _ _ _ c.sweep-hand.ensures.history
-      (turn_goes _ _ _ _ c.turns.counts c.with-counts.result _ c.control_turn-turn.result _ _ _ _ _ _ _ _ _ _ _ _ _ _ _ c.with-counts.ensures.sum c.turns.invariant.between
+      (turn_goes _ _ _ _ c.turns.counts c.with-counts.result _ c.control_turn-turn.result _ _ _ _ _ _ _ _ _ _ _ _ _ _ _ _ _ _ c.with-counts.ensures.sum c.turns.invariant.between
       c.control_turn-turn.ensures.between c.turns.invariant.running c.now-now.ensures c.control_turn-turn.ensures.turned
       c.turns.invariant.port_later c.turns.invariant.key_later c.control_turn-turn.ensures.later.1 c.control_turn-turn.ensures.later.2 c.in_default.ensures.answer);
   totals =
@@ -49,7 +49,7 @@ returns-in-Some-clause-same g c = same_again c.args.hand c.turns.hand c.control_
 
 pub returns-in-Some-clause-ran : goal.returns-in-Some-clause-ran
 returns-in-Some-clause-ran g c =
-    turn_ends _ _ _ _ c.turns.counts c.with-counts.result _ c.control_turn-turn.result _ _ _ _ _ _ _ _ _ _ _ _ _ _ _ c.with-counts.ensures.sum c.turns.invariant.between
+    turn_ends _ _ _ _ c.turns.counts c.with-counts.result _ c.control_turn-turn.result _ _ _ _ _ _ _ _ _ _ _ _ _ _ _ _ _ _ c.with-counts.ensures.sum c.turns.invariant.between
     c.control_turn-turn.ensures.between c.turns.invariant.running c.now-now.ensures c.control_turn-turn.ensures.turned
     c.turns.invariant.port_later c.turns.invariant.key_later c.control_turn-turn.ensures.later.1 c.control_turn-turn.ensures.later.2
     c.args.limit c.in-Some.status c.in-Some.ensures.answer c.turns-test.true

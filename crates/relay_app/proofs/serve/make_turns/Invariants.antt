@@ -15,6 +15,8 @@ invariant-turns g l = record {
   running : Running l.server.config (history_of l.hand) l.counts (record {
     timer = g.T.Timer.told l.fn.timer;
     timer_now = g.T.Timer.told l.timer;
+    opened = g.P.PortMaker.told l.fn.ports;
+    opened_now = g.P.PortMaker.told l.ports;
     drew = g.K.KeySource.told l.fn.keys;
     drew_now = g.K.KeySource.told l.keys;
     port_faults = g.P.PortMaker.faults l.fn.ports;

@@ -10,7 +10,7 @@ close_table-requires-clause-all g c = c.stop.ensures.same.2 ∙ c.sweep-hand.ens
 
 pub returns-clause-calls : goal.returns-clause-calls
 returns-clause-calls g c =
-    ran_whole c.args.limit c.args.server.config _ _ _ _ _ _ _ _ _ _ c.make_turns-hand.result.0.status c.make_turns-hand.result.0.counts c.sweep-hand.new.totals _ _ c.stop.ensures.later
+    ran_whole c.args.limit c.args.server.config _ _ _ _ _ _ _ _ _ _ _ _ _ c.make_turns-hand.result.0.status c.make_turns-hand.result.0.counts c.sweep-hand.new.totals _ _ c.stop.ensures.later c.stop.ensures.closes
     c.make_turns-hand.ensures.ran
     (whole_again c.args.server.config _ _ c.sweep-hand.new.totals c.sweep-hand.ensures.history
     (closes_whole c.args.server.config c.args.server.turns c.sweep-hand.result c.stop.new.hand c.sweep-hand.new.totals c.sweep-hand.ensures.between c.stop.ensures.between c.stop.ensures.makes
