@@ -1,0 +1,36 @@
+#!/usr/bin/env bash
+# What a packet of a replayed script costs: a script of one plain call and many packets, less the same script with its packets
+# as comments. Usage: bench/replay.sh [PACKETS [RUNS]], after `rt run` in crates/rtpengine has built the program.
+# A time is the median of so many runs (5 if left out).
+set -euo pipefail
+top=$(cd "$(dirname "$0")/.." && pwd)
+program=${RTPENGINE:-$top/crates/rtpengine/out/rtpengine}
+packets=${1:-40000}
+runs=${2:-5}
+work=$(mktemp -d)
+trap 'rm -r "$work"' EXIT
+python3 "$top/bench/scripts.py" "$packets" >"$work/packets.script"
+python3 "$top/bench/scripts.py" "$packets" --skipped >"$work/skipped.script"
+
+# Milliseconds of one run; what it prints is counted, and each line of a packet must be one that was sent.
+run() {
+    local began ended
+    began=$(date +%s%N)
+    "$program" replay <"$work/$1.script" >"$work/$1.out"
+    ended=$(date +%s%N)
+    if [ "$(grep -c '^sent ' "$work/$1.out" || true)" -ne "$2" ]; then
+        echo "bench/replay.sh: not every packet was sent" >&2
+        exit 1
+    fi
+    echo $(((ended - began) / 1000000))
+}
+
+# The median of the runs.
+times() {
+    for _ in $(seq "$runs"); do run "$1" "$2"; done | sort -n | awk '{ a[NR] = $1 } END { print a[int((NR + 1) / 2)] }'
+}
+
+full=$(times packets "$packets")
+bare=$(times skipped 0)
+awk -v n="$packets" -v f="$full" -v b="$bare" 'BEGIN {
+    printf "%d packets: %d ms, as comments %d ms, %d packets/s\n", n, f, b, (f > b) ? n * 1000 / (f - b) : 0 }'
