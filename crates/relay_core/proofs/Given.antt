@@ -91,6 +91,14 @@ module _ {I O : Type 0} where
 
 -- What a filter of the steps keeps.
 
+-- each of them passes
+abbrev each_event : Entry → Bool
+each_event e = true
+
+each_kept : (h : List Entry) → filter each_event h ≡ h
+each_kept [] = refl
+each_kept (e ∷ h) = ap (λ (xs : List Entry). e ∷ xs) (each_kept h)
+
 abbrev keeps_event : Entry → Bool
 keeps_event e = is_reserved e.event
 
@@ -270,6 +278,25 @@ module _ {T I O : Type 0} (it : I → Option (List InCall)) (ic : I → ℕ) (ot
     all = λ i e q p. g.main main i e q p;
   }
 
+  -- of a hand with all parts all steps of the place are its own
+  all_own : (k : ℕ) (v : View (Part I O) Made T) (n : ℕ) (x : Part I O) → (g : Gives k v n x) → v.parts ≡ 1024 → Numbered v.entries → IsOwn each_event k v.entries g.history
+  all_own k v n x g all numbered = record {
+    numbered = numbered;
+    named = g.named;
+    own = g.own;
+    all = λ i e q p. g.whole all i e q;
+  }
+
+  -- so the whole history is the list's
+  whole_history : (k : ℕ) (v : View (Part I O) Made T) (n : ℕ) (x : Part I O) → (g : Gives k v n x) → v.parts ≡ 1024 → Numbered v.entries
+      → onto g.history [] ≡ history (list_of v.entries) k n
+  whole_history k v n x g all numbered =
+      sym (each_kept (onto g.history []))
+      ∙ ap (λ (rows : List (table.Entry Made T)). filter each_event (onto rows [])) (sym (take-length g.history))
+      ∙ own_history each_event k v.entries g.history (all_own k v n x g all numbered) (length g.history) (omega arith)
+      ∙ each_kept (history (list_of v.entries) k (length g.history))
+      ∙ ap (λ (i : ℕ). history (list_of v.entries) k i) g.long
+
   -- what is kept of the whole history is kept of the list's
   kept_history : (k : ℕ) (v : View (Part I O) Made T) (n : ℕ) (x : Part I O) → (g : Gives k v n x) → v.main ≡ true → Numbered v.entries
       → filter keeps_event (onto g.history []) ≡ filter keeps_event (history (list_of v.entries) k n)
@@ -338,6 +365,18 @@ module _ {T I O : Type 0} (it : I → Option (List InCall)) (ic : I → ℕ) (ot
       (cell_stays it ic ot oc g.start x g.history g.leaves b.0)
       (stands_onto it ic ot oc config g.start x g.history [] g.leaves (λ is. new) (λ is. absurd (not_cell g.start is b.0)) b.1)
       same
+
+  -- a cell's turn, taken by a hand with all parts, gives a cell that stands for the list's own history
+  pub given_whole_cell : (config : Config) (v : View (Part I O) Made T) (k n : ℕ) (x : Part I O) → AreParts config v.starts → 1 ≤ k → k ≤ config.max_sessions → Gives k v n x
+      → v.parts ≡ 1024 → Numbered v.entries → BringsNewKeys (cell_history (list_of v.entries) k n)
+      → Stands config x (history (list_of v.entries) k n)
+  given_whole_cell config v k n x are low high g all numbered brings =
+      let b = cell_begins config k g.start low high (begins_as config v.starts are k g.start g.starts) in
+      let whole : onto g.history [] ≡ history (list_of v.entries) k n = whole_history k v n x g all numbered in
+      let new : BringsNewKeys (filter_map cell_entry (onto g.history []))
+      = subst (λ (h : List Entry). BringsNewKeys (filter_map cell_entry h)) (sym whole) brings in
+      subst (λ (h : List Entry). Stands config x h) whole
+      (stands_onto it ic ot oc config g.start x g.history [] g.leaves (λ is. new) (λ is. absurd (not_cell g.start is b.0)) b.1)
 
   -- by any hand, a cell's turn gives a cell, and a box's a box
   pub gives_cell : (config : Config) (v : View (Part I O) Made T) (k n : ℕ) (x : Part I O) → AreParts config v.starts → 1 ≤ k → k ≤ config.max_sessions → Gives k v n x

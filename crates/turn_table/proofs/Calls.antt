@@ -41,7 +41,7 @@ module _ {S E O : Type 0} (relates : S → E → O → S → Type 0) (reserved :
       ((λ q. h.0 (eq-eqb r 0 q)), λ q. h.1 (ne_eqb r 0 q))
 
   given_before : (k n : ℕ) (x : S) (v : View S E O) → Given relates reserved k (phased k (Marked x) (tried k 0 v)) n x → Given relates reserved k v n x
-  given_before k n x v g = record { history = g.history; long = g.long; start = g.start; starts = g.starts; leaves = g.leaves; named = g.named; own = g.own; above = g.above; main = g.main }
+  given_before k n x v g = record { history = g.history; long = g.long; start = g.start; starts = g.starts; leaves = g.leaves; named = g.named; own = g.own; above = g.above; main = g.main; whole = g.whole }
 
   -- the seat has the mark, and has read the count
   pub after_count : (k n : ℕ) (x : S) (v : View S E O) (m m' : Sat S E O) → Path (Sat S E O) m (phased k (Marked x) (tried k 0 v), (k, Some x) ∷ []) → counted relates reserved (step 0 (16 * k + 1) 0 0 none) m n m'

@@ -16,7 +16,7 @@ use Rattle.turn_table.specs.declared.view.View.{View}
 use Rattle.turn_table.specs.declared.view.Phase.{Phase}
 use Rattle.turn_table.specs.declared.view.Phase.TheVariants.{Nothing, Marked, Out, Held, Counted}
 use Rattle.turn_table.specs.Histories.{In, one_if, seen_at, phase_at, times, Leaves}
-use Rattle.turn_table.specs.Kept.{Matches, Stands, PlaceOk, Kept}
+use Rattle.turn_table.specs.Kept.{Matches, Stands, PlaceOk, Kept, spent_view}
 use Rattle.turn_table.specs.Steps.{Sat, noted, tried, phased, with_count, emptied_phase, reached_phase, number_of, WasTaken, Given, marked, looked, counted, returned, emptied, reached, freed}
 use Rattle.turn_table.proofs.Lists.{total_two, total_some, get_there, seen_here, seen_else, phase_here, phase_else, times_in, below_in}
 use Rattle.turn_table.proofs.Moved.{Homes, rephased, reviewed}
@@ -182,6 +182,17 @@ module _ {S E O : Type 0} (relates : S → E → O → S → Type 0) (reserved :
       by j u at' h true main' = subst (λ (z : View S E O). In e z.entries) (one_main s r j id u v at' at main' main) h
       by j u at' h false side = absurd ((r.seat j u at').plain side e h is)
 
+  -- where one seat has all parts, the others are spent
+  pub others_spent : (s : St) (r : Rule s) (id : ℕ) (v : View S E O) → get_elem? s.views id ≡ some v → v.parts ≡ 1024 → (j : ℕ) (u : View S E O) → j ≢ id → get_elem? s.views j ≡ some u → u ≡ spent_view
+  others_spent s r id v at all j u ne at' = (r.seat j u at').spent
+      (let t = total_two (λ (u : View S E O). u.parts) s.views j id u v ne at' at in let h = r.whole in omega arith)
+
+  -- and all entries are its own
+  pub all_own : (s : St) (r : Rule s) (id : ℕ) (v : View S E O) → get_elem? s.views id ≡ some v → v.parts ≡ 1024 → (k i : ℕ) (e : Entry E O) → slice_get (r.log k) i ≡ Some e → In e v.entries
+  all_own s r id v at all k i e there = let o = in_some s r k i e there in dite (ℕ_discrete o.0 id)
+      (λ q. subst (λ (z : View S E O). In e z.entries) (some-injective o.1 v (sym o.2 ∙ (ap (get_elem? s.views) q ∙ at))) o.3)
+      (λ ne. elim (subst (λ (z : View S E O). In e z.entries) (others_spent s r id v at all o.0 o.1 ne o.2) o.3) [ ])
+
   given : (s : St) (r : Rule s) (id : ℕ) (v : View S E O) → get_elem? s.views id ≡ some v → 0 < v.parts → (k : ℕ) (a : S) → slice_get starts k ≡ Some a → PlaceOk relates s.words s.homes (r.log k) (r.cells k) k a
       → (n : ℕ) → n ≡ length (r.log k) → (x : S) → Leaves relates a (r.log k) x → Given relates reserved k v n x
   given s r id v at live k a start ok n count x leaves =
@@ -195,6 +206,7 @@ module _ {S E O : Type 0} (relates : S → E → O → S → Type 0) (reserved :
         own = own;
         above = λ e h p. let w = slice_get_within (r.log k) e.number e (own e h p) in omega arith;
         main = λ main i e there is. reserved_own s r id v at main k i e there is;
+        whole = λ all i e there. all_own s r id v at all k i e there;
       }
 
   -- kind 4, by the hand that has the mark

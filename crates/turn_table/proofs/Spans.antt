@@ -9,11 +9,11 @@ use Rattle.atomic_table.proofs.Lists.{at_set, set_here, set_else, at_longer}
 use Rattle.turn_table.specs.declared.machine.Entry.{Entry}
 use Rattle.turn_table.specs.declared.view.View.{View}
 use Rattle.turn_table.specs.declared.view.Phase.TheVariants.{Nothing}
-use Rattle.turn_table.specs.Histories.{In, one_if, phase_at, is_at, times, Leaves, IsHistory}
+use Rattle.turn_table.specs.Histories.{one_if, phase_at, is_at, times, Leaves, IsHistory}
 use Rattle.turn_table.specs.Kept.{Stands, SeatOk, Kept, first_view, spent_view}
 use Rattle.turn_table.specs.Steps.{cut_left, cut_right, glued, WasTaken}
-use Rattle.turn_table.proofs.Lists.{total_set, total_append, total_two, total_alone, in_split, get_there, seen_append, below_out, within, at_end}
-use Rattle.turn_table.proofs.Keeps.{not_held, in_some}
+use Rattle.turn_table.proofs.Lists.{total_set, total_append, total_alone, in_split, get_there, seen_append, below_out, within, at_end}
+use Rattle.turn_table.proofs.Keeps.{not_held, others_spent, all_own}
 
 home_there : {S : Type 0} (xs : List S) (k : ℕ) (a : S) → slice_get xs k ≡ Some a → get_elem? (map some (map (λ (x : S). Some x) xs)) k ≡ some (some (Some a))
 home_there [] k a e = absurd (let n : None ≡ Some a = e in cc)
@@ -185,21 +185,16 @@ module _ {S E O : Type 0} (relates : S → E → O → S → Type 0) (reserved :
           (at_set s.views id j both u t.1))
           (at_set first other j spent_view u q)
 
-  -- where one seat has all parts, the others are spent
-  others_spent : (s : St) (r : Rule s) (id : ℕ) (v : View S E O) → get_elem? s.views id ≡ some v → v.parts ≡ 1024 → (j : ℕ) (u : View S E O) → j ≢ id → get_elem? s.views j ≡ some u → u ≡ spent_view
-  others_spent s r id v at all j u ne at' = (r.seat j u at').spent
-      (let t = total_two (λ (u : View S E O). u.parts) s.views j id u v ne at' at in let h = r.whole in omega arith)
-
   -- and no other seat has a turn
   pub alone : (k : ℕ) (v : View S E O) → v.parts ≡ 1024 → v.starts ≡ starts → WasTaken relates reserved k v → ⊥
   alone k v all same t =
       let r = subst (λ z. Kept relates reserved z t.state) same t.kept in
-      t.has (ap (λ (u : View S E O). phase_at u.turns k) (others_spent t.state r t.seat v t.mine all t.other t.view t.apart t.theirs))
+      t.has (ap (λ (u : View S E O). phase_at u.turns k) (others_spent relates reserved starts t.state r t.seat v t.mine all t.other t.view t.apart t.theirs))
 
   nobody : (s : St) (r : Rule s) (id : ℕ) (v : View S E O) → get_elem? s.views id ≡ some v → v.parts ≡ 1024 → ((k : ℕ) → phase_at v.turns k ≡ Nothing) → (k : ℕ) → (r.cells k).0 ≡ 0
   nobody s r id v at all idle k = ⊎_elim (λ z. z) (λ p. let o = r.owned k p in absurd (dite (ℕ_discrete o.0 id)
       (λ e. not_his s r id v at k (idle k) (o.2 ∙ ap suc e))
-      (λ ne. not_his s r o.0 o.1 o.3 k (ap (λ (u : View S E O). phase_at u.turns k) (others_spent s r id v at all o.0 o.1 ne o.3)) o.2)))
+      (λ ne. not_his s r o.0 o.1 o.3 k (ap (λ (u : View S E O). phase_at u.turns k) (others_spent relates reserved starts s r id v at all o.0 o.1 ne o.3)) o.2)))
       (eq-zero-or-pos (r.cells k).0)
 
   -- the place k at the end: its history stands in the last hand's list, and its state is home
@@ -214,9 +209,7 @@ module _ {S E O : Type 0} (relates : S → E → O → S → Type 0) (reserved :
         record {
           named = ok.named;
           own = λ e i p. subst (λ j. slice_get (r.log j) e.number ≡ Some e) p ((r.seat id v at).tied e i).1;
-          all = λ i e there. let o = in_some relates reserved starts s r k i e there in dite (ℕ_discrete o.0 id)
-              (λ q. subst (λ (z : View S E O). In e z.entries) (some-injective o.1 v (sym o.2 ∙ (ap (get_elem? s.views) q ∙ at))) o.3)
-              (λ ne. elim (subst (λ (z : View S E O). In e z.entries) (others_spent s r id v at all o.0 o.1 ne o.2) o.3) [ ]);
-          once = λ i. sym (total_alone (λ (u : View S E O). times k i u.entries) s.views id v at (λ j u ne at'. ap (λ (z : View S E O). times k i z.entries) (others_spent s r id v at all j u ne at'))) ∙ r.once k i;
+          all = λ i e there. all_own relates reserved starts s r id v at all k i e there;
+          once = λ i. sym (total_alone (λ (u : View S E O). times k i u.entries) s.views id v at (λ j u ne at'. ap (λ (z : View S E O). times k i z.entries) (others_spent relates reserved starts s r id v at all j u ne at'))) ∙ r.once k i;
         },
       )

@@ -83,7 +83,8 @@ pub record WasTaken {S E O : Type 0} (relates : S → E → O → S → Type 0) 
   pub apart : other ≢ seat
   pub has : phase_at view.turns k ≢ Nothing
 
--- The state x is what the place's history leaves. It has n entries, the hand's own of this place among them, at their numbers; and, for the main hand, each of its reserved entries is the hand's own
+-- The state x is what the place's history leaves. It has n entries, the hand's own of this place among them, at their numbers; and, for the main hand, each of its reserved entries is the hand's own,
+-- for a hand with all parts each of its entries
 pub record Given {S E O : Type 0} (relates : S → E → O → S → Type 0) (reserved : E → Type 0) (k : ℕ) (v : View S E O) (n : ℕ) (x : S) : Type 0 where
   pub history : List (Entry E O)
   pub long : length history ≡ n
@@ -94,6 +95,7 @@ pub record Given {S E O : Type 0} (relates : S → E → O → S → Type 0) (re
   pub own : (e : Entry E O) → In e v.entries → e.place ≡ k → slice_get history e.number ≡ Some e
   pub above : (e : Entry E O) → In e v.entries → e.place ≡ k → e.number < n
   pub main : v.main ≡ true → (i : ℕ) (e : Entry E O) → slice_get history i ≡ Some e → reserved e.event → In e v.entries
+  pub whole : v.parts ≡ 1024 → (i : ℕ) (e : Entry E O) → slice_get history i ≡ Some e → In e v.entries
 
 module _ {S E O : Type 0} where
   -- The compare-exchange of a mark, the one step that adds to the tries. It notes what it found there: 0, and the mark is set, and the state is out with this seat; or 1, and another hand had the turn
