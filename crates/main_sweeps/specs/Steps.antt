@@ -1,18 +1,25 @@
 -- What a take and a relay by the main hand leave of its list.
-use Rattle.std.specs.Prelude.{◌≡◌, ℕ, List, [], ◌∷◌, ◌++◌}
+use Rattle.std.specs.Prelude.{◌≡◌, ℕ, max, List, [], ◌∷◌, ◌++◌, map}
 use Rattle.relay_outside.specs.declared.settings.Config.{Config}
 use Rattle.rtp_packet.specs.declared.head.Half.{Half}
 use Rattle.port_pool.specs.Boxes as box
 use Rattle.port_pool.specs.Boxes.{Taken}
 use Rattle.call_cell.specs.declared.outcome.Outcome.{Outcome}
 use Rattle.call_cell.specs.Cells as cells
-use Rattle.call_cell.specs.Cells.{Receipt}
-use Rattle.relay_core.specs.Entries.{Entry, Cell, Box, box_of}
+use Rattle.call_cell.specs.Cells.{Receipt, CellEntry, Deed, since_end}
+use Rattle.call_cell.specs.CellStanding.{last_moment}
+use Rattle.call_cell.specs.Deeds.{deed}
+use Rattle.call_cell.specs.Good.{FittingCell}
+use Rattle.call_cell.specs.Standing.{sent_ok}
+use Rattle.relay_core.specs.Entries.{Entry, Cell, Box, box_of, cell_history}
 use Rattle.relay_core.specs.Made.{told_relay}
+use Rattle.relay_core.specs.Standing.{told_entry}
+use Rattle.relay_core.specs.Turning.{IsAbove}
 use Rattle.media_lane.specs.declared.answers.Received.{Received}
 use Rattle.media_lane.specs.declared.answers.Received.TheVariants as answer
 use Rattle.media_lane.specs.Lanes.{packet_of, pair_of}
 use Rattle.media_lane.specs.Receipts.{IsReceiptOf}
+use Rattle.media_lane.specs.Relaying.{AreSent}
 use Rattle.media_lane.specs.Taking.{Tells}
 
 -- a take of a half at the box of a pair, as the table records it
@@ -37,6 +44,24 @@ pub record Relayed (l : List Entry) (p : Receipt) (outcome : Outcome) (new : Lis
   pub number : ℕ
   pub moment : ℕ
   pub list_is : new ≡ l ++ relay_entry p number moment outcome ∷ []
+
+-- what a relay of the packet does after this history of its cell, where its send comes to this outcome
+abbrev pub deed_after : Config → List CellEntry → Receipt → Outcome → Deed
+deed_after config h p outcome = deed config (since_end h) p (sent_ok outcome)
+
+-- The packet was relayed once, handed this moment: with the outcome, and with the bytes that were sent, that the whole history of its
+-- cell demands. Of the relays in that history the list records the outcomes, and the rest follows from these.
+pub record RelaysBy (config : Config) (l : List Entry) (p : Receipt) (now : ℕ) (outcome : Outcome) (bytes : List ℕ) (new : List Entry) : Type 0 where
+  pub number : ℕ
+  -- the list has no later entry of the cell
+  pub at_front : IsAbove l p.holder.cell number
+  pub history : List CellEntry
+  pub recorded : map told_entry history ≡ cell_history l p.holder.cell number
+  pub fitting : FittingCell config history
+  pub outcome_is : outcome ≡ (deed_after config history p outcome).outcome
+  pub bytes_are : AreSent outcome (deed_after config history p outcome).sending bytes
+  -- at the moment that was handed in, or at the cell's last one, where that is later
+  pub list_is : new ≡ l ++ relay_entry p number (max now (last_moment history)) outcome ∷ []
 
 -- a receipt with the pair whose box it was taken from is one of the list
 abbrev pub IsIn : Config → List Entry → ℕ × Receipt → Type 0

@@ -1,11 +1,11 @@
 //! Packets are relayed by the main hand.
 ghost use Rattle.std.specs.Prelude.{◌≡◌, IfOk};
-ghost use Rattle.turn_table.specs.Hands.{IsSameHand};
+ghost use Rattle.turn_table.specs.Hands.{IsSameHand, parts};
 ghost use Rattle.relay_core.specs.Turning.{made_by};
 ghost use Rattle.media_lane.specs.Lanes.{packet_of, pair_of};
 ghost use Rattle.media_lane.specs.Receipts.{IsReceiptOf};
 ghost use Rattle.board_turns.specs.Between.{board_of, IsBetween};
-ghost use Rattle.main_sweeps.specs.Steps.{Relayed, KeepsOthers};
+ghost use Rattle.main_sweeps.specs.Steps.{Relayed, RelaysBy, KeepsOthers};
 
 use call_cell::Outcome;
 use media_lane::{Lane, Receipt};
@@ -30,7 +30,8 @@ fn copy_bytes(alloc: Global, bytes: &[u8]) -> Result<Text, OutOfMemory>
 
 /// Relays the packet of a receipt in the cell of its leg, handed the moment `now` in milliseconds, by the main hand, which holds no
 /// turn. With the outcome a copy of the bytes that were sent is answered, none where none were; `Err`: there was no memory for it.
-/// It may wait, where a lane has the cell's turn.
+/// Where no lane has a hand, the outcome and the bytes are those that the cell's history in the hand's list demands. It may wait, where
+/// a lane has the cell's turn.
 pub fn relay_between<I: InEnd, O: OutEnd, R: Wait>(
     rt: &R,
     alloc: Global,
@@ -46,6 +47,7 @@ pub fn relay_between<I: InEnd, O: OutEnd, R: Wait>(
     ensures between { IsBetween config.now turns.now result.2 }
     ensures board { board_of (made_by result.2) ≡ board_of (made_by hand) }
     ensures relayed { Relayed (made_by hand) (packet_of receipt) result.0 (made_by result.2) }
+    ensures demanded { parts hand ≡ 1024 → IfOk result.1 (λ bytes. RelaysBy config.now (made_by hand) (packet_of receipt) now result.0 bytes.list (made_by result.2)) }
     ensures others { KeepsOthers config.now (made_by hand) (pair_of receipt, packet_of receipt) (made_by result.2) }
 {
     let mut lane = Lane::new(hand, 0, 1, config);
