@@ -10,12 +10,12 @@ use Rattle.main_sweeps.specs.Steps.{IsIn, AreApart, KeepsReceipts, KeepsOthers}
 use Rattle.replay_steps.specs.Holding.{Numbered, ReceiptList, has_number, TakesOut, taken_by, IsApart, AreReceipts}
 
 -- a list about one of its items
-around : {X : Type 0} (xs : List X) (i : ℕ) (d : X) → i < length xs → xs ≡ take i xs ++ get_or xs i d ∷ drop (suc i) xs
+pub around : {X : Type 0} (xs : List X) (i : ℕ) (d : X) → i < length xs → xs ≡ take i xs ++ get_or xs i d ∷ drop (suc i) xs
 around [] i d less = absurd (omega (arith, less))
 around (x ∷ xs) zero d less = refl
 around (x ∷ xs) (suc i) d less = ap (λ ys. x ∷ ys) (around xs i d (omega (arith, less)))
 
-next : (i : ℕ) → suc i ≡ i + 1
+pub next : (i : ℕ) → suc i ≡ i + 1
 next i = omega arith
 
 pair_of_number : (number : ℕ) (h : Numbered) → has_number number h ≡ true → h ≡ (number, h.1)

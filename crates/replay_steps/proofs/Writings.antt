@@ -1,11 +1,12 @@
 -- What is written where a write fails, and by several steps.
-use Rattle.std.proofs.Common.{◌≡◌, ◌∙◌, refl, sym, ap, subst, ℕ, ◌+◌, ◌≤◌, false, List, [], ◌∷◌, ◌++◌, Option, Some, None, inl, inr, length, map, arith}
-use Rattle.std.proofs.lemmas.List.{map-append, append_assoc, append-nil}
+use Rattle.std.proofs.Common.{◌≡◌, ◌∙◌, refl, sym, ap, subst, ℕ, ◌+◌, List, [], ◌∷◌, ◌++◌, Option, Some, None, inl, inr, length, map}
+use Rattle.std.proofs.lemmas.List.{map-append, append-nil}
 use Rattle.relay_outside.specs.Told.{Gains, Gained}
 use Rattle.relay_outside.specs.declared.lines.WriteCall.{WriteCall}
-use Rattle.relay_outside.specs.declared.lines.WriteCall.TheVariants.{Write}
+use Rattle.relay_outside.specs.declared.settings.Config.{Config}
 use Rattle.relay_outside.proofs.Telling.{gained_none, gained_one}
-use Rattle.relay_script.specs.Printing.{Printed, ScriptFault, line_of}
+use Rattle.relay_core.specs.Entries.{Entry}
+use Rattle.relay_script.specs.Printing.{Printed, ScriptFault, event_of}
 use Rattle.replay_lines.specs.declared.writing.WriteFault.{WriteFault}
 use Rattle.replay_lines.specs.declared.writing.WriteFault.TheVariants as fault
 use Rattle.relay_outside.specs.declared.lines.LineCall.{LineCall}
@@ -15,108 +16,219 @@ use Rattle.replay_lines.specs.declared.script.Ending.TheVariants as ending
 use Rattle.replay_lines.specs.Scripts.{Reads}
 use Rattle.replay_steps.specs.declared.ended.Ended.{Ended}
 use Rattle.replay_steps.specs.declared.ended.Ended.TheVariants as ended
-use Rattle.replay_steps.specs.Written.{written, Prints, TellsFault, FailsToPrint, EndsFor, DidTell, DidSteps, DidEnd, DidFinish, DidWrite, Replays}
+use Rattle.replay_steps.specs.declared.stepping.Stepped.{Stepped}
+use Rattle.replay_steps.specs.declared.stepping.Stepped.TheVariants as stepped
+use Rattle.replay_steps.specs.Steps.{Course, at_first, Makes, IsFaulty, OfStep, Plays, Stops}
+use Rattle.replay_steps.specs.Written.{written, unwritten, EndsFor, DidTell, DidPrint, DidStep, Played, Demands, FailsAt, PlayedSome, DidSteps, DidEnd, DidFinish, PlayedAnd, DidWrite, DidPlay, Prints, Replays}
+use Rattle.replay_steps.proofs.Courses.{plays_more}
 
--- one line
-pub one_line : (event : Printed) → Prints (written event ∷ [])
-one_line event = record { events = event ∷ []; writes_are = refl }
+-- One line.
 
-failed_line : (event : Printed) → FailsToPrint (Write (line_of event ++ 10 ∷ []) false ∷ [])
-failed_line event = record { events = []; last = event; writes_are = refl }
-
-module _ {S : Type 0} (told : S → Option (List WriteCall)) (line : ℕ) (event : Printed) (old new : S) where
+module _ {S : Type 0} (told : S → Option (List WriteCall)) (event : Printed) (old new : S) (Told : Ended → List WriteCall → Type 0) where
   -- a line that was not written ends the replay
-  pub tell_failed : (why : WriteFault) (end : Ended) → EndsFor why end → (why ≡ fault.OutOfMemory → new ≡ old)
-      → (why ≡ fault.Failed → Gains (told old) (told new) (Write (line_of event ++ 10 ∷ []) false)) → Gained (told old) (told new) (DidTell line end)
-  tell_failed fault.OutOfMemory end is same failed =
-      subst (λ (e : Ended). Gained (told old) (told new) (DidTell line e)) (sym is)
-      (subst (λ (s : S). Gained (told old) (told s) (λ writes. writes ≡ [])) (sym (same refl)) (gained_none (told old) (λ writes. writes ≡ []) refl))
-  tell_failed fault.Failed end is same failed =
-      subst (λ (e : Ended). Gained (told old) (told new) (DidTell line e)) (sym is)
-      (gained_one (told old) (told new) (Write (line_of event ++ 10 ∷ []) false) FailsToPrint (failed refl) (failed_line event))
+  pub not_written : (why : WriteFault) (end : Ended) → EndsFor why end → (why ≡ fault.OutOfMemory → new ≡ old)
+      → (why ≡ fault.Failed → Gains (told old) (told new) (unwritten event)) → Told ended.OutOfMemory [] → Told ended.PrintFault (unwritten event ∷ []) → Gained (told old) (told new) (Told end)
+  not_written fault.OutOfMemory end is same failed memory fault =
+      subst (λ (e : Ended). Gained (told old) (told new) (Told e)) (sym is)
+      (subst (λ (s : S). Gained (told old) (told s) (Told ended.OutOfMemory)) (sym (same refl)) (gained_none (told old) (Told ended.OutOfMemory) memory))
+  not_written fault.Failed end is same failed memory fault =
+      subst (λ (e : Ended). Gained (told old) (told new) (Told e)) (sym is)
+      (gained_one (told old) (told new) (unwritten event) (Told ended.PrintFault) (failed refl) fault)
 
-  pub step_failed : (why : WriteFault) (end : Ended) → EndsFor why end → (why ≡ fault.OutOfMemory → new ≡ old)
-      → (why ≡ fault.Failed → Gains (told old) (told new) (Write (line_of event ++ 10 ∷ []) false)) → Gained (told old) (told new) (DidSteps line (Some end))
-  step_failed fault.OutOfMemory end is same failed =
-      subst (λ (e : Ended). Gained (told old) (told new) (DidSteps line (Some e))) (sym is)
-      (subst (λ (s : S). Gained (told old) (told s) Prints) (sym (same refl)) (gained_none (told old) Prints (record { events = []; writes_are = refl })))
-  step_failed fault.Failed end is same failed =
-      subst (λ (e : Ended). Gained (told old) (told new) (DidSteps line (Some e))) (sym is)
-      (gained_one (told old) (told new) (Write (line_of event ++ 10 ∷ []) false) FailsToPrint (failed refl) (failed_line event))
+-- Several steps.
 
--- no line
-pub no_lines : Prints []
-no_lines = record { events = []; writes_are = refl }
+-- these steps were made, a replay came to there, and what they print was written
+pub record PlayedTo (config : Config) (steps : List Step) (r : Course) (writes : List WriteCall) : Type 0 where
+  pub prints : List Printed
+  pub plays : Plays config steps at_first prints r
+  pub writes_are : writes ≡ map written prints
 
--- lines and more lines
-more_lines : (xs ys : List WriteCall) → Prints xs → Prints ys → Prints (xs ++ ys)
-more_lines xs ys x y = record {
-  events = x.events ++ y.events;
-  writes_are = ap (λ (zs : List WriteCall). zs ++ ys) x.writes_are ∙ ap (λ (zs : List WriteCall). map written x.events ++ zs) y.writes_are ∙ sym (map-append written x.events y.events);
+pub none_played : (config : Config) (r : Course) → r ≡ at_first → PlayedTo config [] r []
+none_played config r is = record { prints = []; plays = (refl, is); writes_are = refl }
+
+-- lines behind lines
+both_written : (xs ys : List WriteCall) (prints more : List Printed) → xs ≡ map written prints → ys ≡ map written more → xs ++ ys ≡ map written (prints ++ more)
+both_written xs ys prints more p q = ap (λ (zs : List WriteCall). zs ++ ys) p ∙ ap (λ (zs : List WriteCall). map written prints ++ zs) q ∙ sym (map-append written prints more)
+
+none_written : (xs ys : List WriteCall) (prints : List Printed) → xs ≡ map written prints → ys ≡ [] → xs ++ ys ≡ map written prints
+none_written xs ys prints p q = ap (λ (zs : List WriteCall). xs ++ zs) q ∙ append-nil xs ∙ p
+
+last_failed : (xs ys : List WriteCall) (prints : List Printed) (event : Printed) → xs ≡ map written prints → ys ≡ unwritten event ∷ [] → xs ++ ys ≡ map written prints ++ unwritten event ∷ []
+last_failed xs ys prints event p q = ap (λ (zs : List WriteCall). zs ++ ys) p ∙ ap (λ (zs : List WriteCall). map written prints ++ zs) q
+
+module _ (config : Config) (before : List Step) (r : Course) (s : Step) (new : Course) (line : ℕ) where
+  -- a step, behind which the replay goes on
+  pub went_on : (did : Stepped) → OfStep config r s did new → (xs ys : List WriteCall) → PlayedTo config before r xs → DidStep did line None ys
+      → PlayedTo config (before ++ s ∷ []) new (xs ++ ys)
+  went_on stepped.Quiet makes xs ys x y = record {
+    prints = x.prints ++ [];
+    plays = plays_more config before at_first x.prints r s [] new x.plays makes;
+    writes_are = both_written xs ys x.prints [] x.writes_are y.1;
+  }
+  went_on (stepped.Prints e) makes xs ys x y = record {
+    prints = x.prints ++ event_of e ∷ [];
+    plays = plays_more config before at_first x.prints r s (event_of e ∷ []) new x.plays makes;
+    writes_are = both_written xs ys x.prints (event_of e ∷ []) x.writes_are y;
+  }
+  went_on stepped.Faulty makes xs ys x y = absurd y
+  went_on stepped.Starved makes xs ys x y = absurd (let k : None ≡ Some ended.OutOfMemory = y.0 in cc)
+
+  -- a step by which the replay ends
+  module _ (steps after : List Step) (steps_are : steps ≡ before ++ s ∷ after) (l : List Entry) (line_is : line ≡ length before + 1) (entries_are : new.entries ≡ l) where
+    starved : (xs ys : List WriteCall) → PlayedTo config before r xs → ys ≡ [] → PlayedSome config steps (xs ++ ys)
+    starved xs ys x none = record {
+      before = before;
+      after = s ∷ after;
+      steps_are = steps_are;
+      prints = x.prints;
+      course = r;
+      plays = x.plays;
+      writes_are = none_written xs ys x.prints x.writes_are none;
+    }
+
+    failed : (event : Printed) (xs ys : List WriteCall) → PlayedTo config before r xs → ys ≡ unwritten event ∷ [] → Demands config r s (length before + 1) event new → FailsAt config steps l (xs ++ ys)
+    failed event xs ys x is demands = record {
+      before = before;
+      step = s;
+      after = after;
+      steps_are = steps_are;
+      prints = x.prints;
+      course = r;
+      plays = x.plays;
+      event = event;
+      last = new;
+      demands = demands;
+      entries_are = entries_are;
+      writes_are = last_failed xs ys x.prints event x.writes_are is;
+    }
+
+    printed : (event : Printed) (end : Ended) (xs ys : List WriteCall) → PlayedTo config before r xs → Makes config r s (event ∷ []) new → DidPrint event (Some end) ys
+        → DidSteps config steps l (Some end) (xs ++ ys)
+    printed event ended.Finished xs ys x makes y = absurd y
+    printed event ended.ScriptFault xs ys x makes y = absurd y
+    printed event ended.ScriptRead xs ys x makes y = absurd y
+    printed event ended.PrintFault xs ys x makes y = failed event xs ys x y (inl makes)
+    printed event ended.OutOfMemory xs ys x makes y = starved xs ys x y
+
+    told_faulty : (end : Ended) (xs ys : List WriteCall) → PlayedTo config before r xs → IsFaulty r s → new ≡ r → DidTell line end ys → DidSteps config steps l (Some end) (xs ++ ys)
+    told_faulty ended.Finished xs ys x faulty same y = absurd y
+    told_faulty ended.ScriptFault xs ys x faulty same y = record {
+      before = before;
+      step = s;
+      after = after;
+      steps_are = steps_are;
+      prints = x.prints;
+      course = r;
+      plays = x.plays;
+      faulty = faulty;
+      entries_are = ap (λ (c : Course). c.entries) (sym same) ∙ entries_are;
+      writes_are = both_written xs ys x.prints (ScriptFault (length before + 1) ∷ []) x.writes_are (y ∙ ap (λ (n : ℕ). written (ScriptFault n) ∷ []) line_is);
+    }
+    told_faulty ended.ScriptRead xs ys x faulty same y = absurd y
+    told_faulty ended.PrintFault xs ys x faulty same y =
+        failed (ScriptFault (length before + 1)) xs ys x (y ∙ ap (λ (n : ℕ). unwritten (ScriptFault n) ∷ []) line_is) (inr (faulty, refl, same))
+    told_faulty ended.OutOfMemory xs ys x faulty same y = starved xs ys x y
+
+    pub ended_in : (did : Stepped) (end : Ended) → OfStep config r s did new → (xs ys : List WriteCall) → PlayedTo config before r xs → DidStep did line (Some end) ys
+        → DidSteps config steps l (Some end) (xs ++ ys)
+    ended_in stepped.Quiet end makes xs ys x y = absurd (let k : Some end ≡ None = y.0 in cc)
+    ended_in (stepped.Prints e) end makes xs ys x y = printed (event_of e) end xs ys x makes y
+    ended_in stepped.Faulty end makes xs ys x y = told_faulty end xs ys x makes.0 makes.1 y
+    ended_in stepped.Starved end makes xs ys x y = subst (λ (o : Option Ended). DidSteps config steps l o (xs ++ ys)) (sym y.0) (starved xs ys x y.1)
+
+-- some of the steps were made
+pub some_played : (config : Config) (steps before after : List Step) (r : Course) → steps ≡ before ++ after → (xs : List WriteCall) → PlayedTo config before r xs → PlayedSome config steps xs
+some_played config steps before after r is xs x = record {
+  before = before;
+  after = after;
+  steps_are = is;
+  prints = x.prints;
+  course = r;
+  plays = x.plays;
+  writes_are = x.writes_are;
 }
 
-more_told : (line : ℕ) (xs ys : List WriteCall) → Prints xs → TellsFault line ys → TellsFault line (xs ++ ys)
-more_told line xs ys x y = record {
-  events = x.events ++ y.events;
-  writes_are = ap (λ (zs : List WriteCall). zs ++ ys) x.writes_are ∙ ap (λ (zs : List WriteCall). map written x.events ++ zs) y.writes_are
-      ∙ sym (map-append written x.events (y.events ++ ScriptFault line ∷ [])) ∙ ap (map written) (sym (append_assoc x.events y.events (ScriptFault line ∷ [])));
+pub nothing_played : (config : Config) (steps : List Step) → PlayedSome config steps []
+nothing_played config steps = some_played config steps [] steps at_first refl [] (none_played config at_first refl)
+
+-- all of them were made
+pub all_played : (config : Config) (steps before : List Step) (r : Course) (l : List Entry) → before ≡ steps → r.entries ≡ l → (xs : List WriteCall) → PlayedTo config before r xs
+    → Played config steps l xs
+all_played config steps before r l is entries xs x = record {
+  prints = x.prints;
+  course = r;
+  plays = subst (λ (k : List Step). Plays config k at_first x.prints r) is x.plays;
+  entries_are = entries;
+  writes_are = x.writes_are;
 }
 
-more_failed : (xs ys : List WriteCall) → Prints xs → FailsToPrint ys → FailsToPrint (xs ++ ys)
-more_failed xs ys x y = record {
-  events = x.events ++ y.events;
-  last = y.last;
-  writes_are = ap (λ (zs : List WriteCall). zs ++ ys) x.writes_are ∙ ap (λ (zs : List WriteCall). map written x.events ++ zs) y.writes_are
-      ∙ sym (append_assoc (map written x.events) (map written y.events) (Write (line_of y.last ++ 10 ∷ []) false ∷ []))
-      ∙ ap (λ (zs : List WriteCall). zs ++ Write (line_of y.last ++ 10 ∷ []) false ∷ []) (sym (map-append written x.events y.events));
-}
+-- The end of the script, behind all steps.
 
-nothing_more : (P : List WriteCall → Type 0) (xs ys : List WriteCall) → ys ≡ [] → P xs → P (xs ++ ys)
-nothing_more P xs ys none p = subst (λ (zs : List WriteCall). P (xs ++ zs)) (sym none) (subst P (sym (append-nil xs)) p)
+module _ (config : Config) (steps : List Step) (l : List Entry) where
+  no_more : (xs ys : List WriteCall) → ys ≡ [] → Played config steps l xs → Played config steps l (xs ++ ys)
+  no_more xs ys none x = subst (λ (zs : List WriteCall). Played config steps l (xs ++ zs)) (sym none) (subst (Played config steps l) (sym (append-nil xs)) x)
 
--- one more step, after the lines of the others
-pub after_steps : (n line : ℕ) (end : Option Ended) → line ≤ n → (xs ys : List WriteCall) → Prints xs → DidSteps line end ys → DidSteps n end (xs ++ ys)
-after_steps n line None less xs ys x y = more_lines xs ys x y
-after_steps n line (Some ended.Finished) less xs ys x y = absurd y
-after_steps n line (Some ended.ScriptFault) less xs ys x y = (y.0, (y.1.0, let low = y.1.1 in omega (arith, low, less)), more_told y.0 xs ys x y.2)
-after_steps n line (Some ended.ScriptRead) less xs ys x y = absurd y
-after_steps n line (Some ended.PrintFault) less xs ys x y = more_failed xs ys x y
-after_steps n line (Some ended.OutOfMemory) less xs ys x y = more_lines xs ys x y
+  one_more : (xs ys : List WriteCall) (last : WriteCall) → ys ≡ last ∷ [] → Played config steps l xs → PlayedAnd config steps l (last ∷ []) (xs ++ ys)
+  one_more xs ys last is x = record { front = xs; played = x; writes_are = ap (λ (zs : List WriteCall). xs ++ zs) is }
 
--- the end of the script after all steps
-after_tell : (n line : ℕ) (end : Ended) → line ≡ n + 1 → (xs ys : List WriteCall) → Prints xs → DidTell line end ys → DidWrite n ending.Outside end (xs ++ ys)
-after_tell n line ended.Finished at xs ys x y = absurd y
-after_tell n line ended.ScriptFault at xs ys x y = (line, inl (refl, at), more_told line xs ys x (record { events = []; writes_are = y }))
-after_tell n line ended.ScriptRead at xs ys x y = absurd y
-after_tell n line ended.PrintFault at xs ys x y = more_failed xs ys x y
-after_tell n line ended.OutOfMemory at xs ys x y = nothing_more Prints xs ys y x
+  after_tell : (line : ℕ) (end : Ended) → line ≡ length steps + 1 → (xs ys : List WriteCall) → Played config steps l xs → DidTell line end ys → DidWrite config steps ending.Outside end l (xs ++ ys)
+  after_tell line ended.Finished at xs ys x y = absurd y
+  after_tell line ended.ScriptFault at xs ys x y = inr (refl, one_more xs ys (written (ScriptFault (length steps + 1))) (y ∙ ap (λ (n : ℕ). written (ScriptFault n) ∷ []) at) x)
+  after_tell line ended.ScriptRead at xs ys x y = absurd y
+  after_tell line ended.PrintFault at xs ys x y = inr (refl, one_more xs ys (unwritten (ScriptFault (length steps + 1))) (y ∙ ap (λ (n : ℕ). unwritten (ScriptFault n) ∷ []) at) x)
+  after_tell line ended.OutOfMemory at xs ys x y = record {
+    before = steps;
+    after = [];
+    steps_are = sym (append-nil steps);
+    prints = x.prints;
+    course = x.course;
+    plays = x.plays;
+    writes_are = none_written xs ys x.prints x.writes_are y;
+  }
 
-after_end : (n line : ℕ) (how : Ending) (end : Ended) → line ≡ n + 1 → (xs ys : List WriteCall) → Prints xs → DidEnd how line end ys → DidWrite n how end (xs ++ ys)
-after_end n line ending.End end at xs ys x y =
-    subst (λ (e : Ended). DidWrite n ending.End e (xs ++ ys)) (sym y.0) (refl, nothing_more Prints xs ys y.1 x)
-after_end n line ending.Outside end at xs ys x y = after_tell n line end at xs ys x y
-after_end n line ending.Fault end at xs ys x y =
-    subst (λ (e : Ended). DidWrite n ending.Fault e (xs ++ ys)) (sym y.0) (refl, nothing_more Prints xs ys y.1 x)
+  after_end : (line : ℕ) (how : Ending) (end : Ended) → line ≡ length steps + 1 → (xs ys : List WriteCall) → Played config steps l xs → DidEnd how line end ys → DidWrite config steps how end l (xs ++ ys)
+  after_end line ending.End end at xs ys x y = subst (λ (e : Ended). DidWrite config steps ending.End e l (xs ++ ys)) (sym y.0) (refl, no_more xs ys y.1 x)
+  after_end line ending.Outside end at xs ys x y = after_tell line end at xs ys x y
+  after_end line ending.Fault end at xs ys x y = subst (λ (e : Ended). DidWrite config steps ending.Fault e l (xs ++ ys)) (sym y.0) (refl, no_more xs ys y.1 x)
 
--- a replay that ended in its steps
-ended_early : (n : ℕ) (how : Ending) (already : Ended) (xs : List WriteCall) → DidSteps n (Some already) xs → DidWrite n how already xs
-ended_early n how ended.Finished xs x = absurd x
-ended_early n how ended.ScriptFault xs x = (x.0, inr x.1, x.2)
-ended_early n how ended.ScriptRead xs x = absurd x
-ended_early n how ended.PrintFault xs x = x
-ended_early n how ended.OutOfMemory xs x = x
+  -- a replay that ended in its steps
+  ended_early : (how : Ending) (already : Ended) (xs : List WriteCall) → DidSteps config steps l (Some already) xs → DidWrite config steps how already l xs
+  ended_early how ended.Finished xs x = absurd x
+  ended_early how ended.ScriptFault xs x = inl x
+  ended_early how ended.ScriptRead xs x = absurd x
+  ended_early how ended.PrintFault xs x = inl x
+  ended_early how ended.OutOfMemory xs x = x
 
-pub after_all : (n line : ℕ) (ran : Option Ended) (how : Ending) (end : Ended) → (ran ≡ None → line ≡ n + 1) → (xs ys : List WriteCall) → DidSteps n ran xs
-    → DidFinish ran how line end ys → DidWrite n how end (xs ++ ys)
-after_all n line None how end at xs ys x y = after_end n line how end (at refl) xs ys x y
-after_all n line (Some already) how end at xs ys x y =
-    subst (λ (e : Ended). DidWrite n how e (xs ++ ys)) (sym y.0) (nothing_more (DidWrite n how already) xs ys y.1 (ended_early n how already xs x))
+  nothing_more : (P : List WriteCall → Type 0) (xs ys : List WriteCall) → ys ≡ [] → P xs → P (xs ++ ys)
+  nothing_more P xs ys none p = subst (λ (zs : List WriteCall). P (xs ++ zs)) (sym none) (subst P (sym (append-nil xs)) p)
+
+  after_all : (line : ℕ) (ran : Option Ended) (how : Ending) (end : Ended) → (ran ≡ None → line ≡ length steps + 1) → (xs ys : List WriteCall) → DidSteps config steps l ran xs
+      → DidFinish ran how line end ys → DidWrite config steps how end l (xs ++ ys)
+  after_all line None how end at xs ys x y = after_end line how end (at refl) xs ys x y
+  after_all line (Some already) how end at xs ys x y =
+      subst (λ (e : Ended). DidWrite config steps how e l (xs ++ ys)) (sym y.0) (nothing_more (DidWrite config steps how already l) xs ys y.1 (ended_early how already xs x))
+
+  -- and then all calls were stopped
+  and_stopped : (how : Ending) (end : Ended) → Stops config l → (xs : List WriteCall) → DidWrite config steps how end l xs → DidPlay config steps how end xs
+  and_stopped how ended.Finished stops xs x = (l, x, stops)
+  and_stopped how ended.ScriptFault stops xs x = (l, x, stops)
+  and_stopped how ended.ScriptRead stops xs x = (l, x, stops)
+  and_stopped how ended.PrintFault stops xs x = (l, x, stops)
+  and_stopped how ended.OutOfMemory stops xs x = x
+
+  pub after_stop : (line : ℕ) (ran : Option Ended) (how : Ending) (end : Ended) → (ran ≡ None → line ≡ length steps + 1) → Stops config l → (xs ys : List WriteCall)
+      → DidSteps config steps l ran xs → DidFinish ran how line end ys → DidPlay config steps how end (xs ++ ys)
+  after_stop line ran how end at stops xs ys x y = and_stopped how end stops (xs ++ ys) (after_all line ran how end at xs ys x y)
 
 -- what was read beside it
-pub replays : (steps : List Step) (n : ℕ) (how : Ending) (end : Ended) (read read_now : Option (List LineCall)) → length steps ≡ n → Gained read read_now (Reads steps how)
-    → (writes : List WriteCall) → DidWrite n how end writes → Replays end read read_now writes
-replays steps n how ended.Finished read read_now many reads writes did = record { steps = steps; how = how; reads_are = reads; did = subst (λ (k : ℕ). DidWrite k how ended.Finished writes) (sym many) did }
-replays steps n how ended.ScriptFault read read_now many reads writes did = record { steps = steps; how = how; reads_are = reads; did = subst (λ (k : ℕ). DidWrite k how ended.ScriptFault writes) (sym many) did }
-replays steps n how ended.ScriptRead read read_now many reads writes did = record { steps = steps; how = how; reads_are = reads; did = subst (λ (k : ℕ). DidWrite k how ended.ScriptRead writes) (sym many) did }
-replays steps n how ended.PrintFault read read_now many reads writes did = record { steps = steps; how = how; reads_are = reads; did = subst (λ (k : ℕ). DidWrite k how ended.PrintFault writes) (sym many) did }
-replays steps n how ended.OutOfMemory read read_now many reads writes did = did
+pub replays : (config : Config) (steps : List Step) (how : Ending) (end : Ended) (read read_now : Option (List LineCall)) → Gained read read_now (Reads steps how)
+    → (writes : List WriteCall) → DidPlay config steps how end writes → Replays config end read read_now writes
+replays config steps how ended.Finished read read_now reads writes did = record { steps = steps; how = how; reads_are = reads; did = did }
+replays config steps how ended.ScriptFault read read_now reads writes did = record { steps = steps; how = how; reads_are = reads; did = did }
+replays config steps how ended.ScriptRead read read_now reads writes did = record { steps = steps; how = how; reads_are = reads; did = did }
+replays config steps how ended.PrintFault read read_now reads writes did = record { steps = steps; how = how; reads_are = reads; did = did }
+replays config steps how ended.OutOfMemory read read_now reads writes did = record { events = did.prints; writes_are = did.writes_are }
+
+-- nothing was written for want of memory
+pub no_lines : Prints []
+no_lines = record { events = []; writes_are = refl }

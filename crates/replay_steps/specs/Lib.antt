@@ -1,4 +1,6 @@
 pub mod Holding
 pub mod Arrivals
+pub mod Steps
 pub mod Ready
+pub mod Controlling
 pub mod Written

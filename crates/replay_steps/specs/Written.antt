@@ -1,11 +1,13 @@
 -- What a replay writes.
-use Rattle.std.specs.Prelude.{◌≡◌, ◌+◌, ◌<◌, ◌≤◌, ◌⊎◌, ℕ, true, false, List, [], ◌∷◌, ◌++◌, Option, Some, None, map, length}
+use Rattle.std.specs.Prelude.{◌≡◌, ◌+◌, ◌⊎◌, ℕ, true, false, List, [], ◌∷◌, ◌++◌, Option, Some, None, map, length}
 use Rattle.relay_outside.specs.Told.{Gained}
 use Rattle.relay_outside.specs.declared.lines.LineCall.{LineCall}
 use Rattle.relay_outside.specs.declared.lines.WriteCall.{WriteCall}
 use Rattle.relay_outside.specs.declared.lines.WriteCall.TheVariants.{Write}
+use Rattle.relay_outside.specs.declared.settings.Config.{Config}
+use Rattle.relay_core.specs.Entries.{Entry}
 use Rattle.relay_script.specs.Steps.{Step}
-use Rattle.relay_script.specs.Printing.{Printed, ScriptFault, line_of}
+use Rattle.relay_script.specs.Printing.{Printed, ScriptFault, event_of, line_of}
 use Rattle.replay_lines.specs.declared.script.Ending.{Ending}
 use Rattle.replay_lines.specs.declared.script.Ending.TheVariants as ending
 use Rattle.replay_lines.specs.Scripts.{Reads}
@@ -13,84 +15,160 @@ use Rattle.replay_lines.specs.declared.writing.WriteFault.{WriteFault}
 use Rattle.replay_lines.specs.declared.writing.WriteFault.TheVariants as fault
 use Rattle.replay_steps.specs.declared.ended.Ended.{Ended}
 use Rattle.replay_steps.specs.declared.ended.Ended.TheVariants as ended
+use Rattle.replay_steps.specs.declared.stepping.Stepped.{Stepped}
+use Rattle.replay_steps.specs.declared.stepping.Stepped.TheVariants as stepped
+use Rattle.replay_steps.specs.Steps.{Course, at_first, Makes, IsFaulty, Plays, Stops}
 
 -- the line of an event is written, with a line feed
 abbrev pub written : Printed → WriteCall
 written event = Write (line_of event ++ 10 ∷ []) true
 
--- the lines of some events are written, in order
-pub record Prints (writes : List WriteCall) : Type 0 where
-  pub events : List Printed
-  pub writes_are : writes ≡ map written events
-
--- the last of them is the number of a faulty line
-pub record TellsFault (line : ℕ) (writes : List WriteCall) : Type 0 where
-  pub events : List Printed
-  pub writes_are : writes ≡ map written (events ++ ScriptFault line ∷ [])
-
--- the lines of some events are written, and the write of the last one fails
-pub record FailsToPrint (writes : List WriteCall) : Type 0 where
-  pub events : List Printed
-  pub last : Printed
-  pub writes_are : writes ≡ map written events ++ Write (line_of last ++ 10 ∷ []) false ∷ []
+-- the write of it fails
+abbrev pub unwritten : Printed → WriteCall
+unwritten event = Write (line_of event ++ 10 ∷ []) false
 
 -- how a replay ends where a line was not written
 abbrev pub EndsFor : WriteFault → Ended → Type 0
 EndsFor fault.OutOfMemory end = end ≡ ended.OutOfMemory
 EndsFor fault.Failed end = end ≡ ended.PrintFault
 
--- the number of one of the steps' lines, from 1
-abbrev pub IsLine : ℕ → ℕ → Type 0
-IsLine steps line = (0 < line) × (line ≤ steps)
+-- One step.
 
--- what was written where a faulty line is told, or can't be
-abbrev pub DidTell : ℕ → Ended → List WriteCall → Type 0
+-- what is written where the line of this number is faulty
+abbrev pub DidTell : (line : ℕ) → Ended → List WriteCall → Type 0
 DidTell line ended.ScriptFault writes = writes ≡ written (ScriptFault line) ∷ []
-DidTell line ended.PrintFault writes = FailsToPrint writes
+DidTell line ended.PrintFault writes = writes ≡ unwritten (ScriptFault line) ∷ []
 DidTell line ended.OutOfMemory writes = writes ≡ []
 DidTell line ended.Finished writes = ⊥
 DidTell line ended.ScriptRead writes = ⊥
 
--- what is written by so many steps, when all were made or the replay ended
-abbrev pub DidSteps : ℕ → Option Ended → List WriteCall → Type 0
-DidSteps steps None writes = Prints writes
-DidSteps steps (Some ended.ScriptFault) writes = (line : ℕ) × IsLine steps line × TellsFault line writes
-DidSteps steps (Some ended.PrintFault) writes = FailsToPrint writes
-DidSteps steps (Some ended.OutOfMemory) writes = Prints writes
-DidSteps steps (Some ended.Finished) writes = ⊥
-DidSteps steps (Some ended.ScriptRead) writes = ⊥
+-- what is written of an event, behind which the replay goes on or ends
+abbrev pub DidPrint : Printed → Option Ended → List WriteCall → Type 0
+DidPrint event None writes = writes ≡ written event ∷ []
+DidPrint event (Some ended.PrintFault) writes = writes ≡ unwritten event ∷ []
+DidPrint event (Some ended.OutOfMemory) writes = writes ≡ []
+DidPrint event (Some ended.Finished) writes = ⊥
+DidPrint event (Some ended.ScriptFault) writes = ⊥
+DidPrint event (Some ended.ScriptRead) writes = ⊥
 
--- the line is faulty: the one behind the steps, outside the grammar, or that of one of the steps
-abbrev pub IsFaulty : ℕ → Ending → ℕ → Type 0
-IsFaulty steps how line = ((how ≡ ending.Outside) × (line ≡ steps + 1)) ⊎ IsLine steps line
+-- what is written of a step of the line with this number, and how the replay ends by it
+abbrev pub DidStep : Stepped → (line : ℕ) → Option Ended → List WriteCall → Type 0
+DidStep stepped.Quiet line end writes = (end ≡ None) × (writes ≡ [])
+DidStep (stepped.Prints event) line end writes = DidPrint (event_of event) end writes
+DidStep stepped.Faulty line None writes = ⊥
+DidStep stepped.Faulty line (Some end) writes = DidTell line end writes
+DidStep stepped.Starved line end writes = (end ≡ Some ended.OutOfMemory) × (writes ≡ [])
+
+-- Several steps, from the first on.
+
+-- all steps were made, the entries are these, and what they print was written
+pub record Played (config : Config) (steps : List Step) (l : List Entry) (writes : List WriteCall) : Type 0 where
+  pub prints : List Printed
+  pub course : Course
+  pub plays : Plays config steps at_first prints course
+  pub entries_are : course.entries ≡ l
+  pub writes_are : writes ≡ map written prints
+
+-- steps were made up to one that can't be, and then its line's number was written, from 1
+pub record StopsAt (config : Config) (steps : List Step) (l : List Entry) (writes : List WriteCall) : Type 0 where
+  pub before : List Step
+  pub step : Step
+  pub after : List Step
+  pub steps_are : steps ≡ before ++ step ∷ after
+  pub prints : List Printed
+  pub course : Course
+  pub plays : Plays config before at_first prints course
+  pub faulty : IsFaulty course step
+  pub entries_are : course.entries ≡ l
+  pub writes_are : writes ≡ map written (prints ++ ScriptFault (length before + 1) ∷ [])
+
+-- the step prints this event: it was made, or can't be, and then it is the number of its line
+abbrev pub Demands : Config → Course → Step → (line : ℕ) → Printed → Course → Type 0
+Demands config r step line event new = Makes config r step (event ∷ []) new ⊎ (IsFaulty r step × (event ≡ ScriptFault line) × (new ≡ r))
+
+-- steps were made, and what they print was written but for the last event, whose write failed
+pub record FailsAt (config : Config) (steps : List Step) (l : List Entry) (writes : List WriteCall) : Type 0 where
+  pub before : List Step
+  pub step : Step
+  pub after : List Step
+  pub steps_are : steps ≡ before ++ step ∷ after
+  pub prints : List Printed
+  pub course : Course
+  pub plays : Plays config before at_first prints course
+  pub event : Printed
+  pub last : Course
+  pub demands : Demands config course step (length before + 1) event last
+  pub entries_are : last.entries ≡ l
+  pub writes_are : writes ≡ map written prints ++ unwritten event ∷ []
+
+-- some of the steps were made, and what these print was written
+pub record PlayedSome (config : Config) (steps : List Step) (writes : List WriteCall) : Type 0 where
+  pub before : List Step
+  pub after : List Step
+  pub steps_are : steps ≡ before ++ after
+  pub prints : List Printed
+  pub course : Course
+  pub plays : Plays config before at_first prints course
+  pub writes_are : writes ≡ map written prints
+
+-- what is written by steps, when all were made or the replay ended, and the entries are these
+abbrev pub DidSteps : Config → List Step → List Entry → Option Ended → List WriteCall → Type 0
+DidSteps config steps l None writes = Played config steps l writes
+DidSteps config steps l (Some ended.ScriptFault) writes = StopsAt config steps l writes
+DidSteps config steps l (Some ended.PrintFault) writes = FailsAt config steps l writes
+DidSteps config steps l (Some ended.OutOfMemory) writes = PlayedSome config steps writes
+DidSteps config steps l (Some ended.Finished) writes = ⊥
+DidSteps config steps l (Some ended.ScriptRead) writes = ⊥
+
+-- The whole script.
 
 -- what is written when all steps were made, by how the reading of the script ended
-abbrev pub DidEnd : Ending → ℕ → Ended → List WriteCall → Type 0
+abbrev pub DidEnd : Ending → (line : ℕ) → Ended → List WriteCall → Type 0
 DidEnd ending.End line end writes = (end ≡ ended.Finished) × (writes ≡ [])
 DidEnd ending.Fault line end writes = (end ≡ ended.ScriptRead) × (writes ≡ [])
 DidEnd ending.Outside line end writes = DidTell line end writes
 
 -- what is written when the steps ended so, where not all were made
-abbrev pub DidFinish : Option Ended → Ending → ℕ → Ended → List WriteCall → Type 0
+abbrev pub DidFinish : Option Ended → Ending → (line : ℕ) → Ended → List WriteCall → Type 0
 DidFinish None how line end writes = DidEnd how line end writes
 DidFinish (Some already) how line end writes = (end ≡ already) × (writes ≡ [])
 
--- what is written by so many steps, whose reading ended so, and how the replay ended
-abbrev pub DidWrite : ℕ → Ending → Ended → List WriteCall → Type 0
-DidWrite steps how ended.Finished writes = (how ≡ ending.End) × Prints writes
-DidWrite steps how ended.ScriptRead writes = (how ≡ ending.Fault) × Prints writes
-DidWrite steps how ended.ScriptFault writes = (line : ℕ) × IsFaulty steps how line × TellsFault line writes
-DidWrite steps how ended.PrintFault writes = FailsToPrint writes
-DidWrite steps how ended.OutOfMemory writes = Prints writes
+-- all steps were made, and this is written behind what they print
+pub record PlayedAnd (config : Config) (steps : List Step) (l : List Entry) (more : List WriteCall) (writes : List WriteCall) : Type 0 where
+  pub front : List WriteCall
+  pub played : Played config steps l front
+  pub writes_are : writes ≡ front ++ more
+
+-- a step can't be made, or all were made, the line behind them is outside the grammar, and its number is told so
+abbrev pub AtFault : Config → List Step → Ending → List Entry → (List Step → List Entry → List WriteCall → Type 0) → WriteCall → List WriteCall → Type 0
+AtFault config steps how l At last writes = At steps l writes ⊎ ((how ≡ ending.Outside) × PlayedAnd config steps l (last ∷ []) writes)
+
+-- what is written by these steps, whose reading ended so, how the replay ended, and which entries it made
+abbrev pub DidWrite : Config → List Step → Ending → Ended → List Entry → List WriteCall → Type 0
+DidWrite config steps how ended.Finished l writes = (how ≡ ending.End) × Played config steps l writes
+DidWrite config steps how ended.ScriptRead l writes = (how ≡ ending.Fault) × Played config steps l writes
+DidWrite config steps how ended.ScriptFault l writes = AtFault config steps how l (StopsAt config) (written (ScriptFault (length steps + 1))) writes
+DidWrite config steps how ended.PrintFault l writes = AtFault config steps how l (FailsAt config) (unwritten (ScriptFault (length steps + 1))) writes
+DidWrite config steps how ended.OutOfMemory l writes = PlayedSome config steps writes
+
+-- the same of some entries, behind which all calls were stopped
+abbrev pub DidPlay : Config → List Step → Ending → Ended → List WriteCall → Type 0
+DidPlay config steps how ended.OutOfMemory writes = PlayedSome config steps writes
+DidPlay config steps how end writes = (l : List Entry) × DidWrite config steps how end l writes × Stops config l
 
 -- the same of a script that this was read of
-pub record DidReplay (end : Ended) (read read_now : Option (List LineCall)) (writes : List WriteCall) : Type 0 where
+pub record DidReplay (config : Config) (end : Ended) (read read_now : Option (List LineCall)) (writes : List WriteCall) : Type 0 where
   pub steps : List Step
   pub how : Ending
   pub reads_are : Gained read read_now (Reads steps how)
-  pub did : DidWrite (length steps) how end writes
+  pub did : DidPlay config steps how end writes
+
+-- lines of some events were written
+pub record Prints (writes : List WriteCall) : Type 0 where
+  pub events : List Printed
+  pub writes_are : writes ≡ map written events
 
 -- want of memory says nothing of the script: perhaps it was not read to its end
-abbrev pub Replays : Ended → Option (List LineCall) → Option (List LineCall) → List WriteCall → Type 0
-Replays ended.OutOfMemory read read_now writes = Prints writes
-Replays end read read_now writes = DidReplay end read read_now writes
+abbrev pub Replays : Config → Ended → Option (List LineCall) → Option (List LineCall) → List WriteCall → Type 0
+Replays config ended.OutOfMemory read read_now writes = Prints writes
+Replays config end read read_now writes = DidReplay config end read read_now writes

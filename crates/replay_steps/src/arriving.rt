@@ -1,14 +1,16 @@
 //! The packets of lines `take` and `packet`, and their relays.
-ghost use Rattle.std.specs.Prelude.{◌≡◌, List};
+ghost use Rattle.std.specs.Prelude.{◌≡◌, ℕ, List};
 ghost use Rattle.relay_outside.specs.declared.settings.Config.{Config};
-ghost use Rattle.turn_table.specs.Hands.{IsSameHand};
+ghost use Rattle.rtp_packet.specs.declared.head.Half.{Half};
+ghost use Rattle.turn_table.specs.Hands.{IsSameHand, parts};
 ghost use Rattle.relay_core.specs.Entries.{Entry};
 ghost use Rattle.relay_core.specs.Turning.{made_by};
 ghost use Rattle.media_lane.specs.Taking.{HasReceipt};
 ghost use Rattle.board_turns.specs.Between.{board_of, IsBetween};
-ghost use Rattle.main_sweeps.specs.Steps.{IsIn, IsNew, KeepsReceipts, KeepsOthers};
-ghost use Rattle.replay_steps.specs.Arrivals.{IsGood};
+ghost use Rattle.main_sweeps.specs.Steps.{IsIn, IsNew, Took, KeepsReceipts, KeepsOthers};
+ghost use Rattle.replay_steps.specs.Arrivals.{IsEndAt, IsGood};
 ghost use Rattle.replay_steps.specs.Holding.{taken_by};
+ghost use Rattle.replay_steps.specs.Steps.{Arrives, RelaysSo};
 
 use crate::ends::find_end;
 use main_sweeps::{receive_between, relay_between};
@@ -33,7 +35,8 @@ pub(crate) enum Arrived {
 
 /// What came of a take.
 fn tell_arrival(received: Received, source: Addr, bytes: &[u8]) -> Arrived
-    ensures { (config : Config) (l new : List Entry) → HasReceipt config new received → IsNew config l received → IsGood config l result new }
+    ensures good { (config : Config) (l new : List Entry) → HasReceipt config new received → IsNew config l received → IsGood config l result new }
+    ensures arrives { (config : Config) (l new : List Entry) (port pair : ℕ) (half : Half) → IsEndAt config port source.ip (pair, half) → Took config l pair half received new → Arrives config l port source bytes.now result new }
 {
     match received {
         Received::Got(receipt) => {
@@ -66,6 +69,7 @@ pub(crate) fn arrive<I: InEnd, O: OutEnd, R: Wait>(
     ensures board { board_of (made_by result.1) ≡ board_of (made_by hand) }
     ensures receipts { KeepsReceipts config.now (made_by hand) (made_by result.1) }
     ensures packet { IsGood config.now (made_by hand) result.0 (made_by result.1) }
+    ensures arrives { Arrives config.now (made_by hand) port source bytes.now result.0 (made_by result.1) }
 {
     match find_end(config, port, source.ip) {
         Some((pair, half)) => {
@@ -88,10 +92,12 @@ pub(crate) fn pass<I: InEnd, O: OutEnd, R: Wait>(
 ) -> (Option<Printed>, Hand<Relay<I, O>>)
     requires between { IsBetween config.now turns.now hand }
     requires receipt { IsIn config.now (made_by hand) (taken_by receipt) }
+    requires all { parts hand ≡ 1024 }
     ensures same { IsSameHand hand result.1 }
     ensures between { IsBetween config.now turns.now result.1 }
     ensures board { board_of (made_by result.1) ≡ board_of (made_by hand) }
     ensures receipts { KeepsOthers config.now (made_by hand) (taken_by receipt) (made_by result.1) }
+    ensures relays { RelaysSo config.now now (made_by hand) (taken_by receipt) result.0 (made_by result.1) }
 {
     let (outcome, sent, hand) = relay_between(rt, alloc, turns, hand, config, receipt, now);
     match sent {

@@ -1,9 +1,14 @@
 //! The step of a line `ng`: one control turn.
+ghost use Rattle.std.specs.Prelude.{◌≡◌, IsTrue, IfSome, take};
+ghost use Rattle.relay_outside.specs.LinkTape.{last_sent};
+ghost use Rattle.replay_devices.specs.Link.{last_taken};
 ghost use Rattle.turn_table.specs.Hands.{IsSameHand};
 ghost use Rattle.relay_core.specs.Turning.{made_by};
 ghost use Rattle.board_turns.specs.Between.{IsBetween};
 ghost use Rattle.main_sweeps.specs.Steps.{KeepsReceipts};
 ghost use Rattle.ng_server.specs.Servers.{OpensJust, history_of};
+ghost use Rattle.relay_script.specs.Printing.{event_of};
+ghost use Rattle.replay_steps.specs.Controlling.{IsReply, TellsTaken, TellsEvent, Controlled};
 
 use ng_bencode::Text;
 use ng_server::{ControlTurn, Desk, Server};
@@ -18,16 +23,27 @@ use turn_table::Hand;
 /// How many bytes of a datagram the link's room takes.
 const ROOM: usize = 16_385;
 
+/// The first bytes of some, at most so many.
+fn front(bytes: &[u8], count: usize) -> &[u8]
+    ensures { result.now ≡ take count bytes.now }
+{
+    &bytes[..bytes.len().min(count)]
+}
+
 /// Whether the last datagram that the link gave is the one of the line, as far as its room takes it.
-fn gave_line(link: &ReplayLink<'_>, source: Addr, bytes: &[u8]) -> bool {
+fn gave_line(link: &ReplayLink<'_>, source: Addr, bytes: &[u8]) -> bool
+    ensures { IsTrue result → TellsTaken link.now.told source bytes.now }
+{
     match link.last_taken() {
-        Some((from, taken)) => from == source && taken == &bytes[..bytes.len().min(ROOM)],
+        Some((from, taken)) => from == source && taken == front(bytes, ROOM),
         None => false,
     }
 }
 
 /// The reply that was sent last.
-fn reply_event(alloc: Global, link: &ReplayLink<'_>) -> Option<Printed> {
+fn reply_event(alloc: Global, link: &ReplayLink<'_>) -> Option<Printed>
+    ensures { IfSome result (λ event. IsReply link.now.told (event_of event)) }
+{
     let (to, bytes) = link.last_sent()?;
     let mut text = Text::new(alloc);
     match text.reserve(bytes.len()) {
@@ -44,7 +60,9 @@ fn turn_event(
     link: &ReplayLink<'_>,
     source: Addr,
     bytes: &[u8],
-) -> Option<Printed> {
+) -> Option<Printed>
+    ensures { TellsEvent turn link.now.told source bytes.now result }
+{
     if turn != ControlTurn::ReadFault && !gave_line(link, source, bytes) {
         return None;
     }
@@ -78,6 +96,7 @@ pub(crate) fn make_turn<P: PortMaker, K: KeySource, R: Wait>(
     ensures between { IsBetween server.now.config server.now.turns hand.new }
     ensures open { OpensJust server.now.config (history_of hand.new) (P.told ports.new) }
     ensures receipts { KeepsReceipts server.now.config (made_by hand.old) (made_by hand.new) }
+    ensures controls { Controlled server.now.config now (made_by hand.old) source bytes.now result (made_by hand.new) }
 {
     let turn = server.control_turn(rt, alloc, hand, desk, link, ports, keys, now);
     turn_event(alloc, turn, link, source, bytes)

@@ -1,9 +1,12 @@
 //! The steps of a script in order.
-ghost use Rattle.std.specs.Prelude.{◌≡◌, ◌+◌, ◌<◌, ◌≤◌, ◌≢◌, None, Some, length};
+ghost use Rattle.std.specs.Prelude.{◌≡◌, ◌≤◌, ◌≢◌, None, Some, map, length};
 ghost use Rattle.relay_outside.specs.Told.{Gained, Rose};
 ghost use Rattle.turn_table.specs.Hands.{IsSameHand};
+ghost use Rattle.relay_core.specs.Turning.{made_by};
+ghost use Rattle.relay_script.specs.Steps.{meaning};
 ghost use Rattle.replay_steps.specs.Ready.{IsReady};
-ghost use Rattle.replay_steps.specs.Written.{EndsFor, DidTell, DidSteps};
+ghost use Rattle.replay_steps.specs.Steps.{at_first, course_of};
+ghost use Rattle.replay_steps.specs.Written.{EndsFor, DidTell, DidStep, DidSteps};
 
 use crate::devices::Devices;
 use crate::ended::Ended;
@@ -44,8 +47,7 @@ pub(crate) fn tell_fault<O: LineSink>(alloc: Global, out: &mut O, line: u32) -> 
 
 /// What a step did is written. `None`: the replay goes on.
 fn write_step<O: LineSink>(alloc: Global, out: &mut O, stepped: Stepped, line: u32) -> Option<Ended>
-    requires { 0 < line }
-    ensures told { Gained (O.told out.old) (O.told out.new) (DidSteps line result) }
+    ensures told { Gained (O.told out.old) (O.told out.new) (DidStep stepped line result) }
     ensures fault { result ≡ Some Ended.PrintFault → Rose (O.faults out.old) (O.faults out.new) }
     ensures later { O.faults out.old ≤ O.faults out.new }
     ensures end { result ≢ Some Ended.ScriptRead }
@@ -77,11 +79,11 @@ pub(crate) fn play_steps<'a, O: LineSink, R: Wait>(
 ) -> (Option<Ended>, u32, Hand<Relay<ReplayIn<'a>, ReplayOut<'a>>>)
     requires config { server.now.config ≡ config.now }
     requires ready { IsReady server.now.config server.now.turns hand devices.old.ports.told receipts.old }
-    requires none { receipts.old.received ≡ 0 }
+    requires none { course_of (made_by hand) receipts.old 0 ≡ at_first }
     requires most { length steps.now ≤ 50000 }
     ensures same { IsSameHand hand.entry result.2 }
     ensures ready { IsReady server.now.config server.now.turns result.2 devices.new.ports.told receipts.new }
-    ensures told { Gained (O.told out.old) (O.told out.new) (DidSteps (length steps.now) result.0) }
+    ensures told { Gained (O.told out.old) (O.told out.new) (DidSteps config.now (map meaning steps.now) (made_by result.2) result.0) }
     ensures all { result.0 ≡ None → result.1 ≡ length steps.now }
     ensures few { result.1 ≤ 50000 }
     ensures fault { result.0 ≡ Some Ended.PrintFault → Rose (O.faults out.old) (O.faults out.new) }

@@ -1,7 +1,8 @@
 //! A whole replay.
-ghost use Rattle.std.specs.Prelude.{◌≡◌, ◌≢◌, ◌⊎◌, ◌≤◌, Option, Some, length};
+ghost use Rattle.std.specs.Prelude.{◌≡◌, ◌≢◌, ◌⊎◌, ◌≤◌, Option, Some, map, length};
 ghost use Rattle.relay_outside.specs.Told.{Gained, Rose};
-ghost use Rattle.replay_steps.specs.Written.{DidEnd, DidFinish, DidWrite, Replays};
+ghost use Rattle.relay_script.specs.Steps.{meaning};
+ghost use Rattle.replay_steps.specs.Written.{DidEnd, DidFinish, DidPlay, Replays};
 
 use crate::devices::Devices;
 use crate::ended::Ended;
@@ -61,7 +62,7 @@ fn play<O: LineSink, R: Wait>(
     out: &mut O,
 ) -> Ended
     requires most { length steps.now ≤ 50000 }
-    ensures told { Gained (O.told out.old) (O.told out.new) (DidWrite (length steps.now) ending result) }
+    ensures told { Gained (O.told out.old) (O.told out.new) (DidPlay config.now (map meaning steps.now) ending result) }
     ensures fault { result ≡ Ended.PrintFault → Rose (O.faults out.old) (O.faults out.new) }
     ensures later { O.faults out.old ≤ O.faults out.new }
     ensures read { result ≡ Ended.ScriptRead → ending ≡ Ending.Fault }
@@ -107,7 +108,7 @@ pub fn replay<S: LineSource, O: LineSink, R: Wait>(
     source: &mut S,
     out: &mut O,
 ) -> Ended
-    ensures replayed { Gained (O.told out.old) (O.told out.new) (Replays result (S.told source.old) (S.told source.new)) }
+    ensures replayed { Gained (O.told out.old) (O.told out.new) (Replays config.now result (S.told source.old) (S.told source.new)) }
     ensures script_read { result ≡ Ended.ScriptRead → Rose (S.faults source.old) (S.faults source.new) }
     ensures print_fault { result ≡ Ended.PrintFault → Rose (O.faults out.old) (O.faults out.new) }
     ensures later { (S.faults source.old ≤ S.faults source.new) × (O.faults out.old ≤ O.faults out.new) }

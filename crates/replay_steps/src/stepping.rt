@@ -1,11 +1,14 @@
 //! One step of a script.
-ghost use Rattle.std.specs.Prelude.{◌≡◌, ◌+◌, ◌<◌, ◌≤◌, ◌^◌};
-ghost use Rattle.turn_table.specs.Hands.{IsSameHand};
+ghost use Rattle.std.specs.Prelude.{◌≡◌, ◌+◌, ◌<◌, ◌≤◌, ◌^◌, ℕ, MatchOption};
+ghost use Rattle.turn_table.specs.Hands.{IsSameHand, parts};
 ghost use Rattle.relay_core.specs.Turning.{made_by};
 ghost use Rattle.board_turns.specs.Between.{board_of, IsBetween};
 ghost use Rattle.main_sweeps.specs.Steps.{KeepsReceipts};
-ghost use Rattle.replay_steps.specs.Holding.{AreReceipts};
+ghost use Rattle.replay_steps.specs.Holding.{ReceiptList, AreReceipts};
 ghost use Rattle.replay_steps.specs.Ready.{IsReady};
+ghost use Rattle.relay_script.specs.Steps.{meaning};
+ghost use Rattle.relay_script.specs.Steps as line;
+ghost use Rattle.replay_steps.specs.Steps.{course_of, OfStep};
 
 use crate::arriving::{Arrived, arrive, pass};
 use crate::controlling::make_turn;
@@ -34,7 +37,9 @@ pub(crate) enum Stepped {
 }
 
 /// What is printed, where there was memory for it.
-fn tell_event(event: Option<Printed>) -> Stepped {
+fn tell_event(event: Option<Printed>) -> Stepped
+    ensures { MatchOption event (result ≡ Stepped.Starved) (λ e. result ≡ Stepped.Prints e) }
+{
     match event {
         Some(event) => Stepped::Prints(event),
         None => Stepped::Starved,
@@ -62,6 +67,7 @@ fn take_packet<I: InEnd, O: OutEnd, R: Wait>(
     ensures receipts { AreReceipts config.now (made_by result.1) receipts.new.list }
     ensures room { receipts.new.room ≡ 64 }
     ensures received { receipts.new.received ≤ receipts.old.received + 1 }
+    ensures step { (clock : ℕ) → OfStep config.now (course_of (made_by hand) receipts.old clock) (line.Take port source bytes.now) result.0 (course_of (made_by result.1) receipts.new clock) }
 {
     if receipts.is_full() {
         return (Stepped::Faulty, hand);
@@ -87,12 +93,14 @@ fn relay_receipt<I: InEnd, O: OutEnd, R: Wait>(
 ) -> (Stepped, Hand<Relay<I, O>>)
     requires between { IsBetween config.now turns.now hand }
     requires receipts { AreReceipts config.now (made_by hand) receipts.old.list }
+    requires all { parts hand ≡ 1024 }
     ensures same { IsSameHand hand result.1 }
     ensures between { IsBetween config.now turns.now result.1 }
     ensures board { board_of (made_by result.1) ≡ board_of (made_by hand) }
     ensures receipts { AreReceipts config.now (made_by result.1) receipts.new.list }
     ensures room { receipts.new.room ≡ receipts.old.room }
     ensures received { receipts.new.received ≡ receipts.old.received }
+    ensures step { OfStep config.now (course_of (made_by hand) receipts.old now) (line.Relay number) result.0 (course_of (made_by result.1) receipts.new now) }
 {
     match receipts.take(number) {
         Some(receipt) => {
@@ -116,10 +124,12 @@ fn pass_packet<I: InEnd, O: OutEnd, R: Wait>(
     now: u64,
 ) -> (Stepped, Hand<Relay<I, O>>)
     requires between { IsBetween config.now turns.now hand }
+    requires all { parts hand ≡ 1024 }
     ensures same { IsSameHand hand result.1 }
     ensures between { IsBetween config.now turns.now result.1 }
     ensures board { board_of (made_by result.1) ≡ board_of (made_by hand) }
     ensures receipts { KeepsReceipts config.now (made_by hand) (made_by result.1) }
+    ensures step { (held : ReceiptList) → OfStep config.now (course_of (made_by hand) held now) (line.Packet port source bytes.now) result.0 (course_of (made_by result.1) held now) }
 {
     let (arrived, hand) = arrive(rt, turns, hand, config, port, source, bytes);
     match arrived {
@@ -151,6 +161,7 @@ pub(crate) fn make_step<'a, R: Wait>(
     ensures same { IsSameHand hand.entry result.1 }
     ensures ready { IsReady server.now.config server.now.turns result.1 devices.new.ports.told receipts.new }
     ensures received { receipts.new.received ≤ receipts.old.received + 1 }
+    ensures step { OfStep config.now (course_of (made_by hand.entry) receipts.old clock.old) (meaning step.now) result.0 (course_of (made_by result.1) receipts.new clock.new) }
 {
     let turns = server.turns();
     let mut hand = hand;

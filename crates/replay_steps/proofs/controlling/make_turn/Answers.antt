@@ -1,3 +1,4 @@
+use Rattle.replay_steps.proofs.Controls.{controls}
 use Rattle.replay_steps.proofs.Turned.{follows_keeps}
 use Rattle.replay_steps.proofs.controlling.make_turn.Goals as goal
 
@@ -6,3 +7,8 @@ returns-clause-receipts g c =
     let turned = c.control_turn-turn.ensures.turned in
     follows_keeps c.args.server.now.config c.args.server.now.turns c.args.hand.now c.control_turn-turn.new.hand c.args.now c.control_turn-turn.result turned.made
     c.requires.between turned.follows
+
+pub returns-clause-controls : goal.returns-clause-controls
+returns-clause-controls g c =
+    controls c.args.server.now.config c.args.hand.now c.control_turn-turn.new.hand c.args.now c.control_turn-turn.result _ _ _ _ _ _ _ _ _ _ c.args.source c.args.bytes.now c.turn_event.result
+    c.control_turn-turn.ensures.turned c.turn_event.ensures

@@ -1,41 +1,81 @@
-use Rattle.std.proofs.Common.{◌∙◌, ◌+◌, refl, subst, Option, Some, None, length, arith}
-use Rattle.relay_outside.specs.Told.{Gained}
-use Rattle.relay_outside.proofs.Telling.{gained_none, gained_both}
-use Rattle.replay_steps.specs.declared.ended.Ended.{Ended}
-use Rattle.replay_steps.specs.Written.{Prints, DidSteps}
-use Rattle.replay_steps.proofs.Writings.{no_lines, after_steps}
+use Rattle.std.proofs.Common.{◌∙◌, ◌+◌, suc, refl, sym, ap, subst, List, [], ◌∷◌, ◌++◌, Some, None, map, drop, arith}
+use Rattle.std.proofs.lemmas.List.{append_assoc}
+use Rattle.relay_outside.proofs.Telling.{gained_none, gained_both, gained_less}
+use Rattle.relay_core.specs.Turning.{made_by}
+use Rattle.relay_script.specs.Steps.{Step, meaning}
+use Rattle.replay_steps.specs.Steps.{Course, course_of}
+use Rattle.replay_steps.specs.Written.{DidStep, Played, PlayedSome, DidSteps}
+use Rattle.replay_steps.proofs.Fronts.{upto, step_at, upto_next, upto_count, upto_all}
+use Rattle.replay_steps.proofs.Writings.{PlayedTo, none_played, went_on, ended_in, some_played, all_played}
 use Rattle.replay_steps.proofs.playing.play_steps.Goals as goal
 
 pub steps-init : goal.steps-init
 steps-init g c = record {
   same = (refl, refl, refl, refl);
   ready = c.requires.ready;
-  received = let none = c.requires.none in omega (arith, none);
+  received = let none = ap (λ (r : Course). r.received) c.requires.none in omega (arith, none);
   below = omega arith;
   numbered = refl;
-  told = gained_none (g.O.LineSink.told c.args.out.now) Prints no_lines;
+  told = gained_none (g.O.LineSink.told c.args.out.now) _ (none_played c.args.config.now _ c.requires.none);
   later = omega arith;
 }
 
 pub returns-in-Some-clause-told : goal.returns-in-Some-clause-told
 returns-in-Some-clause-told g c =
+    let config = c.args.config.now in
+    let steps = c.args.steps.now in
+    let made = c.steps.made in
+    let x = c.index-steps-made.result in
+    let did = c.make_step-stepped.result.0 in
+    let was = course_of (made_by c.steps.hand) c.steps.receipts c.steps.clock in
+    let is = course_of (made_by c.make_step-stepped.result.1) c.make_step-stepped.new.receipts c.make_step-stepped.new.clock in
+    let less = c.steps-test.true in
+    let count = upto_count steps made x less c.index-steps-made.is in
     let numbered = c.steps.invariant.numbered in
-    let test = c.steps-test.true in
-    gained_both (g.O.LineSink.told c.args.out.now) (g.O.LineSink.told c.steps.out) (g.O.LineSink.told c.write_step.new.out) Prints (DidSteps (c.steps.line + 1) (Some c.in-Some.ended))
-    (DidSteps (length c.args.steps.now) (Some c.in-Some.ended))
-    (after_steps (length c.args.steps.now) (c.steps.line + 1) (Some c.in-Some.ended) (omega (arith, numbered, test))) c.steps.invariant.told
-    (subst (λ (end : Option Ended). Gained (g.O.LineSink.told c.steps.out) (g.O.LineSink.told c.write_step.new.out) (DidSteps (c.steps.line + 1) end)) c.in-Some.is c.write_step.ensures.told)
+    gained_both (g.O.LineSink.told c.args.out.now) (g.O.LineSink.told c.steps.out) (g.O.LineSink.told c.write_step.new.out) (PlayedTo config (upto made steps) was)
+    (DidStep did (c.steps.line + 1) (Some c.in-Some.ended)) (DidSteps config (map meaning steps) (made_by c.make_step-stepped.result.1) (Some c.in-Some.ended))
+    (ended_in config (upto made steps) was (meaning x) is (c.steps.line + 1) (map meaning steps) (map meaning (drop (suc made) steps)) (step_at steps made x less c.index-steps-made.is)
+    (made_by c.make_step-stepped.result.1) (omega (arith, count, numbered)) refl did c.in-Some.ended c.make_step-stepped.ensures.step)
+    c.steps.invariant.told c.in-Some.ensures.told
 
 pub returns-then-not-tell-clause-told : goal.returns-then-not-tell-clause-told
 returns-then-not-tell-clause-told g c =
-    let numbered = c.steps.invariant.numbered in
-    let test = c.steps-test.true in
-    gained_both (g.O.LineSink.told c.args.out.now) (g.O.LineSink.told c.steps.out) (g.O.LineSink.told c.write_step.new.out) Prints (DidSteps (c.steps.line + 1) None)
-    Prints (after_steps (length c.args.steps.now) (c.steps.line + 1) None (omega (arith, numbered, test))) c.steps.invariant.told
-    (subst (λ (end : Option Ended). Gained (g.O.LineSink.told c.steps.out) (g.O.LineSink.told c.write_step.new.out) (DidSteps (c.steps.line + 1) end)) c.in-None.is c.write_step.ensures.told)
+    let config = c.args.config.now in
+    let steps = c.args.steps.now in
+    let made = c.steps.made in
+    let x = c.index-steps-made.result in
+    let did = c.make_step-stepped.result.0 in
+    let was = course_of (made_by c.steps.hand) c.steps.receipts c.steps.clock in
+    let is = course_of (made_by c.make_step-stepped.result.1) c.make_step-stepped.new.receipts c.make_step-stepped.new.clock in
+    let less = c.steps-test.true in
+    let after = map meaning (drop (suc made) steps) in
+    gained_both (g.O.LineSink.told c.args.out.now) (g.O.LineSink.told c.steps.out) (g.O.LineSink.told c.write_step.new.out) (PlayedTo config (upto made steps) was)
+    (DidStep did (c.steps.line + 1) None) (PlayedSome config (map meaning steps))
+    (λ xs ys played step. some_played config (map meaning steps) (upto made steps ++ meaning x ∷ []) after is
+    (step_at steps made x less c.index-steps-made.is ∙ sym (append_assoc (upto made steps) (meaning x ∷ []) after)) (xs ++ ys)
+    (went_on config (upto made steps) was (meaning x) is (c.steps.line + 1) did c.make_step-stepped.ensures.step xs ys played step))
+    c.steps.invariant.told c.in-None.ensures.told
+
+pub returns-clause-told : goal.returns-clause-told
+returns-clause-told g c =
+    let config = c.args.config.now in
+    let steps = c.args.steps.now in
+    let made = c.steps.made in
+    let most = c.steps.invariant.below in
+    let least = c.steps-test.false in
+    let was = course_of (made_by c.steps.hand) c.steps.receipts c.steps.clock in
+    gained_less (g.O.LineSink.told c.args.out.now) (g.O.LineSink.told c.steps.out) (PlayedTo config (upto made steps) was) (Played config (map meaning steps) (made_by c.steps.hand))
+    (all_played config (map meaning steps) (upto made steps) was (made_by c.steps.hand) (upto_all steps made (omega (arith, most, least))) refl) c.steps.invariant.told
 
 pub steps-preserved : goal.steps-preserved
 steps-preserved g c =
+    let config = c.args.config.now in
+    let steps = c.args.steps.now in
+    let made = c.steps.made in
+    let x = c.index-steps-made.result in
+    let did = c.make_step-stepped.result.0 in
+    let at = course_of (made_by c.steps.hand) c.steps.receipts c.steps.clock in
+    let now = course_of (made_by c.make_step-stepped.result.1) c.make_step-stepped.new.receipts c.make_step-stepped.new.clock in
     let numbered = c.steps.invariant.numbered in
     let test = c.steps-test.true in
     let was = c.steps.invariant.same in
@@ -50,8 +90,10 @@ steps-preserved g c =
       received = omega (arith, before, more);
       below = omega (arith, test);
       numbered = omega (arith, numbered);
-      told = gained_both (g.O.LineSink.told c.args.out.now) (g.O.LineSink.told c.steps.out) (g.O.LineSink.told c.write_step.new.out) Prints (DidSteps (c.steps.line + 1) None)
-          Prints (after_steps (length c.args.steps.now) (c.steps.line + 1) None (omega (arith, numbered, test))) c.steps.invariant.told
-          (subst (λ (end : Option Ended). Gained (g.O.LineSink.told c.steps.out) (g.O.LineSink.told c.write_step.new.out) (DidSteps (c.steps.line + 1) end)) c.in-None.is c.write_step.ensures.told);
+      told = gained_both (g.O.LineSink.told c.args.out.now) (g.O.LineSink.told c.steps.out) (g.O.LineSink.told c.write_step.new.out) (PlayedTo config (upto made steps) at)
+          (DidStep did (c.steps.line + 1) None) (PlayedTo config (upto (made + 1) steps) now)
+          (λ xs ys played step. subst (λ (k : List Step). PlayedTo config k now (xs ++ ys)) (upto_next steps made x test c.index-steps-made.is)
+          (went_on config (upto made steps) at (meaning x) now (c.steps.line + 1) did c.make_step-stepped.ensures.step xs ys played step))
+          c.steps.invariant.told c.in-None.ensures.told;
       later = omega (arith, early, late);
     }

@@ -1,8 +1,11 @@
 use Rattle.std.proofs.Common.{◌≡◌, ◌-◌, ◌≤◌, length}
 use Rattle.relay_outside.specs.Told.{Gained}
 use Rattle.turn_table.specs.Hands.{IsSameHand}
+use Rattle.relay_core.specs.Turning.{made_by}
 use Rattle.replay_steps.specs.Ready.{IsReady}
-use Rattle.replay_steps.specs.Written.{Prints}
+use Rattle.replay_steps.specs.Steps.{course_of}
+use Rattle.replay_steps.proofs.Fronts.{upto}
+use Rattle.replay_steps.proofs.Writings.{PlayedTo}
 use Rattle.replay_steps.proofs.playing.play_steps.Given as goal
 
 abbrev pub invariant-steps : goal.invariant-steps
@@ -12,7 +15,7 @@ invariant-steps g l = record {
   received : l.receipts.received ≤ l.made;
   below : l.made ≤ length l.steps;
   numbered : l.line ≡ l.made;
-  told : Gained (g.O.LineSink.told l.fn.out) (g.O.LineSink.told l.out) Prints;
+  told : Gained (g.O.LineSink.told l.fn.out) (g.O.LineSink.told l.out) (PlayedTo l.config (upto l.made l.steps) (course_of (made_by l.hand) l.receipts l.clock));
   later : g.O.LineSink.faults l.fn.out ≤ g.O.LineSink.faults l.out;
 }
 

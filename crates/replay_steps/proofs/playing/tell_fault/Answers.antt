@@ -1,9 +1,10 @@
-use Rattle.std.proofs.Common.{◌∙◌, ap, Err}
+use Rattle.std.proofs.Common.{◌∙◌, refl, ap, Err}
 use Rattle.relay_script.specs.Printing.{ScriptFault}
-use Rattle.replay_steps.proofs.Writings.{tell_failed}
+use Rattle.replay_steps.specs.Written.{DidTell}
+use Rattle.replay_steps.proofs.Writings.{not_written}
 use Rattle.replay_steps.proofs.playing.tell_fault.Goals as goal
 
 pub returns-clause-told : goal.returns-clause-told
 returns-clause-told g c =
-    tell_failed g.O.LineSink.told c.args.line (ScriptFault c.args.line) c.args.out.now c.write_event.new.out c.in-Err.fault c.write_ended.result c.write_ended.ensures
-    (λ q. c.write_event.ensures.memory (c.in-Err.is ∙ ap Err q)) (λ q. c.write_event.ensures.failed (c.in-Err.is ∙ ap Err q))
+    not_written g.O.LineSink.told (ScriptFault c.args.line) c.args.out.now c.write_event.new.out (DidTell c.args.line) c.in-Err.fault c.write_ended.result c.write_ended.ensures
+    (λ q. c.write_event.ensures.memory (c.in-Err.is ∙ ap Err q)) (λ q. c.write_event.ensures.failed (c.in-Err.is ∙ ap Err q)) refl refl

@@ -1,20 +1,36 @@
-use Rattle.std.proofs.Common.{ap, length, ◌+◌}
+use Rattle.std.proofs.Common.{◌∙◌, ap, sym, subst, ℕ, ◌+◌, [], map}
+use Rattle.std.proofs.lemmas.List.{length-map}
+use Rattle.relay_outside.specs.declared.settings.Config.{Config}
 use Rattle.relay_outside.proofs.Telling.{gained_both}
-use Rattle.replay_steps.specs.Written.{DidSteps, DidFinish, DidWrite}
+use Rattle.relay_core.specs.Turning.{made_by}
+use Rattle.relay_script.specs.Steps.{meaning}
+use Rattle.replay_steps.specs.Steps.{Stops}
+use Rattle.replay_steps.specs.Written.{DidSteps, DidFinish, DidPlay}
 use Rattle.replay_steps.proofs.Beginnings.{ready_first}
-use Rattle.replay_steps.proofs.Writings.{after_all}
+use Rattle.replay_steps.proofs.Courses.{same_receipts, stops}
+use Rattle.replay_steps.proofs.Writings.{after_stop}
 use Rattle.replay_steps.proofs.replaying.play.Goals as goal
 
 pub play_steps-ended-requires-clause-ready : goal.play_steps-ended-requires-clause-ready
 play_steps-ended-requires-clause-ready g c =
     ready_first c.in-Ok-start.server.config c.in-Ok-start.server.turns c.in-Ok-start.hand c.in-Ok.devices.ports.told _ c.in-Ok-start.ensures.between c.in-Ok-start.ensures.nothing
-    c.in-Ok.ensures c.in-Ok-new.ensures
+    c.in-Ok.ensures c.in-Ok-new.ensures c.in-Ok-start.ensures.all
+
+pub play_steps-ended-requires-clause-none : goal.play_steps-ended-requires-clause-none
+play_steps-ended-requires-clause-none g c = same_receipts [] _ _ _ 0 c.in-Ok-start.ensures.nothing c.in-Ok-new.ensures
 
 pub returns-clause-told : goal.returns-clause-told
 returns-clause-told g c =
-    let n = length c.args.steps.now in
+    let config = c.args.config.now in
+    let steps = map meaning c.args.steps.now in
+    let ran = c.play_steps-ended.result.0 in
     let line = c.play_steps-ended.result.1 + 1 in
-    gained_both (g.O.LineSink.told c.args.out.now) (g.O.LineSink.told c.play_steps-ended.new.out) (g.O.LineSink.told c.end_replay-ended.new.out) (DidSteps n c.play_steps-ended.result.0)
-    (DidFinish c.play_steps-ended.result.0 c.args.ending line c.end_replay-ended.result) (DidWrite n c.args.ending c.end_replay-ended.result)
-    (after_all n line c.play_steps-ended.result.0 c.args.ending c.end_replay-ended.result (λ q. ap (λ (k : _). k + 1) (c.play_steps-ended.ensures.all q)))
+    let old = c.play_steps-ended.result.2 in
+    let l = made_by old in
+    let how = c.args.ending in
+    let end = c.end_replay-ended.result in
+    gained_both (g.O.LineSink.told c.args.out.now) (g.O.LineSink.told c.play_steps-ended.new.out) (g.O.LineSink.told c.end_replay-ended.new.out) (DidSteps config steps l ran)
+    (DidFinish ran how line end) (DidPlay config steps how end)
+    (after_stop config steps l line ran how end (λ q. ap (λ (k : ℕ). k + 1) (c.play_steps-ended.ensures.all q ∙ sym (length-map c.args.steps.now meaning)))
+    (subst (λ (k : Config). Stops k l) c.in-Ok-start.ensures.config (stops c.in-Ok-start.server.config old c.stop.new.hand c.stop.ensures.makes c.close.ensures.legal)))
     c.play_steps-ended.ensures.told c.end_replay-ended.ensures.told

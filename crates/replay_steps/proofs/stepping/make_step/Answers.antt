@@ -1,7 +1,12 @@
-use Rattle.std.proofs.Common.{◌∙◌, sym, subst}
+use Rattle.std.proofs.Common.{◌∙◌, sym, subst, ℕ, List}
 use Rattle.relay_outside.specs.declared.settings.Config.{Config}
 use Rattle.relay_core.specs.Turning.{made_by}
+use Rattle.relay_script.specs.declared.step.Step as coded
+use Rattle.relay_script.specs.Steps as line
+use Rattle.relay_script.specs.Steps.{meaning}
 use Rattle.replay_steps.specs.Holding.{AreReceipts}
+use Rattle.replay_steps.specs.Steps.{course_of, OfStep}
+use Rattle.replay_steps.proofs.Courses.{commanded}
 use Rattle.replay_steps.proofs.Holdings.{receipts_kept}
 use Rattle.replay_steps.proofs.Steps.{moved_between, ready_moved}
 use Rattle.replay_steps.proofs.stepping.make_step.Goals as goal
@@ -17,6 +22,7 @@ relay_receipt-requires-clause-between g c =
 pub pass_packet-requires : goal.pass_packet-requires
 pass_packet-requires g c = record {
   between = moved_between c.args.server.now.config c.args.config.now c.args.server.now.turns c.turns-turns.result.now c.args.hand c.requires.config (sym c.turns-turns.ensures) c.requires.ready.between;
+  all = c.requires.ready.all;
 }
 
 pub returns-in-Ng-clause-ready : goal.returns-in-Ng-clause-ready
@@ -25,23 +31,59 @@ returns-in-Ng-clause-ready g c = record {
   opens = c.make_turn-event.ensures.open;
   receipts = receipts_kept c.args.server.now.config (made_by c.args.hand) (made_by c.make_turn-event.new.hand) c.args.receipts.now.list c.make_turn-event.ensures.receipts c.requires.ready.receipts;
   room = c.requires.ready.room;
+  all = c.make_turn-event.ensures.same.2 ∙ c.requires.ready.all;
 }
 
 pub returns-in-Take-clause-ready : goal.returns-in-Take-clause-ready
 returns-in-Take-clause-ready g c =
     ready_moved c.args.server.now.config c.args.config.now c.args.server.now.turns c.turns-turns.result.now c.args.hand c.take_packet.result.1 c.args.devices.now.ports.told
-    c.args.receipts.now c.take_packet.new.receipts c.requires.config (sym c.turns-turns.ensures) c.requires.ready c.take_packet.ensures.between c.take_packet.ensures.board
+    c.args.receipts.now c.take_packet.new.receipts c.requires.config (sym c.turns-turns.ensures) c.requires.ready c.take_packet.ensures.same c.take_packet.ensures.between c.take_packet.ensures.board
     c.take_packet.ensures.receipts c.take_packet.ensures.room
 
 pub returns-in-Relay-clause-ready : goal.returns-in-Relay-clause-ready
 returns-in-Relay-clause-ready g c =
     ready_moved c.args.server.now.config c.args.config.now c.args.server.now.turns c.turns-turns.result.now c.args.hand c.relay_receipt.result.1 c.args.devices.now.ports.told
-    c.args.receipts.now c.relay_receipt.new.receipts c.requires.config (sym c.turns-turns.ensures) c.requires.ready c.relay_receipt.ensures.between c.relay_receipt.ensures.board
+    c.args.receipts.now c.relay_receipt.new.receipts c.requires.config (sym c.turns-turns.ensures) c.requires.ready c.relay_receipt.ensures.same c.relay_receipt.ensures.between c.relay_receipt.ensures.board
     c.relay_receipt.ensures.receipts (c.relay_receipt.ensures.room ∙ c.requires.ready.room)
 
 pub returns-in-Packet-clause-ready : goal.returns-in-Packet-clause-ready
 returns-in-Packet-clause-ready g c =
     ready_moved c.args.server.now.config c.args.config.now c.args.server.now.turns c.turns-turns.result.now c.args.hand c.pass_packet.result.1 c.args.devices.now.ports.told
-    c.args.receipts.now c.args.receipts.now c.requires.config (sym c.turns-turns.ensures) c.requires.ready c.pass_packet.ensures.between c.pass_packet.ensures.board
+    c.args.receipts.now c.args.receipts.now c.requires.config (sym c.turns-turns.ensures) c.requires.ready c.pass_packet.ensures.same c.pass_packet.ensures.between c.pass_packet.ensures.board
     (receipts_kept c.args.config.now (made_by c.args.hand) (made_by c.pass_packet.result.1) c.args.receipts.now.list c.pass_packet.ensures.receipts
     (subst (λ (k : Config). AreReceipts k (made_by c.args.hand) c.args.receipts.now.list) c.requires.config c.requires.ready.receipts)) c.requires.ready.room
+
+pub returns-in-Ng-clause-step : goal.returns-in-Ng-clause-step
+returns-in-Ng-clause-step g c =
+    let config = c.args.config.now in
+    let was = course_of (made_by c.args.hand) c.args.receipts.now c.args.clock.now in
+    let is = course_of (made_by c.make_turn-event.new.hand) c.args.receipts.now c.args.clock.now in
+    subst (λ (s : coded.Step). OfStep config was (meaning s) c.tell_event.result is) (sym c.in-Ng.is)
+    (subst (λ (bytes : List ℕ). OfStep config was (line.Ng c.in-Ng.source bytes) c.tell_event.result is) c.as_slice.ensures
+    (commanded config (made_by c.args.hand) c.args.receipts.now c.args.clock.now c.make_turn-event.result c.tell_event.result c.tell_event.ensures c.args.server.now.config c.in-Ng.source
+    c.as_slice.result.now (made_by c.make_turn-event.new.hand) c.requires.config c.make_turn-event.ensures.controls))
+
+pub returns-in-Take-clause-step : goal.returns-in-Take-clause-step
+returns-in-Take-clause-step g c =
+    let config = c.args.config.now in
+    let was = course_of (made_by c.args.hand) c.args.receipts.now c.args.clock.now in
+    let is = course_of (made_by c.take_packet.result.1) c.take_packet.new.receipts c.args.clock.now in
+    subst (λ (s : coded.Step). OfStep config was (meaning s) c.take_packet.result.0 is) (sym c.in-Take.is)
+    (subst (λ (bytes : List ℕ). OfStep config was (line.Take c.in-Take.port c.in-Take.source bytes) c.take_packet.result.0 is) c.as_slice-in-Take.ensures
+    (c.take_packet.ensures.step c.args.clock.now))
+
+pub returns-in-Relay-clause-step : goal.returns-in-Relay-clause-step
+returns-in-Relay-clause-step g c =
+    let config = c.args.config.now in
+    let was = course_of (made_by c.args.hand) c.args.receipts.now c.args.clock.now in
+    let is = course_of (made_by c.relay_receipt.result.1) c.relay_receipt.new.receipts c.args.clock.now in
+    subst (λ (s : coded.Step). OfStep config was (meaning s) c.relay_receipt.result.0 is) (sym c.in-Relay.is) c.relay_receipt.ensures.step
+
+pub returns-in-Packet-clause-step : goal.returns-in-Packet-clause-step
+returns-in-Packet-clause-step g c =
+    let config = c.args.config.now in
+    let was = course_of (made_by c.args.hand) c.args.receipts.now c.args.clock.now in
+    let is = course_of (made_by c.pass_packet.result.1) c.args.receipts.now c.args.clock.now in
+    subst (λ (s : coded.Step). OfStep config was (meaning s) c.pass_packet.result.0 is) (sym c.in-Packet.is)
+    (subst (λ (bytes : List ℕ). OfStep config was (line.Packet c.in-Packet.port c.in-Packet.source bytes) c.pass_packet.result.0 is) c.as_slice-in-Packet.ensures
+    (c.pass_packet.ensures.step c.args.receipts.now))

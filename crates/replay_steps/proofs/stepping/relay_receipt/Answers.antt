@@ -1,6 +1,7 @@
-use Rattle.std.proofs.Common.{sym, subst, List}
+use Rattle.std.proofs.Common.{refl, sym, subst, List}
 use Rattle.relay_core.specs.Turning.{made_by}
 use Rattle.replay_steps.specs.Holding.{Numbered, AreReceipts}
+use Rattle.replay_steps.proofs.Courses.{relayed, lacks_under, same_receipts}
 use Rattle.replay_steps.proofs.Holdings.{picked, receipts_passed}
 use Rattle.replay_steps.proofs.stepping.relay_receipt.Goals as goal
 
@@ -20,3 +21,13 @@ returns-in-Some-clause-receipts g c =
     (subst (λ (list : List Numbered). AreReceipts config l list) found.old_is c.requires.receipts) in
     subst (λ (list : List Numbered). AreReceipts config new list) (sym found.new_is)
     (receipts_passed config l new c.in-Some.receipt _ c.pass-event.ensures.receipts one.apart one.others)
+
+pub returns-in-Some-clause-step : goal.returns-in-Some-clause-step
+returns-in-Some-clause-step g c =
+    relayed c.args.config.now (made_by c.args.hand) c.args.receipts.now c.args.now c.pass-event.result.0 c.tell_event.result c.tell_event.ensures c.args.number c.in-Some.receipt
+    (made_by c.pass-event.result.1) c.take.new.self c.in-Some.ensures c.pass-event.ensures.relays
+
+pub returns-in-None-clause-step : goal.returns-in-None-clause-step
+returns-in-None-clause-step g c =
+    let nothing = c.in-None.ensures in
+    (lacks_under c.args.number c.args.receipts.now.list nothing.1, same_receipts (made_by c.args.hand) (made_by c.args.hand) c.args.receipts.now c.take.new.self c.args.now refl nothing.0)

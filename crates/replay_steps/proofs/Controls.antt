@@ -1,0 +1,189 @@
+-- What a control turn did, by what its link tells of it.
+use Rattle.std.proofs.Common.{◌≡◌, ◌∙◌, refl, sym, ap, subst, ℕ, Bool, true, false, List, [], ◌∷◌, ◌++◌, Option, Some, None, inl, inr, filter_map}
+use Rattle.std.specs.List.{last_or}
+use Rattle.std.proofs.lemmas.List.Elements.{filter_map-append}
+use Rattle.ng_frame.specs.Frame.{frame}
+use Rattle.relay_outside.specs.Told.{Gained}
+use Rattle.relay_outside.specs.declared.address.Addr.{Addr}
+use Rattle.relay_outside.specs.declared.keys.KeyCall.{KeyCall}
+use Rattle.relay_outside.specs.declared.link.LinkCall.{LinkCall}
+use Rattle.relay_outside.specs.declared.link.LinkCall.TheVariants as call
+use Rattle.relay_outside.specs.declared.link.LinkGiven.{LinkGiven}
+use Rattle.relay_outside.specs.declared.link.LinkGiven.TheVariants as given
+use Rattle.relay_outside.specs.declared.ports.PortCall.{PortCall}
+use Rattle.relay_outside.specs.declared.settings.Config.{Config}
+use Rattle.relay_outside.specs.Link.{datagram_of, sent_of}
+use Rattle.turn_table.specs.declared.machine.Entry as table
+use Rattle.turn_table.specs.declared.hands.Hand.{Hand}
+use Rattle.turn_table.specs.Hands.{entries}
+use Rattle.call_board.specs.Acts.{BoardEntry}
+use Rattle.relay_core.specs.declared.part.Part.{Part}
+use Rattle.relay_core.specs.Made.{Made, entry_of, list_of}
+use Rattle.relay_core.specs.Turning.{made_by}
+use Rattle.relay_core.proofs.Known.{turn_list}
+use Rattle.board_turns.specs.Between.{board_of, MakesTurn}
+use Rattle.control_entries.specs.Controls.{Hearing, control_of, entry_at, moment_at}
+use Rattle.control_turns.specs.declared.taking.ControlTurn.{ControlTurn}
+use Rattle.control_turns.specs.declared.taking.ControlTurn.TheVariants as turn
+use Rattle.control_turns.specs.Taking.{is_answered, is_too_long, turn_after, Follows, Exchanged, DidReply, DidFollow, DidTurn, Turned}
+use Rattle.relay_script.specs.declared.event.Printed as coded
+use Rattle.relay_script.specs.Printing as event
+use Rattle.relay_script.specs.Printing.{Printed, event_of}
+use Rattle.replay_devices.proofs.Lists.{last_or-append}
+use Rattle.replay_steps.specs.Steps.{TurnsBoard, filled, Replying, Answers, Controls}
+use Rattle.replay_steps.specs.Controlling.{IsReply, TellsTaken, IsOfTurn, TellsTurn, TellsEvent, Controlled}
+
+-- The last call of a kind in a longer list.
+
+last_of : {A : Type 0} (f : LinkCall → Option A) (xs ys : List LinkCall) → last_or None (filter_map f (xs ++ ys)) ≡ last_or (last_or None (filter_map f xs)) (filter_map f ys)
+last_of f xs ys = ap (last_or None) (filter_map-append f xs ys) ∙ last_or-append None (filter_map f xs) (filter_map f ys)
+
+-- the last item is given back
+same_some : {A : Type 0} (x y : A) → Some x ≡ Some y → x ≡ y
+same_some x y p = cc
+
+module _ (config : Config) (now : ℕ) (source : Addr) (bytes : List ℕ) where
+  -- no frame
+  silent : (h : List BoardEntry) (from : Addr) (datagram : List ℕ) (made : Option Hearing) (calls sends : List LinkCall)
+      → TellsTaken (Some (calls ++ call.Take 16385 (given.Datagram from datagram) ∷ sends)) source bytes
+      → (f : Option (List ℕ × List ℕ)) → frame datagram ≡ f → DidReply config h now from f (is_too_long datagram) turn.Silent made sends → frame (filled bytes) ≡ None
+  silent h from datagram made calls sends tells None is did =
+      let at : Some (from, datagram) ≡ Some (source, filled bytes) =
+      sym (ap (λ (s : List LinkCall). last_or None (filter_map datagram_of (calls ++ call.Take 16385 (given.Datagram from datagram) ∷ s))) did.2
+      ∙ last_of datagram_of calls (call.Take 16385 (given.Datagram from datagram) ∷ [])) ∙ tells in
+      ap (λ (d : Addr × List ℕ). frame d.1) (sym (same_some (from, datagram) (source, filled bytes) at)) ∙ is
+  silent h from datagram None calls sends tells (Some parts) is did = absurd did
+  silent h from datagram (Some x) calls sends tells (Some parts) is did = absurd (not_silent did.done did.answer_is)
+    where
+      not_silent : (done : Bool) → turn.Silent ≡ turn_after done → ⊥
+      not_silent true p = absurd (let k : turn.Silent ≡ turn.Replied = p in cc)
+      not_silent false p = absurd (let k : turn.Silent ≡ turn.ReplyFault = p in cc)
+
+  -- a datagram that got no answer
+  silent_taken : (h : List BoardEntry) (calls sends : List LinkCall) (made : Option Hearing) (gave : LinkGiven)
+      → TellsTaken (Some (calls ++ call.Take 16385 gave ∷ sends)) source bytes → DidFollow config h now gave turn.Silent made sends → frame (filled bytes) ≡ None
+  silent_taken h calls sends made (given.Datagram from datagram) tells did = silent h from datagram made calls sends tells (frame datagram) refl did
+  silent_taken h calls sends made given.Nothing tells did = absurd (let k : turn.Silent ≡ turn.Nothing = did.0 in cc)
+  silent_taken h calls sends made given.End tells did = absurd (let k : turn.Silent ≡ turn.End = did.0 in cc)
+  silent_taken h calls sends made given.Failed tells did = absurd (let k : turn.Silent ≡ turn.ReadFault = did.0 in cc)
+
+  silent_told : (h : List BoardEntry) (before after : Option (List LinkCall)) (made : Option Hearing) → TellsTaken after source bytes
+      → Gained before after (DidTurn config h now turn.Silent made) → frame (filled bytes) ≡ None
+  silent_told h before None made tells gained = absurd (let k : None ≡ Some (source, filled bytes) = tells in cc)
+  silent_told h None (Some calls) made tells gained = absurd gained
+  silent_told h (Some first) (Some calls) made tells (more, is, did) =
+      silent_taken h first did.sends made did.gave
+      (subst (λ (c : List LinkCall). TellsTaken (Some c) source bytes) (is ∙ ap (λ (m : List LinkCall). first ++ m) did.calls_are) tells) did.followed
+
+module _ (config : Config) {M I O T : Type 0} {g : _} where
+  pub turns_board : (old new : Hand M (Part I O) Made T g) (e : BoardEntry) → MakesTurn config old new e → TurnsBoard config (made_by old) e (made_by new)
+  turns_board old new e makes = record {
+    nested = list_of makes.rows;
+    last = entry_of makes.row;
+    list_is = ap (λ (rows : List (table.Entry Made T)). list_of rows) makes.list_is ∙ turn_list (entries old) makes.rows makes.row;
+    turn = makes.turn;
+    is = makes.is;
+  }
+
+  -- a turn that was not answered left the hand as it was
+  unanswered : (old new : Hand M (Part I O) Made T g) (now : ℕ) (answer : ControlTurn) (made : Option Hearing) → is_answered answer ≡ false → Follows config old new now answer made
+      → made_by new ≡ made_by old
+  unanswered old new now answer None unsent follows = ap (λ (h : Hand M (Part I O) Made T g). made_by h) follows.1
+  unanswered old new now answer (Some x) unsent follows = absurd (let k : false ≡ true = sym unsent ∙ follows.0 in cc)
+
+  module _ (now : ℕ) (source : Addr) (bytes : List ℕ) (e : Printed) where
+    -- a frame, and its reply
+    module _ (old new : Hand M (Part I O) Made T g) (answer : ControlTurn) where
+      exchanged : (from : Addr) (datagram : List ℕ) (x : Hearing) (calls sends : List LinkCall) (parts : List ℕ × List ℕ)
+          → TellsTaken (Some (calls ++ call.Take 16385 (given.Datagram from datagram) ∷ sends)) source bytes
+          → IsOfTurn answer (Some (calls ++ call.Take 16385 (given.Datagram from datagram) ∷ sends)) e
+          → Follows config old new now answer (Some x) → frame datagram ≡ Some parts
+          → Exchanged config (board_of (made_by old)) now from parts (is_too_long datagram) answer x sends
+          → Answers config now (made_by old) source (filled bytes) e (made_by new)
+      exchanged from datagram x calls sends (cookie, body) tells of follows is did =
+          let h = board_of (made_by old) in
+          let taken : Some (from, datagram) ≡ Some (source, filled bytes) =
+          sym (ap (λ (s : List LinkCall). last_or None (filter_map datagram_of (calls ++ call.Take 16385 (given.Datagram from datagram) ∷ s))) did.sends_are
+          ∙ last_of datagram_of calls (call.Take 16385 (given.Datagram from datagram) ∷ call.Send from reply did.done ∷ [])) ∙ tells in
+          let same = same_some (from, datagram) (source, filled bytes) taken in
+          let from_is : from ≡ source = ap (λ (d : Addr × List ℕ). d.0) same in
+          let datagram_is : datagram ≡ filled bytes = ap (λ (d : Addr × List ℕ). d.1) same in record {
+            heard = x;
+            is_heard = record {
+              source_is = did.source_is ∙ from_is;
+              framed = ap frame (sym datagram_is) ∙ is ∙ ap (λ (c : List ℕ). Some (c, body)) (sym did.cookie_is) ∙ ap (λ (b : List ℕ). Some (x.cookie, b)) (sym did.body_is);
+              length_is = did.length_is ∙ ap is_too_long datagram_is;
+            };
+            turns = turns_board old new (entry_at config h (moment_at h now) x) follows.1;
+            replies = replying from_is did.done did.answer_is (subst (λ (s : List LinkCall). IsOfTurn answer (Some (calls ++ call.Take 16385 (given.Datagram from datagram) ∷ s)) e) did.sends_are of);
+          }
+        where
+          reply : List ℕ
+          reply = (control_of config (board_of (made_by old)) (moment_at (board_of (made_by old)) now) x).reply
+
+          of_reply : from ≡ source → IsReply (Some (calls ++ call.Take 16385 (given.Datagram from datagram) ∷ call.Send from reply true ∷ [])) e → Replying source reply e
+          of_reply from_is r =
+              let sent : Some (from, reply) ≡ Some (r.to, r.bytes) = sym (last_of sent_of calls (call.Take 16385 (given.Datagram from datagram) ∷ call.Send from reply true ∷ [])) ∙ r.sent in
+              let same = same_some (from, reply) (r.to, r.bytes) sent in
+              inl (r.is ∙ ap (λ (d : Addr × List ℕ). event.Reply d.0 d.1) (sym same) ∙ ap (λ (a : Addr). event.Reply a reply) from_is)
+
+          replying : from ≡ source → (done : Bool) → answer ≡ turn_after done
+              → IsOfTurn answer (Some (calls ++ call.Take 16385 (given.Datagram from datagram) ∷ call.Send from reply done ∷ [])) e → Replying source reply e
+          replying from_is true is of =
+              of_reply from_is (subst (λ (a : ControlTurn). IsOfTurn a (Some (calls ++ call.Take 16385 (given.Datagram from datagram) ∷ call.Send from reply true ∷ [])) e) is of)
+          replying from_is false is of =
+              inr (subst (λ (a : ControlTurn). IsOfTurn a (Some (calls ++ call.Take 16385 (given.Datagram from datagram) ∷ call.Send from reply false ∷ [])) e) is of)
+
+      answered : (from : Addr) (datagram : List ℕ) (made : Option Hearing) (calls sends : List LinkCall)
+          → TellsTaken (Some (calls ++ call.Take 16385 (given.Datagram from datagram) ∷ sends)) source bytes
+          → IsOfTurn answer (Some (calls ++ call.Take 16385 (given.Datagram from datagram) ∷ sends)) e
+          → Follows config old new now answer made → is_answered answer ≡ true
+          → (f : Option (List ℕ × List ℕ)) → frame datagram ≡ f → DidReply config (board_of (made_by old)) now from f (is_too_long datagram) answer made sends
+          → Answers config now (made_by old) source (filled bytes) e (made_by new)
+      answered from datagram None calls sends tells of follows sent f is did = absurd (let k : false ≡ true = sym follows.0 ∙ sent in cc)
+      answered from datagram (Some x) calls sends tells of follows sent None is did = absurd (let k : Some x ≡ None = did.1 in cc)
+      answered from datagram (Some x) calls sends tells of follows sent (Some parts) is did = exchanged from datagram x calls sends parts tells of follows is did
+
+      -- a turn that was answered took a datagram
+      taken : (calls sends : List LinkCall) (made : Option Hearing) (gave : LinkGiven)
+          → TellsTaken (Some (calls ++ call.Take 16385 gave ∷ sends)) source bytes
+          → IsOfTurn answer (Some (calls ++ call.Take 16385 gave ∷ sends)) e
+          → Follows config old new now answer made → is_answered answer ≡ true
+          → DidFollow config (board_of (made_by old)) now gave answer made sends
+          → Answers config now (made_by old) source (filled bytes) e (made_by new)
+      taken calls sends made (given.Datagram from datagram) tells of follows sent did = answered from datagram made calls sends tells of follows sent (frame datagram) refl did
+      taken calls sends made given.Nothing tells of follows sent did = absurd (let k : false ≡ true = sym (ap is_answered did.0) ∙ sent in cc)
+      taken calls sends made given.End tells of follows sent did = absurd (let k : false ≡ true = sym (ap is_answered did.0) ∙ sent in cc)
+      taken calls sends made given.Failed tells of follows sent did = absurd (let k : false ≡ true = sym (ap is_answered did.0) ∙ sent in cc)
+
+      taken_told : (before after : Option (List LinkCall)) (made : Option Hearing) → TellsTaken after source bytes → IsOfTurn answer after e
+          → Follows config old new now answer made → is_answered answer ≡ true → Gained before after (DidTurn config (board_of (made_by old)) now answer made)
+          → Answers config now (made_by old) source (filled bytes) e (made_by new)
+      taken_told before None made tells of follows sent gained = absurd (let k : None ≡ Some (source, filled bytes) = tells in cc)
+      taken_told None (Some calls) made tells of follows sent gained = absurd gained
+      taken_told (Some first) (Some calls) made tells of follows sent (more, is, did) =
+          let list : calls ≡ first ++ call.Take 16385 did.gave ∷ did.sends = is ∙ ap (λ (m : List LinkCall). first ++ m) did.calls_are in
+          taken first did.sends made did.gave (subst (λ (c : List LinkCall). TellsTaken (Some c) source bytes) list tells)
+          (subst (λ (c : List LinkCall). IsOfTurn answer (Some c) e) list of) follows sent did.followed
+
+    controls_line : (old new : Hand M (Part I O) Made T g) (answer : ControlTurn) (before after : Option (List LinkCall)) (made : Option Hearing)
+        → Follows config old new now answer made → Gained before after (DidTurn config (board_of (made_by old)) now answer made) → TellsTurn answer after source bytes e
+        → Controls config now (made_by old) source bytes e (made_by new)
+    controls_line old new turn.ReadFault before after made follows gained tells = inl (tells, unanswered old new now turn.ReadFault made refl follows)
+    controls_line old new turn.Silent before after made follows gained tells =
+        inr (inl (silent_told config now source bytes (board_of (made_by old)) before after made tells.0 gained, tells.1, unanswered old new now turn.Silent made refl follows))
+    controls_line old new turn.Replied before after made follows gained tells =
+        inr (inr (taken_told old new turn.Replied before after made tells.0 tells.1 follows refl gained))
+    controls_line old new turn.ReplyFault before after made follows gained tells =
+        inr (inr (taken_told old new turn.ReplyFault before after made tells.0 tells.1 follows refl gained))
+    controls_line old new turn.Nothing before after made follows gained tells = absurd tells.1
+    controls_line old new turn.End before after made follows gained tells = absurd tells.1
+
+  -- what is printed of a turn says what it did
+  pub controls : (old new : Hand M (Part I O) Made T g) (now : ℕ) (answer : ControlTurn) (ports ports_now keys keys_now : ℕ) (opened opened_now : Option (List PortCall))
+      (drew drew_now : Option (List KeyCall)) (before after : Option (List LinkCall)) (source : Addr) (bytes : List ℕ) (e : Option coded.Printed)
+      → Turned config old new now answer ports ports_now keys keys_now opened opened_now drew drew_now before after → TellsEvent answer after source bytes e
+      → Controlled config now (made_by old) source bytes e (made_by new)
+  controls old new now answer ports ports_now keys keys_now opened opened_now drew drew_now before after source bytes None turned tells = tt
+  controls old new now answer ports ports_now keys keys_now opened opened_now drew drew_now before after source bytes (Some e) turned tells =
+      controls_line now source bytes (event_of e) old new answer before after turned.made turned.follows turned.calls tells

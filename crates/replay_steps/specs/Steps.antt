@@ -1,0 +1,257 @@
+-- What each step of a script does to a relay, by the list of its entries, and what it prints.
+use Rattle.std.specs.Prelude.{◌≡◌, ◌⊎◌, ◌+◌, ◌<◌, ◌≤◌, ℕ, Bool, false, ◌==◌, List, [], ◌∷◌, ◌++◌, Option, Some, None, map, length, take}
+use Rattle.std.specs.List.{list_any}
+use Rattle.ng_frame.specs.Frame.{frame}
+use Rattle.relay_outside.specs.declared.address.Addr.{Addr}
+use Rattle.relay_outside.specs.declared.address.Ip.{Ip}
+use Rattle.relay_outside.specs.declared.settings.Config.{Config}
+use Rattle.port_pool.specs.Boxes as box
+use Rattle.port_pool.specs.Boxes.{Taken}
+use Rattle.call_board.specs.Acts.{BoardEntry}
+use Rattle.call_cell.specs.declared.outcome.Outcome.{Outcome}
+use Rattle.call_cell.specs.Cells as cells
+use Rattle.relay_core.specs.Entries.{Entry, board_entry}
+use Rattle.relay_core.specs.Legal.{Legal}
+use Rattle.relay_core.specs.Safe.{Safe}
+use Rattle.relay_core.specs.Made.{told}
+use Rattle.relay_core.specs.Turning.{IsTurn, with_turn}
+use Rattle.board_turns.specs.Between.{board_of}
+use Rattle.board_turns.specs.Stopping.{stop_entry}
+use Rattle.control_entries.specs.Controls.{Hearing, control_of, entry_at, moment_at}
+use Rattle.control_turns.specs.Taking.{is_too_long}
+use Rattle.main_sweeps.specs.Steps.{take_entry, RelaysBy}
+use Rattle.relay_script.specs.Steps as step
+use Rattle.relay_script.specs.Steps.{Step}
+use Rattle.relay_script.specs.declared.event.Printed as coded
+use Rattle.relay_script.specs.Printing as event
+use Rattle.relay_script.specs.Printing.{Printed, event_of}
+use Rattle.replay_steps.specs.Arrivals.{End, IsEndAt, IsNoEnd}
+use Rattle.replay_steps.specs.Holding.{Numbered, ReceiptList, taken_by}
+use Rattle.replay_steps.specs.declared.arriving.Arrived.{Arrived}
+use Rattle.replay_steps.specs.declared.arriving.Arrived.TheVariants as arrived
+use Rattle.replay_steps.specs.declared.stepping.Stepped.{Stepped}
+use Rattle.replay_steps.specs.declared.stepping.Stepped.TheVariants as stepped
+
+-- a packet, and the pair whose box it was taken from
+abbrev pub Packet : Type 0
+Packet = ℕ × cells.Receipt
+
+-- Where a replay is between two steps: the entries that were made so far, in order; the packets that are held, each under its
+-- number; how many numbers were given out; and the moment of the clock
+pub record Course : Type 0 where
+  pub entries : List Entry
+  pub held : List (ℕ × Packet)
+  pub received : ℕ
+  pub clock : ℕ
+
+-- before the first step
+abbrev pub at_first : Course
+at_first = record { entries = []; held = []; received = 0; clock = 0 }
+
+abbrev pub at_moment : ℕ → Course → Course
+at_moment moment r = record { entries = r.entries; held = r.held; received = r.received; clock = moment }
+
+abbrev pub with_entries : List Entry → Course → Course
+with_entries l r = record { entries = l; held = r.held; received = r.received; clock = r.clock }
+
+-- one more packet is held, under the next number
+abbrev pub holding : Packet → List Entry → Course → Course
+holding p l r = record { entries = l; held = r.held ++ (r.received + 1, p) ∷ []; received = r.received + 1; clock = r.clock }
+
+-- just these are held
+abbrev pub left_with : List (ℕ × Packet) → List Entry → Course → Course
+left_with held l r = record { entries = l; held = held; received = r.received; clock = r.clock }
+
+-- a receipt that is held, as its packet
+abbrev pub packet_under : Numbered → ℕ × Packet
+packet_under h = (h.0, taken_by h.1)
+
+-- where a replay is with this list, these receipts and this clock
+abbrev pub course_of : List Entry → ReceiptList → ℕ → Course
+course_of l receipts clock = record { entries = l; held = map packet_under receipts.list; received = receipts.received; clock = clock }
+
+-- One turn of the board, with this entry.
+pub record TurnsBoard (config : Config) (l : List Entry) (e : BoardEntry) (new : List Entry) : Type 0 where
+  pub nested : List Entry
+  pub last : Entry
+  pub list_is : new ≡ with_turn l nested last
+  pub turn : IsTurn config l nested last
+  pub is : board_entry last ≡ Some e
+
+-- The line `ng`.
+
+-- of a datagram as much as the room for one takes, which is a byte more than one may have
+abbrev pub filled : List ℕ → List ℕ
+filled bytes = take 16385 bytes
+
+-- what was heard is the cookie and the body of a datagram from that source
+pub record IsHeard (x : Hearing) (source : Addr) (bytes : List ℕ) : Type 0 where
+  pub source_is : x.source ≡ source
+  pub framed : frame bytes ≡ Some (x.cookie, x.body)
+  pub length_is : x.too_long ≡ is_too_long bytes
+
+-- the reply goes to the source, or its send fails
+abbrev pub Replying : Addr → (reply : List ℕ) → Printed → Type 0
+Replying source reply e = (e ≡ event.Reply source reply) ⊎ (e ≡ event.ReplyFault)
+
+-- The datagram is answered in one turn of the board, whose entry and reply are those that the board's history demands at that
+-- moment for what was heard
+pub record Answers (config : Config) (clock : ℕ) (l : List Entry) (source : Addr) (bytes : List ℕ) (e : Printed) (new : List Entry) : Type 0 where
+  pub heard : Hearing
+  pub is_heard : IsHeard heard source bytes
+  pub turns : TurnsBoard config l (entry_at config (board_of l) (moment_at (board_of l) clock) heard) new
+  pub replies : Replying source (control_of config (board_of l) (moment_at (board_of l) clock) heard).reply e
+
+-- the take failed, or the datagram has no frame, and nothing was done; or it was answered
+abbrev pub Controls : Config → (clock : ℕ) → List Entry → Addr → List ℕ → Printed → List Entry → Type 0
+Controls config clock l source bytes e new =
+    ((e ≡ event.ReadFault) × (new ≡ l))
+    ⊎ ((frame (filled bytes) ≡ None) × (e ≡ event.Silent) × (new ≡ l))
+    ⊎ Answers config clock l source (filled bytes) e new
+
+-- Packets.
+
+-- the packet of a line was taken, once, at the end of its port
+pub record TakesPacket (config : Config) (l : List Entry) (port : ℕ) (source : Addr) (bytes : List ℕ) (p : Packet) (new : List Entry) : Type 0 where
+  pub at : IsEndAt config port source.ip (p.0, p.1.half)
+  pub source_is : p.1.source ≡ source
+  pub bytes_are : p.1.bytes ≡ bytes
+  pub list_is : new ≡ l ++ take_entry config p.0 p.1.half p.1.take (box.Datagram p.1.holder p.1.source p.1.bytes) ∷ []
+
+-- what is printed of a take that gave no packet
+abbrev pub PrintsTaken : Taken → Printed → Type 0
+PrintsTaken box.Closed e = e ≡ event.Nothing
+PrintsTaken box.Nothing e = e ≡ event.Nothing
+PrintsTaken (box.Datagram holder source bytes) e = ⊥
+PrintsTaken (box.TooLong source bytes) e = e ≡ event.TooLong
+PrintsTaken box.Fault e = e ≡ event.TakeFault
+
+-- one take was made at the end of the port, and gave no packet
+pub record TakesNone (config : Config) (l : List Entry) (port : ℕ) (source : Ip) (e : Printed) (new : List Entry) : Type 0 where
+  pub end : End
+  pub at : IsEndAt config port source end
+  pub number : ℕ
+  pub taken : Taken
+  pub printed : PrintsTaken taken e
+  pub list_is : new ≡ l ++ take_entry config end.0 end.1 number taken ∷ []
+
+-- no packet was taken: no end has the port, or the one take at it gave none
+abbrev pub Misses : Config → List Entry → (port : ℕ) → Ip → Printed → List Entry → Type 0
+Misses config l port source e new = (IsNoEnd config port source × (e ≡ event.Nothing) × (new ≡ l)) ⊎ TakesNone config l port source e new
+
+-- a packet was relayed, once, at that moment, with the outcome and the bytes that the history of its cell demands, and these are
+-- printed
+pub record RelaysPacket (config : Config) (clock : ℕ) (l : List Entry) (p : cells.Receipt) (e : Printed) (new : List Entry) : Type 0 where
+  pub outcome : Outcome
+  pub sent : List ℕ
+  pub printed : e ≡ event.Relayed outcome sent
+  pub relayed : RelaysBy config l p clock outcome sent new
+
+-- the same of what an arrival came to; of another packet than the line's nothing is said
+abbrev pub Arrives : Config → List Entry → (port : ℕ) → Addr → List ℕ → Arrived → List Entry → Type 0
+Arrives config l port source bytes (arrived.Packet r) new = TakesPacket config l port source bytes (taken_by r) new
+Arrives config l port source bytes (arrived.Printed e) new = Misses config l port source.ip (event_of e) new
+Arrives config l port source bytes arrived.Other new = Unit {0}
+
+-- the same of what is printed of a relay; without memory for it nothing is said
+abbrev pub RelaysSo : Config → (clock : ℕ) → List Entry → Packet → Option coded.Printed → List Entry → Type 0
+RelaysSo config clock l p None new = Unit {0}
+RelaysSo config clock l p (Some e) new = RelaysPacket config clock l p.1 (event_of e) new
+
+-- Steps.
+
+abbrev pub IsQuiet : Course → List Printed → Course → Type 0
+IsQuiet r prints new = (prints ≡ []) × (new ≡ r)
+
+-- one event is printed
+pub record PrintsOne (prints : List Printed) (P : Printed → Type 0) : Type 0 where
+  pub event : Printed
+  pub prints_are : prints ≡ event ∷ []
+  pub holds : P event
+
+-- a packet is taken, and held under the next number, which is printed
+pub record Holds (config : Config) (r : Course) (port : ℕ) (source : Addr) (bytes : List ℕ) (e : Printed) (new : Course) : Type 0 where
+  pub packet : Packet
+  pub entries : List Entry
+  pub takes : TakesPacket config r.entries port source bytes packet entries
+  pub printed : e ≡ event.Took (r.received + 1)
+  pub new_is : new ≡ holding packet entries r
+
+-- no packet is taken
+pub record HoldsNone (config : Config) (r : Course) (port : ℕ) (source : Ip) (e : Printed) (new : Course) : Type 0 where
+  pub entries : List Entry
+  pub misses : Misses config r.entries port source e entries
+  pub new_is : new ≡ with_entries entries r
+
+-- a packet is taken, and relayed at once
+pub record Passes (config : Config) (r : Course) (port : ℕ) (source : Addr) (bytes : List ℕ) (e : Printed) (new : Course) : Type 0 where
+  pub packet : Packet
+  pub between : List Entry
+  pub entries : List Entry
+  pub takes : TakesPacket config r.entries port source bytes packet between
+  pub relays : RelaysPacket config r.clock between packet.1 e entries
+  pub new_is : new ≡ with_entries entries r
+
+-- the packet of that number is relayed, and held no more
+pub record RelaysHeld (config : Config) (r : Course) (number : ℕ) (e : Printed) (new : Course) : Type 0 where
+  pub before : List (ℕ × Packet)
+  pub packet : Packet
+  pub after : List (ℕ × Packet)
+  pub held_is : r.held ≡ before ++ (number, packet) ∷ after
+  pub entries : List Entry
+  pub relays : RelaysPacket config r.clock r.entries packet.1 e entries
+  pub new_is : new ≡ left_with (before ++ after) entries r
+
+-- a control turn, which touches no packet that is held
+pub record Commands (config : Config) (r : Course) (source : Addr) (bytes : List ℕ) (e : Printed) (new : Course) : Type 0 where
+  pub entries : List Entry
+  pub controls : Controls config r.clock r.entries source bytes e entries
+  pub new_is : new ≡ with_entries entries r
+
+-- Makes config r step prints new: with the step, made at r, a replay comes to new, and this is printed
+abbrev pub Makes : Config → Course → Step → List Printed → Course → Type 0
+Makes config r step.Skip prints new = IsQuiet r prints new
+Makes config r (step.At moment) prints new = (prints ≡ []) × (new ≡ at_moment moment r)
+Makes config r (step.Key bytes) prints new = IsQuiet r prints new
+Makes config r (step.Fail kind count) prints new = IsQuiet r prints new
+Makes config r (step.FailSend port count) prints new = IsQuiet r prints new
+Makes config r (step.Ng source bytes) prints new = PrintsOne prints (λ e. Commands config r source bytes e new)
+Makes config r (step.Take port source bytes) prints new =
+    (length r.held < 64) × PrintsOne prints (λ e. Holds config r port source bytes e new ⊎ HoldsNone config r port source.ip e new)
+Makes config r (step.Relay number) prints new = PrintsOne prints (λ e. RelaysHeld config r number e new)
+Makes config r (step.Packet port source bytes) prints new =
+    PrintsOne prints (λ e. Passes config r port source bytes e new ⊎ HoldsNone config r port source.ip e new)
+Makes config r step.Tick prints new = ⊥
+
+abbrev pub is_under : ℕ → ℕ × Packet → Bool
+is_under number h = h.0 == number
+
+-- the step can't be made there: a packet that isn't held is to be relayed, or one more is to be held than may be; a line `tick` is
+-- not in the grammar yet
+abbrev pub IsFaulty : Course → Step → Type 0
+IsFaulty r (step.Take port source bytes) = 64 ≤ length r.held
+IsFaulty r (step.Relay number) = list_any (is_under number) r.held ≡ false
+IsFaulty r step.Tick = Unit {0}
+IsFaulty r _ = ⊥
+
+-- what a step did: it was made, and printed this; or it can't be made, and nothing was done. Of want of memory nothing is said
+abbrev pub OfStep : Config → Course → Step → Stepped → Course → Type 0
+OfStep config r s stepped.Quiet new = Makes config r s [] new
+OfStep config r s (stepped.Prints e) new = Makes config r s (event_of e ∷ []) new
+OfStep config r s stepped.Faulty new = IsFaulty r s × (new ≡ r)
+OfStep config r s stepped.Starved new = Unit {0}
+
+-- Plays config steps r prints new: with these steps, each made where the ones before it came to, a replay comes from r to new, and
+-- this is printed
+abbrev pub Plays : Config → List Step → Course → List Printed → Course → Type 0
+Plays config [] r prints new = (prints ≡ []) × (new ≡ r)
+Plays config (s ∷ steps) r prints new =
+    (between : Course) × (first rest : List Printed) × (prints ≡ first ++ rest) × Makes config r s first between × Plays config steps between rest new
+
+-- A stop after these entries: one more turn of the board, which ends all calls. The entries and those of the stop are what a table
+-- records of a list that is legal, and so safe
+pub record Stops (config : Config) (l : List Entry) : Type 0 where
+  pub all : List Entry
+  pub stopped : TurnsBoard config l (stop_entry (board_of l)) (map told all)
+  pub legal : Legal config all
+  pub safe : Safe config all
