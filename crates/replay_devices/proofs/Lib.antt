@@ -2,3 +2,4 @@ pub mod Counting
 pub mod Lists
 pub mod Opened
 pub mod Places
+pub mod Watches

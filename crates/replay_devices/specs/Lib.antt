@@ -3,3 +3,4 @@ pub mod Keys
 pub mod Lines
 pub mod Link
 pub mod Ports
+pub mod Watch

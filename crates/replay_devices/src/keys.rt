@@ -76,6 +76,13 @@ impl<'a> ReplayKeys<'a> {
         }
     }
 
+    /// The draws so far: `None` where the source tells nothing any more.
+    pub fn calls(&self) -> Option<&[KeyCall]>
+        ensures { MatchOption result (self.now.told ≡ None) (λ calls. self.now.told ≡ Some calls.now) }
+    {
+        self.told.get()
+    }
+
     /// Whether the source still tells its list.
     pub fn tells(&self) -> bool
         ensures { IsTrue result ↔ IsSome self.now.told }

@@ -2,7 +2,7 @@
 //! which line of the script is made next, and gives and fails by the lines.
 //!
 //! `specs/Lines.antt` says what single lines ask of them; `specs/Link.antt`, `specs/Ports.antt` and `specs/Keys.antt` say what
-//! each of them gives.
+//! each of them gives. `Watch` says beside them which of their calls the lines ask to fail.
 #![tactic(auto)]
 
 mod countdowns;
@@ -14,9 +14,11 @@ mod ports;
 #[cfg(test)]
 mod tests;
 mod timetable;
+mod watch;
 
 pub use ends::{ReplayIn, ReplayOut};
 pub use keys::ReplayKeys;
 pub use link::ReplayLink;
 pub use ports::ReplayPorts;
 pub use timetable::Timetable;
+pub use watch::Watch;

@@ -84,6 +84,13 @@ impl<'a> ReplayPorts<'a> {
         }
     }
 
+    /// The calls so far: `None` where the maker tells nothing any more.
+    pub fn calls(&self) -> Option<&[PortCall]>
+        ensures { MatchOption result (self.now.told ≡ None) (λ calls. self.now.told ≡ Some calls.now) }
+    {
+        self.told.get()
+    }
+
     /// Whether the maker still tells its list, and each of its ends that were given back told its own.
     pub fn tells(&self) -> bool
         ensures { IsTrue result ↔ IsSome self.now.told }
