@@ -1,5 +1,5 @@
 -- What a step of a script did.
-use Rattle.std.proofs.Common.{◌≡◌, ◌∙◌, refl, sym, ap, subst, ℕ, ◌+◌, ◌<◌, ◌≤◌, Bool, false, ◌||◌, List, [], ◌∷◌, ◌++◌, Option, Some, None, inl, inr, map, length, is_some, arith}
+use Rattle.std.proofs.Common.{◌≡◌, ◌∙◌, refl, sym, ap, subst, ℕ, ◌+◌, ◌<◌, ◌≤◌, Bool, true, false, ◌||◌, List, [], ◌∷◌, ◌++◌, Option, Some, None, inl, inr, map, length, is_some, arith}
 use Rattle.std.specs.Prelude.{MatchOption}
 use Rattle.std.specs.List.{list_any}
 use Rattle.std.proofs.lemmas.List.{length-map, map-append, append-nil, append_assoc}
@@ -30,10 +30,11 @@ use Rattle.relay_script.specs.Printing.{Printed, event_of}
 use Rattle.relay_script.specs.declared.event.Printed as coded
 use Rattle.replay_steps.specs.declared.stepping.Stepped.{Stepped}
 use Rattle.replay_steps.specs.declared.stepping.Stepped.TheVariants as stepped
+use Rattle.replay_model.specs.Steps as model
+use Rattle.replay_model.specs.Devices.{Happening, fails}
 use Rattle.replay_steps.specs.Arrivals.{IsEndAt}
-use Rattle.replay_steps.specs.Controlling.{Controlled}
 use Rattle.replay_steps.specs.Holding.{Numbered, ReceiptList, has_number, LacksNumber, TakesOut, taken_by}
-use Rattle.replay_steps.specs.Steps.{Packet, Course, packet_under, course_of, holding, left_with, TurnsBoard, Controls, TakesPacket, PrintsTaken, Misses, RelaysPacket, RelaysSo, PrintsOne, Makes, OfStep, is_under, Plays, Stops}
+use Rattle.replay_steps.specs.Steps.{Packet, Course, packet_under, course_of, holding, left_with, after, TurnsBoard, TakesPacket, PrintsTaken, FailsSo, Misses, RelaysPacket, RelaysSo, PrintsOne, HoldsNone, Makes, OfStep, is_under, Plays, Stops}
 use Rattle.replay_steps.proofs.Controls.{turns_board}
 
 -- Takes.
@@ -53,39 +54,42 @@ takes_packet config l new port source bytes pair half r at took source_is bytes_
           ∙ ap (λ (t : Taken). l ++ take_entry config (pair_of r) (packet_of r).half (packet_of r).take t ∷ []) tells.gave;
     }
 
-module _ (config : Config) (l new : List Entry) (port : ℕ) (source : Ip) (pair : ℕ) (half : Half) (at : IsEndAt config port source (pair, half)) where
-  takes_none : (given : Received) (e : Printed) (took : Took config l pair half given new) → PrintsTaken took.taken e → Misses config l port source e new
-  takes_none given e took printed = inr (record {
+module _ (config : Config) (l new : List Entry) (port : ℕ) (source : Ip) (failing : Bool) (pair : ℕ) (half : Half) (at : IsEndAt config port source (pair, half)) where
+  takes_none : (given : Received) (e : Printed) (took : Took config l pair half given new) → PrintsTaken took.taken e → FailsSo took.taken failing → Misses config l port source failing e new
+  takes_none given e took printed asked = inr (record {
     end = (pair, half);
     at = at;
     number = took.number;
     taken = took.taken;
     printed = printed;
+    asked = asked;
     list_is = took.list_is;
   })
 
-  pub takes_nothing : Took config l pair half answer.Nothing new → Misses config l port source event.Nothing new
-  takes_nothing took = takes_none answer.Nothing event.Nothing took (elim took.tells [
-    | inl is ↦ subst (λ (t : Taken). PrintsTaken t event.Nothing) (sym is) refl
-    | inr is ↦ subst (λ (t : Taken). PrintsTaken t event.Nothing) (sym is) refl
-  ])
+  pub takes_nothing : Took config l pair half answer.Nothing new → Misses config l port source failing event.Nothing new
+  takes_nothing took = elim took.tells [
+    | inl is ↦ takes_none answer.Nothing event.Nothing took (subst (λ (t : Taken). PrintsTaken t event.Nothing) (sym is) refl) (subst (λ (t : Taken). FailsSo t failing) (sym is) tt)
+    | inr is ↦ takes_none answer.Nothing event.Nothing took (subst (λ (t : Taken). PrintsTaken t event.Nothing) (sym is) refl) (subst (λ (t : Taken). FailsSo t failing) (sym is) tt)
+  ]
 
-  pub takes_too_long : Took config l pair half answer.TooLong new → Misses config l port source event.TooLong new
-  takes_too_long took = takes_none answer.TooLong event.TooLong took (subst (λ (t : Taken). PrintsTaken t event.TooLong) (sym took.tells.2) refl)
+  pub takes_too_long : failing ≡ false → Took config l pair half answer.TooLong new → Misses config l port source failing event.TooLong new
+  takes_too_long no_fault took =
+      takes_none answer.TooLong event.TooLong took (subst (λ (t : Taken). PrintsTaken t event.TooLong) (sym took.tells.2) refl) (subst (λ (t : Taken). FailsSo t failing) (sym took.tells.2) no_fault)
 
-  pub takes_fault : Took config l pair half answer.TakeFault new → Misses config l port source event.TakeFault new
-  takes_fault took = takes_none answer.TakeFault event.TakeFault took (subst (λ (t : Taken). PrintsTaken t event.TakeFault) (sym took.tells) refl)
+  pub takes_fault : failing ≡ true → Took config l pair half answer.TakeFault new → Misses config l port source failing event.TakeFault new
+  takes_fault fault took =
+      takes_none answer.TakeFault event.TakeFault took (subst (λ (t : Taken). PrintsTaken t event.TakeFault) (sym took.tells) refl) (subst (λ (t : Taken). FailsSo t failing) (sym took.tells) fault)
 
 -- Where a replay comes to.
 
-abbrev there : List Entry → List (ℕ × Packet) → (received clock : ℕ) → Course
-there l held received clock = record { entries = l; held = held; received = received; clock = clock }
+abbrev there : List Entry → List (ℕ × Packet) → (received clock : ℕ) → List Happening → Course
+there l held received clock past = record { entries = l; held = held; received = received; clock = clock; past = past }
 
-same_course : (l : List Entry) (clock : ℕ) (held held_now : List (ℕ × Packet)) (n n_now : ℕ) → held_now ≡ held → n_now ≡ n → there l held_now n_now clock ≡ there l held n clock
-same_course l clock held held_now n n_now p q = ap (λ (h : List (ℕ × Packet)). there l h n_now clock) p ∙ ap (λ (k : ℕ). there l held k clock) q
+same_course : (l : List Entry) (clock : ℕ) (past : List Happening) (held held_now : List (ℕ × Packet)) (n n_now : ℕ) → held_now ≡ held → n_now ≡ n → there l held_now n_now clock past ≡ there l held n clock past
+same_course l clock past held held_now n n_now p q = ap (λ (h : List (ℕ × Packet)). there l h n_now clock past) p ∙ ap (λ (k : ℕ). there l held k clock past) q
 
-pub same_receipts : (l new : List Entry) (was is : ReceiptList) (clock : ℕ) → new ≡ l → is ≡ was → course_of new is clock ≡ course_of l was clock
-same_receipts l new was is clock p q = ap (λ (k : List Entry). course_of k is clock) p ∙ ap (λ (r : ReceiptList). course_of l r clock) q
+pub same_receipts : (l new : List Entry) (was is : ReceiptList) (clock : ℕ) (past : List Happening) → new ≡ l → is ≡ was → course_of new is clock past ≡ course_of l was clock past
+same_receipts l new was is clock past p q = ap (λ (k : List Entry). course_of k is clock past) p ∙ ap (λ (r : ReceiptList). course_of l r clock past) q
 
 pub few_held : (list : List Numbered) → (64 ≤ length list → ⊥) → length (map packet_under list) < 64
 few_held list few = let many = length-map list packet_under in let less : length list < 64 = omega (arith, few) in omega (arith, many, less)
@@ -94,17 +98,17 @@ pub many_held : (list : List Numbered) → 64 ≤ length list → 64 ≤ length 
 many_held list more = let many = length-map list packet_under in omega (arith, many, more)
 
 -- one more is held
-pub held_more : (l new : List Entry) (was is : ReceiptList) (clock : ℕ) (r : Receipt) → is.list ≡ was.list ++ (was.received + 1, r) ∷ [] → is.received ≡ was.received + 1
-    → course_of new is clock ≡ holding (taken_by r) new (course_of l was clock)
-held_more l new was is clock r list number =
-    same_course new clock (map packet_under was.list ++ (was.received + 1, taken_by r) ∷ []) (map packet_under is.list) (was.received + 1) is.received
+pub held_more : (l new : List Entry) (was is : ReceiptList) (clock : ℕ) (past : List Happening) (r : Receipt) → is.list ≡ was.list ++ (was.received + 1, r) ∷ [] → is.received ≡ was.received + 1
+    → course_of new is clock past ≡ holding (taken_by r) new (course_of l was clock past)
+held_more l new was is clock past r list number =
+    same_course new clock past (map packet_under was.list ++ (was.received + 1, taken_by r) ∷ []) (map packet_under is.list) (was.received + 1) is.received
     (ap (λ (xs : List Numbered). map packet_under xs) list ∙ map-append packet_under was.list ((was.received + 1, r) ∷ [])) number
 
 -- one is held no more
-pub held_less : (l new : List Entry) (number : ℕ) (r : Receipt) (was is : ReceiptList) (clock : ℕ) (out : TakesOut number r was is)
-    → course_of new is clock ≡ left_with (map packet_under out.before ++ map packet_under out.after) new (course_of l was clock)
-held_less l new number r was is clock out =
-    same_course new clock (map packet_under out.before ++ map packet_under out.after) (map packet_under is.list) was.received is.received
+pub held_less : (l new : List Entry) (number : ℕ) (r : Receipt) (was is : ReceiptList) (clock : ℕ) (past : List Happening) (out : TakesOut number r was is)
+    → course_of new is clock past ≡ left_with (map packet_under out.before ++ map packet_under out.after) new (course_of l was clock past)
+held_less l new number r was is clock past out =
+    same_course new clock past (map packet_under out.before ++ map packet_under out.after) (map packet_under is.list) was.received is.received
     (ap (λ (xs : List Numbered). map packet_under xs) out.new_is ∙ map-append packet_under out.before out.after) out.received_is
 
 -- the number of no receipt
@@ -120,37 +124,55 @@ lacks_under number list lacks = any_under number list ∙ any-position (has_numb
 pub one_event : (e : Printed) (P : Printed → Type 0) → P e → PrintsOne (e ∷ []) P
 one_event e P p = record { event = e; prints_are = refl; holds = p }
 
-module _ (config : Config) (l : List Entry) (was : ReceiptList) (clock : ℕ) where
-  pub holds_packet : (port : ℕ) (source : Addr) (bytes : List ℕ) (r : Receipt) (n : ℕ) (new : List Entry) (is : ReceiptList) → (64 ≤ length was.list → ⊥)
-      → TakesPacket config l port source bytes (taken_by r) new → n ≡ was.received + 1 → is.list ≡ was.list ++ (was.received + 1, r) ∷ [] → is.received ≡ was.received + 1
-      → Makes config (course_of l was clock) (step.Take port source bytes) (event.Took n ∷ []) (course_of new is clock)
-  holds_packet port source bytes r n new is few takes number list received = (
-    few_held was.list few,
-    one_event (event.Took n) _ (inl (record {
-      packet = taken_by r;
-      entries = new;
-      takes = takes;
-      printed = ap (λ (k : ℕ). event.Took k) number;
-      new_is = held_more l new was is clock r list received;
-    })),
-  )
+-- an event that was printed, where there was memory for it
+pub of_event : (config : Config) (r : Course) (s : Step) (new : Course) (o : Option coded.Printed) (did : Stepped)
+    → MatchOption o (did ≡ stepped.Starved) (λ (e : coded.Printed). did ≡ stepped.Prints e) → ((e : coded.Printed) → o ≡ Some e → Makes config r s (event_of e ∷ []) new) → OfStep config r s did new
+of_event config r s new None did is makes = subst (λ (d : Stepped). OfStep config r s d new) (sym is) tt
+of_event config r s new (Some e) did is makes = subst (λ (d : Stepped). OfStep config r s d new) (sym is) (makes e refl)
 
-  pub holds_none : (port : ℕ) (source : Addr) (bytes : List ℕ) (e : Printed) (new : List Entry) → (64 ≤ length was.list → ⊥) → Misses config l port source.ip e new
-      → Makes config (course_of l was clock) (step.Take port source bytes) (e ∷ []) (course_of new was clock)
-  holds_none port source bytes e new few misses =
-      (few_held was.list few, one_event e _ (inr (record { entries = new; misses = misses; new_is = refl })))
+module _ (config : Config) (l : List Entry) (was : ReceiptList) (clock : ℕ) (past : List Happening) where
+  module _ (failing : Bool) (asked : failing ≡ fails model.Taking past) where
+    pub holds_packet : (port : ℕ) (source : Addr) (bytes : List ℕ) (r : Receipt) (n : ℕ) (new : List Entry) (is : ReceiptList) → (64 ≤ length was.list → ⊥)
+        → (failing ≡ false) × TakesPacket config l port source bytes (taken_by r) new → n ≡ was.received + 1 → is.list ≡ was.list ++ (was.received + 1, r) ∷ [] → is.received ≡ was.received + 1
+        → Makes config (course_of l was clock past) (step.Take port source bytes) (event.Took n ∷ []) (course_of new is clock past)
+    holds_packet port source bytes r n new is few takes number list received = (
+      few_held was.list few,
+      one_event (event.Took n) _ (inl (record {
+        packet = taken_by r;
+        entries = new;
+        asked = sym asked ∙ takes.0;
+        takes = takes.1;
+        printed = ap (λ (k : ℕ). event.Took k) number;
+        new_is = held_more l new was is clock past r list received;
+      })),
+    )
 
-  pub passes_none : (port : ℕ) (source : Addr) (bytes : List ℕ) (e : Printed) (new : List Entry) → Misses config l port source.ip e new
-      → Makes config (course_of l was clock) (step.Packet port source bytes) (e ∷ []) (course_of new was clock)
-  passes_none port source bytes e new misses = one_event e _ (inr (record { entries = new; misses = misses; new_is = refl }))
+    none_held : (port : ℕ) (source : Ip) (e : Printed) (new : List Entry) → Misses config l port source failing e new → HoldsNone config (course_of l was clock past) port source e (course_of new was clock past)
+    none_held port source e new misses = record { entries = new; misses = subst (λ (b : Bool). Misses config l port source b e new) asked misses; new_is = refl }
 
-  pub passes_packet : (port : ℕ) (source : Addr) (bytes : List ℕ) (r : Receipt) (e : Printed) (mid new : List Entry) → TakesPacket config l port source bytes (taken_by r) mid
-      → RelaysPacket config clock mid (packet_of r) e new → Makes config (course_of l was clock) (step.Packet port source bytes) (e ∷ []) (course_of new was clock)
-  passes_packet port source bytes r e mid new takes relays =
-      one_event e _ (inl (record { packet = taken_by r; between = mid; entries = new; takes = takes; relays = relays; new_is = refl }))
+    pub holds_none : (port : ℕ) (source : Addr) (bytes : List ℕ) (e : Printed) (new : List Entry) → (64 ≤ length was.list → ⊥) → Misses config l port source.ip failing e new
+        → Makes config (course_of l was clock past) (step.Take port source bytes) (e ∷ []) (course_of new was clock past)
+    holds_none port source bytes e new few misses = (few_held was.list few, one_event e _ (inr (none_held port source.ip e new misses)))
 
-  pub relays_held : (number : ℕ) (r : Receipt) (e : Printed) (new : List Entry) (is : ReceiptList) (out : TakesOut number r was is) → RelaysPacket config clock l (packet_of r) e new
-      → Makes config (course_of l was clock) (step.Relay number) (e ∷ []) (course_of new is clock)
+    pub passes_none : (port : ℕ) (source : Addr) (bytes : List ℕ) (e : Printed) (new : List Entry) → Misses config l port source.ip failing e new
+        → Makes config (course_of l was clock past) (step.Packet port source bytes) (e ∷ []) (course_of new was clock past)
+    passes_none port source bytes e new misses = one_event e _ (inr (none_held port source.ip e new misses))
+
+    passes_packet : (port : ℕ) (source : Addr) (bytes : List ℕ) (r : Receipt) (e : Printed) (mid new : List Entry)
+        → (failing ≡ false) × TakesPacket config l port source bytes (taken_by r) mid
+        → RelaysPacket config clock mid (packet_of r) e new → Makes config (course_of l was clock past) (step.Packet port source bytes) (e ∷ []) (course_of new was clock past)
+    passes_packet port source bytes r e mid new takes relays =
+        one_event e _ (inl (record { packet = taken_by r; between = mid; entries = new; asked = sym asked ∙ takes.0; takes = takes.1; relays = relays; new_is = refl }))
+
+    pub passed : (port : ℕ) (source : Addr) (bytes : List ℕ) (r : Receipt) (mid new : List Entry) (o : Option coded.Printed) (did : Stepped)
+        → MatchOption o (did ≡ stepped.Starved) (λ (e : coded.Printed). did ≡ stepped.Prints e) → (failing ≡ false) × TakesPacket config l port source bytes (taken_by r) mid
+        → RelaysSo config clock mid (taken_by r) o new → OfStep config (course_of l was clock past) (step.Packet port source bytes) did (course_of new was clock past)
+    passed port source bytes r mid new o did tells takes relays =
+        of_event config (course_of l was clock past) (step.Packet port source bytes) (course_of new was clock past) o did tells
+        (λ e is. passes_packet port source bytes r (event_of e) mid new takes (subst (λ (x : Option coded.Printed). RelaysSo config clock mid (taken_by r) x new) is relays))
+
+  relays_held : (number : ℕ) (r : Receipt) (e : Printed) (new : List Entry) (is : ReceiptList) (out : TakesOut number r was is) → RelaysPacket config clock l (packet_of r) e new
+      → Makes config (course_of l was clock past) (step.Relay number) (e ∷ []) (course_of new is clock past)
   relays_held number r e new is out relays = one_event e _ (record {
     before = map packet_under out.before;
     packet = taken_by r;
@@ -158,49 +180,23 @@ module _ (config : Config) (l : List Entry) (was : ReceiptList) (clock : ℕ) wh
     held_is = ap (λ (xs : List Numbered). map packet_under xs) out.old_is ∙ map-append packet_under out.before ((number, r) ∷ out.after);
     entries = new;
     relays = relays;
-    new_is = held_less l new number r was is clock out;
+    new_is = held_less l new number r was is clock past out;
   })
 
-  pub commands : (source : Addr) (bytes : List ℕ) (e : Printed) (new : List Entry) → Controls config clock l source bytes e new
-      → Makes config (course_of l was clock) (step.Ng source bytes) (e ∷ []) (course_of new was clock)
-  commands source bytes e new controls = one_event e _ (record { entries = new; controls = controls; new_is = refl })
-
--- What a step did.
-
--- an event that was printed, where there was memory for it
-pub of_event : (config : Config) (r : Course) (s : Step) (new : Course) (o : Option coded.Printed) (did : Stepped)
-    → MatchOption o (did ≡ stepped.Starved) (λ (e : coded.Printed). did ≡ stepped.Prints e) → ((e : coded.Printed) → o ≡ Some e → Makes config r s (event_of e ∷ []) new) → OfStep config r s did new
-of_event config r s new None did is makes = subst (λ (d : Stepped). OfStep config r s d new) (sym is) tt
-of_event config r s new (Some e) did is makes = subst (λ (d : Stepped). OfStep config r s d new) (sym is) (makes e refl)
-
-module _ (config : Config) (l : List Entry) (was : ReceiptList) (clock : ℕ) (o : Option coded.Printed) (did : Stepped)
-    (tells : MatchOption o (did ≡ stepped.Starved) (λ (e : coded.Printed). did ≡ stepped.Prints e)) where
-  pub passed : (port : ℕ) (source : Addr) (bytes : List ℕ) (r : Receipt) (mid new : List Entry) → TakesPacket config l port source bytes (taken_by r) mid
-      → RelaysSo config clock mid (taken_by r) o new → OfStep config (course_of l was clock) (step.Packet port source bytes) did (course_of new was clock)
-  passed port source bytes r mid new takes relays =
-      of_event config (course_of l was clock) (step.Packet port source bytes) (course_of new was clock) o did tells
-      (λ e is. passes_packet config l was clock port source bytes r (event_of e) mid new takes (subst (λ (x : Option coded.Printed). RelaysSo config clock mid (taken_by r) x new) is relays))
-
-  pub relayed : (number : ℕ) (r : Receipt) (new : List Entry) (is : ReceiptList) (out : TakesOut number r was is) → RelaysSo config clock l (taken_by r) o new
-      → OfStep config (course_of l was clock) (step.Relay number) did (course_of new is clock)
-  relayed number r new after out relays =
-      of_event config (course_of l was clock) (step.Relay number) (course_of new after clock) o did tells
-      (λ e is. relays_held config l was clock number r (event_of e) new after out (subst (λ (x : Option coded.Printed). RelaysSo config clock l (taken_by r) x new) is relays))
-
-  pub commanded : (same : Config) (source : Addr) (bytes : List ℕ) (new : List Entry) → same ≡ config → Controlled same clock l source bytes o new
-      → OfStep config (course_of l was clock) (step.Ng source bytes) did (course_of new was clock)
-  commanded same source bytes new like controls =
-      of_event config (course_of l was clock) (step.Ng source bytes) (course_of new was clock) o did tells
-      (λ e is. commands config l was clock source bytes (event_of e) new
-      (subst (λ (k : Config). Controls k clock l source bytes (event_of e) new) like (subst (λ (x : Option coded.Printed). Controlled same clock l source bytes x new) is controls)))
+  pub relayed : (number : ℕ) (r : Receipt) (new : List Entry) (is : ReceiptList) (o : Option coded.Printed) (did : Stepped)
+      → MatchOption o (did ≡ stepped.Starved) (λ (e : coded.Printed). did ≡ stepped.Prints e) → (out : TakesOut number r was is) → RelaysSo config clock l (taken_by r) o new
+      → OfStep config (course_of l was clock past) (step.Relay number) did (course_of new is clock past)
+  relayed number r new later o did tells out relays =
+      of_event config (course_of l was clock past) (step.Relay number) (course_of new later clock past) o did tells
+      (λ e is. relays_held number r (event_of e) new later out (subst (λ (x : Option coded.Printed). RelaysSo config clock l (taken_by r) x new) is relays))
 
 -- one step more
 pub plays_more : (config : Config) (steps : List Step) (r : Course) (prints : List Printed) (mid : Course) (s : Step) (more : List Printed) (new : Course)
-    → Plays config steps r prints mid → Makes config mid s more new → Plays config (steps ++ s ∷ []) r (prints ++ more) new
+    → Plays config steps r prints mid → Makes config mid s more new → Plays config (steps ++ s ∷ []) r (prints ++ more) (after s new)
 plays_more config [] r prints mid s more new (none, same) makes =
     (new, more, [], ap (λ (xs : List Printed). xs ++ more) none ∙ sym (append-nil more), subst (λ (c : Course). Makes config c s more new) same makes, (refl, refl))
 plays_more config (x ∷ steps) r prints mid s more new (between, first, rest, is, made, plays) makes =
-    (between, first, rest ++ more, ap (λ (xs : List Printed). xs ++ more) is ∙ append_assoc first rest more, made, plays_more config steps between rest mid s more new plays makes)
+    (between, first, rest ++ more, ap (λ (xs : List Printed). xs ++ more) is ∙ append_assoc first rest more, made, plays_more config steps (after x between) rest mid s more new plays makes)
 
 -- a stop behind it all
 pub stops : (config : Config) {M I O T : Type 0} {g : _} (old new : Hand M (Part I O) Made T g) → MakesTurn config old new (stop_entry (board_of (made_by old)))

@@ -2,6 +2,8 @@ pub mod Holdings
 pub mod Turned
 pub mod Controls
 pub mod Courses
+pub mod Watchings
+pub mod Commands
 pub mod Fronts
 pub mod Steps
 pub mod Writings

@@ -18,7 +18,7 @@ use Rattle.replay_steps.specs.declared.ended.Ended.{Ended}
 use Rattle.replay_steps.specs.declared.ended.Ended.TheVariants as ended
 use Rattle.replay_steps.specs.declared.stepping.Stepped.{Stepped}
 use Rattle.replay_steps.specs.declared.stepping.Stepped.TheVariants as stepped
-use Rattle.replay_steps.specs.Steps.{Course, at_first, Makes, IsFaulty, OfStep, Plays, Stops}
+use Rattle.replay_steps.specs.Steps.{Course, at_first, after, Makes, IsFaulty, OfStep, Plays, Stops}
 use Rattle.replay_steps.specs.Written.{written, unwritten, EndsFor, DidTell, DidPrint, DidStep, Played, Demands, FailsAt, PlayedSome, DidSteps, DidEnd, DidFinish, PlayedAnd, DidWrite, DidPlay, Prints, Replays}
 use Rattle.replay_steps.proofs.Courses.{plays_more}
 
@@ -59,7 +59,7 @@ last_failed xs ys prints event p q = ap (λ (zs : List WriteCall). zs ++ ys) p �
 module _ (config : Config) (before : List Step) (r : Course) (s : Step) (new : Course) (line : ℕ) where
   -- a step, behind which the replay goes on
   pub went_on : (did : Stepped) → OfStep config r s did new → (xs ys : List WriteCall) → PlayedTo config before r xs → DidStep did line None ys
-      → PlayedTo config (before ++ s ∷ []) new (xs ++ ys)
+      → PlayedTo config (before ++ s ∷ []) (after s new) (xs ++ ys)
   went_on stepped.Quiet makes xs ys x y = record {
     prints = x.prints ++ [];
     plays = plays_more config before at_first x.prints r s [] new x.plays makes;
@@ -74,11 +74,11 @@ module _ (config : Config) (before : List Step) (r : Course) (s : Step) (new : C
   went_on stepped.Starved makes xs ys x y = absurd (let k : None ≡ Some ended.OutOfMemory = y.0 in cc)
 
   -- a step by which the replay ends
-  module _ (steps after : List Step) (steps_are : steps ≡ before ++ s ∷ after) (l : List Entry) (line_is : line ≡ length before + 1) (entries_are : new.entries ≡ l) where
+  module _ (steps behind : List Step) (steps_are : steps ≡ before ++ s ∷ behind) (l : List Entry) (line_is : line ≡ length before + 1) (entries_are : new.entries ≡ l) where
     starved : (xs ys : List WriteCall) → PlayedTo config before r xs → ys ≡ [] → PlayedSome config steps (xs ++ ys)
     starved xs ys x none = record {
       before = before;
-      after = s ∷ after;
+      after = s ∷ behind;
       steps_are = steps_are;
       prints = x.prints;
       course = r;
@@ -90,7 +90,7 @@ module _ (config : Config) (before : List Step) (r : Course) (s : Step) (new : C
     failed event xs ys x is demands = record {
       before = before;
       step = s;
-      after = after;
+      after = behind;
       steps_are = steps_are;
       prints = x.prints;
       course = r;
@@ -115,7 +115,7 @@ module _ (config : Config) (before : List Step) (r : Course) (s : Step) (new : C
     told_faulty ended.ScriptFault xs ys x faulty same y = record {
       before = before;
       step = s;
-      after = after;
+      after = behind;
       steps_are = steps_are;
       prints = x.prints;
       course = r;
@@ -137,10 +137,10 @@ module _ (config : Config) (before : List Step) (r : Course) (s : Step) (new : C
     ended_in stepped.Starved end makes xs ys x y = subst (λ (o : Option Ended). DidSteps config steps l o (xs ++ ys)) (sym y.0) (starved xs ys x y.1)
 
 -- some of the steps were made
-pub some_played : (config : Config) (steps before after : List Step) (r : Course) → steps ≡ before ++ after → (xs : List WriteCall) → PlayedTo config before r xs → PlayedSome config steps xs
-some_played config steps before after r is xs x = record {
+pub some_played : (config : Config) (steps before behind : List Step) (r : Course) → steps ≡ before ++ behind → (xs : List WriteCall) → PlayedTo config before r xs → PlayedSome config steps xs
+some_played config steps before behind r is xs x = record {
   before = before;
-  after = after;
+  after = behind;
   steps_are = is;
   prints = x.prints;
   course = r;

@@ -1,9 +1,12 @@
 -- What the control link of a replay tells of a control turn, and what is printed of it.
-use Rattle.std.specs.Prelude.{◌≡◌, ℕ, List, Option, Some, None}
+use Rattle.std.specs.Prelude.{◌≡◌, ℕ, Bool, true, false, List, Option, Some, None}
 use Rattle.relay_outside.specs.declared.address.Addr.{Addr}
+use Rattle.relay_outside.specs.declared.keys.KeyCall.{KeyCall}
 use Rattle.relay_outside.specs.declared.link.LinkCall.{LinkCall}
+use Rattle.relay_outside.specs.declared.ports.PortCall.{PortCall}
 use Rattle.relay_outside.specs.declared.settings.Config.{Config}
 use Rattle.relay_outside.specs.LinkTape.{last_sent}
+use Rattle.relay_outside.specs.Told.{Gained}
 use Rattle.control_turns.specs.declared.taking.ControlTurn.{ControlTurn}
 use Rattle.control_turns.specs.declared.taking.ControlTurn.TheVariants as turn
 use Rattle.relay_core.specs.Entries.{Entry}
@@ -24,26 +27,28 @@ pub record IsReply (told : Option (List LinkCall)) (e : Printed) : Type 0 where
 abbrev pub TellsTaken : Option (List LinkCall) → Addr → List ℕ → Type 0
 TellsTaken told source bytes = last_taken told ≡ Some (source, filled bytes)
 
--- the event of a turn in which a datagram was taken
-abbrev pub IsOfTurn : ControlTurn → Option (List LinkCall) → Printed → Type 0
-IsOfTurn turn.Silent told e = e ≡ event.Silent
-IsOfTurn turn.Replied told e = IsReply told e
-IsOfTurn turn.ReplyFault told e = e ≡ event.ReplyFault
-IsOfTurn turn.ReadFault told e = ⊥
-IsOfTurn turn.Nothing told e = ⊥
-IsOfTurn turn.End told e = ⊥
+-- the event of a turn in which a datagram was taken, and whose send has to fail or not
+abbrev pub IsOfTurn : ControlTurn → (reply_fails : Bool) → Option (List LinkCall) → Printed → Type 0
+IsOfTurn turn.Silent reply_fails told e = e ≡ event.Silent
+IsOfTurn turn.Replied reply_fails told e = (reply_fails ≡ false) × IsReply told e
+IsOfTurn turn.ReplyFault reply_fails told e = (reply_fails ≡ true) × (e ≡ event.ReplyFault)
+IsOfTurn turn.ReadFault reply_fails told e = ⊥
+IsOfTurn turn.Nothing reply_fails told e = ⊥
+IsOfTurn turn.End reply_fails told e = ⊥
 
--- the event of a turn: the take failed, or it gave this datagram
-abbrev pub TellsTurn : ControlTurn → Option (List LinkCall) → Addr → List ℕ → Printed → Type 0
-TellsTurn turn.ReadFault told source bytes e = e ≡ event.ReadFault
-TellsTurn answer told source bytes e = TellsTaken told source bytes × IsOfTurn answer told e
+-- the event of a turn whose take and send have to fail or not: the take failed, or it gave this datagram
+abbrev pub TellsTurn : ControlTurn → (read_fails reply_fails : Bool) → Option (List LinkCall) → Addr → List ℕ → Printed → Type 0
+TellsTurn turn.ReadFault read_fails reply_fails told source bytes e = (read_fails ≡ true) × (e ≡ event.ReadFault)
+TellsTurn answer read_fails reply_fails told source bytes e = (read_fails ≡ false) × TellsTaken told source bytes × IsOfTurn answer reply_fails told e
 
--- the same of what is printed; without memory for it, or where the link doesn't tell, nothing is said
-abbrev pub TellsEvent : ControlTurn → Option (List LinkCall) → Addr → List ℕ → Option coded.Printed → Type 0
-TellsEvent answer told source bytes None = Unit {0}
-TellsEvent answer told source bytes (Some e) = TellsTurn answer told source bytes (event_of e)
+-- the same of what is printed; without memory for it, or where the link doesn't tell or did otherwise, nothing is said
+abbrev pub TellsEvent : ControlTurn → (read_fails reply_fails : Bool) → Option (List LinkCall) → Addr → List ℕ → Option coded.Printed → Type 0
+TellsEvent answer read_fails reply_fails told source bytes None = Unit {0}
+TellsEvent answer read_fails reply_fails told source bytes (Some e) = TellsTurn answer read_fails reply_fails told source bytes (event_of e)
 
--- what a control turn did, where its event is printed
-abbrev pub Controlled : Config → (clock : ℕ) → List Entry → Addr → List ℕ → Option coded.Printed → List Entry → Type 0
-Controlled config clock l source bytes None new = Unit {0}
-Controlled config clock l source bytes (Some e) new = Controls config clock l source bytes (event_of e) new
+-- what a control turn did, where its event is printed, with the calls of the port maker and of the key source, where these tell them
+abbrev pub Controlled : Config → (clock : ℕ) → List Entry → Addr → List ℕ → (read_fails reply_fails : Bool) → (ports ports_now : Option (List PortCall)) → (keys keys_now : Option (List KeyCall))
+    → Option coded.Printed → List Entry → Type 0
+Controlled config clock l source bytes read_fails reply_fails ports ports_now keys keys_now None new = Unit {0}
+Controlled config clock l source bytes read_fails reply_fails ports ports_now keys keys_now (Some e) new =
+    Gained ports ports_now (λ opened. Gained keys keys_now (λ drawn. Controls config clock l source bytes read_fails reply_fails opened drawn (event_of e) new))

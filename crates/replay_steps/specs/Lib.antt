@@ -1,6 +1,7 @@
 pub mod Holding
 pub mod Arrivals
 pub mod Steps
+pub mod Watching
 pub mod Ready
 pub mod Controlling
 pub mod Written

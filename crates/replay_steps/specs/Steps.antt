@@ -1,9 +1,13 @@
 -- What each step of a script does to a relay, by the list of its entries, and what it prints.
-use Rattle.std.specs.Prelude.{◌≡◌, ◌⊎◌, ◌+◌, ◌<◌, ◌≤◌, ℕ, Bool, false, ◌==◌, List, [], ◌∷◌, ◌++◌, Option, Some, None, map, length, take}
+use Rattle.std.specs.Prelude.{◌≡◌, ◌⊎◌, ◌+◌, ◌<◌, ◌≤◌, ℕ, Bool, true, false, not, ◌==◌, List, [], ◌∷◌, ◌++◌, Option, Some, None, map, length, take}
 use Rattle.std.specs.List.{list_any}
 use Rattle.ng_frame.specs.Frame.{frame}
 use Rattle.relay_outside.specs.declared.address.Addr.{Addr}
 use Rattle.relay_outside.specs.declared.address.Ip.{Ip}
+use Rattle.relay_outside.specs.declared.keys.KeyCall.{KeyCall}
+use Rattle.relay_outside.specs.declared.keys.KeyCall.TheVariants as key
+use Rattle.relay_outside.specs.declared.ports.PortCall.{PortCall}
+use Rattle.relay_outside.specs.declared.ports.PortCall.TheVariants.{Open, Close}
 use Rattle.relay_outside.specs.declared.settings.Config.{Config}
 use Rattle.port_pool.specs.Boxes as box
 use Rattle.port_pool.specs.Boxes.{Taken}
@@ -18,13 +22,18 @@ use Rattle.relay_core.specs.Turning.{IsTurn, with_turn}
 use Rattle.board_turns.specs.Between.{board_of}
 use Rattle.board_turns.specs.Stopping.{stop_entry}
 use Rattle.control_entries.specs.Controls.{Hearing, control_of, entry_at, moment_at}
+use Rattle.control_entries.specs.Giving.{draws_of}
 use Rattle.control_turns.specs.Taking.{is_too_long}
+use Rattle.media_ports.specs.Asked.{OpensWith}
 use Rattle.main_sweeps.specs.Steps.{take_entry, RelaysBy}
 use Rattle.relay_script.specs.Steps as step
 use Rattle.relay_script.specs.Steps.{Step}
 use Rattle.relay_script.specs.declared.event.Printed as coded
 use Rattle.relay_script.specs.Printing as event
 use Rattle.relay_script.specs.Printing.{Printed, event_of}
+use Rattle.replay_model.specs.Steps as model
+use Rattle.replay_model.specs.Devices.{Happening, Made, Opened, Drew, Replied, fails}
+use Rattle.replay_devices.specs.Watch.{step_of}
 use Rattle.replay_steps.specs.Arrivals.{End, IsEndAt, IsNoEnd}
 use Rattle.replay_steps.specs.Holding.{Numbered, ReceiptList, taken_by}
 use Rattle.replay_steps.specs.declared.arriving.Arrived.{Arrived}
@@ -37,38 +46,47 @@ abbrev pub Packet : Type 0
 Packet = ℕ × cells.Receipt
 
 -- Where a replay is between two steps: the entries that were made so far, in order; the packets that are held, each under its
--- number; how many numbers were given out; and the moment of the clock
+-- number; how many numbers were given out; the moment of the clock; and what happened, by which the lines ask calls of the devices to
+-- fail, the latest first
 pub record Course : Type 0 where
   pub entries : List Entry
   pub held : List (ℕ × Packet)
   pub received : ℕ
   pub clock : ℕ
+  pub past : List Happening
 
 -- before the first step
 abbrev pub at_first : Course
-at_first = record { entries = []; held = []; received = 0; clock = 0 }
+at_first = record { entries = []; held = []; received = 0; clock = 0; past = [] }
 
 abbrev pub at_moment : ℕ → Course → Course
-at_moment moment r = record { entries = r.entries; held = r.held; received = r.received; clock = moment }
+at_moment moment r = record { entries = r.entries; held = r.held; received = r.received; clock = moment; past = r.past }
 
 abbrev pub with_entries : List Entry → Course → Course
-with_entries l r = record { entries = l; held = r.held; received = r.received; clock = r.clock }
+with_entries l r = record { entries = l; held = r.held; received = r.received; clock = r.clock; past = r.past }
+
+abbrev pub with_past : List Happening → Course → Course
+with_past past r = record { entries = r.entries; held = r.held; received = r.received; clock = r.clock; past = past }
 
 -- one more packet is held, under the next number
 abbrev pub holding : Packet → List Entry → Course → Course
-holding p l r = record { entries = l; held = r.held ++ (r.received + 1, p) ∷ []; received = r.received + 1; clock = r.clock }
+holding p l r = record { entries = l; held = r.held ++ (r.received + 1, p) ∷ []; received = r.received + 1; clock = r.clock; past = r.past }
 
 -- just these are held
 abbrev pub left_with : List (ℕ × Packet) → List Entry → Course → Course
-left_with held l r = record { entries = l; held = held; received = r.received; clock = r.clock }
+left_with held l r = record { entries = l; held = held; received = r.received; clock = r.clock; past = r.past }
 
 -- a receipt that is held, as its packet
 abbrev pub packet_under : Numbered → ℕ × Packet
 packet_under h = (h.0, taken_by h.1)
 
--- where a replay is with this list, these receipts and this clock
-abbrev pub course_of : List Entry → ReceiptList → ℕ → Course
-course_of l receipts clock = record { entries = l; held = map packet_under receipts.list; received = receipts.received; clock = clock }
+-- where a replay is with this list, these receipts and this clock, and with what happened
+abbrev pub course_of : List Entry → ReceiptList → (clock : ℕ) → List Happening → Course
+course_of l receipts clock past = record { entries = l; held = map packet_under receipts.list; received = receipts.received; clock = clock; past = past }
+
+-- the step of a line was made
+abbrev pub after : Step → Course → Course
+after s r = with_past (Made (step_of s) ∷ r.past) r
 
 -- One turn of the board, with this entry.
 pub record TurnsBoard (config : Config) (l : List Entry) (e : BoardEntry) (new : List Entry) : Type 0 where
@@ -91,23 +109,50 @@ pub record IsHeard (x : Hearing) (source : Addr) (bytes : List ℕ) : Type 0 whe
   pub length_is : x.too_long ≡ is_too_long bytes
 
 -- the reply goes to the source, or its send fails
-abbrev pub Replying : Addr → (reply : List ℕ) → Printed → Type 0
-Replying source reply e = (e ≡ event.Reply source reply) ⊎ (e ≡ event.ReplyFault)
+abbrev pub Replying : (failing : Bool) → Addr → (reply : List ℕ) → Printed → Type 0
+Replying true source reply e = e ≡ event.ReplyFault
+Replying false source reply e = e ≡ event.Reply source reply
 
 -- The datagram is answered in one turn of the board, whose entry and reply are those that the board's history demands at that
--- moment for what was heard
-pub record Answers (config : Config) (clock : ℕ) (l : List Entry) (source : Addr) (bytes : List ℕ) (e : Printed) (new : List Entry) : Type 0 where
+-- moment for what was heard. The calls of the port maker and of the key source in the turn are those that the entry tells
+pub record Answers (config : Config) (clock : ℕ) (l : List Entry) (source : Addr) (bytes : List ℕ) (failing : Bool) (opened : List PortCall) (drawn : List KeyCall) (e : Printed) (new : List Entry) : Type 0 where
   pub heard : Hearing
   pub is_heard : IsHeard heard source bytes
   pub turns : TurnsBoard config l (entry_at config (board_of l) (moment_at (board_of l) clock) heard) new
-  pub replies : Replying source (control_of config (board_of l) (moment_at (board_of l) clock) heard).reply e
+  pub opens : OpensWith heard.given.opens opened
+  pub draws : drawn ≡ draws_of heard.given
+  pub replies : Replying failing source (control_of config (board_of l) (moment_at (board_of l) clock) heard).reply e
 
--- the take failed, or the datagram has no frame, and nothing was done; or it was answered
-abbrev pub Controls : Config → (clock : ℕ) → List Entry → Addr → List ℕ → Printed → List Entry → Type 0
-Controls config clock l source bytes e new =
-    ((e ≡ event.ReadFault) × (new ≡ l))
-    ⊎ ((frame (filled bytes) ≡ None) × (e ≡ event.Silent) × (new ≡ l))
-    ⊎ Answers config clock l source (filled bytes) e new
+-- neither the port maker nor the key source was called, and nothing was done
+abbrev pub IsIdle : List PortCall → List KeyCall → List Entry → List Entry → Type 0
+IsIdle opened drawn l new = (opened ≡ []) × (drawn ≡ []) × (new ≡ l)
+
+-- what a control turn does, whose take and whose send have to fail or not: the take failed; or the datagram has no frame; or it
+-- was answered
+abbrev pub Controls : Config → (clock : ℕ) → List Entry → Addr → List ℕ → (read_fails reply_fails : Bool) → List PortCall → List KeyCall → Printed → List Entry → Type 0
+Controls config clock l source bytes true reply_fails opened drawn e new = (e ≡ event.ReadFault) × IsIdle opened drawn l new
+Controls config clock l source bytes false reply_fails opened drawn e new =
+    ((frame (filled bytes) ≡ None) × (e ≡ event.Silent) × IsIdle opened drawn l new)
+    ⊎ Answers config clock l source (filled bytes) reply_fails opened drawn e new
+
+-- each opening, in order, failed just where the lines ask for it; each was of an end of a pair
+abbrev pub OpensAsked : Config → List PortCall → (old new : List Happening) → Type 0
+OpensAsked config [] old new = new ≡ old
+OpensAsked config (Open at done ∷ calls) old new =
+    (e : End) × IsEndAt config at.port at.ip e × (done ≡ not (fails model.Opening old)) × OpensAsked config calls (Opened e.0 e.1 done ∷ old) new
+OpensAsked config (Close at taken sent ∷ calls) old new = OpensAsked config calls old new
+
+-- each draw, in order, failed just where the lines ask for it
+abbrev pub DrawsAsked : List KeyCall → (old new : List Happening) → Type 0
+DrawsAsked [] old new = new ≡ old
+DrawsAsked (key.Drawn bytes ∷ calls) old new = (fails model.Drawing old ≡ false) × DrawsAsked calls (Drew true ∷ old) new
+DrawsAsked (key.Failed ∷ calls) old new = (fails model.Drawing old ≡ true) × DrawsAsked calls (Drew false ∷ old) new
+
+-- a reply was sent, or its send failed
+abbrev pub replied : Printed → List Happening → List Happening
+replied (event.Reply to bytes) past = Replied true ∷ past
+replied event.ReplyFault past = Replied false ∷ past
+replied _ past = past
 
 -- Packets.
 
@@ -126,18 +171,27 @@ PrintsTaken (box.Datagram holder source bytes) e = ⊥
 PrintsTaken (box.TooLong source bytes) e = e ≡ event.TooLong
 PrintsTaken box.Fault e = e ≡ event.TakeFault
 
+-- a take at an open port fails just where it has to
+abbrev pub FailsSo : Taken → (failing : Bool) → Type 0
+FailsSo box.Closed failing = Unit {0}
+FailsSo box.Nothing failing = Unit {0}
+FailsSo (box.Datagram holder source bytes) failing = failing ≡ false
+FailsSo (box.TooLong source bytes) failing = failing ≡ false
+FailsSo box.Fault failing = failing ≡ true
+
 -- one take was made at the end of the port, and gave no packet
-pub record TakesNone (config : Config) (l : List Entry) (port : ℕ) (source : Ip) (e : Printed) (new : List Entry) : Type 0 where
+pub record TakesNone (config : Config) (l : List Entry) (port : ℕ) (source : Ip) (failing : Bool) (e : Printed) (new : List Entry) : Type 0 where
   pub end : End
   pub at : IsEndAt config port source end
   pub number : ℕ
   pub taken : Taken
   pub printed : PrintsTaken taken e
+  pub asked : FailsSo taken failing
   pub list_is : new ≡ l ++ take_entry config end.0 end.1 number taken ∷ []
 
 -- no packet was taken: no end has the port, or the one take at it gave none
-abbrev pub Misses : Config → List Entry → (port : ℕ) → Ip → Printed → List Entry → Type 0
-Misses config l port source e new = (IsNoEnd config port source × (e ≡ event.Nothing) × (new ≡ l)) ⊎ TakesNone config l port source e new
+abbrev pub Misses : Config → List Entry → (port : ℕ) → Ip → (failing : Bool) → Printed → List Entry → Type 0
+Misses config l port source failing e new = (IsNoEnd config port source × (e ≡ event.Nothing) × (new ≡ l)) ⊎ TakesNone config l port source failing e new
 
 -- a packet was relayed, once, at that moment, with the outcome and the bytes that the history of its cell demands, and these are
 -- printed
@@ -147,11 +201,11 @@ pub record RelaysPacket (config : Config) (clock : ℕ) (l : List Entry) (p : ce
   pub printed : e ≡ event.Relayed outcome sent
   pub relayed : RelaysBy config l p clock outcome sent new
 
--- the same of what an arrival came to; of another packet than the line's nothing is said
-abbrev pub Arrives : Config → List Entry → (port : ℕ) → Addr → List ℕ → Arrived → List Entry → Type 0
-Arrives config l port source bytes (arrived.Packet r) new = TakesPacket config l port source bytes (taken_by r) new
-Arrives config l port source bytes (arrived.Printed e) new = Misses config l port source.ip (event_of e) new
-Arrives config l port source bytes arrived.Other new = Unit {0}
+-- the same of what an arrival came to, whose take has to fail or not; of another packet than the line's nothing is said
+abbrev pub Arrives : Config → List Entry → (port : ℕ) → Addr → List ℕ → (failing : Bool) → Arrived → List Entry → Type 0
+Arrives config l port source bytes failing (arrived.Packet r) new = (failing ≡ false) × TakesPacket config l port source bytes (taken_by r) new
+Arrives config l port source bytes failing (arrived.Printed e) new = Misses config l port source.ip failing (event_of e) new
+Arrives config l port source bytes failing arrived.Other new = Unit {0}
 
 -- the same of what is printed of a relay; without memory for it nothing is said
 abbrev pub RelaysSo : Config → (clock : ℕ) → List Entry → Packet → Option coded.Printed → List Entry → Type 0
@@ -173,6 +227,7 @@ pub record PrintsOne (prints : List Printed) (P : Printed → Type 0) : Type 0 w
 pub record Holds (config : Config) (r : Course) (port : ℕ) (source : Addr) (bytes : List ℕ) (e : Printed) (new : Course) : Type 0 where
   pub packet : Packet
   pub entries : List Entry
+  pub asked : fails model.Taking r.past ≡ false
   pub takes : TakesPacket config r.entries port source bytes packet entries
   pub printed : e ≡ event.Took (r.received + 1)
   pub new_is : new ≡ holding packet entries r
@@ -180,7 +235,7 @@ pub record Holds (config : Config) (r : Course) (port : ℕ) (source : Addr) (by
 -- no packet is taken
 pub record HoldsNone (config : Config) (r : Course) (port : ℕ) (source : Ip) (e : Printed) (new : Course) : Type 0 where
   pub entries : List Entry
-  pub misses : Misses config r.entries port source e entries
+  pub misses : Misses config r.entries port source (fails model.Taking r.past) e entries
   pub new_is : new ≡ with_entries entries r
 
 -- a packet is taken, and relayed at once
@@ -188,6 +243,7 @@ pub record Passes (config : Config) (r : Course) (port : ℕ) (source : Addr) (b
   pub packet : Packet
   pub between : List Entry
   pub entries : List Entry
+  pub asked : fails model.Taking r.past ≡ false
   pub takes : TakesPacket config r.entries port source bytes packet between
   pub relays : RelaysPacket config r.clock between packet.1 e entries
   pub new_is : new ≡ with_entries entries r
@@ -202,13 +258,20 @@ pub record RelaysHeld (config : Config) (r : Course) (number : ℕ) (e : Printed
   pub relays : RelaysPacket config r.clock r.entries packet.1 e entries
   pub new_is : new ≡ left_with (before ++ after) entries r
 
--- a control turn, which touches no packet that is held
+-- a control turn, which touches no packet that is held; its calls fail just where the lines ask for it
 pub record Commands (config : Config) (r : Course) (source : Addr) (bytes : List ℕ) (e : Printed) (new : Course) : Type 0 where
   pub entries : List Entry
-  pub controls : Controls config r.clock r.entries source bytes e entries
-  pub new_is : new ≡ with_entries entries r
+  pub opened : List PortCall
+  pub drawn : List KeyCall
+  pub controls : Controls config r.clock r.entries source bytes (fails model.Reading r.past) (fails model.Replying r.past) opened drawn e entries
+  pub between : List Happening
+  pub opens : OpensAsked config opened r.past between
+  pub past : List Happening
+  pub draws : DrawsAsked drawn between past
+  pub new_is : new ≡ with_past (replied e past) (with_entries entries r)
 
--- Makes config r step prints new: with the step, made at r, a replay comes to new, and this is printed
+-- Makes config r step prints new: with the step, made at r, a replay comes to new, and this is printed. That the line was passed is
+-- not noted yet
 abbrev pub Makes : Config → Course → Step → List Printed → Course → Type 0
 Makes config r step.Skip prints new = IsQuiet r prints new
 Makes config r (step.At moment) prints new = (prints ≡ []) × (new ≡ at_moment moment r)
@@ -246,7 +309,7 @@ OfStep config r s stepped.Starved new = Unit {0}
 abbrev pub Plays : Config → List Step → Course → List Printed → Course → Type 0
 Plays config [] r prints new = (prints ≡ []) × (new ≡ r)
 Plays config (s ∷ steps) r prints new =
-    (between : Course) × (first rest : List Printed) × (prints ≡ first ++ rest) × Makes config r s first between × Plays config steps between rest new
+    (between : Course) × (first rest : List Printed) × (prints ≡ first ++ rest) × Makes config r s first between × Plays config steps (after s between) rest new
 
 -- A stop after these entries: one more turn of the board, which ends all calls. The entries and those of the stop are what a table
 -- records of a list that is legal, and so safe

@@ -29,31 +29,44 @@ pub(crate) enum Arrived {
     Packet(Receipt),
     /// Nothing was taken, and this is printed.
     Printed(Printed),
-    /// Another packet than the line's was taken.
+    /// Another packet than the line's was taken, or the take failed where it had not to, or did not where it had to.
     Other,
 }
 
-/// What came of a take.
-fn tell_arrival(received: Received, source: Addr, bytes: &[u8]) -> Arrived
+/// What came of a take that had to fail or not.
+fn tell_arrival(received: Received, source: Addr, bytes: &[u8], failing: bool) -> Arrived
     ensures good { (config : Config) (l new : List Entry) → HasReceipt config new received → IsNew config l received → IsGood config l result new }
-    ensures arrives { (config : Config) (l new : List Entry) (port pair : ℕ) (half : Half) → IsEndAt config port source.ip (pair, half) → Took config l pair half received new → Arrives config l port source bytes.now result new }
+    ensures arrives { (config : Config) (l new : List Entry) (port pair : ℕ) (half : Half) → IsEndAt config port source.ip (pair, half) → Took config l pair half received new → Arrives config l port source bytes.now failing result new }
 {
     match received {
         Received::Got(receipt) => {
-            if receipt.source() == source && receipt.bytes() == bytes {
+            if !failing && receipt.source() == source && receipt.bytes() == bytes {
                 Arrived::Packet(receipt)
             } else {
                 Arrived::Other
             }
         }
         Received::Nothing => Arrived::Printed(Printed::Nothing),
-        Received::TooLong => Arrived::Printed(Printed::TooLong),
-        Received::TakeFault => Arrived::Printed(Printed::TakeFault),
+        Received::TooLong => {
+            if failing {
+                Arrived::Other
+            } else {
+                Arrived::Printed(Printed::TooLong)
+            }
+        }
+        Received::TakeFault => {
+            if failing {
+                Arrived::Printed(Printed::TakeFault)
+            } else {
+                Arrived::Other
+            }
+        }
         Received::Busy { .. } => Arrived::Other,
     }
 }
 
-/// The packet of a line arrives at its port and is taken there, once. A port that no pair of the range has is not open.
+/// The packet of a line arrives at its port and is taken there, once; the take has to fail or not. A port that no pair of the range has is
+/// not open.
 pub(crate) fn arrive<I: InEnd, O: OutEnd, R: Wait>(
     rt: &R,
     turns: &Turns<Relay<I, O>>,
@@ -62,6 +75,7 @@ pub(crate) fn arrive<I: InEnd, O: OutEnd, R: Wait>(
     port: u16,
     source: Addr,
     bytes: &[u8],
+    failing: bool,
 ) -> (Arrived, Hand<Relay<I, O>>)
     requires between { IsBetween config.now turns.now hand }
     ensures same { IsSameHand hand result.1 }
@@ -69,12 +83,12 @@ pub(crate) fn arrive<I: InEnd, O: OutEnd, R: Wait>(
     ensures board { board_of (made_by result.1) ≡ board_of (made_by hand) }
     ensures receipts { KeepsReceipts config.now (made_by hand) (made_by result.1) }
     ensures packet { IsGood config.now (made_by hand) result.0 (made_by result.1) }
-    ensures arrives { Arrives config.now (made_by hand) port source bytes.now result.0 (made_by result.1) }
+    ensures arrives { Arrives config.now (made_by hand) port source bytes.now failing result.0 (made_by result.1) }
 {
     match find_end(config, port, source.ip) {
         Some((pair, half)) => {
             let (received, hand) = receive_between(rt, turns, hand, config, pair, half);
-            (tell_arrival(received, source, bytes), hand)
+            (tell_arrival(received, source, bytes, failing), hand)
         }
         None => (Arrived::Printed(Printed::Nothing), hand),
     }

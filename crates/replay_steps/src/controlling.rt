@@ -53,29 +53,51 @@ fn reply_event(alloc: Global, link: &ReplayLink<'_>) -> Option<Printed>
     Some(Printed::Reply(to, text))
 }
 
-/// What is printed of a control turn. `None`: there was no memory for it, or the link does not tell it.
+/// What is printed of a control turn whose take and whose send have to fail or not. `None`: there was no memory for it, or the link
+/// does not tell it.
 fn turn_event(
     alloc: Global,
     turn: ControlTurn,
     link: &ReplayLink<'_>,
     source: Addr,
     bytes: &[u8],
+    read_fails: bool,
+    reply_fails: bool,
 ) -> Option<Printed>
-    ensures { TellsEvent turn link.now.told source bytes.now result }
+    ensures { TellsEvent turn read_fails reply_fails link.now.told source bytes.now result }
 {
-    if turn != ControlTurn::ReadFault && !gave_line(link, source, bytes) {
+    if turn == ControlTurn::ReadFault {
+        return if read_fails {
+            Some(Printed::ReadFault)
+        } else {
+            None
+        };
+    }
+    if read_fails || !gave_line(link, source, bytes) {
         return None;
     }
     match turn {
-        ControlTurn::ReadFault => Some(Printed::ReadFault),
         ControlTurn::Silent => Some(Printed::Silent),
-        ControlTurn::ReplyFault => Some(Printed::ReplyFault),
-        ControlTurn::Replied => reply_event(alloc, link),
-        ControlTurn::Nothing | ControlTurn::End => None,
+        ControlTurn::ReplyFault => {
+            if reply_fails {
+                Some(Printed::ReplyFault)
+            } else {
+                None
+            }
+        }
+        ControlTurn::Replied => {
+            if reply_fails {
+                None
+            } else {
+                reply_event(alloc, link)
+            }
+        }
+        ControlTurn::ReadFault | ControlTurn::Nothing | ControlTurn::End => None,
     }
 }
 
-/// Makes the control turn of the present line, whose datagram is this, handed a moment in milliseconds, and says what is printed.
+/// Makes the control turn of the present line, whose datagram is this, handed a moment in milliseconds, and says what is printed. The
+/// take of the link and the send of a reply have to fail or not.
 /// `None`: there was no memory for it, or the link tells nothing any more.
 pub(crate) fn make_turn<P: PortMaker, K: KeySource, R: Wait>(
     rt: &R,
@@ -88,6 +110,8 @@ pub(crate) fn make_turn<P: PortMaker, K: KeySource, R: Wait>(
     keys: &mut K,
     source: Addr,
     bytes: &[u8],
+    read_fails: bool,
+    reply_fails: bool,
     now: u64,
 ) -> Option<Printed>
     requires between { IsBetween server.now.config server.now.turns hand.old }
@@ -96,8 +120,8 @@ pub(crate) fn make_turn<P: PortMaker, K: KeySource, R: Wait>(
     ensures between { IsBetween server.now.config server.now.turns hand.new }
     ensures open { OpensJust server.now.config (history_of hand.new) (P.told ports.new) }
     ensures receipts { KeepsReceipts server.now.config (made_by hand.old) (made_by hand.new) }
-    ensures controls { Controlled server.now.config now (made_by hand.old) source bytes.now result (made_by hand.new) }
+    ensures controls { Controlled server.now.config now (made_by hand.old) source bytes.now read_fails reply_fails (P.told ports.old) (P.told ports.new) (K.told keys.old) (K.told keys.new) result (made_by hand.new) }
 {
     let turn = server.control_turn(rt, alloc, hand, desk, link, ports, keys, now);
-    turn_event(alloc, turn, link, source, bytes)
+    turn_event(alloc, turn, link, source, bytes, read_fails, reply_fails)
 }

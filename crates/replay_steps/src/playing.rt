@@ -1,9 +1,10 @@
 //! The steps of a script in order.
-ghost use Rattle.std.specs.Prelude.{◌≡◌, ◌≤◌, ◌≢◌, None, Some, map, length};
+ghost use Rattle.std.specs.Prelude.{◌≡◌, ◌≤◌, ◌≢◌, [], None, Some, map, length};
 ghost use Rattle.relay_outside.specs.Told.{Gained, Rose};
 ghost use Rattle.turn_table.specs.Hands.{IsSameHand};
 ghost use Rattle.relay_core.specs.Turning.{made_by};
 ghost use Rattle.relay_script.specs.Steps.{meaning};
+ghost use Rattle.replay_devices.specs.Watch.{StandsFor};
 ghost use Rattle.replay_steps.specs.Ready.{IsReady};
 ghost use Rattle.replay_steps.specs.Steps.{at_first, course_of};
 ghost use Rattle.replay_steps.specs.Written.{EndsFor, DidTell, DidStep, DidSteps};
@@ -16,7 +17,7 @@ use ng_server::{Desk, Server};
 use relay_core::Relay;
 use relay_outside::{Config, LineSink};
 use relay_script::{Printed, Step};
-use replay_devices::{ReplayIn, ReplayOut, ReplayPorts};
+use replay_devices::{ReplayIn, ReplayOut, ReplayPorts, Watch};
 use replay_lines::{WriteFault, write_event};
 use std::alloc::Global;
 use std::sync::Wait;
@@ -51,6 +52,7 @@ fn write_step<O: LineSink>(alloc: Global, out: &mut O, stepped: Stepped, line: u
     ensures fault { result ≡ Some Ended.PrintFault → Rose (O.faults out.old) (O.faults out.new) }
     ensures later { O.faults out.old ≤ O.faults out.new }
     ensures end { result ≢ Some Ended.ScriptRead }
+    ensures starved { result ≡ None → stepped ≢ Stepped.Starved }
 {
     match stepped {
         Stepped::Quiet => None,
@@ -73,13 +75,15 @@ pub(crate) fn play_steps<'a, O: LineSink, R: Wait>(
     config: &Config,
     desk: &mut Desk<ReplayOut<'a>>,
     devices: &mut Devices<'a>,
+    watch: &mut Watch,
     receipts: &mut Receipts,
     steps: &'a [Step],
     out: &mut O,
 ) -> (Option<Ended>, u32, Hand<Relay<ReplayIn<'a>, ReplayOut<'a>>>)
     requires config { server.now.config ≡ config.now }
     requires ready { IsReady server.now.config server.now.turns hand devices.old.ports.told receipts.old }
-    requires none { course_of (made_by hand) receipts.old 0 ≡ at_first }
+    requires none { course_of (made_by hand) receipts.old 0 [] ≡ at_first }
+    requires nothing { StandsFor [] watch.old }
     requires most { length steps.now ≤ 50000 }
     ensures same { IsSameHand hand.entry result.2 }
     ensures ready { IsReady server.now.config server.now.turns result.2 devices.new.ports.told receipts.new }
@@ -96,19 +100,14 @@ pub(crate) fn play_steps<'a, O: LineSink, R: Wait>(
     let mut line = 0;
     'steps: while made < steps.len() {
         devices.begin(made);
+        let step = &steps[made];
         let (stepped, next) = make_step(
-            rt,
-            alloc,
-            server,
-            hand,
-            config,
-            desk,
-            devices,
-            receipts,
-            &mut clock,
-            &steps[made],
+            rt, alloc, server, hand, config, desk, devices, watch, receipts, &mut clock, step,
         );
         hand = next;
+        let Ok(()) = watch.made(step) else {
+            return (Some(Ended::OutOfMemory), line, hand);
+        };
         made += 1;
         line += 1;
         match write_step(alloc, out, stepped, line) {

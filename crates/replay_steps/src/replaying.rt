@@ -11,7 +11,7 @@ use crate::playing::{play_steps, tell_fault};
 use ng_server::{Desk, Server};
 use relay_outside::{Config, LineSink, LineSource};
 use relay_script::Step;
-use replay_devices::Timetable;
+use replay_devices::{Timetable, Watch};
 use replay_lines::{Ending, read_script};
 use std::alloc::Global;
 use std::sync::Wait;
@@ -70,6 +70,9 @@ fn play<O: LineSink, R: Wait>(
     let Ok(mut devices) = Devices::new(alloc, steps, timetable, seed) else {
         return Ended::OutOfMemory;
     };
+    let Ok(mut watch) = Watch::new(alloc) else {
+        return Ended::OutOfMemory;
+    };
     let Ok(mut receipts) = Receipts::new(alloc) else {
         return Ended::OutOfMemory;
     };
@@ -87,6 +90,7 @@ fn play<O: LineSink, R: Wait>(
         config,
         &mut desk,
         &mut devices,
+        &mut watch,
         &mut receipts,
         steps,
         out,

@@ -1,5 +1,5 @@
 //! One step of a script.
-ghost use Rattle.std.specs.Prelude.{◌≡◌, ◌+◌, ◌<◌, ◌≤◌, ◌^◌, ℕ, MatchOption};
+ghost use Rattle.std.specs.Prelude.{◌≡◌, ◌+◌, ◌<◌, ◌≤◌, ◌^◌, ℕ, List, Some, MatchOption};
 ghost use Rattle.turn_table.specs.Hands.{IsSameHand, parts};
 ghost use Rattle.relay_core.specs.Turning.{made_by};
 ghost use Rattle.board_turns.specs.Between.{board_of, IsBetween};
@@ -8,17 +8,24 @@ ghost use Rattle.replay_steps.specs.Holding.{ReceiptList, AreReceipts};
 ghost use Rattle.replay_steps.specs.Ready.{IsReady};
 ghost use Rattle.relay_script.specs.Steps.{meaning};
 ghost use Rattle.relay_script.specs.Steps as line;
-ghost use Rattle.replay_steps.specs.Steps.{course_of, OfStep};
+ghost use Rattle.relay_script.specs.Printing.{event_of};
+ghost use Rattle.replay_model.specs.Steps as model;
+ghost use Rattle.replay_model.specs.Devices.{Happening, fails};
+ghost use Rattle.replay_devices.specs.Watch.{StandsFor};
+ghost use Rattle.ng_server.specs.Servers.{OpensJust, history_of};
+ghost use Rattle.replay_steps.specs.Steps.{course_of, replied, OfStep};
+ghost use Rattle.replay_steps.specs.Watching.{StepsSo};
 
 use crate::arriving::{Arrived, arrive, pass};
 use crate::controlling::make_turn;
 use crate::devices::Devices;
 use crate::held::Receipts;
+use crate::watching::{count_draws, count_openings, note_calls};
 use ng_server::{Desk, Server};
 use relay_core::Relay;
 use relay_outside::{Addr, Config, InEnd, OutEnd};
-use relay_script::{Printed, Step};
-use replay_devices::{ReplayIn, ReplayOut, ReplayPorts};
+use relay_script::{FailKind, Printed, Step};
+use replay_devices::{ReplayIn, ReplayOut, ReplayPorts, Watch};
 use std::alloc::Global;
 use std::sync::Wait;
 use turn_table::{Hand, Turns};
@@ -46,7 +53,7 @@ fn tell_event(event: Option<Printed>) -> Stepped
     }
 }
 
-/// The packet of a line arrives and is held for a later line `relay`.
+/// The packet of a line arrives, whose take has to fail or not, and is held for a later line `relay`.
 fn take_packet<I: InEnd, O: OutEnd, R: Wait>(
     rt: &R,
     turns: &Turns<Relay<I, O>>,
@@ -56,6 +63,7 @@ fn take_packet<I: InEnd, O: OutEnd, R: Wait>(
     port: u16,
     source: Addr,
     bytes: &[u8],
+    failing: bool,
 ) -> (Stepped, Hand<Relay<I, O>>)
     requires between { IsBetween config.now turns.now hand }
     requires receipts { AreReceipts config.now (made_by hand) receipts.old.list }
@@ -67,12 +75,12 @@ fn take_packet<I: InEnd, O: OutEnd, R: Wait>(
     ensures receipts { AreReceipts config.now (made_by result.1) receipts.new.list }
     ensures room { receipts.new.room ≡ 64 }
     ensures received { receipts.new.received ≤ receipts.old.received + 1 }
-    ensures step { (clock : ℕ) → OfStep config.now (course_of (made_by hand) receipts.old clock) (line.Take port source bytes.now) result.0 (course_of (made_by result.1) receipts.new clock) }
+    ensures step { (clock : ℕ) (past : List Happening) → failing ≡ fails model.Taking past → OfStep config.now (course_of (made_by hand) receipts.old clock past) (line.Take port source bytes.now) result.0 (course_of (made_by result.1) receipts.new clock past) }
 {
     if receipts.is_full() {
         return (Stepped::Faulty, hand);
     }
-    let (arrived, hand) = arrive(rt, turns, hand, config, port, source, bytes);
+    let (arrived, hand) = arrive(rt, turns, hand, config, port, source, bytes, failing);
     match arrived {
         Arrived::Packet(receipt) => (Stepped::Prints(Printed::Took(receipts.keep(receipt))), hand),
         Arrived::Printed(event) => (Stepped::Prints(event), hand),
@@ -100,7 +108,7 @@ fn relay_receipt<I: InEnd, O: OutEnd, R: Wait>(
     ensures receipts { AreReceipts config.now (made_by result.1) receipts.new.list }
     ensures room { receipts.new.room ≡ receipts.old.room }
     ensures received { receipts.new.received ≡ receipts.old.received }
-    ensures step { OfStep config.now (course_of (made_by hand) receipts.old now) (line.Relay number) result.0 (course_of (made_by result.1) receipts.new now) }
+    ensures step { (past : List Happening) → OfStep config.now (course_of (made_by hand) receipts.old now past) (line.Relay number) result.0 (course_of (made_by result.1) receipts.new now past) }
 {
     match receipts.take(number) {
         Some(receipt) => {
@@ -111,7 +119,7 @@ fn relay_receipt<I: InEnd, O: OutEnd, R: Wait>(
     }
 }
 
-/// The packet of a line arrives and is relayed at once.
+/// The packet of a line arrives, whose take has to fail or not, and is relayed at once.
 fn pass_packet<I: InEnd, O: OutEnd, R: Wait>(
     rt: &R,
     alloc: Global,
@@ -121,6 +129,7 @@ fn pass_packet<I: InEnd, O: OutEnd, R: Wait>(
     port: u16,
     source: Addr,
     bytes: &[u8],
+    failing: bool,
     now: u64,
 ) -> (Stepped, Hand<Relay<I, O>>)
     requires between { IsBetween config.now turns.now hand }
@@ -129,9 +138,9 @@ fn pass_packet<I: InEnd, O: OutEnd, R: Wait>(
     ensures between { IsBetween config.now turns.now result.1 }
     ensures board { board_of (made_by result.1) ≡ board_of (made_by hand) }
     ensures receipts { KeepsReceipts config.now (made_by hand) (made_by result.1) }
-    ensures step { (held : ReceiptList) → OfStep config.now (course_of (made_by hand) held now) (line.Packet port source bytes.now) result.0 (course_of (made_by result.1) held now) }
+    ensures step { (held : ReceiptList) (past : List Happening) → failing ≡ fails model.Taking past → OfStep config.now (course_of (made_by hand) held now past) (line.Packet port source bytes.now) result.0 (course_of (made_by result.1) held now past) }
 {
-    let (arrived, hand) = arrive(rt, turns, hand, config, port, source, bytes);
+    let (arrived, hand) = arrive(rt, turns, hand, config, port, source, bytes, failing);
     match arrived {
         Arrived::Packet(receipt) => {
             let (event, hand) = pass(rt, alloc, turns, hand, config, receipt, now);
@@ -142,7 +151,78 @@ fn pass_packet<I: InEnd, O: OutEnd, R: Wait>(
     }
 }
 
-/// Makes a step: the devices were told which.
+/// Notes that a reply was sent, or its send failed, where that is the event.
+fn note_event(watch: &mut Watch, event: &Printed)
+    ensures { (past : List Happening) → StandsFor past watch.old → StandsFor (replied (event_of event.now) past) watch.new }
+{
+    match event {
+        Printed::Reply(_, _) => watch.replied(),
+        Printed::ReplyFault => watch.replied(),
+        _ => {}
+    }
+}
+
+/// The same of what is printed.
+fn note_reply(watch: &mut Watch, event: &Option<Printed>)
+    ensures { (e : Printed) → event.now ≡ Some e → (past : List Happening) → StandsFor past watch.old → StandsFor (replied (event_of e) past) watch.new }
+{
+    match event {
+        Some(event) => note_event(watch, event),
+        None => {}
+    }
+}
+
+/// The control turn of a line `ng`: the devices were told of the line.
+fn control<'a, R: Wait>(
+    rt: &R,
+    alloc: Global,
+    server: &Server<ReplayPorts<'a>>,
+    hand: &mut Hand<Relay<ReplayIn<'a>, ReplayOut<'a>>>,
+    config: &Config,
+    desk: &mut Desk<ReplayOut<'a>>,
+    devices: &mut Devices<'a>,
+    watch: &mut Watch,
+    source: Addr,
+    bytes: &[u8],
+    now: u64,
+) -> Stepped
+    requires config { server.now.config ≡ config.now }
+    requires between { IsBetween server.now.config server.now.turns hand.old }
+    requires open { OpensJust server.now.config (history_of hand.old) devices.old.ports.told }
+    ensures same { IsSameHand hand.old hand.new }
+    ensures between { IsBetween server.now.config server.now.turns hand.new }
+    ensures open { OpensJust server.now.config (history_of hand.new) devices.new.ports.told }
+    ensures receipts { KeepsReceipts server.now.config (made_by hand.old) (made_by hand.new) }
+    ensures step { (held : ReceiptList) → StepsSo result watch.old watch.new (λ past past_now. OfStep config.now (course_of (made_by hand.old) held now past) (line.Ng source bytes.now) result (course_of (made_by hand.new) held now past_now)) }
+{
+    let read_fails = watch.fails(FailKind::Read);
+    let reply_fails = watch.fails(FailKind::Reply);
+    let opened = count_openings(&devices.ports);
+    let drawn = count_draws(&devices.keys);
+    let Devices { link, ports, keys } = devices;
+    let event = make_turn(
+        rt,
+        alloc,
+        server,
+        hand,
+        desk,
+        link,
+        ports,
+        keys,
+        source,
+        bytes,
+        read_fails,
+        reply_fails,
+        now,
+    );
+    if !note_calls(watch, config, ports, opened, keys, drawn) {
+        return Stepped::Starved;
+    }
+    note_reply(watch, &event);
+    tell_event(event)
+}
+
+/// Makes a step: the devices were told of its line.
 pub(crate) fn make_step<'a, R: Wait>(
     rt: &R,
     alloc: Global,
@@ -151,6 +231,7 @@ pub(crate) fn make_step<'a, R: Wait>(
     config: &Config,
     desk: &mut Desk<ReplayOut<'a>>,
     devices: &mut Devices<'a>,
+    watch: &mut Watch,
     receipts: &mut Receipts,
     clock: &mut u64,
     step: &Step,
@@ -161,7 +242,7 @@ pub(crate) fn make_step<'a, R: Wait>(
     ensures same { IsSameHand hand.entry result.1 }
     ensures ready { IsReady server.now.config server.now.turns result.1 devices.new.ports.told receipts.new }
     ensures received { receipts.new.received ≤ receipts.old.received + 1 }
-    ensures step { OfStep config.now (course_of (made_by hand.entry) receipts.old clock.old) (meaning step.now) result.0 (course_of (made_by result.1) receipts.new clock.new) }
+    ensures step { StepsSo result.0 watch.old watch.new (λ past past_now. OfStep config.now (course_of (made_by hand.entry) receipts.old clock.old past) (meaning step.now) result.0 (course_of (made_by result.1) receipts.new clock.new past_now)) }
 {
     let turns = server.turns();
     let mut hand = hand;
@@ -171,21 +252,20 @@ pub(crate) fn make_step<'a, R: Wait>(
             (Stepped::Quiet, hand)
         }
         Step::Ng(source, bytes) => {
-            let Devices { link, ports, keys } = devices;
-            let event = make_turn(
+            let stepped = control(
                 rt,
                 alloc,
                 server,
                 &mut hand,
+                config,
                 desk,
-                link,
-                ports,
-                keys,
+                devices,
+                watch,
                 *source,
                 bytes.as_slice(),
                 *clock,
             );
-            (tell_event(event), hand)
+            (stepped, hand)
         }
         Step::Take(port, source, bytes) => {
             take_packet(
@@ -197,6 +277,7 @@ pub(crate) fn make_step<'a, R: Wait>(
                 *port,
                 *source,
                 bytes.as_slice(),
+                watch.fails(FailKind::Take),
             )
         }
         Step::Relay(number) => relay_receipt(
@@ -211,6 +292,7 @@ pub(crate) fn make_step<'a, R: Wait>(
             *port,
             *source,
             bytes.as_slice(),
+            watch.fails(FailKind::Take),
             *clock,
         ),
         Step::Tick => (Stepped::Faulty, hand),

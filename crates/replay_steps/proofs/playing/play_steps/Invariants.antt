@@ -1,7 +1,9 @@
-use Rattle.std.proofs.Common.{◌≡◌, ◌-◌, ◌≤◌, length}
+use Rattle.std.proofs.Common.{◌≡◌, ◌-◌, ◌≤◌, List, length}
 use Rattle.relay_outside.specs.Told.{Gained}
 use Rattle.turn_table.specs.Hands.{IsSameHand}
 use Rattle.relay_core.specs.Turning.{made_by}
+use Rattle.replay_model.specs.Devices.{Happening}
+use Rattle.replay_devices.specs.Watch.{StandsFor}
 use Rattle.replay_steps.specs.Ready.{IsReady}
 use Rattle.replay_steps.specs.Steps.{course_of}
 use Rattle.replay_steps.proofs.Fronts.{upto}
@@ -15,7 +17,8 @@ invariant-steps g l = record {
   received : l.receipts.received ≤ l.made;
   below : l.made ≤ length l.steps;
   numbered : l.line ≡ l.made;
-  told : Gained (g.O.LineSink.told l.fn.out) (g.O.LineSink.told l.out) (PlayedTo l.config (upto l.made l.steps) (course_of (made_by l.hand) l.receipts l.clock));
+  told : (past : List Happening) × StandsFor past l.watch
+      × Gained (g.O.LineSink.told l.fn.out) (g.O.LineSink.told l.out) (PlayedTo l.config (upto l.made l.steps) (course_of (made_by l.hand) l.receipts l.clock past));
   later : g.O.LineSink.faults l.fn.out ≤ g.O.LineSink.faults l.out;
 }
 

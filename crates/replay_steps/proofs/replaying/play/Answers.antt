@@ -14,10 +14,10 @@ use Rattle.replay_steps.proofs.replaying.play.Goals as goal
 pub play_steps-ended-requires-clause-ready : goal.play_steps-ended-requires-clause-ready
 play_steps-ended-requires-clause-ready g c =
     ready_first c.in-Ok-start.server.config c.in-Ok-start.server.turns c.in-Ok-start.hand c.in-Ok.devices.ports.told _ c.in-Ok-start.ensures.between c.in-Ok-start.ensures.nothing
-    c.in-Ok.ensures c.in-Ok-new.ensures c.in-Ok-start.ensures.all
+    c.in-Ok.ensures c.in-Ok-new-2.ensures c.in-Ok-start.ensures.all
 
 pub play_steps-ended-requires-clause-none : goal.play_steps-ended-requires-clause-none
-play_steps-ended-requires-clause-none g c = same_receipts [] _ _ _ 0 c.in-Ok-start.ensures.nothing c.in-Ok-new.ensures
+play_steps-ended-requires-clause-none g c = same_receipts [] _ _ _ 0 [] c.in-Ok-start.ensures.nothing c.in-Ok-new-2.ensures
 
 pub returns-clause-told : goal.returns-clause-told
 returns-clause-told g c =

@@ -6,7 +6,8 @@ use Rattle.relay_script.specs.Steps as line
 use Rattle.relay_script.specs.Steps.{meaning}
 use Rattle.replay_steps.specs.Holding.{AreReceipts}
 use Rattle.replay_steps.specs.Steps.{course_of, OfStep}
-use Rattle.replay_steps.proofs.Courses.{commanded}
+use Rattle.replay_steps.specs.Watching.{StepsSo}
+use Rattle.replay_steps.proofs.Watchings.{steps_unwatched}
 use Rattle.replay_steps.proofs.Holdings.{receipts_kept}
 use Rattle.replay_steps.proofs.Steps.{moved_between, ready_moved}
 use Rattle.replay_steps.proofs.stepping.make_step.Goals as goal
@@ -27,11 +28,11 @@ pass_packet-requires g c = record {
 
 pub returns-in-Ng-clause-ready : goal.returns-in-Ng-clause-ready
 returns-in-Ng-clause-ready g c = record {
-  between = c.make_turn-event.ensures.between;
-  opens = c.make_turn-event.ensures.open;
-  receipts = receipts_kept c.args.server.now.config (made_by c.args.hand) (made_by c.make_turn-event.new.hand) c.args.receipts.now.list c.make_turn-event.ensures.receipts c.requires.ready.receipts;
+  between = c.control-stepped.ensures.between;
+  opens = c.control-stepped.ensures.open;
+  receipts = receipts_kept c.args.server.now.config (made_by c.args.hand) (made_by c.control-stepped.new.hand) c.args.receipts.now.list c.control-stepped.ensures.receipts c.requires.ready.receipts;
   room = c.requires.ready.room;
-  all = c.make_turn-event.ensures.same.2 ∙ c.requires.ready.all;
+  all = c.control-stepped.ensures.same.2 ∙ c.requires.ready.all;
 }
 
 pub returns-in-Take-clause-ready : goal.returns-in-Take-clause-ready
@@ -56,34 +57,49 @@ returns-in-Packet-clause-ready g c =
 pub returns-in-Ng-clause-step : goal.returns-in-Ng-clause-step
 returns-in-Ng-clause-step g c =
     let config = c.args.config.now in
-    let was = course_of (made_by c.args.hand) c.args.receipts.now c.args.clock.now in
-    let is = course_of (made_by c.make_turn-event.new.hand) c.args.receipts.now c.args.clock.now in
-    subst (λ (s : coded.Step). OfStep config was (meaning s) c.tell_event.result is) (sym c.in-Ng.is)
-    (subst (λ (bytes : List ℕ). OfStep config was (line.Ng c.in-Ng.source bytes) c.tell_event.result is) c.as_slice.ensures
-    (commanded config (made_by c.args.hand) c.args.receipts.now c.args.clock.now c.make_turn-event.result c.tell_event.result c.tell_event.ensures c.args.server.now.config c.in-Ng.source
-    c.as_slice.result.now (made_by c.make_turn-event.new.hand) c.requires.config c.make_turn-event.ensures.controls))
+    let l = made_by c.args.hand in
+    let new = made_by c.control-stepped.new.hand in
+    let held = c.args.receipts.now in
+    let clock = c.args.clock.now in
+    let did = c.control-stepped.result in
+    subst (λ (s : coded.Step). StepsSo did c.args.watch.now c.control-stepped.new.watch
+    (λ past now. OfStep config (course_of l held clock past) (meaning s) did (course_of new held clock now))) (sym c.in-Ng.is)
+    (subst (λ (bytes : List ℕ). StepsSo did c.args.watch.now c.control-stepped.new.watch
+    (λ past now. OfStep config (course_of l held clock past) (line.Ng c.in-Ng.source bytes) did (course_of new held clock now))) c.as_slice.ensures
+    (c.control-stepped.ensures.step held))
 
 pub returns-in-Take-clause-step : goal.returns-in-Take-clause-step
 returns-in-Take-clause-step g c =
     let config = c.args.config.now in
-    let was = course_of (made_by c.args.hand) c.args.receipts.now c.args.clock.now in
-    let is = course_of (made_by c.take_packet.result.1) c.take_packet.new.receipts c.args.clock.now in
-    subst (λ (s : coded.Step). OfStep config was (meaning s) c.take_packet.result.0 is) (sym c.in-Take.is)
-    (subst (λ (bytes : List ℕ). OfStep config was (line.Take c.in-Take.port c.in-Take.source bytes) c.take_packet.result.0 is) c.as_slice-in-Take.ensures
-    (c.take_packet.ensures.step c.args.clock.now))
+    let l = made_by c.args.hand in
+    let new = made_by c.take_packet.result.1 in
+    let clock = c.args.clock.now in
+    let did = c.take_packet.result.0 in
+    steps_unwatched did c.args.watch.now (λ past now. OfStep config (course_of l c.args.receipts.now clock past) (meaning c.args.step.now) did (course_of new c.take_packet.new.receipts clock now))
+    (λ past s. subst (λ (k : coded.Step). OfStep config (course_of l c.args.receipts.now clock past) (meaning k) did (course_of new c.take_packet.new.receipts clock past)) (sym c.in-Take.is)
+    (subst (λ (bytes : List ℕ). OfStep config (course_of l c.args.receipts.now clock past) (line.Take c.in-Take.port c.in-Take.source bytes) did (course_of new c.take_packet.new.receipts clock past))
+    c.as_slice-in-Take.ensures (c.take_packet.ensures.step clock past (c.fails.ensures past s))))
 
 pub returns-in-Relay-clause-step : goal.returns-in-Relay-clause-step
 returns-in-Relay-clause-step g c =
     let config = c.args.config.now in
-    let was = course_of (made_by c.args.hand) c.args.receipts.now c.args.clock.now in
-    let is = course_of (made_by c.relay_receipt.result.1) c.relay_receipt.new.receipts c.args.clock.now in
-    subst (λ (s : coded.Step). OfStep config was (meaning s) c.relay_receipt.result.0 is) (sym c.in-Relay.is) c.relay_receipt.ensures.step
+    let l = made_by c.args.hand in
+    let new = made_by c.relay_receipt.result.1 in
+    let clock = c.args.clock.now in
+    let did = c.relay_receipt.result.0 in
+    steps_unwatched did c.args.watch.now (λ past now. OfStep config (course_of l c.args.receipts.now clock past) (meaning c.args.step.now) did (course_of new c.relay_receipt.new.receipts clock now))
+    (λ past s. subst (λ (k : coded.Step). OfStep config (course_of l c.args.receipts.now clock past) (meaning k) did (course_of new c.relay_receipt.new.receipts clock past)) (sym c.in-Relay.is)
+    (c.relay_receipt.ensures.step past))
 
 pub returns-in-Packet-clause-step : goal.returns-in-Packet-clause-step
 returns-in-Packet-clause-step g c =
     let config = c.args.config.now in
-    let was = course_of (made_by c.args.hand) c.args.receipts.now c.args.clock.now in
-    let is = course_of (made_by c.pass_packet.result.1) c.args.receipts.now c.args.clock.now in
-    subst (λ (s : coded.Step). OfStep config was (meaning s) c.pass_packet.result.0 is) (sym c.in-Packet.is)
-    (subst (λ (bytes : List ℕ). OfStep config was (line.Packet c.in-Packet.port c.in-Packet.source bytes) c.pass_packet.result.0 is) c.as_slice-in-Packet.ensures
-    (c.pass_packet.ensures.step c.args.receipts.now))
+    let l = made_by c.args.hand in
+    let new = made_by c.pass_packet.result.1 in
+    let held = c.args.receipts.now in
+    let clock = c.args.clock.now in
+    let did = c.pass_packet.result.0 in
+    steps_unwatched did c.args.watch.now (λ past now. OfStep config (course_of l held clock past) (meaning c.args.step.now) did (course_of new held clock now))
+    (λ past s. subst (λ (k : coded.Step). OfStep config (course_of l held clock past) (meaning k) did (course_of new held clock past)) (sym c.in-Packet.is)
+    (subst (λ (bytes : List ℕ). OfStep config (course_of l held clock past) (line.Packet c.in-Packet.port c.in-Packet.source bytes) did (course_of new held clock past)) c.as_slice-in-Packet.ensures
+    (c.pass_packet.ensures.step held past (c.fails-in-Packet.ensures past s))))

@@ -13,18 +13,18 @@ returns-in-Packet-clause-receipts g c r of =
     c.pass-event.ensures.receipts r (good.1 r of) (c.arrive-arrived.ensures.receipts r of)
 
 pub returns-in-Packet-clause-step : goal.returns-in-Packet-clause-step
-returns-in-Packet-clause-step g c held =
+returns-in-Packet-clause-step g c held past asked =
     let config = c.args.config.now in
     let l = made_by c.args.hand in
     let mid = made_by c.arrive-arrived.result.1 in
-    passed config l held c.args.now c.pass-event.result.0 c.tell_event.result c.tell_event.ensures c.args.port c.args.source c.args.bytes.now c.in-Packet.receipt mid
-    (made_by c.pass-event.result.1)
-    (subst (λ (a : Arrived). Arrives config l c.args.port c.args.source c.args.bytes.now a mid) c.in-Packet.is c.arrive-arrived.ensures.arrives) c.pass-event.ensures.relays
+    passed config l held c.args.now past c.args.failing asked c.args.port c.args.source c.args.bytes.now c.in-Packet.receipt mid (made_by c.pass-event.result.1) c.pass-event.result.0
+    c.tell_event.result c.tell_event.ensures
+    (subst (λ (a : Arrived). Arrives config l c.args.port c.args.source c.args.bytes.now c.args.failing a mid) c.in-Packet.is c.arrive-arrived.ensures.arrives) c.pass-event.ensures.relays
 
 pub returns-in-Printed-clause-step : goal.returns-in-Printed-clause-step
-returns-in-Printed-clause-step g c held =
+returns-in-Printed-clause-step g c held past asked =
     let config = c.args.config.now in
     let l = made_by c.args.hand in
     let new = made_by c.arrive-arrived.result.1 in
-    passes_none config l held c.args.now c.args.port c.args.source c.args.bytes.now (event_of c.in-Printed.event) new
-    (subst (λ (a : Arrived). Arrives config l c.args.port c.args.source c.args.bytes.now a new) c.in-Printed.is c.arrive-arrived.ensures.arrives)
+    passes_none config l held c.args.now past c.args.failing asked c.args.port c.args.source c.args.bytes.now (event_of c.in-Printed.event) new
+    (subst (λ (a : Arrived). Arrives config l c.args.port c.args.source c.args.bytes.now c.args.failing a new) c.in-Printed.is c.arrive-arrived.ensures.arrives)

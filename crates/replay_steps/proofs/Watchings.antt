@@ -1,0 +1,94 @@
+-- Several calls of the devices, each noted after the ones before it.
+use Rattle.std.proofs.Common.{◌≡◌, refl, sym, subst, ℕ, Bool, true, false, not, List, [], ◌∷◌, ◌++◌, ◌⊎◌, inl, inr, Option, Some, None, is_some}
+use Rattle.std.proofs.Math.Bool.{beq}
+use Rattle.relay_outside.specs.declared.address.Ip.{Ip}
+use Rattle.replay_steps.specs.Arrivals.{End, IsEndAt, HasEnd}
+use Rattle.relay_outside.specs.declared.keys.KeyCall.{KeyCall}
+use Rattle.relay_outside.specs.declared.keys.KeyCall.TheVariants as key
+use Rattle.relay_outside.specs.declared.ports.PortCall.{PortCall}
+use Rattle.relay_outside.specs.declared.ports.PortCall.TheVariants.{Open, Close}
+use Rattle.relay_outside.specs.declared.settings.Config.{Config}
+use Rattle.replay_model.specs.Devices.{Happening}
+use Rattle.replay_devices.specs.Watch.{WatchState, StandsFor}
+use Rattle.replay_steps.specs.declared.stepping.Stepped.{Stepped}
+use Rattle.replay_steps.specs.declared.stepping.Stepped.TheVariants as stepped
+use Rattle.relay_script.specs.Steps.{Step}
+use Rattle.replay_steps.specs.Steps.{Course, OpensAsked, DrawsAsked, OfStep}
+use Rattle.replay_steps.specs.Watching.{Watches, StepsSo}
+
+opens_more : (config : Config) (xs : List PortCall) (x : PortCall) (a b c : List Happening) → OpensAsked config xs a b → OpensAsked config (x ∷ []) b c → OpensAsked config (xs ++ x ∷ []) a c
+opens_more config [] x a b c same last = subst (λ (k : List Happening). OpensAsked config (x ∷ []) k c) same last
+opens_more config (Open at done ∷ xs) x a b c (e, is, so, rest) last = (e, is, so, opens_more config xs x _ b c rest last)
+opens_more config (Close at taken sent ∷ xs) x a b c rest last = opens_more config xs x a b c rest last
+
+draws_more : (xs : List KeyCall) (x : KeyCall) (a b c : List Happening) → DrawsAsked xs a b → DrawsAsked (x ∷ []) b c → DrawsAsked (xs ++ x ∷ []) a c
+draws_more [] x a b c same last = subst (λ (k : List Happening). DrawsAsked (x ∷ []) k c) same last
+draws_more (key.Drawn bytes ∷ xs) x a b c (so, rest) last = (so, draws_more xs x _ b c rest last)
+draws_more (key.Failed ∷ xs) x a b c (so, rest) last = (so, draws_more xs x _ b c rest last)
+
+pub none_watched : (w : WatchState) (P : List Happening → List Happening → Type 0) → ((past : List Happening) → P past past) → Watches w w P
+none_watched w P here past s = (past, here past, s)
+
+pub openings_watched : (config : Config) (xs : List PortCall) (x : PortCall) (first second third : WatchState) → Watches first second (OpensAsked config xs)
+    → Watches second third (OpensAsked config (x ∷ [])) → Watches first third (OpensAsked config (xs ++ x ∷ []))
+openings_watched config xs x first second third before last past s =
+    let b = before past s in let l = last b.0 b.2 in (l.0, opens_more config xs x past b.0 l.0 b.1 l.1, l.2)
+
+pub draws_watched : (xs : List KeyCall) (x : KeyCall) (first second third : WatchState) → Watches first second (DrawsAsked xs)
+    → Watches second third (DrawsAsked (x ∷ [])) → Watches first third (DrawsAsked (xs ++ x ∷ []))
+draws_watched xs x first second third before last past s =
+    let b = before past s in let l = last b.0 b.2 in (l.0, draws_more xs x past b.0 l.0 b.1 l.1, l.2)
+
+-- a step that was not starved
+pub stepped_so : (did : Stepped) (old new : WatchState) (P : List Happening → List Happening → Type 0) → StepsSo did old new P → (past : List Happening) → StandsFor past old
+    → (did ≡ stepped.Starved) ⊎ ((now : List Happening) × P past now × StandsFor now new)
+stepped_so stepped.Quiet old new P so past s = inr (so past s)
+stepped_so (stepped.Prints e) old new P so past s = inr (so past s)
+stepped_so stepped.Faulty old new P so past s = inr (so past s)
+stepped_so stepped.Starved old new P so past s = inl refl
+
+-- what a step did, said in another way
+pub steps_less : (did : Stepped) (old new : WatchState) (P Q : List Happening → List Happening → Type 0) → ((past now : List Happening) → P past now → Q past now) → StepsSo did old new P → StepsSo did old new Q
+steps_less stepped.Quiet old new P Q less so = λ past s. let f = so past s in (f.0, less past f.0 f.1, f.2)
+steps_less (stepped.Prints e) old new P Q less so = λ past s. let f = so past s in (f.0, less past f.0 f.1, f.2)
+steps_less stepped.Faulty old new P Q less so = λ past s. let f = so past s in (f.0, less past f.0 f.1, f.2)
+steps_less stepped.Starved old new P Q less so = tt
+
+-- a step that notes nothing
+pub steps_unwatched : (did : Stepped) (w : WatchState) (P : List Happening → List Happening → Type 0) → ((past : List Happening) → StandsFor past w → P past past) → StepsSo did w w P
+steps_unwatched stepped.Quiet w P here = λ past s. (past, here past s, s)
+steps_unwatched (stepped.Prints e) w P here = λ past s. (past, here past s, s)
+steps_unwatched stepped.Faulty w P here = λ past s. (past, here past s, s)
+steps_unwatched stepped.Starved w P here = tt
+
+pub false_is : (b : Bool) → not b ≡ true → b ≡ false
+false_is true is = absurd (let k : false ≡ true = is in cc)
+false_is false is = refl
+
+-- two answers that differ
+pub differ : (a b : Bool) → beq a b ≡ false → a ≡ not b
+differ true true is = absurd (let k : true ≡ false = is in cc)
+differ true false is = refl
+differ false true is = refl
+differ false false is = absurd (let k : true ≡ false = is in cc)
+
+-- the end that was found
+pub found_end : (config : Config) (port : ℕ) (ip : Ip) (o : Option End) → HasEnd config port ip o → is_some o ≡ true → (e : End) × IsEndAt config port ip e
+found_end config port ip None has is = absurd (let k : false ≡ true = is in cc)
+found_end config port ip (Some e) has is = (e, has)
+
+module _ (config : Config) (r : List Happening → Course) (s : Step) (did : Stepped) (new : List Happening → Course) (old now : WatchState)
+    (so : StepsSo did old now (λ past past_now. OfStep config (r past) s did (new past_now))) (past : List Happening) (stands : StandsFor past old) where
+  -- what a step did, starved or not
+  pub some_step : (past_now : List Happening) × OfStep config (r past) s did (new past_now)
+  some_step = elim (stepped_so did old now (λ past past_now. OfStep config (r past) s did (new past_now)) so past stands) [
+    | inl is ↦ (past, subst (λ (d : Stepped). OfStep config (r past) s d (new past)) (sym is) tt)
+    | inr found ↦ (found.0, found.1)
+  ]
+
+  -- what one did that was not starved
+  pub one_step : (did ≡ stepped.Starved → ⊥) → (past_now : List Happening) × OfStep config (r past) s did (new past_now) × StandsFor past_now now
+  one_step fed = elim (stepped_so did old now (λ past past_now. OfStep config (r past) s did (new past_now)) so past stands) [
+    | inl is ↦ absurd (fed is)
+    | inr found ↦ found
+  ]
