@@ -4,22 +4,27 @@ use Rattle.relay_outside.specs.declared.ports.InCall.{InCall}
 use Rattle.relay_outside.specs.declared.ports.OutCall.{OutCall}
 use Rattle.relay_outside.specs.declared.settings.Config.{Config}
 use Rattle.turn_table.specs.declared.hands.Hand.{Hand}
-use Rattle.turn_table.specs.Hands.{view, entries, starts, parts}
+use Rattle.turn_table.specs.Hands.{view, entries, starts, parts, IsMain}
 use Rattle.call_cell.specs.declared.outcome.Outcome.{Outcome}
 use Rattle.call_cell.specs.Cells.{Receipt}
 use Rattle.relay_core.specs.declared.part.Part.{Part}
 use Rattle.relay_core.specs.declared.part.Part.TheVariants as part
-use Rattle.relay_core.specs.Entries.{Entry, history}
+use Rattle.relay_core.specs.Entries.{Entry, box_of, history}
 use Rattle.relay_core.specs.Made.{Made}
 use Rattle.relay_core.specs.Beginning.{AreParts}
 use Rattle.relay_core.specs.Legal.{Orderly}
 use Rattle.relay_core.specs.Standing.{Stands}
 use Rattle.relay_core.specs.Turning.{Numbered, made_by}
-use Rattle.relay_core.proofs.Given.{given_whole_cell}
+use Rattle.relay_core.proofs.Given.{given_box, given_whole_cell}
 use Rattle.relay_core.proofs.KeysOnce.{keys_once}
 use Rattle.relay_core.proofs.Own.{in_rows}
+use Rattle.port_pool.specs.declared.holder.Holder.{Holder}
+use Rattle.port_pool.specs.Boxes.{FitsTaken}
+use Rattle.rtp_packet.specs.declared.head.Half.{Half}
+use Rattle.media_lane.specs.declared.answers.Received.{Received}
 use Rattle.media_lane.specs.Relaying.{MakesRelay}
-use Rattle.main_sweeps.specs.Steps.{relay_entry, RelaysBy}
+use Rattle.media_lane.specs.Taking.{MakesTake}
+use Rattle.main_sweeps.specs.Steps.{take_entry, Took, relay_entry, RelaysBy}
 
 -- bytes that are those of a copy, where it was made
 pub of_copy : {T E : Type 0} (copy : Result T E) (list : T → List ℕ) (bytes : List ℕ) (P : List ℕ → Type 0) → IfOk copy (λ t. list t ≡ bytes) → P bytes → IfOk copy (λ t. P (list t))
@@ -47,4 +52,21 @@ module _ {I O : Type 0} (it : I → Option (List InCall)) (ic : I → ℕ) (ot :
         outcome_is = did.1.outcome;
         bytes_are = r.are_sent config stands.history stands.stands;
         list_is = is ∙ ap (λ (m : ℕ). made_by old ++ relay_entry p r.number m outcome ∷ []) did.0;
+      }
+
+  -- a take by the main hand
+  pub took_by : (Tried : Type 0) (config : Config) (pair : ℕ) (half : Half) (answer : Received) (old after : Hand M (Part I O) Made (Unit {0}) g) (new : List Entry)
+      → AreParts config (starts old) → Numbered (made_by old) → IsMain old → (t : MakesTake it ic ot oc Tried config pair half answer old after)
+      → new ≡ made_by old ++ take_entry config pair half t.number t.taken ∷ [] → Took config (made_by old) pair half answer new
+  took_by Tried config pair half answer old after new are numbered main t is =
+      let k = box_of config pair in
+      let box = given_box it ic ot oc config (view old) k t.number (part.Pair t.before) are (omega arith) t.given main numbered in record {
+        number = t.number;
+        at_front = λ e i place. let row = in_rows (entries old) i in
+            let low = t.given.above row.row row.is_in (ap (λ (x : Entry). x.place) row.is ∙ place) in
+            let same = ap (λ (x : Entry). x.number) row.is in omega (arith, low, same);
+        taken = t.taken;
+        fits = subst (λ (o : Option Holder). FitsTaken o t.taken) box.0 t.fits;
+        list_is = is;
+        tells = t.tells;
       }

@@ -3,7 +3,7 @@ use Rattle.std.specs.Prelude.{◌≡◌, ℕ, max, List, [], ◌∷◌, ◌++◌
 use Rattle.relay_outside.specs.declared.settings.Config.{Config}
 use Rattle.rtp_packet.specs.declared.head.Half.{Half}
 use Rattle.port_pool.specs.Boxes as box
-use Rattle.port_pool.specs.Boxes.{Taken}
+use Rattle.port_pool.specs.Boxes.{Taken, FitsTaken, holder}
 use Rattle.call_cell.specs.declared.outcome.Outcome.{Outcome}
 use Rattle.call_cell.specs.Cells as cells
 use Rattle.call_cell.specs.Cells.{Receipt, CellEntry, Deed, since_end}
@@ -11,7 +11,7 @@ use Rattle.call_cell.specs.CellStanding.{last_moment}
 use Rattle.call_cell.specs.Deeds.{deed}
 use Rattle.call_cell.specs.Good.{FittingCell}
 use Rattle.call_cell.specs.Standing.{sent_ok}
-use Rattle.relay_core.specs.Entries.{Entry, Cell, Box, box_of, cell_history}
+use Rattle.relay_core.specs.Entries.{Entry, Cell, Box, box_of, cell_history, box_history}
 use Rattle.relay_core.specs.Made.{told_relay}
 use Rattle.relay_core.specs.Standing.{told_entry}
 use Rattle.relay_core.specs.Turning.{IsAbove}
@@ -27,10 +27,13 @@ abbrev pub take_entry : Config → (pair : ℕ) → Half → (number : ℕ) → 
 take_entry config pair half number taken =
     record { place = box_of config pair; number = number; moment = 0; board = 0; event = Box (box.Take half taken) }
 
--- one take of it was made, of which this is answered
+-- one take of it was made, of which this is answered: behind all that the list has of the box, and Closed exactly where the box has no
+-- holder
 pub record Took (config : Config) (l : List Entry) (pair : ℕ) (half : Half) (answer : Received) (new : List Entry) : Type 0 where
   pub number : ℕ
+  pub at_front : IsAbove l (box_of config pair) number
   pub taken : Taken
+  pub fits : FitsTaken (holder (box_history l (box_of config pair) number)) taken
   pub list_is : new ≡ l ++ take_entry config pair half number taken ∷ []
   pub tells : Tells answer pair number half taken
 

@@ -1,10 +1,11 @@
-use Rattle.std.proofs.Common.{sym, subst, List, [], ◌∷◌, ◌++◌}
+use Rattle.std.proofs.Common.{◌≡◌, sym, subst, List, [], ◌∷◌, ◌++◌}
 use Rattle.relay_outside.specs.declared.settings.Config.{Config}
 use Rattle.turn_table.specs.declared.machine.Entry as table
-use Rattle.turn_table.specs.Hands.{starts}
+use Rattle.turn_table.specs.Hands.{starts, IsMain}
 use Rattle.turn_table.specs.Steps.{entry}
 use Rattle.relay_core.specs.Entries.{Entry, box_of}
 use Rattle.relay_core.specs.Made.{Made, list_of}
+use Rattle.relay_core.specs.Beginning.{AreParts}
 use Rattle.relay_core.specs.Turning.{Numbered, IsOfLane, made_by}
 use Rattle.media_lane.specs.Lanes.{config_of, hand_of}
 use Rattle.media_lane.specs.Receipts.{IsReceiptOf}
@@ -12,7 +13,8 @@ use Rattle.media_lane.specs.Taking.{take_made}
 use Rattle.media_lane.proofs.Places.{parts_begin}
 use Rattle.main_sweeps.proofs.Between.{StepsBy, steps_at, one_row, list_is, stepped_between, stepped_board}
 use Rattle.main_sweeps.proofs.Receipts.{receipt_stays, take_spends, is_new}
-use Rattle.main_sweeps.specs.Steps.{IsNew}
+use Rattle.main_sweeps.specs.Steps.{IsNew, Took, take_entry}
+use Rattle.main_sweeps.proofs.Deeds.{took_by}
 use Rattle.main_sweeps.proofs.receiving.receive_between.Goals as goal
 
 pub new-lane-requires-clause-begins : goal.new-lane-requires-clause-begins
@@ -61,3 +63,21 @@ returns-clause-apart g c =
     (is_new config l c.args.pair took.number c.args.half took.taken c.receive-received.result
     (subst (λ (k : Config). Numbered (l ++ list_of (entry (box_of k c.args.pair) took.number (take_made c.args.half took.taken) (tt {0}) ∷ []))) c.new-lane.ensures.config
     (subst Numbered list between.numbered)) took.tells)
+
+pub returns-clause-took : goal.returns-clause-took
+unfolding row
+returns-clause-took g c =
+    let config = c.args.config.now in
+    let lane = c.new-lane.result in
+    let old = hand_of lane in
+    let same = c.new-lane.ensures.hand in
+    let b = c.requires.between in
+    let new = made_by c.into_hand.result in
+    let took = c.receive-received.ensures.received in
+    let list = list_is config c.args.turns.now c.args.hand c.into_hand.result (row g c ∷ []) b (steps g c) in
+    subst (λ h. Took config (made_by h) c.args.pair c.args.half c.receive-received.result new) same
+    (subst (λ (k : Config). Took k (made_by old) c.args.pair c.args.half c.receive-received.result new) c.new-lane.ensures.config
+    (took_by g.I.InEnd.told g.I.InEnd.faults g.O.OutEnd.told g.O.OutEnd.faults _ (config_of lane) c.args.pair c.args.half c.receive-received.result old (hand_of c.receive-received.new.self) new
+    (subst (λ (k : Config). AreParts k (starts old)) (sym c.new-lane.ensures.config) (subst (λ h. AreParts config (starts h)) (sym same) b.parts))
+    (subst (λ h. Numbered (made_by h)) (sym same) b.numbered) (subst (λ h. IsMain h) (sym same) b.main) took
+    (subst (λ h. new ≡ made_by h ++ take_entry (config_of lane) c.args.pair c.args.half took.number took.taken ∷ []) (sym same) list)))
