@@ -7,15 +7,17 @@ use Rattle.relay_outside.specs.declared.address.Addr.{Addr}
 use Rattle.relay_outside.specs.declared.address.Ip.{Ip}
 use Rattle.relay_outside.specs.declared.settings.Config.{Config}
 use Rattle.rtp_packet.specs.declared.head.Half.{Half}
-use Rattle.port_pool.specs.Boxes.{Taken}
+use Rattle.port_pool.specs.Boxes as box
+use Rattle.port_pool.specs.Boxes.{Taken, FitsTaken, holder}
+use Rattle.port_pool.specs.declared.holder.Holder.{Holder}
 use Rattle.call_board.proofs.Placed.{any-position}
 use Rattle.turn_table.specs.declared.hands.Hand.{Hand}
 use Rattle.relay_core.specs.declared.part.Part.{Part}
-use Rattle.relay_core.specs.Entries.{Entry}
+use Rattle.relay_core.specs.Entries.{Entry, box_of, box_history}
 use Rattle.relay_core.specs.Legal.{Legal}
 use Rattle.relay_core.specs.Safe.{Safe}
 use Rattle.relay_core.specs.Made.{Made, told}
-use Rattle.relay_core.specs.Turning.{made_by}
+use Rattle.relay_core.specs.Turning.{IsAbove, made_by}
 use Rattle.media_lane.specs.declared.receipt.Receipt.{Receipt}
 use Rattle.media_lane.specs.declared.answers.Received.{Received}
 use Rattle.media_lane.specs.declared.answers.Received.TheVariants as answer
@@ -66,11 +68,11 @@ module _ (config : Config) (l new : List Entry) (port : ℕ) (source : Ip) (fail
     list_is = took.list_is;
   })
 
-  pub takes_nothing : Took config l pair half answer.Nothing new → Misses config l port source failing event.Nothing new
-  takes_nothing took = elim took.tells [
-    | inl is ↦ takes_none answer.Nothing event.Nothing took (subst (λ (t : Taken). PrintsTaken t event.Nothing) (sym is) refl) (subst (λ (t : Taken). FailsSo t failing) (sym is) tt)
-    | inr is ↦ takes_none answer.Nothing event.Nothing took (subst (λ (t : Taken). PrintsTaken t event.Nothing) (sym is) refl) (subst (λ (t : Taken). FailsSo t failing) (sym is) tt)
-  ]
+  pub takes_nothing : ((n : ℕ) → IsAbove l (box_of config pair) n → holder (box_history l (box_of config pair) n) ≡ None) → Took config l pair half answer.Nothing new
+      → Misses config l port source failing event.Nothing new
+  takes_nothing shut took =
+      let closed : took.taken ≡ box.Closed = subst (λ (o : Option Holder). FitsTaken o took.taken) (shut took.number took.at_front) took.fits in
+      takes_none answer.Nothing event.Nothing took (subst (λ (t : Taken). PrintsTaken t event.Nothing) (sym closed) refl) (subst (λ (t : Taken). FailsSo t failing) (sym closed) tt)
 
   pub takes_too_long : failing ≡ false → Took config l pair half answer.TooLong new → Misses config l port source failing event.TooLong new
   takes_too_long no_fault took =

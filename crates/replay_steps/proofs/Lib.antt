@@ -1,6 +1,7 @@
 pub mod Holdings
 pub mod Turned
 pub mod Controls
+pub mod Openings
 pub mod Courses
 pub mod Watchings
 pub mod Commands

@@ -6,7 +6,9 @@ use Rattle.relay_outside.specs.declared.settings.Config.{Config}
 use Rattle.rtp_packet.specs.declared.head.Half.{Half}
 use Rattle.port_pool.specs.Ports.{pair_count, half_port}
 use Rattle.call_cell.specs.Cells.{Receipt}
-use Rattle.relay_core.specs.Entries.{Entry}
+use Rattle.port_pool.specs.Boxes.{holder}
+use Rattle.relay_core.specs.Entries.{Entry, box_of, box_history}
+use Rattle.relay_core.specs.Turning.{IsAbove}
 use Rattle.main_sweeps.specs.Steps.{IsIn, AreApart}
 use Rattle.replay_steps.specs.declared.arriving.Arrived.{Arrived}
 use Rattle.replay_steps.specs.declared.arriving.Arrived.TheVariants as arrived
@@ -34,6 +36,10 @@ IsNoEnd config port source = (e : End) → IsEndAt config port source e → ⊥
 abbrev pub HasEnd : Config → (port : ℕ) → Ip → Option End → Type 0
 HasEnd config port source None = IsNoEnd config port source
 HasEnd config port source (Some e) = IsEndAt config port source e
+
+-- the box of a pair has no holder, unless this is so
+abbrev pub IsShutUnless : Config → List Entry → (pair : ℕ) → Type 0 → Type 0
+IsShutUnless config l pair P = (P → ⊥) → (n : ℕ) → IsAbove l (box_of config pair) n → holder (box_history l (box_of config pair) n) ≡ None
 
 -- a packet that was taken is a receipt of the list after it, of another take than all receipts before
 abbrev pub IsGood : Config → List Entry → Arrived → List Entry → Type 0

@@ -163,18 +163,18 @@ pub record TakesPacket (config : Config) (l : List Entry) (port : ℕ) (source :
   pub bytes_are : p.1.bytes ≡ bytes
   pub list_is : new ≡ l ++ take_entry config p.0 p.1.half p.1.take (box.Datagram p.1.holder p.1.source p.1.bytes) ∷ []
 
--- what is printed of a take that gave no packet
+-- what is printed of a take that gave no packet; an open port gives the line's one
 abbrev pub PrintsTaken : Taken → Printed → Type 0
 PrintsTaken box.Closed e = e ≡ event.Nothing
-PrintsTaken box.Nothing e = e ≡ event.Nothing
+PrintsTaken box.Nothing e = ⊥
 PrintsTaken (box.Datagram holder source bytes) e = ⊥
 PrintsTaken (box.TooLong source bytes) e = e ≡ event.TooLong
 PrintsTaken box.Fault e = e ≡ event.TakeFault
 
--- a take at an open port fails just where it has to
+-- a take fails just where it has to, at an open port
 abbrev pub FailsSo : Taken → (failing : Bool) → Type 0
 FailsSo box.Closed failing = Unit {0}
-FailsSo box.Nothing failing = Unit {0}
+FailsSo box.Nothing failing = ⊥
 FailsSo (box.Datagram holder source bytes) failing = failing ≡ false
 FailsSo (box.TooLong source bytes) failing = failing ≡ false
 FailsSo box.Fault failing = failing ≡ true

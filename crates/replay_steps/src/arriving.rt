@@ -1,5 +1,6 @@
 //! The packets of lines `take` and `packet`, and their relays.
-ghost use Rattle.std.specs.Prelude.{◌≡◌, ℕ, List};
+ghost use Rattle.std.specs.Prelude.{◌≡◌, ℕ, List, Some};
+ghost use Rattle.relay_outside.specs.Ports.{IsOpen};
 ghost use Rattle.relay_outside.specs.declared.settings.Config.{Config};
 ghost use Rattle.rtp_packet.specs.declared.head.Half.{Half};
 ghost use Rattle.turn_table.specs.Hands.{IsSameHand, parts};
@@ -10,13 +11,16 @@ ghost use Rattle.board_turns.specs.Between.{board_of, IsBetween};
 ghost use Rattle.main_sweeps.specs.Steps.{IsIn, IsNew, Took, KeepsReceipts, KeepsOthers};
 ghost use Rattle.replay_steps.specs.Arrivals.{IsEndAt, IsGood};
 ghost use Rattle.replay_steps.specs.Holding.{taken_by};
+ghost use Rattle.ng_server.specs.Servers.{OpensJust};
+ghost use Rattle.replay_steps.specs.Arrivals.{IsShutUnless};
 ghost use Rattle.replay_steps.specs.Steps.{Arrives, RelaysSo};
 
 use crate::ends::find_end;
+use crate::opened::is_open;
 use main_sweeps::{receive_between, relay_between};
 use media_lane::{Receipt, Received};
 use relay_core::Relay;
-use relay_outside::{Addr, Config, InEnd, OutEnd};
+use relay_outside::{Addr, Config, InEnd, OutEnd, PortCall};
 use relay_script::Printed;
 use std::alloc::Global;
 use std::sync::Wait;
@@ -33,10 +37,17 @@ pub(crate) enum Arrived {
     Other,
 }
 
-/// What came of a take that had to fail or not.
-fn tell_arrival(received: Received, source: Addr, bytes: &[u8], failing: bool) -> Arrived
+/// What came of a take at the port of this address, of which these calls tell whether it is open; the take had to fail or not.
+fn tell_arrival(
+    received: Received,
+    source: Addr,
+    bytes: &[u8],
+    failing: bool,
+    told: &[PortCall],
+    at: Addr,
+) -> Arrived
     ensures good { (config : Config) (l new : List Entry) → HasReceipt config new received → IsNew config l received → IsGood config l result new }
-    ensures arrives { (config : Config) (l new : List Entry) (port pair : ℕ) (half : Half) → IsEndAt config port source.ip (pair, half) → Took config l pair half received new → Arrives config l port source bytes.now failing result new }
+    ensures arrives { (config : Config) (l new : List Entry) (port pair : ℕ) (half : Half) → IsEndAt config port source.ip (pair, half) → Took config l pair half received new → IsShutUnless config l pair (IsOpen told.now at) → Arrives config l port source bytes.now failing result new }
 {
     match received {
         Received::Got(receipt) => {
@@ -46,7 +57,13 @@ fn tell_arrival(received: Received, source: Addr, bytes: &[u8], failing: bool) -
                 Arrived::Other
             }
         }
-        Received::Nothing => Arrived::Printed(Printed::Nothing),
+        Received::Nothing => {
+            if is_open(told, at) {
+                Arrived::Other
+            } else {
+                Arrived::Printed(Printed::Nothing)
+            }
+        }
         Received::TooLong => {
             if failing {
                 Arrived::Other
@@ -65,8 +82,8 @@ fn tell_arrival(received: Received, source: Addr, bytes: &[u8], failing: bool) -
     }
 }
 
-/// The packet of a line arrives at its port and is taken there, once; the take has to fail or not. A port that no pair of the range has is
-/// not open.
+/// The packet of a line arrives at its port and is taken there, once; the take has to fail or not, and the calls of the port maker tell
+/// which ports are open. A port that no pair of the range has is not open.
 pub(crate) fn arrive<I: InEnd, O: OutEnd, R: Wait>(
     rt: &R,
     turns: &Turns<Relay<I, O>>,
@@ -76,8 +93,10 @@ pub(crate) fn arrive<I: InEnd, O: OutEnd, R: Wait>(
     source: Addr,
     bytes: &[u8],
     failing: bool,
+    told: &[PortCall],
 ) -> (Arrived, Hand<Relay<I, O>>)
     requires between { IsBetween config.now turns.now hand }
+    requires opens { OpensJust config.now (board_of (made_by hand)) (Some told.now) }
     ensures same { IsSameHand hand result.1 }
     ensures between { IsBetween config.now turns.now result.1 }
     ensures board { board_of (made_by result.1) ≡ board_of (made_by hand) }
@@ -88,7 +107,14 @@ pub(crate) fn arrive<I: InEnd, O: OutEnd, R: Wait>(
     match find_end(config, port, source.ip) {
         Some((pair, half)) => {
             let (received, hand) = receive_between(rt, turns, hand, config, pair, half);
-            (tell_arrival(received, source, bytes, failing), hand)
+            let at = Addr {
+                ip: config.interface,
+                port,
+            };
+            (
+                tell_arrival(received, source, bytes, failing, told, at),
+                hand,
+            )
         }
         None => (Arrived::Printed(Printed::Nothing), hand),
     }

@@ -2,7 +2,7 @@
 //! written.
 //!
 //! Module `replaying` reads the script and plays it, `playing` makes its steps in order, `stepping` one step, `controlling` that of a
-//! line `ng`, `arriving` those of packets, `watching` notes the calls of a control turn, `held` has the receipts that are held, `devices` the devices, `ends` which end has a port.
+//! line `ng`, `arriving` those of packets, `watching` notes the calls of a control turn, `held` has the receipts that are held, `devices` the devices, `ends` which end has a port, `opened` which ports are open.
 //!
 //! `specs/Ready.antt` says what holds between two steps, `specs/Holding.antt` which receipts are held, `specs/Arrivals.antt` at which
 //! end a packet arrives, `specs/Written.antt` what a replay writes.
@@ -14,6 +14,7 @@ mod devices;
 mod ended;
 mod ends;
 mod held;
+mod opened;
 mod playing;
 mod replaying;
 #[cfg(test)]

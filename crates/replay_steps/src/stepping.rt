@@ -23,7 +23,7 @@ use crate::held::Receipts;
 use crate::watching::{count_draws, count_openings, note_calls};
 use ng_server::{Desk, Server};
 use relay_core::Relay;
-use relay_outside::{Addr, Config, InEnd, OutEnd};
+use relay_outside::{Addr, Config, InEnd, OutEnd, PortCall};
 use relay_script::{FailKind, Printed, Step};
 use replay_devices::{ReplayIn, ReplayOut, ReplayPorts, Watch};
 use std::alloc::Global;
@@ -64,8 +64,10 @@ fn take_packet<I: InEnd, O: OutEnd, R: Wait>(
     source: Addr,
     bytes: &[u8],
     failing: bool,
+    told: &[PortCall],
 ) -> (Stepped, Hand<Relay<I, O>>)
     requires between { IsBetween config.now turns.now hand }
+    requires opens { OpensJust config.now (board_of (made_by hand)) (Some told.now) }
     requires receipts { AreReceipts config.now (made_by hand) receipts.old.list }
     requires room { receipts.old.room ≡ 64 }
     requires number { receipts.old.received + 1 < 2 ^ 32 }
@@ -80,7 +82,7 @@ fn take_packet<I: InEnd, O: OutEnd, R: Wait>(
     if receipts.is_full() {
         return (Stepped::Faulty, hand);
     }
-    let (arrived, hand) = arrive(rt, turns, hand, config, port, source, bytes, failing);
+    let (arrived, hand) = arrive(rt, turns, hand, config, port, source, bytes, failing, told);
     match arrived {
         Arrived::Packet(receipt) => (Stepped::Prints(Printed::Took(receipts.keep(receipt))), hand),
         Arrived::Printed(event) => (Stepped::Prints(event), hand),
@@ -130,9 +132,11 @@ fn pass_packet<I: InEnd, O: OutEnd, R: Wait>(
     source: Addr,
     bytes: &[u8],
     failing: bool,
+    told: &[PortCall],
     now: u64,
 ) -> (Stepped, Hand<Relay<I, O>>)
     requires between { IsBetween config.now turns.now hand }
+    requires opens { OpensJust config.now (board_of (made_by hand)) (Some told.now) }
     requires all { parts hand ≡ 1024 }
     ensures same { IsSameHand hand result.1 }
     ensures between { IsBetween config.now turns.now result.1 }
@@ -140,7 +144,7 @@ fn pass_packet<I: InEnd, O: OutEnd, R: Wait>(
     ensures receipts { KeepsReceipts config.now (made_by hand) (made_by result.1) }
     ensures step { (held : ReceiptList) (past : List Happening) → failing ≡ fails model.Taking past → OfStep config.now (course_of (made_by hand) held now past) (line.Packet port source bytes.now) result.0 (course_of (made_by result.1) held now past) }
 {
-    let (arrived, hand) = arrive(rt, turns, hand, config, port, source, bytes, failing);
+    let (arrived, hand) = arrive(rt, turns, hand, config, port, source, bytes, failing, told);
     match arrived {
         Arrived::Packet(receipt) => {
             let (event, hand) = pass(rt, alloc, turns, hand, config, receipt, now);
@@ -268,6 +272,9 @@ pub(crate) fn make_step<'a, R: Wait>(
             (stepped, hand)
         }
         Step::Take(port, source, bytes) => {
+            let Some(told) = devices.ports.calls() else {
+                return (Stepped::Starved, hand);
+            };
             take_packet(
                 rt,
                 turns,
@@ -278,23 +285,30 @@ pub(crate) fn make_step<'a, R: Wait>(
                 *source,
                 bytes.as_slice(),
                 watch.fails(FailKind::Take),
+                told,
             )
         }
         Step::Relay(number) => relay_receipt(
             rt, alloc, turns, hand, config, receipts, *number, *clock,
         ),
-        Step::Packet(port, source, bytes) => pass_packet(
-            rt,
-            alloc,
-            turns,
-            hand,
-            config,
-            *port,
-            *source,
-            bytes.as_slice(),
-            watch.fails(FailKind::Take),
-            *clock,
-        ),
+        Step::Packet(port, source, bytes) => {
+            let Some(told) = devices.ports.calls() else {
+                return (Stepped::Starved, hand);
+            };
+            pass_packet(
+                rt,
+                alloc,
+                turns,
+                hand,
+                config,
+                *port,
+                *source,
+                bytes.as_slice(),
+                watch.fails(FailKind::Take),
+                told,
+                *clock,
+            )
+        }
         Step::Tick => (Stepped::Faulty, hand),
         Step::Skip | Step::Key(_) | Step::Fail(_, _) | Step::FailSend(_, _) => (
             Stepped::Quiet,

@@ -1,4 +1,7 @@
-use Rattle.std.proofs.Common.{◌∙◌, sym, subst, ℕ, List}
+use Rattle.std.proofs.Common.{◌∙◌, sym, subst, ℕ, List, Option, Some}
+use Rattle.relay_outside.specs.declared.ports.PortCall.{PortCall}
+use Rattle.board_turns.specs.Between.{board_of}
+use Rattle.ng_server.specs.Servers.{OpensJust}
 use Rattle.relay_outside.specs.declared.settings.Config.{Config}
 use Rattle.relay_core.specs.Turning.{made_by}
 use Rattle.relay_script.specs.declared.step.Step as coded
@@ -16,6 +19,11 @@ pub take_packet-requires-clause-between : goal.take_packet-requires-clause-betwe
 take_packet-requires-clause-between g c =
     moved_between c.args.server.now.config c.args.config.now c.args.server.now.turns c.turns-turns.result.now c.args.hand c.requires.config (sym c.turns-turns.ensures) c.requires.ready.between
 
+pub take_packet-requires-clause-opens : goal.take_packet-requires-clause-opens
+take_packet-requires-clause-opens g c =
+    subst (λ (k : Config). OpensJust k (board_of (made_by c.args.hand)) (Some c.in-Some.told.now)) c.requires.config
+    (subst (λ (o : Option (List PortCall)). OpensJust c.args.server.now.config (board_of (made_by c.args.hand)) o) c.in-Some.ensures c.requires.ready.opens)
+
 pub relay_receipt-requires-clause-between : goal.relay_receipt-requires-clause-between
 relay_receipt-requires-clause-between g c =
     moved_between c.args.server.now.config c.args.config.now c.args.server.now.turns c.turns-turns.result.now c.args.hand c.requires.config (sym c.turns-turns.ensures) c.requires.ready.between
@@ -23,6 +31,8 @@ relay_receipt-requires-clause-between g c =
 pub pass_packet-requires : goal.pass_packet-requires
 pass_packet-requires g c = record {
   between = moved_between c.args.server.now.config c.args.config.now c.args.server.now.turns c.turns-turns.result.now c.args.hand c.requires.config (sym c.turns-turns.ensures) c.requires.ready.between;
+  opens = subst (λ (k : Config). OpensJust k (board_of (made_by c.args.hand)) (Some c.in-Some-calls.told.now)) c.requires.config
+      (subst (λ (o : Option (List PortCall)). OpensJust c.args.server.now.config (board_of (made_by c.args.hand)) o) c.in-Some-calls.ensures c.requires.ready.opens);
   all = c.requires.ready.all;
 }
 
@@ -35,8 +45,8 @@ returns-in-Ng-clause-ready g c = record {
   all = c.control-stepped.ensures.same.2 ∙ c.requires.ready.all;
 }
 
-pub returns-in-Take-clause-ready : goal.returns-in-Take-clause-ready
-returns-in-Take-clause-ready g c =
+pub returns-in-Some-clause-ready : goal.returns-in-Some-clause-ready
+returns-in-Some-clause-ready g c =
     ready_moved c.args.server.now.config c.args.config.now c.args.server.now.turns c.turns-turns.result.now c.args.hand c.take_packet.result.1 c.args.devices.now.ports.told
     c.args.receipts.now c.take_packet.new.receipts c.requires.config (sym c.turns-turns.ensures) c.requires.ready c.take_packet.ensures.same c.take_packet.ensures.between c.take_packet.ensures.board
     c.take_packet.ensures.receipts c.take_packet.ensures.room
@@ -47,8 +57,8 @@ returns-in-Relay-clause-ready g c =
     c.args.receipts.now c.relay_receipt.new.receipts c.requires.config (sym c.turns-turns.ensures) c.requires.ready c.relay_receipt.ensures.same c.relay_receipt.ensures.between c.relay_receipt.ensures.board
     c.relay_receipt.ensures.receipts (c.relay_receipt.ensures.room ∙ c.requires.ready.room)
 
-pub returns-in-Packet-clause-ready : goal.returns-in-Packet-clause-ready
-returns-in-Packet-clause-ready g c =
+pub returns-in-Some-calls-clause-ready : goal.returns-in-Some-calls-clause-ready
+returns-in-Some-calls-clause-ready g c =
     ready_moved c.args.server.now.config c.args.config.now c.args.server.now.turns c.turns-turns.result.now c.args.hand c.pass_packet.result.1 c.args.devices.now.ports.told
     c.args.receipts.now c.args.receipts.now c.requires.config (sym c.turns-turns.ensures) c.requires.ready c.pass_packet.ensures.same c.pass_packet.ensures.between c.pass_packet.ensures.board
     (receipts_kept c.args.config.now (made_by c.args.hand) (made_by c.pass_packet.result.1) c.args.receipts.now.list c.pass_packet.ensures.receipts
@@ -68,8 +78,8 @@ returns-in-Ng-clause-step g c =
     (λ past now. OfStep config (course_of l held clock past) (line.Ng c.in-Ng.source bytes) did (course_of new held clock now))) c.as_slice.ensures
     (c.control-stepped.ensures.step held))
 
-pub returns-in-Take-clause-step : goal.returns-in-Take-clause-step
-returns-in-Take-clause-step g c =
+pub returns-in-Some-clause-step : goal.returns-in-Some-clause-step
+returns-in-Some-clause-step g c =
     let config = c.args.config.now in
     let l = made_by c.args.hand in
     let new = made_by c.take_packet.result.1 in
@@ -91,8 +101,8 @@ returns-in-Relay-clause-step g c =
     (λ past s. subst (λ (k : coded.Step). OfStep config (course_of l c.args.receipts.now clock past) (meaning k) did (course_of new c.relay_receipt.new.receipts clock past)) (sym c.in-Relay.is)
     (c.relay_receipt.ensures.step past))
 
-pub returns-in-Packet-clause-step : goal.returns-in-Packet-clause-step
-returns-in-Packet-clause-step g c =
+pub returns-in-Some-calls-clause-step : goal.returns-in-Some-calls-clause-step
+returns-in-Some-calls-clause-step g c =
     let config = c.args.config.now in
     let l = made_by c.args.hand in
     let new = made_by c.pass_packet.result.1 in
