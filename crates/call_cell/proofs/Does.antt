@@ -43,55 +43,59 @@ abbrev pub sending_of : (h : List CellEntry) (p : Receipt) (other : Holder) (sig
 sending_of h p other signal bytes =
     record { pair = other.pair; half = way h p; to = endpoint_by signal (learned h other (way h p)) (way h p); bytes = bytes }
 
+-- the cause is no failed send
+abbrev pub IsNoFault : Lost → Type 0
+IsNoFault cause = (port : ℕ) → cause ≡ lost.SendFault port → ⊥
+
 pub data Does (config : Config) (h : List CellEntry) (p : Receipt) (ok : Bool) (d : Deed) : Type 0 where
   refuses : (cause : Refused) → d ≡ refused_deed (kind h p) cause → Does config h p ok d
-  loses : (t : Taken h p) (cause : Lost) → (cause ≡ lost.SendFault → ⊥) → d ≡ lost_deed (kind h p) t.note cause → Does config h p ok d
+  loses : (t : Taken h p) (cause : Lost) → IsNoFault cause → d ≡ lost_deed (kind h p) t.note cause → Does config h p ok d
   leaves : (t : Taken h p) (l : Leaving h p t)
       → d ≡ sent_deed config (kind h p) t.note l.shield (sending_of h p l.other l.signal l.bytes) ok → Does config h p ok d
 
 -- nothing is held back as a send that failed
 
-lost_by_none : (cause : ProtectFault) → lost_by cause ≡ lost.SendFault → ⊥
-lost_by_none TooOld q = let e = q in cc
-lost_by_none IndexUsed q = let e = q in cc
-lost_by_none TooManySources q = let e = q in cc
-lost_by_none KeySpent q = let e = q in cc
+lost_by_none : (cause : ProtectFault) → IsNoFault (lost_by cause)
+lost_by_none TooOld port q = let e = q in cc
+lost_by_none IndexUsed port q = let e = q in cc
+lost_by_none TooManySources port q = let e = q in cc
+lost_by_none KeySpent port q = let e = q in cc
 
-rtp_never : (number : ℕ) (r : Result srtp_out.Wrapped ProtectFault) (cause : Lost) → wrapped_rtp number r ≡ Held cause → cause ≡ lost.SendFault → ⊥
-rtp_never number (Ok packet) cause q e = let f = q in cc
-rtp_never number (Err fault) cause q e = lost_by_none fault (let f = q in cc)
+rtp_never : (number : ℕ) (r : Result srtp_out.Wrapped ProtectFault) (cause : Lost) → wrapped_rtp number r ≡ Held cause → IsNoFault cause
+rtp_never number (Ok packet) cause q port e = let f = q in cc
+rtp_never number (Err fault) cause q port e = lost_by_none fault port (let f = q in cc)
 
-rtcp_never : (number : ℕ) (r : Result srtcp_out.Wrapped ProtectFault) (cause : Lost) → wrapped_rtcp number r ≡ Held cause → cause ≡ lost.SendFault → ⊥
-rtcp_never number (Ok packet) cause q e = let f = q in cc
-rtcp_never number (Err fault) cause q e = lost_by_none fault (let f = q in cc)
+rtcp_never : (number : ℕ) (r : Result srtcp_out.Wrapped ProtectFault) (cause : Lost) → wrapped_rtcp number r ≡ Held cause → IsNoFault cause
+rtcp_never number (Ok packet) cause q port e = let f = q in cc
+rtcp_never number (Err fault) cause q port e = lost_by_none fault port (let f = q in cc)
 
 under_never : (key : NewKey) (notes : List Note) (half : Half) (plain : List ℕ) (cause : Lost)
-    → wrapped_under key notes half plain ≡ Held cause → cause ≡ lost.SendFault → ⊥
+    → wrapped_under key notes half plain ≡ Held cause → IsNoFault cause
 unfolding wrapped_under
-under_never key notes Rtp plain cause q e = rtp_never key.number (srtp_out.wrapping key.bytes key.suite notes plain) cause q e
-under_never key notes Rtcp plain cause q e = rtcp_never key.number (srtcp_out.wrapping key.bytes notes plain) cause q e
+under_never key notes Rtp plain cause q port e = rtp_never key.number (srtp_out.wrapping key.bytes key.suite notes plain) cause q port e
+under_never key notes Rtcp plain cause q port e = rtcp_never key.number (srtcp_out.wrapping key.bytes notes plain) cause q port e
 
 with_never : (key : Option NewKey) (notes : List Note) (half : Half) (plain : List ℕ) (cause : Lost)
-    → wrapped_with key notes half plain ≡ Held cause → cause ≡ lost.SendFault → ⊥
-with_never None notes half plain cause q e = let f = q in cc
-with_never (Some key) notes half plain cause q e = under_never key notes half plain cause q e
+    → wrapped_with key notes half plain ≡ Held cause → IsNoFault cause
+with_never None notes half plain cause q port e = let f = q in cc
+with_never (Some key) notes half plain cause q port e = under_never key notes half plain cause q port e
 
 numbered_never : (h : List CellEntry) (number : Option ℕ) (half : Half) (plain : List ℕ) (cause : Lost)
-    → wrapped_numbered h number half plain ≡ Held cause → cause ≡ lost.SendFault → ⊥
-numbered_never h None half plain cause q e = let f = q in cc
-numbered_never h (Some number) half plain cause q e = with_never (key_numbered h number) (protected h number) half plain cause q e
+    → wrapped_numbered h number half plain ≡ Held cause → IsNoFault cause
+numbered_never h None half plain cause q port e = let f = q in cc
+numbered_never h (Some number) half plain cause q port e = with_never (key_numbered h number) (protected h number) half plain cause q port e
 
 towards_case : (h : List CellEntry) (number : Option ℕ) (half : Half) (plain : List ℕ) (cause : Lost) (hold : Bool)
-    → cond hold (Held lost.Hold) (wrapped_numbered h number half plain) ≡ Held cause → cause ≡ lost.SendFault → ⊥
-towards_case h number half plain cause true q e = let f = q in cc
-towards_case h number half plain cause false q e = numbered_never h number half plain cause q e
+    → cond hold (Held lost.Hold) (wrapped_numbered h number half plain) ≡ Held cause → IsNoFault cause
+towards_case h number half plain cause true q port e = let f = q in cc
+towards_case h number half plain cause false q port e = numbered_never h number half plain cause q port e
 
 towards_never : (h : List CellEntry) (s : LegSignal) (half : Half) (plain : List ℕ) (cause : Lost)
-    → wrapped_towards h s half plain ≡ Held cause → cause ≡ lost.SendFault → ⊥
-towards_never h s half plain cause q e = towards_case h s.outbound half plain cause s.hold q e
+    → wrapped_towards h s half plain ≡ Held cause → IsNoFault cause
+towards_never h s half plain cause q port e = towards_case h s.outbound half plain cause s.hold q port e
 
-hold_is_none : lost.Hold ≡ lost.SendFault → ⊥
-hold_is_none q = let e = q in cc
+hold_is_none : IsNoFault lost.Hold
+hold_is_none port q = let e = q in cc
 
 -- the cases
 

@@ -27,19 +27,19 @@ use Rattle.call_cell.specs.Standing.{LegForwards, LegForwardsBy, with_sending, p
 -- A refusal.
 
 held_case : {O : Type 0} (told : O → Option (List OutCall)) (faults : O → ℕ) (leg : Holder) (keys : ℕ → Option NewKey) (notes : ℕ → List Note) (half : Half)
-    (to : Addr) (old new : Sending O) (buf : List ℕ) (cause : Lost) (w : Wrapped) → ProtectsTo w leg keys notes old new buf (Err cause)
-    → ForwardsTo told faults w leg keys notes half to old new buf (Err cause)
-held_case told faults leg keys notes half to old new buf cause (Held other) does = does
-held_case told faults leg keys notes half to old new buf cause (Leaves shield bytes) does = absurd (let f = does.answer in cc)
+    (port : ℕ) (to : Addr) (old new : Sending O) (buf : List ℕ) (cause : Lost) (w : Wrapped) → ProtectsTo w leg keys notes old new buf (Err cause)
+    → ForwardsTo told faults w leg keys notes half port to old new buf (Err cause)
+held_case told faults leg keys notes half port to old new buf cause (Held other) does = does
+held_case told faults leg keys notes half port to old new buf cause (Leaves shield bytes) does = absurd (let f = does.answer in cc)
 
 pub held : {O : Type 0} (told : O → Option (List OutCall)) (faults : O → ℕ) (leg : Holder) (keys : ℕ → Option NewKey) (notes : ℕ → List Note) (s : LegSignal)
-    (half : Half) (bytes : List ℕ) (to : Addr) (old new : Sending O) (buf : List ℕ) (cause : Lost) → s.hold ≡ false
+    (half : Half) (bytes : List ℕ) (port : ℕ) (to : Addr) (old new : Sending O) (buf : List ℕ) (cause : Lost) → s.hold ≡ false
     → ProtectsTo (wrapped_by keys notes s.outbound half bytes) leg keys notes old new buf (Err cause)
-    → ForwardsTo told faults (wrapped_for keys notes s half bytes) leg keys notes half to old new buf (Err cause)
-held {O} told faults leg keys notes s half bytes to old new buf cause free does =
+    → ForwardsTo told faults (wrapped_for keys notes s half bytes) leg keys notes half port to old new buf (Err cause)
+held {O} told faults leg keys notes s half bytes port to old new buf cause free does =
     let P : Bool → Type 0 = λ (b : Bool).
-    ForwardsTo {O = O} told faults (if b then Held lost.Hold else wrapped_by keys notes s.outbound half bytes) leg keys notes half to old new buf (Err cause) in
-    subst P (sym free) (held_case told faults leg keys notes half to old new buf cause (wrapped_by keys notes s.outbound half bytes) does)
+    ForwardsTo {O = O} told faults (if b then Held lost.Hold else wrapped_by keys notes s.outbound half bytes) leg keys notes half port to old new buf (Err cause) in
+    subst P (sym free) (held_case told faults leg keys notes half port to old new buf cause (wrapped_by keys notes s.outbound half bytes) does)
 
 -- A send.
 
@@ -58,28 +58,28 @@ sends_from {O} told faults half to bytes ok old mid new same sends =
       other = sends.other ∙ same_end (other_half half) old mid same;
     }
 
-answered : (size : ℕ) (done : Bool) → is_ok (send_answer size done) ≡ done
-answered size true = refl
-answered size false = refl
+answered : (port size : ℕ) (done : Bool) → is_ok (send_answer port size done) ≡ done
+answered port size true = refl
+answered port size false = refl
 
 same_size : (size n : ℕ) → ◌≡◌ {A = Result ℕ Lost} (Ok size) (Ok n) → size ≡ n
 same_size size n q = let f = q in cc
 
 sent_case : {O : Type 0} (told : O → Option (List OutCall)) (faults : O → ℕ) (leg : Holder) (keys : ℕ → Option NewKey) (notes : ℕ → List Note) (half : Half)
-    (to : Addr) (old mid new : Sending O) (buf : List ℕ) (size : ℕ) (done : Bool) (result : Result ℕ Lost) (w : Wrapped)
+    (port : ℕ) (to : Addr) (old mid new : Sending O) (buf : List ℕ) (size : ℕ) (done : Bool) (result : Result ℕ Lost) (w : Wrapped)
     → ProtectsTo w leg keys notes old mid buf (Ok size) → SameEnds old mid → SameKeys mid new → SendsBy told faults half to (take size buf) done mid new
-    → result ≡ send_answer size done → ForwardsTo told faults w leg keys notes half to old new buf result
-sent_case told faults leg keys notes half to old mid new buf size done result (Held cause) does ends same sends is = absurd (let f = does.answer in cc)
-sent_case {O} told faults leg keys notes half to old mid new buf size done result (Leaves shield bytes) does ends same sends is =
+    → result ≡ send_answer port size done → ForwardsTo told faults w leg keys notes half port to old new buf result
+sent_case told faults leg keys notes half port to old mid new buf size done result (Held cause) does ends same sends is = absurd (let f = does.answer in cc)
+sent_case {O} told faults leg keys notes half port to old mid new buf size done result (Leaves shield bytes) does ends same sends is =
     let many : size ≡ length bytes = same_size size (length bytes) does.answer in
-    let ok : done ≡ is_ok result = sym (answered size done) ∙ ap (λ (r : Result ℕ Lost). is_ok r) (sym is) in
+    let ok : done ≡ is_ok result = sym (answered port size done) ∙ ap (λ (r : Result ℕ Lost). is_ok r) (sym is) in
     let front : take size buf ≡ bytes = ap (λ (n : ℕ). take n buf) many ∙ does.buffer in
     let sent : SendsBy told faults half to bytes (is_ok result) old new
     = subst (λ (l : List ℕ). SendsBy told faults half to l (is_ok result) old new) front
     (subst (λ (b : Bool). SendsBy told faults half to (take size buf) b old new) ok
     (sends_from told faults half to (take size buf) done old mid new ends sends)) in
     record {
-      answer = is ∙ ap (λ (n : ℕ). send_answer n done) many ∙ ap (λ (b : Bool). send_answer (length bytes) b) ok;
+      answer = is ∙ ap (λ (n : ℕ). send_answer port n done) many ∙ ap (λ (b : Bool). send_answer port (length bytes) b) ok;
       buffer = does.buffer;
       under = does.under;
       keeps = record {
@@ -90,19 +90,19 @@ sent_case {O} told faults leg keys notes half to old mid new buf size done resul
     }
 
 pub sent : {O : Type 0} (told : O → Option (List OutCall)) (faults : O → ℕ) (leg : Holder) (keys : ℕ → Option NewKey) (notes : ℕ → List Note) (s : LegSignal)
-    (half : Half) (bytes : List ℕ) (to : Addr) (old mid new : Sending O) (buf : List ℕ) (size : ℕ) (done : Bool) (result : Result ℕ Lost) → s.hold ≡ false
+    (half : Half) (bytes : List ℕ) (port : ℕ) (to : Addr) (old mid new : Sending O) (buf : List ℕ) (size : ℕ) (done : Bool) (result : Result ℕ Lost) → s.hold ≡ false
     → ProtectsTo (wrapped_by keys notes s.outbound half bytes) leg keys notes old mid buf (Ok size) → SameEnds old mid → SameKeys mid new
-    → SendsBy told faults half to (take size buf) done mid new → result ≡ send_answer size done
-    → ForwardsTo told faults (wrapped_for keys notes s half bytes) leg keys notes half to old new buf result
-sent {O} told faults leg keys notes s half bytes to old mid new buf size done result free does ends same sends is =
+    → SendsBy told faults half to (take size buf) done mid new → result ≡ send_answer port size done
+    → ForwardsTo told faults (wrapped_for keys notes s half bytes) leg keys notes half port to old new buf result
+sent {O} told faults leg keys notes s half bytes port to old mid new buf size done result free does ends same sends is =
     let P : Bool → Type 0 = λ (b : Bool).
-    ForwardsTo {O = O} told faults (if b then Held lost.Hold else wrapped_by keys notes s.outbound half bytes) leg keys notes half to old new buf result in
+    ForwardsTo {O = O} told faults (if b then Held lost.Hold else wrapped_by keys notes s.outbound half bytes) leg keys notes half port to old new buf result in
     subst P (sym free)
-    (sent_case told faults leg keys notes half to old mid new buf size done result (wrapped_by keys notes s.outbound half bytes) does ends same sends is)
+    (sent_case told faults leg keys notes half port to old mid new buf size done result (wrapped_by keys notes s.outbound half bytes) does ends same sends is)
 
 -- A leg.
 
-by_answer : (port : ℕ) (to : Addr) (size : ℕ) (ok : Bool) → outcome_of port to (send_answer size ok) ≡ send_outcome port to size ok
+by_answer : (port : ℕ) (to : Addr) (size : ℕ) (ok : Bool) → outcome_of port to (send_answer port size ok) ≡ send_outcome port to size ok
 by_answer port to size true = refl
 by_answer port to size false = refl
 
@@ -110,22 +110,21 @@ ok_of : (port : ℕ) (to : Addr) (size : ℕ) (ok : Bool) → sent_ok (send_outc
 ok_of port to size true = refl
 ok_of port to size false = refl
 
-leg_case : {O : Type 0} (told : O → Option (List OutCall)) (faults : O → ℕ) (keys : ℕ → Option NewKey) (notes : ℕ → List Note) (half : Half) (to : Addr)
-    (old : Leg O) (new : Sending O) (buf : List ℕ) (sent : Result ℕ Lost) (result : Outcome) → result ≡ outcome_of (port_by half old.lease.rtp_port) to sent
-    → (w : Wrapped) → ForwardsTo told faults w old.holder keys notes half to old.sending new buf sent
+leg_case : {O : Type 0} (told : O → Option (List OutCall)) (faults : O → ℕ) (keys : ℕ → Option NewKey) (notes : ℕ → List Note) (half : Half) (port : ℕ)
+    (to : Addr) (old : Leg O) (new : Sending O) (buf : List ℕ) (sent : Result ℕ Lost) (result : Outcome) → port ≡ port_by half old.lease.rtp_port
+    → result ≡ outcome_of port to sent → (w : Wrapped) → ForwardsTo told faults w old.holder keys notes half port to old.sending new buf sent
     → LegForwards told faults w keys notes half to old (with_sending old new) buf result
-leg_case {O} told faults keys notes half to old new buf sent result is (Held cause) does =
+leg_case {O} told faults keys notes half port to old new buf sent result port_is is (Held cause) does =
     record {
-      answer = is ∙ ap (λ (r : Result ℕ Lost). outcome_of (port_by half old.lease.rtp_port) to r) does.answer;
+      answer = is ∙ ap (λ (r : Result ℕ Lost). outcome_of port to r) does.answer;
       leg = ap (λ (x : Sending O). with_sending old x) does.contexts;
     }
-leg_case {O} told faults keys notes half to old new buf sent result is (Leaves shield bytes) does =
-    let port = port_by half old.lease.rtp_port in
+leg_case {O} told faults keys notes half port to old new buf sent result port_is is (Leaves shield bytes) does =
     let whole : result ≡ send_outcome port to (length bytes) (is_ok sent)
     = is ∙ ap (λ (r : Result ℕ Lost). outcome_of port to r) does.answer ∙ by_answer port to (length bytes) (is_ok sent) in
     let ok : is_ok sent ≡ sent_ok result = sym (ap (λ (o : Outcome). sent_ok o) whole ∙ ok_of port to (length bytes) (is_ok sent)) in
     record {
-      answer = whole ∙ ap (λ (b : Bool). send_outcome port to (length bytes) b) ok;
+      answer = whole ∙ ap (λ (b : Bool). send_outcome port to (length bytes) b) ok ∙ ap (λ (n : ℕ). send_outcome n to (length bytes) (sent_ok result)) port_is;
       buffer = does.buffer;
       under = does.under;
       sending = does.keeps;
@@ -136,11 +135,11 @@ leg_case {O} told faults keys notes half to old new buf sent result is (Leaves s
 pub leg_forwards : {O : Type 0} (told : O → Option (List OutCall)) (faults : O → ℕ) (keys : ℕ → Option NewKey) (notes : ℕ → List Note) (half : Half)
     (known : Option Addr) (plain : List ℕ) (s : LegSignal) (to : Addr) (port : ℕ) (old : Leg O) (new : Sending O) (buf : List ℕ) (sent : Result ℕ Lost)
     (result : Outcome) → old.signal ≡ Some s → to ≡ endpoint_by s known half → port ≡ port_by half old.lease.rtp_port → result ≡ outcome_of port to sent
-    → ForwardsTo told faults (wrapped_for keys notes s half plain) old.holder keys notes half to old.sending new buf sent
+    → ForwardsTo told faults (wrapped_for keys notes s half plain) old.holder keys notes half port to old.sending new buf sent
     → LegForwardsBy told faults old.signal keys notes half known plain old (with_sending old new) buf result
 leg_forwards {O} told faults keys notes half known plain s to port old new buf sent result signal to_is port_is is does =
     let P : Option LegSignal → Type 0 = λ (o : Option LegSignal). LegForwardsBy {O = O} told faults o keys notes half known plain old (with_sending old new) buf result in
     let Q : Addr → Type 0 = λ (a : Addr). LegForwards {O = O} told faults (wrapped_for keys notes s half plain) keys notes half a old (with_sending old new) buf result in
     subst P (sym signal)
     (subst Q to_is
-    (leg_case told faults keys notes half to old new buf sent result (is ∙ ap (λ (n : ℕ). outcome_of n to sent) port_is) (wrapped_for keys notes s half plain) does))
+    (leg_case told faults keys notes half port to old new buf sent result port_is is (wrapped_for keys notes s half plain) does))

@@ -34,9 +34,9 @@ none_failed (Some sending) = tt
 -- a relay whose outcome is no failed send made none that failed
 answered : (config : Config) (h : List CellEntry) (p : Receipt) (result : Outcome) → result ≡ (deed config h p (sent_ok result)).outcome
     → IsAnswered (deed config h p (sent_ok result)).sending (sent_ok result)
-answered config h p (outcomes.Lost lost.SendFault) q =
-    let f = send_failed config h p false (sym q) in
-    subst (λ (o : Option Sending). IsAnswered o false) (sym f.1) tt
+answered config h p (outcomes.Lost (lost.SendFault port)) q =
+    let f = send_failed config h p false port (sym q) in
+    subst (λ (o : Option Sending). IsAnswered o false) (sym f.is_sending) tt
 answered config h p (outcomes.Lost cause) q = none_failed (deed config h p true).sending
 answered config h p (outcomes.Refused cause) q = none_failed (deed config h p true).sending
 answered config h p (outcomes.Sent port to len) q = none_failed (deed config h p true).sending

@@ -16,7 +16,7 @@ use Rattle.call_cell.specs.Keyed.{Judged, Wrapped}
 use Rattle.call_cell.specs.Learning.{learned, endpoint, endpoint_in}
 use Rattle.call_cell.specs.Deeds.{deed, found, way, bytes_of, transform, transformed, plain_of, sent_outcome}
 use Rattle.call_cell.proofs.Legs.{found_is}
-use Rattle.call_cell.proofs.Does.{Does, refuses, loses, leaves, Taken, Leaving, sending_of, does}
+use Rattle.call_cell.proofs.Does.{IsNoFault, Does, refuses, loses, leaves, Taken, Leaving, sending_of, does}
 use Rattle.call_cell.proofs.Noted.{own, refused_is}
 
 -- a send of a relay: by the leg opposite to the one that is found, to its endpoint, what the packet is turned into
@@ -117,31 +117,45 @@ pub sent : (config : Config) (h : List CellEntry) (p : Receipt) (ok : Bool) (por
     → (deed config h p ok).outcome ≡ outcomes.Sent port to len → IsSent config (deed config h p ok) port to len
 sent config h p ok port to len q = sent_case config h p ok port to len (deed config h p ok) (does config h p ok) q
 
-failed_case : (config : Config) (h : List CellEntry) (p : Receipt) (ok : Bool) (d : Deed) → Does config h p ok d
-    → d.outcome ≡ outcomes.Lost lost.SendFault → (w : Sending) × (d.sending ≡ Some w)
-failed_case config h p ok d (refuses cause e) q = absurd (let f = ap (λ (x : Deed). x.outcome) e in cc)
-failed_case config h p ok d (loses t cause n e) q = absurd (n (let f = ap (λ (x : Deed). x.outcome) e in cc))
-failed_case config h p ok d (leaves t l e) q = (sending_of h p l.other l.signal l.bytes, ap (λ (x : Deed). x.sending) e)
+-- What its one send is with the outcome SendFault: by that port.
+pub record HasFailed (config : Config) (d : Deed) (port : ℕ) : Type 0 where
+  pub sending : Sending
+  pub is_sending : d.sending ≡ Some sending
+  pub port_is : port ≡ half_port config sending.pair sending.half
 
-pub send_failed : (config : Config) (h : List CellEntry) (p : Receipt) (ok : Bool) → (deed config h p ok).outcome ≡ outcomes.Lost lost.SendFault
-    → (w : Sending) × ((deed config h p ok).sending ≡ Some w)
-send_failed config h p ok q = failed_case config h p ok (deed config h p ok) (does config h p ok) q
+failed_by : (config : Config) (d : Deed) (w : Sending) (ok : Bool) (port : ℕ) → d.sending ≡ Some w → sent_outcome config w ok ≡ outcomes.Lost (lost.SendFault port)
+    → HasFailed config d port
+failed_by config d w true port q e = absurd (let f = e in cc)
+failed_by config d w false port q e = record { sending = w; is_sending = q; port_is = let f = e in cc }
+
+failed_case : (config : Config) (h : List CellEntry) (p : Receipt) (ok : Bool) (port : ℕ) (d : Deed) → Does config h p ok d
+    → d.outcome ≡ outcomes.Lost (lost.SendFault port) → HasFailed config d port
+failed_case config h p ok port d (refuses cause e) q = absurd (let f = ap (λ (x : Deed). x.outcome) e in cc)
+failed_case config h p ok port d (loses t cause n e) q = absurd (n port (let f = ap (λ (x : Deed). x.outcome) e in cc))
+failed_case config h p ok port d (leaves t l e) q =
+    failed_by config d (sending_of h p l.other l.signal l.bytes) ok port (ap (λ (x : Deed). x.sending) e)
+    (sym (ap (λ (x : Deed). x.outcome) e) ∙ q)
+
+pub send_failed : (config : Config) (h : List CellEntry) (p : Receipt) (ok : Bool) (port : ℕ)
+    → (deed config h p ok).outcome ≡ outcomes.Lost (lost.SendFault port) → HasFailed config (deed config h p ok) port
+send_failed config h p ok port q = failed_case config h p ok port (deed config h p ok) (does config h p ok) q
 
 pub refused_sends_none : (config : Config) (h : List CellEntry) (p : Receipt) (ok : Bool) (cause : Refused)
     → (deed config h p ok).outcome ≡ outcomes.Refused cause → (deed config h p ok).sending ≡ None
 refused_sends_none config h p ok cause q = ap (λ (x : Deed). x.sending) (refused_is config h p ok cause q)
 
-sent_is_fault : (config : Config) (w : Sending) (ok : Bool) (cause : Lost) → sent_outcome config w ok ≡ outcomes.Lost cause → cause ≡ lost.SendFault
+sent_is_fault : (config : Config) (w : Sending) (ok : Bool) (cause : Lost) → sent_outcome config w ok ≡ outcomes.Lost cause
+    → cause ≡ lost.SendFault (half_port config w.pair w.half)
 sent_is_fault config w true cause q = absurd (let f = q in cc)
 sent_is_fault config w false cause q = let f = q in cc
 
-lost_case : (config : Config) (h : List CellEntry) (p : Receipt) (ok : Bool) (cause : Lost) → (cause ≡ lost.SendFault → ⊥) → (d : Deed)
+lost_case : (config : Config) (h : List CellEntry) (p : Receipt) (ok : Bool) (cause : Lost) → IsNoFault cause → (d : Deed)
     → Does config h p ok d → d.outcome ≡ outcomes.Lost cause → d.sending ≡ None
 lost_case config h p ok cause other d (refuses c e) q = ap (λ (x : Deed). x.sending) e
 lost_case config h p ok cause other d (loses t c n e) q = ap (λ (x : Deed). x.sending) e
 lost_case config h p ok cause other d (leaves t l e) q =
-    absurd (other (sent_is_fault config (sending_of h p l.other l.signal l.bytes) ok cause (sym (ap (λ (x : Deed). x.outcome) e) ∙ q)))
+    absurd (other (half_port config l.other.pair (way h p)) (sent_is_fault config (sending_of h p l.other l.signal l.bytes) ok cause (sym (ap (λ (x : Deed). x.outcome) e) ∙ q)))
 
-pub lost_sends_none : (config : Config) (h : List CellEntry) (p : Receipt) (ok : Bool) (cause : Lost) → (cause ≡ lost.SendFault → ⊥)
+pub lost_sends_none : (config : Config) (h : List CellEntry) (p : Receipt) (ok : Bool) (cause : Lost) → IsNoFault cause
     → (deed config h p ok).outcome ≡ outcomes.Lost cause → (deed config h p ok).sending ≡ None
 lost_sends_none config h p ok cause other q = lost_case config h p ok cause other (deed config h p ok) (does config h p ok) q

@@ -59,10 +59,10 @@ refused_deed kind cause =
 abbrev pub lost_deed : Half → Option Note → Lost → Deed
 lost_deed kind note cause = record { outcome = outcomes.Lost cause; kind = kind; noted = note; shield = None; sending = None }
 
--- the outcome of a send, by its answer
+-- the outcome of a send by a port, by its answer
 abbrev pub sent_outcome : Config → Sending → Bool → Outcome
 sent_outcome config sending true = outcomes.Sent (half_port config sending.pair sending.half) sending.to (length sending.bytes)
-sent_outcome config sending false = outcomes.Lost lost.SendFault
+sent_outcome config sending false = outcomes.Lost (lost.SendFault (half_port config sending.pair sending.half))
 
 abbrev pub sent_deed : Config → Half → Option Note → Option Shield → Sending → Bool → Deed
 sent_deed config kind note shield sending sent_ok =

@@ -220,25 +220,25 @@ pub record SameKeys {O : Type 0} (old new : Sending O) : Type 0 where
 abbrev pub wrapped_for : (ℕ → Option NewKey) → (ℕ → List Note) → LegSignal → Half → List ℕ → Wrapped
 wrapped_for keys notes s kind bytes = if s.hold then Held lost.Hold else wrapped_by keys notes s.outbound kind bytes
 
--- the answer of a send of so many bytes
-abbrev pub send_answer : ℕ → Bool → Result ℕ Lost
-send_answer size true = Ok size
-send_answer size false = Err lost.SendFault
+-- the answer of a send of so many bytes by a local port
+abbrev pub send_answer : (port size : ℕ) → Bool → Result ℕ Lost
+send_answer port size true = Ok size
+send_answer port size false = Err (lost.SendFault port)
 
 -- a packet leaves: it is noted under its key, whether or not its send succeeds
 pub record Forwards {O : Type 0} (told : O → Option (List OutCall)) (faults : O → ℕ) (leg : Holder) (keys : ℕ → Option NewKey) (notes : ℕ → List Note)
-    (shield : Option Shield) (bytes : List ℕ) (half : Half) (to : Addr) (old new : Sending O) (buf : List ℕ) (result : Result ℕ Lost) : Type 0 where
-  pub answer : result ≡ send_answer (length bytes) (is_ok result)
+    (shield : Option Shield) (bytes : List ℕ) (half : Half) (port : ℕ) (to : Addr) (old new : Sending O) (buf : List ℕ) (result : Result ℕ Lost) : Type 0 where
+  pub answer : result ≡ send_answer port (length bytes) (is_ok result)
   pub buffer : take (length bytes) buf ≡ bytes
   pub under : (s : Shield) → shield ≡ Some s → (suite : Suite) × IsOf leg suite keys s.key
   pub keeps : SendingFor leg keys (noted_under shield notes) new
   pub sends : SendsBy told faults half to bytes (is_ok result) old new
 
-abbrev pub ForwardsTo : {O : Type 0} → (O → Option (List OutCall)) → (O → ℕ) → Wrapped → Holder → (ℕ → Option NewKey) → (ℕ → List Note) → Half → Addr
+abbrev pub ForwardsTo : {O : Type 0} → (O → Option (List OutCall)) → (O → ℕ) → Wrapped → Holder → (ℕ → Option NewKey) → (ℕ → List Note) → Half → (port : ℕ) → Addr
     → Sending O → Sending O → List ℕ → Result ℕ Lost → Type 0
-ForwardsTo told faults (Held cause) leg keys notes half to old new buf result = Refuses cause old new result
-ForwardsTo told faults (Leaves shield bytes) leg keys notes half to old new buf result =
-    Forwards told faults leg keys notes shield bytes half to old new buf result
+ForwardsTo told faults (Held cause) leg keys notes half port to old new buf result = Refuses cause old new result
+ForwardsTo told faults (Leaves shield bytes) leg keys notes half port to old new buf result =
+    Forwards told faults leg keys notes shield bytes half port to old new buf result
 
 -- the keys are those of before, whatever was protected under them
 pub record SameNumbers {O : Type 0} (old new : Sending O) : Type 0 where

@@ -66,13 +66,13 @@ LegAccepts (Passed noted plain) half source known notes old new buf result = Leg
 
 -- whether the one send of a relay, if it made one, was answered Ok
 abbrev pub sent_ok : Outcome → Bool
-sent_ok (outcomes.Lost lost.SendFault) = false
+sent_ok (outcomes.Lost (lost.SendFault port)) = false
 sent_ok _ = true
 
 -- the outcome of a send
 abbrev pub send_outcome : ℕ → Addr → ℕ → Bool → Outcome
 send_outcome port to size true = outcomes.Sent port to size
-send_outcome port to size false = outcomes.Lost lost.SendFault
+send_outcome port to size false = outcomes.Lost (lost.SendFault port)
 
 abbrev pub outcome_of : ℕ → Addr → Result ℕ Lost → Outcome
 outcome_of port to (Ok len) = outcomes.Sent port to len

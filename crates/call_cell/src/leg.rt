@@ -191,7 +191,7 @@ impl<O: OutEnd> Leg<O> {
         };
         let to = endpoint_by(&signal, self.receiving.learned(half), half);
         let port = port_by(half, self.lease.rtp_port());
-        let sent = self.sending.forward(&signal, half, to, buf, len);
+        let sent = self.sending.forward(&signal, half, port, to, buf, len);
         outcome_of(port, to, sent)
     }
 }

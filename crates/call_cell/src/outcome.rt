@@ -39,7 +39,10 @@ pub enum Lost {
     /// The key of the opposite leg has no index left.
     KeySpent,
     /// The send failed. Its index stays used.
-    SendFault,
+    SendFault {
+        /// The local port that it would have left by.
+        port: u16,
+    },
 }
 
 /// What becomes of a received packet.

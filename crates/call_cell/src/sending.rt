@@ -86,11 +86,15 @@ fn protect_under(
     }
 }
 
-/// The answer of a send of so many bytes.
-fn send_answer(size: usize, done: bool) -> Result<usize, Lost>
-    ensures { result ≡ send_answer size done }
+/// The answer of a send of so many bytes by a local port.
+fn send_answer(port: u16, size: usize, done: bool) -> Result<usize, Lost>
+    ensures { result ≡ send_answer port size done }
 {
-    if done { Ok(size) } else { Err(Lost::SendFault) }
+    if done {
+        Ok(size)
+    } else {
+        Err(Lost::SendFault { port })
+    }
 }
 
 impl<O> Sending<O> {
@@ -195,12 +199,13 @@ impl<O: OutEnd> Sending<O> {
         }
     }
 
-    /// Sends what stands in the buffer's first `len` bytes to a leg with that in force, and answers how many bytes were
-    /// sent.
+    /// Sends what stands in the buffer's first `len` bytes to a leg with that in force, by the end of a half, whose local port is
+    /// this, and answers how many bytes were sent.
     pub(crate) fn forward(
         &mut self,
         signal: &LegSignal,
         half: Half,
+        port: u16,
         to: Addr,
         buf: &mut [u8; 2064],
         len: usize,
@@ -208,14 +213,14 @@ impl<O: OutEnd> Sending<O> {
         requires held { len ≤ 2000 }
         ensures numbers { SameNumbers self.old self.new }
         ensures forwards { (leg : Holder) (keys : ℕ → Option NewKey) (notes : ℕ → List Note) → SendingFor leg keys notes self.old → HasNamed signal.now.outbound keys self.old →
-            ForwardsTo O.told O.faults (wrapped_for keys notes signal.now half (take len buf.old)) leg keys notes half to self.old self.new buf.new result }
+            ForwardsTo O.told O.faults (wrapped_for keys notes signal.now half (take len buf.old)) leg keys notes half port to self.old self.new buf.new result }
     {
         if signal.hold {
             return Err(Lost::Hold);
         }
         match self.protect(signal.outbound, half, buf, len) {
             Err(cause) => Err(cause),
-            Ok(size) => send_answer(size, self.send(half, to, &buf[..size])),
+            Ok(size) => send_answer(port, size, self.send(half, to, &buf[..size])),
         }
     }
 }

@@ -139,8 +139,8 @@ filled_history config l numbered place n =
 
 -- What is recorded of a fitting history tells it.
 
-none_sent : (o : Outcome) → (o ≡ outcomes.Lost lost.SendFault → ⊥) → sent_ok o ≡ true
-none_sent (outcomes.Lost lost.SendFault) other = absurd (other refl)
+none_sent : (o : Outcome) → ((port : ℕ) → o ≡ outcomes.Lost (lost.SendFault port) → ⊥) → sent_ok o ≡ true
+none_sent (outcomes.Lost (lost.SendFault port)) other = absurd (other port refl)
 none_sent (outcomes.Lost cause) other = refl
 none_sent (outcomes.Refused cause) other = refl
 none_sent (outcomes.Sent port to len) other = refl
@@ -154,7 +154,7 @@ answer_case : (config : Config) (h : List CellEntry) (p : Receipt) (ok : Bool) (
 answer_case config h p ok (Some w) q answered = ap (λ (x : Outcome). sent_ok x) (outcome_of_send config h p ok w q) ∙ outcome_tells config w ok
 answer_case config h p ok None q answered =
     none_sent (deed config h p ok).outcome
-    (λ f. let s = send_failed config h p ok f in let clash : Some s.0 ≡ None = sym s.1 ∙ q in cc)
+    (λ port f. let s = send_failed config h p ok port f in let clash : Some s.sending ≡ None = sym s.is_sending ∙ q in cc)
     ∙ sym answered
 
 -- the outcome of a relay tells what its send answered

@@ -87,7 +87,7 @@ lost_name lost.OutTooOld = codes "OutTooOld"
 lost_name lost.IndexUsed = codes "IndexUsed"
 lost_name lost.OutSources = codes "OutSources"
 lost_name lost.KeySpent = codes "KeySpent"
-lost_name lost.SendFault = codes "SendFault"
+lost_name (lost.SendFault port) = codes "SendFault"
 
 -- the bytes are printed where they were sent
 abbrev pub outcome_line : Outcome → List ℕ → List ℕ

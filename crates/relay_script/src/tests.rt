@@ -275,7 +275,10 @@ fn outcomes_are_printed_by_their_names(rt: HostRuntime) -> Result<(), Fail> {
         (Outcome::Lost(Lost::IndexUsed), "lost IndexUsed"),
         (Outcome::Lost(Lost::OutSources), "lost OutSources"),
         (Outcome::Lost(Lost::KeySpent), "lost KeySpent"),
-        (Outcome::Lost(Lost::SendFault), "lost SendFault"),
+        (
+            Outcome::Lost(Lost::SendFault { port: 30_000 }),
+            "lost SendFault",
+        ),
         (
             Outcome::Sent {
                 port: 30_000,

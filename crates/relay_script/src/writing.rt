@@ -170,7 +170,7 @@ fn lost_name(lost: Lost) -> &'static [u8]
         Lost::IndexUsed => b"IndexUsed",
         Lost::OutSources => b"OutSources",
         Lost::KeySpent => b"KeySpent",
-        Lost::SendFault => b"SendFault",
+        Lost::SendFault { .. } => b"SendFault",
     }
 }
 

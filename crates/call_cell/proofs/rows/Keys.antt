@@ -72,7 +72,7 @@ unfolding deed rtp_head wrapped_under srtp_out.wrapping srtp_out.sent_index near
 lost_notes_nothing = refl
 
 -- a packet whose send failed was protected: its index stays used
-failed_stays_used : outcomes_of (steps keyed (fails (from_a at_a 100) ∷ packet (from_a at_a 100) ∷ [])) ≡ outcomes.Lost lost.IndexUsed ∷ outcomes.Lost lost.SendFault ∷ []
+failed_stays_used : outcomes_of (steps keyed (fails (from_a at_a 100) ∷ packet (from_a at_a 100) ∷ [])) ≡ outcomes.Lost lost.IndexUsed ∷ outcomes.Lost (lost.SendFault 30000) ∷ []
 unfolding deed rtp_head wrapped_under srtp_out.wrapping srtp_out.sent_index near nearest_lifted fresh indices sources has_room
 failed_stays_used = refl
 

@@ -169,7 +169,7 @@ unfolding deed rtp_head
 hold_ends = refl
 
 -- a send that fails
-send_fails : outcomes_of (steps (answered side_a side_b) (fails (from_a at_a 1) ∷ [])) ≡ outcomes.Lost lost.SendFault ∷ []
+send_fails : outcomes_of (steps (answered side_a side_b) (fails (from_a at_a 1) ∷ [])) ≡ outcomes.Lost (lost.SendFault 30000) ∷ []
 unfolding deed rtp_head
 send_fails = refl
 

@@ -239,7 +239,7 @@ first_is_sent : prints_of answered_so (Packet 30002 source packet) ≡ printing.
 unfolding computing
 first_is_sent = refl
 
-second_is_lost : prints_of sent_once (Packet 30002 source packet) ≡ printing.Relayed (outcomes.Lost lost.SendFault) [] ∷ []
+second_is_lost : prints_of sent_once (Packet 30002 source packet) ≡ printing.Relayed (outcomes.Lost (lost.SendFault 30000)) [] ∷ []
 unfolding computing
 second_is_lost = refl
 
