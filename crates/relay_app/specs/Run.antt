@@ -14,7 +14,6 @@ use Rattle.replay_steps.specs.declared.ended.Ended.{Ended}
 use Rattle.replay_steps.specs.declared.ended.Ended.TheVariants as ended
 use Rattle.replay_steps.specs.Written.{Replays}
 use Rattle.relay_outside.specs.declared.ports.PortCall.{PortCall}
-use Rattle.relay_outside.specs.declared.settings.Config.{Config}
 use Rattle.relay_outside.specs.Told.{WhereTold, Gained}
 use Rattle.media_ports.specs.Held.{OpensHeld}
 use Rattle.media_lane.specs.declared.answers.Totals.{Totals}
@@ -113,13 +112,13 @@ ended_of status.ControlFault = None
 ended_of status.TurnsSpent = None
 ended_of status.Usage = None
 
-abbrev pub ReplaysBy : Config → Option Ended → Option (List LineCall) → Option (List LineCall) → List WriteCall → Type 0
-ReplaysBy config None read read_now writes = ⊥
-ReplaysBy config (Some end) read read_now writes = Replays config end read read_now writes
+abbrev pub ReplaysBy : ReplaySettings → Option Ended → Option (List LineCall) → Option (List LineCall) → List WriteCall → Type 0
+ReplaysBy replay None read read_now writes = ⊥
+ReplaysBy replay (Some end) read read_now writes = Replays replay.config replay.seed end read read_now writes
 
--- what was written, by what was read of the script and by the configuration of the words, where these are those of `replay`
+-- what was written, by what was read of the script and by the configuration and the seed of the words, where these are those of `replay`
 abbrev pub ReplayedBy : Option Settings → Option ReplaySettings → Status → Option (List LineCall) → Option (List LineCall) → Option (List WriteCall) → Option (List WriteCall) → Type 0
-ReplayedBy None (Some replay) answer read read_now wrote wrote_now = Gained wrote wrote_now (ReplaysBy replay.config (ended_of answer) read read_now)
+ReplayedBy None (Some replay) answer read read_now wrote wrote_now = Gained wrote wrote_now (ReplaysBy replay (ended_of answer) read read_now)
 ReplayedBy settings replay answer read read_now wrote wrote_now = Unit {0}
 
 -- the words are those of `replay`

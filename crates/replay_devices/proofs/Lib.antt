@@ -1,4 +1,6 @@
 pub mod Counting
+pub mod Failing
+pub mod KeysDue
 pub mod Lists
 pub mod Opened
 pub mod Places

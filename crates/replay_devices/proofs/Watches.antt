@@ -2,16 +2,18 @@
 use Rattle.std.proofs.Common.{◌≡◌, ◌∙◌, refl, sym, ap, ℕ, ◌+◌, ◌-◌, Bool, true, false, ◌&&◌, ◌||◌, ◌==◌, List, [], ◌∷◌, ◌++◌, arith, if◌then◌else◌}
 use Rattle.std.specs.List.{list_any}
 use Rattle.std.proofs.lemmas.Bool.Decides.{nat_tests}
+use Rattle.relay_outside.specs.declared.settings.Config.{Config}
 use Rattle.replay_model.specs.Steps as model
 use Rattle.replay_model.specs.Devices.{Happening, Made, Opened, Drew, Replied, Sent, Received, counts_for, same_kind, fails_nth, fails_behind, fails}
 use Rattle.replay_devices.specs.Countdowns.{after_call, next_fails}
-use Rattle.replay_devices.specs.Watch.{asked_now, counts, WatchState, Notes}
+use Rattle.replay_devices.specs.declared.failures.SendFailure.{SendFailure}
+use Rattle.replay_devices.specs.Watch.{asked_now, counts, sends_after, due, WatchState, Notes}
 
-or_none : (b : Bool) → b ≡ (b || false)
+pub or_none : (b : Bool) → b ≡ (b || false)
 or_none true = refl
 or_none false = refl
 
-or_swap : (a b : Bool) → (a || b) ≡ (b || a)
+pub or_swap : (a b : Bool) → (a || b) ≡ (b || a)
 or_swap true true = refl
 or_swap true false = refl
 or_swap false true = refl
@@ -79,12 +81,15 @@ abbrev pub counted_on : model.FailKind → Happening → List ℕ → List ℕ
 counted_on kind x numbers = (if counts_for kind x then after_call numbers else numbers) ++ asked_now kind x
 
 -- one more thing
-pub noted : (x : Happening) (old new : WatchState) → new.opens ≡ counted_on model.Opening x old.opens → new.draws ≡ counted_on model.Drawing x old.draws
-    → new.takes ≡ counted_on model.Taking x old.takes → new.reads ≡ counted_on model.Reading x old.reads → new.replies ≡ counted_on model.Replying x old.replies → Notes old new x
-noted x old new opens draws takes reads replies past s = record {
+pub noted : (config : Config) (seed : ℕ) (x : Happening) (old new : WatchState) → new.opens ≡ counted_on model.Opening x old.opens → new.draws ≡ counted_on model.Drawing x old.draws
+    → new.takes ≡ counted_on model.Taking x old.takes → new.reads ≡ counted_on model.Reading x old.reads → new.replies ≡ counted_on model.Replying x old.replies
+    → new.sends ≡ sends_after config x old.sends → ((past : List Happening) → old.keys ≡ due seed past → new.keys ≡ due seed (x ∷ past)) → Notes config seed old new x
+noted config seed x old new opens draws takes reads replies failing keys past s = record {
   opens_are = opens ∙ ap (λ (ns : List ℕ). counted_on model.Opening x ns) s.opens_are;
   draws_are = draws ∙ ap (λ (ns : List ℕ). counted_on model.Drawing x ns) s.draws_are;
   takes_are = takes ∙ ap (λ (ns : List ℕ). counted_on model.Taking x ns) s.takes_are;
   reads_are = reads ∙ ap (λ (ns : List ℕ). counted_on model.Reading x ns) s.reads_are;
   replies_are = replies ∙ ap (λ (ns : List ℕ). counted_on model.Replying x ns) s.replies_are;
+  sends_are = failing ∙ ap (λ (fs : List SendFailure). sends_after config x fs) s.sends_are;
+  keys_are = keys past s.keys_are;
 }

@@ -1,4 +1,6 @@
 pub mod Countdowns
+pub mod Due
+pub mod Failures
 pub mod Keys
 pub mod Lines
 pub mod Link

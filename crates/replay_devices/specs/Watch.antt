@@ -1,13 +1,19 @@
--- Which calls of the devices fail, by what happened so far: for each line `fail` the number of its call, less the calls of its kind
--- that came since.
-use Rattle.std.specs.Prelude.{◌≡◌, ℕ, List, [], ◌∷◌, ◌++◌, if◌then◌else◌}
+-- Which calls of the devices fail, and what the draws give, by what happened so far: for each line `fail` the number of its call, less
+-- the calls of its kind that came since.
+use Rattle.std.specs.Prelude.{◌≡◌, ℕ, true, List, [], ◌∷◌, ◌++◌, map, if◌then◌else◌}
+use Rattle.relay_outside.specs.declared.settings.Config.{Config}
+use Rattle.port_pool.specs.Ports.{half_port}
 use Rattle.relay_script.specs.declared.step.FailKind.{FailKind}
 use Rattle.relay_script.specs.declared.step.FailKind.TheVariants as kind
 use Rattle.relay_script.specs.Steps as line
 use Rattle.relay_script.specs.Steps.{Step}
 use Rattle.replay_model.specs.Steps as model
-use Rattle.replay_model.specs.Devices.{Happening, Made, counts_for, same_kind}
+use Rattle.replay_model.specs.Devices.{Happening, Made, Opened, Drew, Sent, counts_for, same_kind, unused, streamed, next_key}
 use Rattle.replay_devices.specs.Countdowns.{after_call}
+use Rattle.replay_devices.specs.declared.failures.SendFailure.{SendFailure}
+use Rattle.replay_devices.specs.Failures.{waiting_for, opened_at, sent_at}
+use Rattle.replay_devices.specs.Keys.{stream_of}
+use Rattle.replay_devices.specs.Due.{DueState, stream_from}
 
 -- Lines as the steps of the model.
 
@@ -46,22 +52,55 @@ abbrev pub counts : model.FailKind → List Happening → List ℕ
 counts kind [] = []
 counts kind (x ∷ past) = (if counts_for kind x then after_call (counts kind past) else counts kind past) ++ asked_now kind x
 
--- these numbers for each kind
+-- Sends of out ends.
+
+abbrev pub send_asked : model.Step → List SendFailure
+send_asked (model.FailSend port number) = waiting_for port number ∷ []
+send_asked _ = []
+
+-- after one more thing: a line `fail send` asks for one, an opening makes an end, a packet is sent
+abbrev pub sends_after : Config → Happening → List SendFailure → List SendFailure
+sends_after config (Made s) failures = failures ++ send_asked s
+sends_after config (Opened pair half true) failures = map (opened_at (half_port config pair half)) failures
+sends_after config (Sent pair half ok) failures = map (sent_at (half_port config pair half)) failures
+sends_after config _ failures = failures
+
+-- the sends that lines asked to fail
+abbrev pub sends : Config → List Happening → List SendFailure
+sends config [] = []
+sends config (x ∷ past) = sends_after config x (sends config past)
+
+-- Keys.
+
+-- the keys that draws have to give, behind those of lines the ones of the stream of a seed
+abbrev pub due : (seed : ℕ) → List Happening → DueState
+due seed past = record { unused = unused past; seed_words = (stream_of seed).seed_words; streamed = streamed past }
+
+-- these numbers for each kind, the failing sends, and the keys
 pub record WatchState : Type 0 where
   pub opens : List ℕ
   pub draws : List ℕ
   pub takes : List ℕ
   pub reads : List ℕ
   pub replies : List ℕ
+  pub sends : List SendFailure
+  pub keys : DueState
 
--- they are those of what happened
-pub record StandsFor (past : List Happening) (w : WatchState) : Type 0 where
+-- they are those of what happened, with the ports of this configuration and the stream of this seed
+pub record StandsFor (config : Config) (seed : ℕ) (past : List Happening) (w : WatchState) : Type 0 where
   pub opens_are : w.opens ≡ counts model.Opening past
   pub draws_are : w.draws ≡ counts model.Drawing past
   pub takes_are : w.takes ≡ counts model.Taking past
   pub reads_are : w.reads ≡ counts model.Reading past
   pub replies_are : w.replies ≡ counts model.Replying past
+  pub sends_are : w.sends ≡ sends config past
+  pub keys_are : w.keys ≡ due seed past
 
 -- one more thing happened
-abbrev pub Notes : WatchState → WatchState → Happening → Type 0
-Notes old new x = (past : List Happening) → StandsFor past old → StandsFor (x ∷ past) new
+abbrev pub Notes : Config → (seed : ℕ) → WatchState → WatchState → Happening → Type 0
+Notes config seed old new x = (past : List Happening) → StandsFor config seed past old → StandsFor config seed (x ∷ past) new
+
+-- the same of a draw, which has to give this key
+abbrev pub NotesDraw : Config → (seed : ℕ) → WatchState → WatchState → List ℕ → Type 0
+NotesDraw config seed old new key =
+    (past : List Happening) → StandsFor config seed past old → (key ≡ next_key (stream_from seed) past) × StandsFor config seed (Drew true ∷ past) new

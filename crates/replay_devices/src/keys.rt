@@ -54,7 +54,7 @@ impl<'a> ReplayKeys<'a> {
             steps,
             step: 0,
             next: 0,
-            stream: ChaChaKeys::from_seed(bytes_of_seed(seed)),
+            stream: stream_of_seed(seed),
             draws,
             faults: 0,
         })
@@ -134,6 +134,13 @@ fn bytes_of_seed(seed: u64) -> [u8; 32]
     let mut bytes = [0; 32];
     bytes[..8].copy_from_slice(&seed.to_le_bytes());
     bytes
+}
+
+/// The stream of a seed, of which nothing was drawn.
+pub(crate) fn stream_of_seed(seed: u64) -> ChaChaKeys
+    ensures { result ≡ stream_of seed }
+{
+    ChaChaKeys::from_seed(bytes_of_seed(seed))
 }
 
 impl<'a> KeySource for ReplayKeys<'a> {

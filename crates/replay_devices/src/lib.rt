@@ -6,7 +6,9 @@
 #![tactic(auto)]
 
 mod countdowns;
+mod due;
 mod ends;
+mod failures;
 mod keys;
 mod lines;
 mod link;

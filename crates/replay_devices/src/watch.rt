@@ -1,20 +1,24 @@
-ghost use Rattle.std.specs.Prelude.{◌≡◌, ℕ, Bool, List, [], IfOk, OnOk};
+ghost use Rattle.std.specs.Prelude.{◌≡◌, ℕ, Bool, false, List, [], IfOk, IfSome, OnOk};
+ghost use Rattle.relay_outside.specs.declared.settings.Config.{Config};
 ghost use Rattle.relay_script.specs.Steps.{meaning};
 ghost use Rattle.rtp_packet.specs.declared.head.Half.{Half};
+ghost use Rattle.port_pool.specs.Ports.{half_port};
 ghost use Rattle.replay_model.specs.Steps as model;
-ghost use Rattle.replay_model.specs.Devices.{Happening, Made, Opened, Drew, Replied, fails};
-ghost use Rattle.replay_devices.specs.Watch.{StandsFor, Notes, kind_of, step_of};
+ghost use Rattle.replay_model.specs.Devices.{Happening, Made, Opened, Drew, Replied, Sent, fails, send_fails};
+ghost use Rattle.replay_devices.specs.Watch.{StandsFor, Notes, NotesDraw, kind_of, step_of};
 
 use crate::countdowns::Countdowns;
+use crate::due::KeysDue;
+use crate::failures::SendFailures;
 use relay_outside::OutOfMemory;
 use relay_script::{FailKind, Step};
 use std::alloc::Global;
 use std::marker::Model;
 
-/// What a replay expects of its devices: which of their next calls the lines made so far ask to fail. Whoever makes the calls notes
-/// each line and each call here, and can say of a call whether it had to fail.
+/// What a replay expects of its devices: which of their next calls the lines made so far ask to fail, and which keys its draws give.
+/// Whoever makes the calls notes each line and each call here, and can say of a call whether it had to fail.
 ///
-/// Contracts see, for each kind of call, the numbers of the calls to fail from now on.
+/// Contracts see, for each kind of call, the numbers of the calls to fail from now on, and the keys that are due.
 #[derive(Drop)]
 pub struct Watch {
     opens: Countdowns,
@@ -22,6 +26,8 @@ pub struct Watch {
     takes: Countdowns,
     reads: Countdowns,
     replies: Countdowns,
+    sends: SendFailures,
+    keys: KeysDue,
 }
 
 impl Model for Watch {
@@ -29,13 +35,13 @@ impl Model for Watch {
 
     ghost Value = { WatchState };
 
-    ghost view = { λ watch. record { opens = watch.opens.list; draws = watch.draws.list; takes = watch.takes.list; reads = watch.reads.list; replies = watch.replies.list } };
+    ghost view = { λ watch. record { opens = watch.opens.list; draws = watch.draws.list; takes = watch.takes.list; reads = watch.reads.list; replies = watch.replies.list; sends = watch.sends; keys = watch.keys } };
 }
 
 impl Watch {
-    /// Before the first line.
-    pub fn new(alloc: Global) -> Result<Watch, OutOfMemory>
-        ensures { IfOk result (λ watch. StandsFor [] watch) }
+    /// Before the first line, with keys of that seed behind those of the lines.
+    pub fn new(alloc: Global, seed: u64) -> Result<Watch, OutOfMemory>
+        ensures { IfOk result (λ watch. (config : Config) → StandsFor config seed [] watch) }
     {
         Ok(Watch {
             opens: Countdowns::with_room(alloc, 0)?,
@@ -43,13 +49,15 @@ impl Watch {
             takes: Countdowns::with_room(alloc, 0)?,
             reads: Countdowns::with_room(alloc, 0)?,
             replies: Countdowns::with_room(alloc, 0)?,
+            sends: SendFailures::new(alloc),
+            keys: KeysDue::new(alloc, seed),
         })
     }
 
     /// Whether the next call of a kind has to fail: for a line `ng` the take of the link, for a line `take` or `packet` the take at its
     /// port, where that is open.
     pub fn fails(&self, kind: FailKind) -> bool
-        ensures { (past : List Happening) → StandsFor past self.now → result ≡ fails (kind_of kind) past }
+        ensures { (config : Config) (seed : ℕ) (past : List Happening) → StandsFor config seed past self.now → result ≡ fails (kind_of kind) past }
     {
         match kind {
             FailKind::Open => self.opens.next_fails(),
@@ -60,30 +68,55 @@ impl Watch {
         }
     }
 
-    /// A port was opened, or its opening failed.
-    pub fn opened(&mut self)
-        ensures { (pair : ℕ) (half : Half) (done : Bool) → Notes self.old self.new (Opened pair half done) }
+    /// Whether the next send by the end of a port has to fail.
+    pub fn send_fails(&self, port: u16) -> bool
+        ensures { (config : Config) (seed : ℕ) (past : List Happening) (pair : ℕ) (half : Half) → half_port config pair half ≡ port → StandsFor config seed past self.now → result ≡ send_fails config past pair half }
     {
-        self.opens.count_call();
+        self.sends.next_fails(port)
     }
 
-    /// A key was drawn, or the draw failed.
-    pub fn drew(&mut self)
-        ensures { (done : Bool) → Notes self.old self.new (Drew done) }
+    /// A port was opened, or its opening failed.
+    pub fn opened(&mut self, port: u16, done: bool)
+        ensures { (config : Config) (seed pair : ℕ) (half : Half) → half_port config pair half ≡ port → Notes config seed self.old self.new (Opened pair half done) }
+    {
+        self.opens.count_call();
+        if done {
+            self.sends.opened(port);
+        }
+    }
+
+    /// A key was drawn, which has to be the one that is answered. `None`: 2^64 - 1 keys of the seed's stream were drawn.
+    pub fn drew(&mut self) -> Option<[u8; 30]>
+        ensures { IfSome result (λ key. (config : Config) (seed : ℕ) → NotesDraw config seed self.old self.new key) }
+    {
+        self.draws.count_call();
+        self.keys.draw()
+    }
+
+    /// A draw failed.
+    pub fn failed_to_draw(&mut self)
+        ensures { (config : Config) (seed : ℕ) → Notes config seed self.old self.new (Drew false) }
     {
         self.draws.count_call();
     }
 
     /// A reply was sent, or its send failed.
     pub fn replied(&mut self)
-        ensures { (done : Bool) → Notes self.old self.new (Replied done) }
+        ensures { (config : Config) (seed : ℕ) (done : Bool) → Notes config seed self.old self.new (Replied done) }
     {
         self.replies.count_call();
     }
 
+    /// A packet was sent by the end of a port, or its send failed.
+    pub fn sent(&mut self, port: u16)
+        ensures { (config : Config) (seed pair : ℕ) (half : Half) (done : Bool) → half_port config pair half ≡ port → Notes config seed self.old self.new (Sent pair half done) }
+    {
+        self.sends.sent(port);
+    }
+
     /// The call of a number of this kind, from now, has to fail.
     fn ask(&mut self, kind: FailKind, number: u32) -> Result<(), OutOfMemory>
-        ensures { OnOk result (Notes self.old self.new (Made (model.Fail (kind_of kind) number))) }
+        ensures { OnOk result ((config : Config) (seed : ℕ) → Notes config seed self.old self.new (Made (model.Fail (kind_of kind) number))) }
     {
         match kind {
             FailKind::Open => self.opens.add(number),
@@ -96,10 +129,12 @@ impl Watch {
 
     /// The step of a line was made.
     pub fn made(&mut self, step: &Step) -> Result<(), OutOfMemory>
-        ensures { OnOk result (Notes self.old self.new (Made (step_of (meaning step.now)))) }
+        ensures { OnOk result ((config : Config) (seed : ℕ) → Notes config seed self.old self.new (Made (step_of (meaning step.now)))) }
     {
         match step {
             Step::Fail(kind, number) => return self.ask(*kind, *number),
+            Step::FailSend(port, number) => return self.sends.add(*port, *number),
+            Step::Key(key) => return self.keys.add(*key),
             Step::Ng(_, _) => self.reads.count_call(),
             Step::Take(_, _, _) | Step::Packet(_, _, _) => self.takes.count_call(),
             _ => {}

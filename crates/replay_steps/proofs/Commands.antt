@@ -32,14 +32,14 @@ gained_calls {C} (Some first) (Some calls) all n P is count (more, list, p) =
     let rest : drop n all ≡ more = ap (λ (xs : List C). drop n xs) (sym here ∙ list) ∙ ap (λ (m : ℕ). drop m (first ++ more)) (count first refl) ∙ drop-append_seam first more in
     subst P (sym rest) p
 
-module _ (config : Config) (l new : List Entry) (clock : ℕ) (source : Addr) (bytes : List ℕ) (held : ReceiptList) (read_fails reply_fails : Bool) (old mid now : WatchState)
+module _ (config : Config) (seed : ℕ) (l new : List Entry) (clock : ℕ) (source : Addr) (bytes : List ℕ) (held : ReceiptList) (read_fails reply_fails : Bool) (old mid now : WatchState)
     (ports ports_now : Option (List PortCall)) (keys keys_now : Option (List KeyCall)) (opened drawn : ℕ)
-    (reads : (past : List Happening) → StandsFor past old → read_fails ≡ fails model.Reading past) (sends : (past : List Happening) → StandsFor past old → reply_fails ≡ fails model.Replying past)
+    (reads : (past : List Happening) → StandsFor config seed past old → read_fails ≡ fails model.Reading past) (sends : (past : List Happening) → StandsFor config seed past old → reply_fails ≡ fails model.Replying past)
     (counted : (calls : List PortCall) → ports ≡ Some calls → opened ≡ length calls) (drew : (calls : List KeyCall) → keys ≡ Some calls → drawn ≡ length calls)
-    (watched : WatchesTurn config ports_now opened keys_now drawn old mid) where
+    (watched : WatchesTurn config seed ports_now opened keys_now drawn old mid) where
   command : (e : coded.Printed) → Controlled config clock l source bytes read_fails reply_fails ports ports_now keys keys_now (Some e) new
-      → ((past : List Happening) → StandsFor past mid → StandsFor (replied (event_of e) past) now)
-      → Watches old now (λ past past_now. Makes config (course_of l held clock past) (step.Ng source bytes) (event_of e ∷ []) (course_of new held clock past_now))
+      → ((past : List Happening) → StandsFor config seed past mid → StandsFor config seed (replied (event_of e) past) now)
+      → Watches config seed old now (λ past past_now. Makes config seed (course_of l held clock past) (step.Ng source bytes) (event_of e ∷ []) (course_of new held clock past_now))
   command e controlled answers past s =
       let found = watched.watches past s in
       let opens = drop opened watched.openings in
@@ -66,10 +66,10 @@ module _ (config : Config) (l new : List Entry) (clock : ℕ) (source : Addr) (b
 
   pub commanded : (o : Option coded.Printed) (did : Stepped) → MatchOption o (did ≡ stepped.Starved) (λ (e : coded.Printed). did ≡ stepped.Prints e)
       → Controlled config clock l source bytes read_fails reply_fails ports ports_now keys keys_now o new
-      → ((e : coded.Printed) → o ≡ Some e → (past : List Happening) → StandsFor past mid → StandsFor (replied (event_of e) past) now)
-      → StepsSo did old now (λ past past_now. OfStep config (course_of l held clock past) (step.Ng source bytes) did (course_of new held clock past_now))
+      → ((e : coded.Printed) → o ≡ Some e → (past : List Happening) → StandsFor config seed past mid → StandsFor config seed (replied (event_of e) past) now)
+      → StepsSo config seed did old now (λ past past_now. OfStep config seed (course_of l held clock past) (step.Ng source bytes) did (course_of new held clock past_now))
   commanded None did is controlled answers =
-      subst (λ (d : Stepped). StepsSo d old now (λ past past_now. OfStep config (course_of l held clock past) (step.Ng source bytes) d (course_of new held clock past_now))) (sym is) tt
+      subst (λ (d : Stepped). StepsSo config seed d old now (λ past past_now. OfStep config seed (course_of l held clock past) (step.Ng source bytes) d (course_of new held clock past_now))) (sym is) tt
   commanded (Some e) did is controlled answers =
-      subst (λ (d : Stepped). StepsSo d old now (λ past past_now. OfStep config (course_of l held clock past) (step.Ng source bytes) d (course_of new held clock past_now))) (sym is)
+      subst (λ (d : Stepped). StepsSo config seed d old now (λ past past_now. OfStep config seed (course_of l held clock past) (step.Ng source bytes) d (course_of new held clock past_now))) (sym is)
       (command e controlled (answers e refl))

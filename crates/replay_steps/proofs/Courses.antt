@@ -36,7 +36,9 @@ use Rattle.replay_model.specs.Steps as model
 use Rattle.replay_model.specs.Devices.{Happening, fails}
 use Rattle.replay_steps.specs.Arrivals.{IsEndAt}
 use Rattle.replay_steps.specs.Holding.{Numbered, ReceiptList, has_number, LacksNumber, TakesOut, taken_by}
-use Rattle.replay_steps.specs.Steps.{Packet, Course, packet_under, course_of, holding, left_with, after, TurnsBoard, TakesPacket, PrintsTaken, FailsSo, Misses, RelaysPacket, RelaysSo, PrintsOne, HoldsNone, Makes, OfStep, is_under, Plays, Stops}
+use Rattle.replay_steps.specs.Steps.{Packet, Course, packet_under, course_of, with_past, holding, left_with, after, TurnsBoard, TakesPacket, PrintsTaken, FailsSo, Misses, RelaysPacket, PrintsOne, HoldsNone, Makes, OfStep, is_under, Plays, Stops}
+use Rattle.replay_devices.specs.Watch.{WatchState, StandsFor}
+use Rattle.replay_steps.specs.Watching.{RelaysSo, StepsSo}
 use Rattle.replay_steps.proofs.Controls.{turns_board}
 
 -- Takes.
@@ -56,8 +58,8 @@ takes_packet config l new port source bytes pair half r at took source_is bytes_
           ∙ ap (λ (t : Taken). l ++ take_entry config (pair_of r) (packet_of r).half (packet_of r).take t ∷ []) tells.gave;
     }
 
-module _ (config : Config) (l new : List Entry) (port : ℕ) (source : Ip) (failing : Bool) (pair : ℕ) (half : Half) (at : IsEndAt config port source (pair, half)) where
-  takes_none : (given : Received) (e : Printed) (took : Took config l pair half given new) → PrintsTaken took.taken e → FailsSo took.taken failing → Misses config l port source failing e new
+module _ (config : Config) (l new : List Entry) (port : ℕ) (source : Addr) (bytes : List ℕ) (failing : Bool) (pair : ℕ) (half : Half) (at : IsEndAt config port source.ip (pair, half)) where
+  takes_none : (given : Received) (e : Printed) (took : Took config l pair half given new) → PrintsTaken took.taken bytes e → FailsSo took.taken failing → Misses config l port source bytes failing e new
   takes_none given e took printed asked = inr (record {
     end = (pair, half);
     at = at;
@@ -69,18 +71,18 @@ module _ (config : Config) (l new : List Entry) (port : ℕ) (source : Ip) (fail
   })
 
   pub takes_nothing : ((n : ℕ) → IsAbove l (box_of config pair) n → holder (box_history l (box_of config pair) n) ≡ None) → Took config l pair half answer.Nothing new
-      → Misses config l port source failing event.Nothing new
+      → Misses config l port source bytes failing event.Nothing new
   takes_nothing shut took =
       let closed : took.taken ≡ box.Closed = subst (λ (o : Option Holder). FitsTaken o took.taken) (shut took.number took.at_front) took.fits in
-      takes_none answer.Nothing event.Nothing took (subst (λ (t : Taken). PrintsTaken t event.Nothing) (sym closed) refl) (subst (λ (t : Taken). FailsSo t failing) (sym closed) tt)
+      takes_none answer.Nothing event.Nothing took (subst (λ (t : Taken). PrintsTaken t bytes event.Nothing) (sym closed) refl) (subst (λ (t : Taken). FailsSo t failing) (sym closed) tt)
 
-  pub takes_too_long : failing ≡ false → Took config l pair half answer.TooLong new → Misses config l port source failing event.TooLong new
-  takes_too_long no_fault took =
-      takes_none answer.TooLong event.TooLong took (subst (λ (t : Taken). PrintsTaken t event.TooLong) (sym took.tells.2) refl) (subst (λ (t : Taken). FailsSo t failing) (sym took.tells.2) no_fault)
+  pub takes_too_long : failing ≡ false → 2000 < length bytes → Took config l pair half answer.TooLong new → Misses config l port source bytes failing event.TooLong new
+  takes_too_long no_fault long took =
+      takes_none answer.TooLong event.TooLong took (subst (λ (t : Taken). PrintsTaken t bytes event.TooLong) (sym took.tells.2) (long, refl)) (subst (λ (t : Taken). FailsSo t failing) (sym took.tells.2) no_fault)
 
-  pub takes_fault : failing ≡ true → Took config l pair half answer.TakeFault new → Misses config l port source failing event.TakeFault new
+  pub takes_fault : failing ≡ true → Took config l pair half answer.TakeFault new → Misses config l port source bytes failing event.TakeFault new
   takes_fault fault took =
-      takes_none answer.TakeFault event.TakeFault took (subst (λ (t : Taken). PrintsTaken t event.TakeFault) (sym took.tells) refl) (subst (λ (t : Taken). FailsSo t failing) (sym took.tells) fault)
+      takes_none answer.TakeFault event.TakeFault took (subst (λ (t : Taken). PrintsTaken t bytes event.TakeFault) (sym took.tells) refl) (subst (λ (t : Taken). FailsSo t failing) (sym took.tells) fault)
 
 -- Where a replay comes to.
 
@@ -127,16 +129,16 @@ pub one_event : (e : Printed) (P : Printed → Type 0) → P e → PrintsOne (e 
 one_event e P p = record { event = e; prints_are = refl; holds = p }
 
 -- an event that was printed, where there was memory for it
-pub of_event : (config : Config) (r : Course) (s : Step) (new : Course) (o : Option coded.Printed) (did : Stepped)
-    → MatchOption o (did ≡ stepped.Starved) (λ (e : coded.Printed). did ≡ stepped.Prints e) → ((e : coded.Printed) → o ≡ Some e → Makes config r s (event_of e ∷ []) new) → OfStep config r s did new
-of_event config r s new None did is makes = subst (λ (d : Stepped). OfStep config r s d new) (sym is) tt
-of_event config r s new (Some e) did is makes = subst (λ (d : Stepped). OfStep config r s d new) (sym is) (makes e refl)
+pub of_event : (config : Config) (seed : ℕ) (r : Course) (s : Step) (new : Course) (o : Option coded.Printed) (did : Stepped)
+    → MatchOption o (did ≡ stepped.Starved) (λ (e : coded.Printed). did ≡ stepped.Prints e) → ((e : coded.Printed) → o ≡ Some e → Makes config seed r s (event_of e ∷ []) new) → OfStep config seed r s did new
+of_event config seed r s new None did is makes = subst (λ (d : Stepped). OfStep config seed r s d new) (sym is) tt
+of_event config seed r s new (Some e) did is makes = subst (λ (d : Stepped). OfStep config seed r s d new) (sym is) (makes e refl)
 
-module _ (config : Config) (l : List Entry) (was : ReceiptList) (clock : ℕ) (past : List Happening) where
+module _ (config : Config) (seed : ℕ) (l : List Entry) (was : ReceiptList) (clock : ℕ) (past : List Happening) where
   module _ (failing : Bool) (asked : failing ≡ fails model.Taking past) where
     pub holds_packet : (port : ℕ) (source : Addr) (bytes : List ℕ) (r : Receipt) (n : ℕ) (new : List Entry) (is : ReceiptList) → (64 ≤ length was.list → ⊥)
         → (failing ≡ false) × TakesPacket config l port source bytes (taken_by r) new → n ≡ was.received + 1 → is.list ≡ was.list ++ (was.received + 1, r) ∷ [] → is.received ≡ was.received + 1
-        → Makes config (course_of l was clock past) (step.Take port source bytes) (event.Took n ∷ []) (course_of new is clock past)
+        → Makes config seed (course_of l was clock past) (step.Take port source bytes) (event.Took n ∷ []) (course_of new is clock past)
     holds_packet port source bytes r n new is few takes number list received = (
       few_held was.list few,
       one_event (event.Took n) _ (inl (record {
@@ -149,56 +151,70 @@ module _ (config : Config) (l : List Entry) (was : ReceiptList) (clock : ℕ) (p
       })),
     )
 
-    none_held : (port : ℕ) (source : Ip) (e : Printed) (new : List Entry) → Misses config l port source failing e new → HoldsNone config (course_of l was clock past) port source e (course_of new was clock past)
-    none_held port source e new misses = record { entries = new; misses = subst (λ (b : Bool). Misses config l port source b e new) asked misses; new_is = refl }
+    none_held : (port : ℕ) (source : Addr) (bytes : List ℕ) (e : Printed) (new : List Entry) → Misses config l port source bytes failing e new
+        → HoldsNone config (course_of l was clock past) port source bytes e (course_of new was clock past)
+    none_held port source bytes e new misses = record { entries = new; misses = subst (λ (b : Bool). Misses config l port source bytes b e new) asked misses; new_is = refl }
 
-    pub holds_none : (port : ℕ) (source : Addr) (bytes : List ℕ) (e : Printed) (new : List Entry) → (64 ≤ length was.list → ⊥) → Misses config l port source.ip failing e new
-        → Makes config (course_of l was clock past) (step.Take port source bytes) (e ∷ []) (course_of new was clock past)
-    holds_none port source bytes e new few misses = (few_held was.list few, one_event e _ (inr (none_held port source.ip e new misses)))
+    pub holds_none : (port : ℕ) (source : Addr) (bytes : List ℕ) (e : Printed) (new : List Entry) → (64 ≤ length was.list → ⊥) → Misses config l port source bytes failing e new
+        → Makes config seed (course_of l was clock past) (step.Take port source bytes) (e ∷ []) (course_of new was clock past)
+    holds_none port source bytes e new few misses = (few_held was.list few, one_event e _ (inr (none_held port source bytes e new misses)))
 
-    pub passes_none : (port : ℕ) (source : Addr) (bytes : List ℕ) (e : Printed) (new : List Entry) → Misses config l port source.ip failing e new
-        → Makes config (course_of l was clock past) (step.Packet port source bytes) (e ∷ []) (course_of new was clock past)
-    passes_none port source bytes e new misses = one_event e _ (inr (none_held port source.ip e new misses))
+    pub passes_none : (port : ℕ) (source : Addr) (bytes : List ℕ) (e : Printed) (new : List Entry) → Misses config l port source bytes failing e new
+        → Makes config seed (course_of l was clock past) (step.Packet port source bytes) (e ∷ []) (course_of new was clock past)
+    passes_none port source bytes e new misses = one_event e _ (inr (none_held port source bytes e new misses))
 
-    passes_packet : (port : ℕ) (source : Addr) (bytes : List ℕ) (r : Receipt) (e : Printed) (mid new : List Entry)
-        → (failing ≡ false) × TakesPacket config l port source bytes (taken_by r) mid
-        → RelaysPacket config clock mid (packet_of r) e new → Makes config (course_of l was clock past) (step.Packet port source bytes) (e ∷ []) (course_of new was clock past)
-    passes_packet port source bytes r e mid new takes relays =
-        one_event e _ (inl (record { packet = taken_by r; between = mid; entries = new; asked = sym asked ∙ takes.0; takes = takes.1; relays = relays; new_is = refl }))
+  passes_packet : (port : ℕ) (source : Addr) (bytes : List ℕ) (r : Receipt) (e : Printed) (mid new : List Entry) (past_now : List Happening) → fails model.Taking past ≡ false
+      → TakesPacket config l port source bytes (taken_by r) mid → RelaysPacket config clock mid past (packet_of r) e new past_now
+      → Makes config seed (course_of l was clock past) (step.Packet port source bytes) (e ∷ []) (course_of new was clock past_now)
+  passes_packet port source bytes r e mid new past_now asked takes relays =
+      one_event e _ (inl (record { packet = taken_by r; between = mid; entries = new; asked = asked; takes = takes; past = past_now; relays = relays; new_is = refl }))
 
-    pub passed : (port : ℕ) (source : Addr) (bytes : List ℕ) (r : Receipt) (mid new : List Entry) (o : Option coded.Printed) (did : Stepped)
-        → MatchOption o (did ≡ stepped.Starved) (λ (e : coded.Printed). did ≡ stepped.Prints e) → (failing ≡ false) × TakesPacket config l port source bytes (taken_by r) mid
-        → RelaysSo config clock mid (taken_by r) o new → OfStep config (course_of l was clock past) (step.Packet port source bytes) did (course_of new was clock past)
-    passed port source bytes r mid new o did tells takes relays =
-        of_event config (course_of l was clock past) (step.Packet port source bytes) (course_of new was clock past) o did tells
-        (λ e is. passes_packet port source bytes r (event_of e) mid new takes (subst (λ (x : Option coded.Printed). RelaysSo config clock mid (taken_by r) x new) is relays))
-
-  relays_held : (number : ℕ) (r : Receipt) (e : Printed) (new : List Entry) (is : ReceiptList) (out : TakesOut number r was is) → RelaysPacket config clock l (packet_of r) e new
-      → Makes config (course_of l was clock past) (step.Relay number) (e ∷ []) (course_of new is clock past)
-  relays_held number r e new is out relays = one_event e _ (record {
+  relays_held : (number : ℕ) (r : Receipt) (e : Printed) (new : List Entry) (past_now : List Happening) (is : ReceiptList) (out : TakesOut number r was is)
+      → RelaysPacket config clock l past (packet_of r) e new past_now → Makes config seed (course_of l was clock past) (step.Relay number) (e ∷ []) (course_of new is clock past_now)
+  relays_held number r e new past_now is out relays = one_event e _ (record {
     before = map packet_under out.before;
     packet = taken_by r;
     after = map packet_under out.after;
     held_is = ap (λ (xs : List Numbered). map packet_under xs) out.old_is ∙ map-append packet_under out.before ((number, r) ∷ out.after);
     entries = new;
+    past = past_now;
     relays = relays;
-    new_is = held_less l new number r was is clock past out;
+    new_is = ap (with_past past_now) (held_less l new number r was is clock past out);
   })
 
+-- Relays, with a watch.
+
+module _ (config : Config) (seed : ℕ) (l : List Entry) (was : ReceiptList) (clock : ℕ) (old now : WatchState) where
+  pub passed : (port : ℕ) (source : Addr) (bytes : List ℕ) (r : Receipt) (mid new : List Entry) (o : Option coded.Printed) (did : Stepped) (failing : Bool)
+      → MatchOption o (did ≡ stepped.Starved) (λ (e : coded.Printed). did ≡ stepped.Prints e)
+      → ((past : List Happening) → StandsFor config seed past old → failing ≡ fails model.Taking past)
+      → (failing ≡ false) × TakesPacket config l port source bytes (taken_by r) mid → RelaysSo config seed clock mid (taken_by r) o old now new
+      → StepsSo config seed did old now (λ past past_now. OfStep config seed (course_of l was clock past) (step.Packet port source bytes) did (course_of new was clock past_now))
+  passed port source bytes r mid new None did failing tells asked takes relays =
+      subst (λ (d : Stepped). StepsSo config seed d old now (λ past past_now. OfStep config seed (course_of l was clock past) (step.Packet port source bytes) d (course_of new was clock past_now)))
+      (sym tells) tt
+  passed port source bytes r mid new (Some e) did failing tells asked takes relays =
+      subst (λ (d : Stepped). StepsSo config seed d old now (λ past past_now. OfStep config seed (course_of l was clock past) (step.Packet port source bytes) d (course_of new was clock past_now)))
+      (sym tells) (λ past s.
+      let f = relays past s in
+      (f.0, passes_packet config seed l was clock past port source bytes r (event_of e) mid new f.0 (sym (asked past s) ∙ takes.0) takes.1 f.1, f.2))
+
   pub relayed : (number : ℕ) (r : Receipt) (new : List Entry) (is : ReceiptList) (o : Option coded.Printed) (did : Stepped)
-      → MatchOption o (did ≡ stepped.Starved) (λ (e : coded.Printed). did ≡ stepped.Prints e) → (out : TakesOut number r was is) → RelaysSo config clock l (taken_by r) o new
-      → OfStep config (course_of l was clock past) (step.Relay number) did (course_of new is clock past)
-  relayed number r new later o did tells out relays =
-      of_event config (course_of l was clock past) (step.Relay number) (course_of new later clock past) o did tells
-      (λ e is. relays_held number r (event_of e) new later out (subst (λ (x : Option coded.Printed). RelaysSo config clock l (taken_by r) x new) is relays))
+      → MatchOption o (did ≡ stepped.Starved) (λ (e : coded.Printed). did ≡ stepped.Prints e) → (out : TakesOut number r was is) → RelaysSo config seed clock l (taken_by r) o old now new
+      → StepsSo config seed did old now (λ past past_now. OfStep config seed (course_of l was clock past) (step.Relay number) did (course_of new is clock past_now))
+  relayed number r new later None did tells out relays =
+      subst (λ (d : Stepped). StepsSo config seed d old now (λ past past_now. OfStep config seed (course_of l was clock past) (step.Relay number) d (course_of new later clock past_now))) (sym tells) tt
+  relayed number r new later (Some e) did tells out relays =
+      subst (λ (d : Stepped). StepsSo config seed d old now (λ past past_now. OfStep config seed (course_of l was clock past) (step.Relay number) d (course_of new later clock past_now)))
+      (sym tells) (λ past s. let f = relays past s in (f.0, relays_held config seed l was clock past number r (event_of e) new f.0 later out f.1, f.2))
 
 -- one step more
-pub plays_more : (config : Config) (steps : List Step) (r : Course) (prints : List Printed) (mid : Course) (s : Step) (more : List Printed) (new : Course)
-    → Plays config steps r prints mid → Makes config mid s more new → Plays config (steps ++ s ∷ []) r (prints ++ more) (after s new)
-plays_more config [] r prints mid s more new (none, same) makes =
-    (new, more, [], ap (λ (xs : List Printed). xs ++ more) none ∙ sym (append-nil more), subst (λ (c : Course). Makes config c s more new) same makes, (refl, refl))
-plays_more config (x ∷ steps) r prints mid s more new (between, first, rest, is, made, plays) makes =
-    (between, first, rest ++ more, ap (λ (xs : List Printed). xs ++ more) is ∙ append_assoc first rest more, made, plays_more config steps (after x between) rest mid s more new plays makes)
+pub plays_more : (config : Config) (seed : ℕ) (steps : List Step) (r : Course) (prints : List Printed) (mid : Course) (s : Step) (more : List Printed) (new : Course)
+    → Plays config seed steps r prints mid → Makes config seed mid s more new → Plays config seed (steps ++ s ∷ []) r (prints ++ more) (after s new)
+plays_more config seed [] r prints mid s more new (none, same) makes =
+    (new, more, [], ap (λ (xs : List Printed). xs ++ more) none ∙ sym (append-nil more), subst (λ (c : Course). Makes config seed c s more new) same makes, (refl, refl))
+plays_more config seed (x ∷ steps) r prints mid s more new (between, first, rest, is, made, plays) makes =
+    (between, first, rest ++ more, ap (λ (xs : List Printed). xs ++ more) is ∙ append_assoc first rest more, made, plays_more config seed steps (after x between) rest mid s more new plays makes)
 
 -- a stop behind it all
 pub stops : (config : Config) {M I O T : Type 0} {g : _} (old new : Hand M (Part I O) Made T g) → MakesTurn config old new (stop_entry (board_of (made_by old)))

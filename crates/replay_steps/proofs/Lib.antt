@@ -6,6 +6,7 @@ pub mod Courses
 pub mod Watchings
 pub mod Commands
 pub mod Fronts
+pub mod SendsTold
 pub mod Steps
 pub mod Writings
 pub mod Beginnings

@@ -21,45 +21,45 @@ opens_more config [] x a b c same last = subst (λ (k : List Happening). OpensAs
 opens_more config (Open at done ∷ xs) x a b c (e, is, so, rest) last = (e, is, so, opens_more config xs x _ b c rest last)
 opens_more config (Close at taken sent ∷ xs) x a b c rest last = opens_more config xs x a b c rest last
 
-draws_more : (xs : List KeyCall) (x : KeyCall) (a b c : List Happening) → DrawsAsked xs a b → DrawsAsked (x ∷ []) b c → DrawsAsked (xs ++ x ∷ []) a c
-draws_more [] x a b c same last = subst (λ (k : List Happening). DrawsAsked (x ∷ []) k c) same last
-draws_more (key.Drawn bytes ∷ xs) x a b c (so, rest) last = (so, draws_more xs x _ b c rest last)
-draws_more (key.Failed ∷ xs) x a b c (so, rest) last = (so, draws_more xs x _ b c rest last)
+draws_more : (seed : ℕ) (xs : List KeyCall) (x : KeyCall) (a b c : List Happening) → DrawsAsked seed xs a b → DrawsAsked seed (x ∷ []) b c → DrawsAsked seed (xs ++ x ∷ []) a c
+draws_more seed [] x a b c same last = subst (λ (k : List Happening). DrawsAsked seed (x ∷ []) k c) same last
+draws_more seed (key.Drawn bytes ∷ xs) x a b c (so, due, rest) last = (so, due, draws_more seed xs x _ b c rest last)
+draws_more seed (key.Failed ∷ xs) x a b c (so, rest) last = (so, draws_more seed xs x _ b c rest last)
 
-pub none_watched : (w : WatchState) (P : List Happening → List Happening → Type 0) → ((past : List Happening) → P past past) → Watches w w P
-none_watched w P here past s = (past, here past, s)
+pub none_watched : (config : Config) (seed : ℕ) (w : WatchState) (P : List Happening → List Happening → Type 0) → ((past : List Happening) → P past past) → Watches config seed w w P
+none_watched config seed w P here past s = (past, here past, s)
 
-pub openings_watched : (config : Config) (xs : List PortCall) (x : PortCall) (first second third : WatchState) → Watches first second (OpensAsked config xs)
-    → Watches second third (OpensAsked config (x ∷ [])) → Watches first third (OpensAsked config (xs ++ x ∷ []))
-openings_watched config xs x first second third before last past s =
+pub openings_watched : (config : Config) (seed : ℕ) (xs : List PortCall) (x : PortCall) (first second third : WatchState) → Watches config seed first second (OpensAsked config xs)
+    → Watches config seed second third (OpensAsked config (x ∷ [])) → Watches config seed first third (OpensAsked config (xs ++ x ∷ []))
+openings_watched config seed xs x first second third before last past s =
     let b = before past s in let l = last b.0 b.2 in (l.0, opens_more config xs x past b.0 l.0 b.1 l.1, l.2)
 
-pub draws_watched : (xs : List KeyCall) (x : KeyCall) (first second third : WatchState) → Watches first second (DrawsAsked xs)
-    → Watches second third (DrawsAsked (x ∷ [])) → Watches first third (DrawsAsked (xs ++ x ∷ []))
-draws_watched xs x first second third before last past s =
-    let b = before past s in let l = last b.0 b.2 in (l.0, draws_more xs x past b.0 l.0 b.1 l.1, l.2)
+pub draws_watched : (config : Config) (seed : ℕ) (xs : List KeyCall) (x : KeyCall) (first second third : WatchState) → Watches config seed first second (DrawsAsked seed xs)
+    → Watches config seed second third (DrawsAsked seed (x ∷ [])) → Watches config seed first third (DrawsAsked seed (xs ++ x ∷ []))
+draws_watched config seed xs x first second third before last past s =
+    let b = before past s in let l = last b.0 b.2 in (l.0, draws_more seed xs x past b.0 l.0 b.1 l.1, l.2)
 
 -- a step that was not starved
-pub stepped_so : (did : Stepped) (old new : WatchState) (P : List Happening → List Happening → Type 0) → StepsSo did old new P → (past : List Happening) → StandsFor past old
-    → (did ≡ stepped.Starved) ⊎ ((now : List Happening) × P past now × StandsFor now new)
-stepped_so stepped.Quiet old new P so past s = inr (so past s)
-stepped_so (stepped.Prints e) old new P so past s = inr (so past s)
-stepped_so stepped.Faulty old new P so past s = inr (so past s)
-stepped_so stepped.Starved old new P so past s = inl refl
+pub stepped_so : (config : Config) (seed : ℕ) (did : Stepped) (old new : WatchState) (P : List Happening → List Happening → Type 0) → StepsSo config seed did old new P → (past : List Happening) → StandsFor config seed past old
+    → (did ≡ stepped.Starved) ⊎ ((now : List Happening) × P past now × StandsFor config seed now new)
+stepped_so config seed stepped.Quiet old new P so past s = inr (so past s)
+stepped_so config seed (stepped.Prints e) old new P so past s = inr (so past s)
+stepped_so config seed stepped.Faulty old new P so past s = inr (so past s)
+stepped_so config seed stepped.Starved old new P so past s = inl refl
 
 -- what a step did, said in another way
-pub steps_less : (did : Stepped) (old new : WatchState) (P Q : List Happening → List Happening → Type 0) → ((past now : List Happening) → P past now → Q past now) → StepsSo did old new P → StepsSo did old new Q
-steps_less stepped.Quiet old new P Q less so = λ past s. let f = so past s in (f.0, less past f.0 f.1, f.2)
-steps_less (stepped.Prints e) old new P Q less so = λ past s. let f = so past s in (f.0, less past f.0 f.1, f.2)
-steps_less stepped.Faulty old new P Q less so = λ past s. let f = so past s in (f.0, less past f.0 f.1, f.2)
-steps_less stepped.Starved old new P Q less so = tt
+pub steps_less : (config : Config) (seed : ℕ) (did : Stepped) (old new : WatchState) (P Q : List Happening → List Happening → Type 0) → ((past now : List Happening) → P past now → Q past now) → StepsSo config seed did old new P → StepsSo config seed did old new Q
+steps_less config seed stepped.Quiet old new P Q less so = λ past s. let f = so past s in (f.0, less past f.0 f.1, f.2)
+steps_less config seed (stepped.Prints e) old new P Q less so = λ past s. let f = so past s in (f.0, less past f.0 f.1, f.2)
+steps_less config seed stepped.Faulty old new P Q less so = λ past s. let f = so past s in (f.0, less past f.0 f.1, f.2)
+steps_less config seed stepped.Starved old new P Q less so = tt
 
 -- a step that notes nothing
-pub steps_unwatched : (did : Stepped) (w : WatchState) (P : List Happening → List Happening → Type 0) → ((past : List Happening) → StandsFor past w → P past past) → StepsSo did w w P
-steps_unwatched stepped.Quiet w P here = λ past s. (past, here past s, s)
-steps_unwatched (stepped.Prints e) w P here = λ past s. (past, here past s, s)
-steps_unwatched stepped.Faulty w P here = λ past s. (past, here past s, s)
-steps_unwatched stepped.Starved w P here = tt
+pub steps_unwatched : (config : Config) (seed : ℕ) (did : Stepped) (w : WatchState) (P : List Happening → List Happening → Type 0) → ((past : List Happening) → StandsFor config seed past w → P past past) → StepsSo config seed did w w P
+steps_unwatched config seed stepped.Quiet w P here = λ past s. (past, here past s, s)
+steps_unwatched config seed (stepped.Prints e) w P here = λ past s. (past, here past s, s)
+steps_unwatched config seed stepped.Faulty w P here = λ past s. (past, here past s, s)
+steps_unwatched config seed stepped.Starved w P here = tt
 
 pub false_is : (b : Bool) → not b ≡ true → b ≡ false
 false_is true is = absurd (let k : false ≡ true = is in cc)
@@ -77,18 +77,18 @@ pub found_end : (config : Config) (port : ℕ) (ip : Ip) (o : Option End) → Ha
 found_end config port ip None has is = absurd (let k : false ≡ true = is in cc)
 found_end config port ip (Some e) has is = (e, has)
 
-module _ (config : Config) (r : List Happening → Course) (s : Step) (did : Stepped) (new : List Happening → Course) (old now : WatchState)
-    (so : StepsSo did old now (λ past past_now. OfStep config (r past) s did (new past_now))) (past : List Happening) (stands : StandsFor past old) where
+module _ (config : Config) (seed : ℕ) (r : List Happening → Course) (s : Step) (did : Stepped) (new : List Happening → Course) (old now : WatchState)
+    (so : StepsSo config seed did old now (λ past past_now. OfStep config seed (r past) s did (new past_now))) (past : List Happening) (stands : StandsFor config seed past old) where
   -- what a step did, starved or not
-  pub some_step : (past_now : List Happening) × OfStep config (r past) s did (new past_now)
-  some_step = elim (stepped_so did old now (λ past past_now. OfStep config (r past) s did (new past_now)) so past stands) [
-    | inl is ↦ (past, subst (λ (d : Stepped). OfStep config (r past) s d (new past)) (sym is) tt)
+  pub some_step : (past_now : List Happening) × OfStep config seed (r past) s did (new past_now)
+  some_step = elim (stepped_so config seed did old now (λ past past_now. OfStep config seed (r past) s did (new past_now)) so past stands) [
+    | inl is ↦ (past, subst (λ (d : Stepped). OfStep config seed (r past) s d (new past)) (sym is) tt)
     | inr found ↦ (found.0, found.1)
   ]
 
   -- what one did that was not starved
-  pub one_step : (did ≡ stepped.Starved → ⊥) → (past_now : List Happening) × OfStep config (r past) s did (new past_now) × StandsFor past_now now
-  one_step fed = elim (stepped_so did old now (λ past past_now. OfStep config (r past) s did (new past_now)) so past stands) [
+  pub one_step : (did ≡ stepped.Starved → ⊥) → (past_now : List Happening) × OfStep config seed (r past) s did (new past_now) × StandsFor config seed past_now now
+  one_step fed = elim (stepped_so config seed did old now (λ past past_now. OfStep config seed (r past) s did (new past_now)) so past stands) [
     | inl is ↦ absurd (fed is)
     | inr found ↦ found
   ]

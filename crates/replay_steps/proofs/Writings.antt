@@ -38,13 +38,13 @@ module _ {S : Type 0} (told : S → Option (List WriteCall)) (event : Printed) (
 -- Several steps.
 
 -- these steps were made, a replay came to there, and what they print was written
-pub record PlayedTo (config : Config) (steps : List Step) (r : Course) (writes : List WriteCall) : Type 0 where
+pub record PlayedTo (config : Config) (seed : ℕ) (steps : List Step) (r : Course) (writes : List WriteCall) : Type 0 where
   pub prints : List Printed
-  pub plays : Plays config steps at_first prints r
+  pub plays : Plays config seed steps at_first prints r
   pub writes_are : writes ≡ map written prints
 
-pub none_played : (config : Config) (r : Course) → r ≡ at_first → PlayedTo config [] r []
-none_played config r is = record { prints = []; plays = (refl, is); writes_are = refl }
+pub none_played : (config : Config) (seed : ℕ) (r : Course) → r ≡ at_first → PlayedTo config seed [] r []
+none_played config seed r is = record { prints = []; plays = (refl, is); writes_are = refl }
 
 -- lines behind lines
 both_written : (xs ys : List WriteCall) (prints more : List Printed) → xs ≡ map written prints → ys ≡ map written more → xs ++ ys ≡ map written (prints ++ more)
@@ -56,18 +56,18 @@ none_written xs ys prints p q = ap (λ (zs : List WriteCall). xs ++ zs) q ∙ ap
 last_failed : (xs ys : List WriteCall) (prints : List Printed) (event : Printed) → xs ≡ map written prints → ys ≡ unwritten event ∷ [] → xs ++ ys ≡ map written prints ++ unwritten event ∷ []
 last_failed xs ys prints event p q = ap (λ (zs : List WriteCall). zs ++ ys) p ∙ ap (λ (zs : List WriteCall). map written prints ++ zs) q
 
-module _ (config : Config) (before : List Step) (r : Course) (s : Step) (new : Course) (line : ℕ) where
+module _ (config : Config) (seed : ℕ) (before : List Step) (r : Course) (s : Step) (new : Course) (line : ℕ) where
   -- a step, behind which the replay goes on
-  pub went_on : (did : Stepped) → OfStep config r s did new → (xs ys : List WriteCall) → PlayedTo config before r xs → DidStep did line None ys
-      → PlayedTo config (before ++ s ∷ []) (after s new) (xs ++ ys)
+  pub went_on : (did : Stepped) → OfStep config seed r s did new → (xs ys : List WriteCall) → PlayedTo config seed before r xs → DidStep did line None ys
+      → PlayedTo config seed (before ++ s ∷ []) (after s new) (xs ++ ys)
   went_on stepped.Quiet makes xs ys x y = record {
     prints = x.prints ++ [];
-    plays = plays_more config before at_first x.prints r s [] new x.plays makes;
+    plays = plays_more config seed before at_first x.prints r s [] new x.plays makes;
     writes_are = both_written xs ys x.prints [] x.writes_are y.1;
   }
   went_on (stepped.Prints e) makes xs ys x y = record {
     prints = x.prints ++ event_of e ∷ [];
-    plays = plays_more config before at_first x.prints r s (event_of e ∷ []) new x.plays makes;
+    plays = plays_more config seed before at_first x.prints r s (event_of e ∷ []) new x.plays makes;
     writes_are = both_written xs ys x.prints (event_of e ∷ []) x.writes_are y;
   }
   went_on stepped.Faulty makes xs ys x y = absurd y
@@ -75,7 +75,7 @@ module _ (config : Config) (before : List Step) (r : Course) (s : Step) (new : C
 
   -- a step by which the replay ends
   module _ (steps behind : List Step) (steps_are : steps ≡ before ++ s ∷ behind) (l : List Entry) (line_is : line ≡ length before + 1) (entries_are : new.entries ≡ l) where
-    starved : (xs ys : List WriteCall) → PlayedTo config before r xs → ys ≡ [] → PlayedSome config steps (xs ++ ys)
+    starved : (xs ys : List WriteCall) → PlayedTo config seed before r xs → ys ≡ [] → PlayedSome config seed steps (xs ++ ys)
     starved xs ys x none = record {
       before = before;
       after = s ∷ behind;
@@ -86,7 +86,7 @@ module _ (config : Config) (before : List Step) (r : Course) (s : Step) (new : C
       writes_are = none_written xs ys x.prints x.writes_are none;
     }
 
-    failed : (event : Printed) (xs ys : List WriteCall) → PlayedTo config before r xs → ys ≡ unwritten event ∷ [] → Demands config r s (length before + 1) event new → FailsAt config steps l (xs ++ ys)
+    failed : (event : Printed) (xs ys : List WriteCall) → PlayedTo config seed before r xs → ys ≡ unwritten event ∷ [] → Demands config seed r s (length before + 1) event new → FailsAt config seed steps l (xs ++ ys)
     failed event xs ys x is demands = record {
       before = before;
       step = s;
@@ -102,15 +102,15 @@ module _ (config : Config) (before : List Step) (r : Course) (s : Step) (new : C
       writes_are = last_failed xs ys x.prints event x.writes_are is;
     }
 
-    printed : (event : Printed) (end : Ended) (xs ys : List WriteCall) → PlayedTo config before r xs → Makes config r s (event ∷ []) new → DidPrint event (Some end) ys
-        → DidSteps config steps l (Some end) (xs ++ ys)
+    printed : (event : Printed) (end : Ended) (xs ys : List WriteCall) → PlayedTo config seed before r xs → Makes config seed r s (event ∷ []) new → DidPrint event (Some end) ys
+        → DidSteps config seed steps l (Some end) (xs ++ ys)
     printed event ended.Finished xs ys x makes y = absurd y
     printed event ended.ScriptFault xs ys x makes y = absurd y
     printed event ended.ScriptRead xs ys x makes y = absurd y
     printed event ended.PrintFault xs ys x makes y = failed event xs ys x y (inl makes)
     printed event ended.OutOfMemory xs ys x makes y = starved xs ys x y
 
-    told_faulty : (end : Ended) (xs ys : List WriteCall) → PlayedTo config before r xs → IsFaulty r s → new ≡ r → DidTell line end ys → DidSteps config steps l (Some end) (xs ++ ys)
+    told_faulty : (end : Ended) (xs ys : List WriteCall) → PlayedTo config seed before r xs → IsFaulty r s → new ≡ r → DidTell line end ys → DidSteps config seed steps l (Some end) (xs ++ ys)
     told_faulty ended.Finished xs ys x faulty same y = absurd y
     told_faulty ended.ScriptFault xs ys x faulty same y = record {
       before = before;
@@ -129,16 +129,16 @@ module _ (config : Config) (before : List Step) (r : Course) (s : Step) (new : C
         failed (ScriptFault (length before + 1)) xs ys x (y ∙ ap (λ (n : ℕ). unwritten (ScriptFault n) ∷ []) line_is) (inr (faulty, refl, same))
     told_faulty ended.OutOfMemory xs ys x faulty same y = starved xs ys x y
 
-    pub ended_in : (did : Stepped) (end : Ended) → OfStep config r s did new → (xs ys : List WriteCall) → PlayedTo config before r xs → DidStep did line (Some end) ys
-        → DidSteps config steps l (Some end) (xs ++ ys)
+    pub ended_in : (did : Stepped) (end : Ended) → OfStep config seed r s did new → (xs ys : List WriteCall) → PlayedTo config seed before r xs → DidStep did line (Some end) ys
+        → DidSteps config seed steps l (Some end) (xs ++ ys)
     ended_in stepped.Quiet end makes xs ys x y = absurd (let k : Some end ≡ None = y.0 in cc)
     ended_in (stepped.Prints e) end makes xs ys x y = printed (event_of e) end xs ys x makes y
     ended_in stepped.Faulty end makes xs ys x y = told_faulty end xs ys x makes.0 makes.1 y
-    ended_in stepped.Starved end makes xs ys x y = subst (λ (o : Option Ended). DidSteps config steps l o (xs ++ ys)) (sym y.0) (starved xs ys x y.1)
+    ended_in stepped.Starved end makes xs ys x y = subst (λ (o : Option Ended). DidSteps config seed steps l o (xs ++ ys)) (sym y.0) (starved xs ys x y.1)
 
 -- some of the steps were made
-pub some_played : (config : Config) (steps before behind : List Step) (r : Course) → steps ≡ before ++ behind → (xs : List WriteCall) → PlayedTo config before r xs → PlayedSome config steps xs
-some_played config steps before behind r is xs x = record {
+pub some_played : (config : Config) (seed : ℕ) (steps before behind : List Step) (r : Course) → steps ≡ before ++ behind → (xs : List WriteCall) → PlayedTo config seed before r xs → PlayedSome config seed steps xs
+some_played config seed steps before behind r is xs x = record {
   before = before;
   after = behind;
   steps_are = is;
@@ -148,30 +148,30 @@ some_played config steps before behind r is xs x = record {
   writes_are = x.writes_are;
 }
 
-pub nothing_played : (config : Config) (steps : List Step) → PlayedSome config steps []
-nothing_played config steps = some_played config steps [] steps at_first refl [] (none_played config at_first refl)
+pub nothing_played : (config : Config) (seed : ℕ) (steps : List Step) → PlayedSome config seed steps []
+nothing_played config seed steps = some_played config seed steps [] steps at_first refl [] (none_played config seed at_first refl)
 
 -- all of them were made
-pub all_played : (config : Config) (steps before : List Step) (r : Course) (l : List Entry) → before ≡ steps → r.entries ≡ l → (xs : List WriteCall) → PlayedTo config before r xs
-    → Played config steps l xs
-all_played config steps before r l is entries xs x = record {
+pub all_played : (config : Config) (seed : ℕ) (steps before : List Step) (r : Course) (l : List Entry) → before ≡ steps → r.entries ≡ l → (xs : List WriteCall) → PlayedTo config seed before r xs
+    → Played config seed steps l xs
+all_played config seed steps before r l is entries xs x = record {
   prints = x.prints;
   course = r;
-  plays = subst (λ (k : List Step). Plays config k at_first x.prints r) is x.plays;
+  plays = subst (λ (k : List Step). Plays config seed k at_first x.prints r) is x.plays;
   entries_are = entries;
   writes_are = x.writes_are;
 }
 
 -- The end of the script, behind all steps.
 
-module _ (config : Config) (steps : List Step) (l : List Entry) where
-  no_more : (xs ys : List WriteCall) → ys ≡ [] → Played config steps l xs → Played config steps l (xs ++ ys)
-  no_more xs ys none x = subst (λ (zs : List WriteCall). Played config steps l (xs ++ zs)) (sym none) (subst (Played config steps l) (sym (append-nil xs)) x)
+module _ (config : Config) (seed : ℕ) (steps : List Step) (l : List Entry) where
+  no_more : (xs ys : List WriteCall) → ys ≡ [] → Played config seed steps l xs → Played config seed steps l (xs ++ ys)
+  no_more xs ys none x = subst (λ (zs : List WriteCall). Played config seed steps l (xs ++ zs)) (sym none) (subst (Played config seed steps l) (sym (append-nil xs)) x)
 
-  one_more : (xs ys : List WriteCall) (last : WriteCall) → ys ≡ last ∷ [] → Played config steps l xs → PlayedAnd config steps l (last ∷ []) (xs ++ ys)
+  one_more : (xs ys : List WriteCall) (last : WriteCall) → ys ≡ last ∷ [] → Played config seed steps l xs → PlayedAnd config seed steps l (last ∷ []) (xs ++ ys)
   one_more xs ys last is x = record { front = xs; played = x; writes_are = ap (λ (zs : List WriteCall). xs ++ zs) is }
 
-  after_tell : (line : ℕ) (end : Ended) → line ≡ length steps + 1 → (xs ys : List WriteCall) → Played config steps l xs → DidTell line end ys → DidWrite config steps ending.Outside end l (xs ++ ys)
+  after_tell : (line : ℕ) (end : Ended) → line ≡ length steps + 1 → (xs ys : List WriteCall) → Played config seed steps l xs → DidTell line end ys → DidWrite config seed steps ending.Outside end l (xs ++ ys)
   after_tell line ended.Finished at xs ys x y = absurd y
   after_tell line ended.ScriptFault at xs ys x y = inr (refl, one_more xs ys (written (ScriptFault (length steps + 1))) (y ∙ ap (λ (n : ℕ). written (ScriptFault n) ∷ []) at) x)
   after_tell line ended.ScriptRead at xs ys x y = absurd y
@@ -186,13 +186,13 @@ module _ (config : Config) (steps : List Step) (l : List Entry) where
     writes_are = none_written xs ys x.prints x.writes_are y;
   }
 
-  after_end : (line : ℕ) (how : Ending) (end : Ended) → line ≡ length steps + 1 → (xs ys : List WriteCall) → Played config steps l xs → DidEnd how line end ys → DidWrite config steps how end l (xs ++ ys)
-  after_end line ending.End end at xs ys x y = subst (λ (e : Ended). DidWrite config steps ending.End e l (xs ++ ys)) (sym y.0) (refl, no_more xs ys y.1 x)
+  after_end : (line : ℕ) (how : Ending) (end : Ended) → line ≡ length steps + 1 → (xs ys : List WriteCall) → Played config seed steps l xs → DidEnd how line end ys → DidWrite config seed steps how end l (xs ++ ys)
+  after_end line ending.End end at xs ys x y = subst (λ (e : Ended). DidWrite config seed steps ending.End e l (xs ++ ys)) (sym y.0) (refl, no_more xs ys y.1 x)
   after_end line ending.Outside end at xs ys x y = after_tell line end at xs ys x y
-  after_end line ending.Fault end at xs ys x y = subst (λ (e : Ended). DidWrite config steps ending.Fault e l (xs ++ ys)) (sym y.0) (refl, no_more xs ys y.1 x)
+  after_end line ending.Fault end at xs ys x y = subst (λ (e : Ended). DidWrite config seed steps ending.Fault e l (xs ++ ys)) (sym y.0) (refl, no_more xs ys y.1 x)
 
   -- a replay that ended in its steps
-  ended_early : (how : Ending) (already : Ended) (xs : List WriteCall) → DidSteps config steps l (Some already) xs → DidWrite config steps how already l xs
+  ended_early : (how : Ending) (already : Ended) (xs : List WriteCall) → DidSteps config seed steps l (Some already) xs → DidWrite config seed steps how already l xs
   ended_early how ended.Finished xs x = absurd x
   ended_early how ended.ScriptFault xs x = inl x
   ended_early how ended.ScriptRead xs x = absurd x
@@ -202,14 +202,14 @@ module _ (config : Config) (steps : List Step) (l : List Entry) where
   nothing_more : (P : List WriteCall → Type 0) (xs ys : List WriteCall) → ys ≡ [] → P xs → P (xs ++ ys)
   nothing_more P xs ys none p = subst (λ (zs : List WriteCall). P (xs ++ zs)) (sym none) (subst P (sym (append-nil xs)) p)
 
-  after_all : (line : ℕ) (ran : Option Ended) (how : Ending) (end : Ended) → (ran ≡ None → line ≡ length steps + 1) → (xs ys : List WriteCall) → DidSteps config steps l ran xs
-      → DidFinish ran how line end ys → DidWrite config steps how end l (xs ++ ys)
+  after_all : (line : ℕ) (ran : Option Ended) (how : Ending) (end : Ended) → (ran ≡ None → line ≡ length steps + 1) → (xs ys : List WriteCall) → DidSteps config seed steps l ran xs
+      → DidFinish ran how line end ys → DidWrite config seed steps how end l (xs ++ ys)
   after_all line None how end at xs ys x y = after_end line how end (at refl) xs ys x y
   after_all line (Some already) how end at xs ys x y =
-      subst (λ (e : Ended). DidWrite config steps how e l (xs ++ ys)) (sym y.0) (nothing_more (DidWrite config steps how already l) xs ys y.1 (ended_early how already xs x))
+      subst (λ (e : Ended). DidWrite config seed steps how e l (xs ++ ys)) (sym y.0) (nothing_more (DidWrite config seed steps how already l) xs ys y.1 (ended_early how already xs x))
 
   -- and then all calls were stopped
-  and_stopped : (how : Ending) (end : Ended) → Stops config l → (xs : List WriteCall) → DidWrite config steps how end l xs → DidPlay config steps how end xs
+  and_stopped : (how : Ending) (end : Ended) → Stops config l → (xs : List WriteCall) → DidWrite config seed steps how end l xs → DidPlay config seed steps how end xs
   and_stopped how ended.Finished stops xs x = (l, x, stops)
   and_stopped how ended.ScriptFault stops xs x = (l, x, stops)
   and_stopped how ended.ScriptRead stops xs x = (l, x, stops)
@@ -217,17 +217,17 @@ module _ (config : Config) (steps : List Step) (l : List Entry) where
   and_stopped how ended.OutOfMemory stops xs x = x
 
   pub after_stop : (line : ℕ) (ran : Option Ended) (how : Ending) (end : Ended) → (ran ≡ None → line ≡ length steps + 1) → Stops config l → (xs ys : List WriteCall)
-      → DidSteps config steps l ran xs → DidFinish ran how line end ys → DidPlay config steps how end (xs ++ ys)
+      → DidSteps config seed steps l ran xs → DidFinish ran how line end ys → DidPlay config seed steps how end (xs ++ ys)
   after_stop line ran how end at stops xs ys x y = and_stopped how end stops (xs ++ ys) (after_all line ran how end at xs ys x y)
 
 -- what was read beside it
-pub replays : (config : Config) (steps : List Step) (how : Ending) (end : Ended) (read read_now : Option (List LineCall)) → Gained read read_now (Reads steps how)
-    → (writes : List WriteCall) → DidPlay config steps how end writes → Replays config end read read_now writes
-replays config steps how ended.Finished read read_now reads writes did = record { steps = steps; how = how; reads_are = reads; did = did }
-replays config steps how ended.ScriptFault read read_now reads writes did = record { steps = steps; how = how; reads_are = reads; did = did }
-replays config steps how ended.ScriptRead read read_now reads writes did = record { steps = steps; how = how; reads_are = reads; did = did }
-replays config steps how ended.PrintFault read read_now reads writes did = record { steps = steps; how = how; reads_are = reads; did = did }
-replays config steps how ended.OutOfMemory read read_now reads writes did = record { events = did.prints; writes_are = did.writes_are }
+pub replays : (config : Config) (seed : ℕ) (steps : List Step) (how : Ending) (end : Ended) (read read_now : Option (List LineCall)) → Gained read read_now (Reads steps how)
+    → (writes : List WriteCall) → DidPlay config seed steps how end writes → Replays config seed end read read_now writes
+replays config seed steps how ended.Finished read read_now reads writes did = record { steps = steps; how = how; reads_are = reads; did = did }
+replays config seed steps how ended.ScriptFault read read_now reads writes did = record { steps = steps; how = how; reads_are = reads; did = did }
+replays config seed steps how ended.ScriptRead read read_now reads writes did = record { steps = steps; how = how; reads_are = reads; did = did }
+replays config seed steps how ended.PrintFault read read_now reads writes did = record { steps = steps; how = how; reads_are = reads; did = did }
+replays config seed steps how ended.OutOfMemory read read_now reads writes did = record { events = did.prints; writes_are = did.writes_are }
 
 -- nothing was written for want of memory
 pub no_lines : Prints []

@@ -14,6 +14,8 @@ use Rattle.port_pool.specs.Boxes.{Taken}
 use Rattle.call_board.specs.Acts.{BoardEntry}
 use Rattle.call_cell.specs.declared.outcome.Outcome.{Outcome}
 use Rattle.call_cell.specs.Cells as cells
+use Rattle.call_cell.specs.Cells.{Sending}
+use Rattle.call_cell.specs.Standing.{sent_ok}
 use Rattle.relay_core.specs.Entries.{Entry, board_entry}
 use Rattle.relay_core.specs.Legal.{Legal}
 use Rattle.relay_core.specs.Safe.{Safe}
@@ -25,14 +27,16 @@ use Rattle.control_entries.specs.Controls.{Hearing, control_of, entry_at, moment
 use Rattle.control_entries.specs.Giving.{draws_of}
 use Rattle.control_turns.specs.Taking.{is_too_long}
 use Rattle.media_ports.specs.Asked.{OpensWith}
-use Rattle.main_sweeps.specs.Steps.{take_entry, RelaysBy}
+use Rattle.main_sweeps.specs.Steps.{take_entry, deed_after, RelaysBy}
 use Rattle.relay_script.specs.Steps as step
 use Rattle.relay_script.specs.Steps.{Step}
 use Rattle.relay_script.specs.declared.event.Printed as coded
 use Rattle.relay_script.specs.Printing as event
 use Rattle.relay_script.specs.Printing.{Printed, event_of}
 use Rattle.replay_model.specs.Steps as model
-use Rattle.replay_model.specs.Devices.{Happening, Made, Opened, Drew, Replied, fails}
+use Rattle.replay_model.specs.Devices.{Happening, Made, Opened, Drew, Replied, fails, next_key}
+use Rattle.replay_model.specs.Replay.{send_answers, after_send}
+use Rattle.replay_devices.specs.Due.{stream_from}
 use Rattle.replay_devices.specs.Watch.{step_of}
 use Rattle.replay_steps.specs.Arrivals.{End, IsEndAt, IsNoEnd}
 use Rattle.replay_steps.specs.Holding.{Numbered, ReceiptList, taken_by}
@@ -142,11 +146,13 @@ OpensAsked config (Open at done ∷ calls) old new =
     (e : End) × IsEndAt config at.port at.ip e × (done ≡ not (fails model.Opening old)) × OpensAsked config calls (Opened e.0 e.1 done ∷ old) new
 OpensAsked config (Close at taken sent ∷ calls) old new = OpensAsked config calls old new
 
--- each draw, in order, failed just where the lines ask for it
-abbrev pub DrawsAsked : List KeyCall → (old new : List Happening) → Type 0
-DrawsAsked [] old new = new ≡ old
-DrawsAsked (key.Drawn bytes ∷ calls) old new = (fails model.Drawing old ≡ false) × DrawsAsked calls (Drew true ∷ old) new
-DrawsAsked (key.Failed ∷ calls) old new = (fails model.Drawing old ≡ true) × DrawsAsked calls (Drew false ∷ old) new
+-- each draw, in order, failed just where the lines ask for it, and else gave the oldest unused key of a line `key`, or the next one of
+-- the seed's stream where there is none
+abbrev pub DrawsAsked : (seed : ℕ) → List KeyCall → (old new : List Happening) → Type 0
+DrawsAsked seed [] old new = new ≡ old
+DrawsAsked seed (key.Drawn bytes ∷ calls) old new =
+    (fails model.Drawing old ≡ false) × (bytes ≡ next_key (stream_from seed) old) × DrawsAsked seed calls (Drew true ∷ old) new
+DrawsAsked seed (key.Failed ∷ calls) old new = (fails model.Drawing old ≡ true) × DrawsAsked seed calls (Drew false ∷ old) new
 
 -- a reply was sent, or its send failed
 abbrev pub replied : Printed → List Happening → List Happening
@@ -163,13 +169,13 @@ pub record TakesPacket (config : Config) (l : List Entry) (port : ℕ) (source :
   pub bytes_are : p.1.bytes ≡ bytes
   pub list_is : new ≡ l ++ take_entry config p.0 p.1.half p.1.take (box.Datagram p.1.holder p.1.source p.1.bytes) ∷ []
 
--- what is printed of a take that gave no packet; an open port gives the line's one
-abbrev pub PrintsTaken : Taken → Printed → Type 0
-PrintsTaken box.Closed e = e ≡ event.Nothing
-PrintsTaken box.Nothing e = ⊥
-PrintsTaken (box.Datagram holder source bytes) e = ⊥
-PrintsTaken (box.TooLong source bytes) e = e ≡ event.TooLong
-PrintsTaken box.Fault e = e ≡ event.TakeFault
+-- what is printed of the take of a packet that it did not give; an open port gives one that isn't too long
+abbrev pub PrintsTaken : Taken → (bytes : List ℕ) → Printed → Type 0
+PrintsTaken box.Closed bytes e = e ≡ event.Nothing
+PrintsTaken box.Nothing bytes e = ⊥
+PrintsTaken (box.Datagram holder source given) bytes e = ⊥
+PrintsTaken (box.TooLong source given) bytes e = (2000 < length bytes) × (e ≡ event.TooLong)
+PrintsTaken box.Fault bytes e = e ≡ event.TakeFault
 
 -- a take fails just where it has to, at an open port
 abbrev pub FailsSo : Taken → (failing : Bool) → Type 0
@@ -180,37 +186,38 @@ FailsSo (box.TooLong source bytes) failing = failing ≡ false
 FailsSo box.Fault failing = failing ≡ true
 
 -- one take was made at the end of the port, and gave no packet
-pub record TakesNone (config : Config) (l : List Entry) (port : ℕ) (source : Ip) (failing : Bool) (e : Printed) (new : List Entry) : Type 0 where
+pub record TakesNone (config : Config) (l : List Entry) (port : ℕ) (source : Addr) (bytes : List ℕ) (failing : Bool) (e : Printed) (new : List Entry) : Type 0 where
   pub end : End
-  pub at : IsEndAt config port source end
+  pub at : IsEndAt config port source.ip end
   pub number : ℕ
   pub taken : Taken
-  pub printed : PrintsTaken taken e
+  pub printed : PrintsTaken taken bytes e
   pub asked : FailsSo taken failing
   pub list_is : new ≡ l ++ take_entry config end.0 end.1 number taken ∷ []
 
 -- no packet was taken: no end has the port, or the one take at it gave none
-abbrev pub Misses : Config → List Entry → (port : ℕ) → Ip → (failing : Bool) → Printed → List Entry → Type 0
-Misses config l port source failing e new = (IsNoEnd config port source × (e ≡ event.Nothing) × (new ≡ l)) ⊎ TakesNone config l port source failing e new
+abbrev pub Misses : Config → List Entry → (port : ℕ) → Addr → (bytes : List ℕ) → (failing : Bool) → Printed → List Entry → Type 0
+Misses config l port source bytes failing e new =
+    (IsNoEnd config port source.ip × (e ≡ event.Nothing) × (new ≡ l)) ⊎ TakesNone config l port source bytes failing e new
+
+-- the one send of a relay, if it made one, failed just where the lines ask for it
+abbrev pub SendsAsked : Config → Outcome → Option Sending → (old new : List Happening) → Type 0
+SendsAsked config outcome sending old new = (sent_ok outcome ≡ send_answers config old sending) × (new ≡ after_send old (sent_ok outcome) sending)
 
 -- a packet was relayed, once, at that moment, with the outcome and the bytes that the history of its cell demands, and these are
--- printed
-pub record RelaysPacket (config : Config) (clock : ℕ) (l : List Entry) (p : cells.Receipt) (e : Printed) (new : List Entry) : Type 0 where
+-- printed; its send failed just where the lines ask for it
+pub record RelaysPacket (config : Config) (clock : ℕ) (l : List Entry) (old : List Happening) (p : cells.Receipt) (e : Printed) (new : List Entry) (past : List Happening) : Type 0 where
   pub outcome : Outcome
   pub sent : List ℕ
   pub printed : e ≡ event.Relayed outcome sent
   pub relayed : RelaysBy config l p clock outcome sent new
+  pub asked : SendsAsked config outcome (deed_after config relayed.history p outcome).sending old past
 
 -- the same of what an arrival came to, whose take has to fail or not; of another packet than the line's nothing is said
 abbrev pub Arrives : Config → List Entry → (port : ℕ) → Addr → List ℕ → (failing : Bool) → Arrived → List Entry → Type 0
 Arrives config l port source bytes failing (arrived.Packet r) new = (failing ≡ false) × TakesPacket config l port source bytes (taken_by r) new
-Arrives config l port source bytes failing (arrived.Printed e) new = Misses config l port source.ip failing (event_of e) new
+Arrives config l port source bytes failing (arrived.Printed e) new = Misses config l port source bytes failing (event_of e) new
 Arrives config l port source bytes failing arrived.Other new = Unit {0}
-
--- the same of what is printed of a relay; without memory for it nothing is said
-abbrev pub RelaysSo : Config → (clock : ℕ) → List Entry → Packet → Option coded.Printed → List Entry → Type 0
-RelaysSo config clock l p None new = Unit {0}
-RelaysSo config clock l p (Some e) new = RelaysPacket config clock l p.1 (event_of e) new
 
 -- Steps.
 
@@ -233,9 +240,9 @@ pub record Holds (config : Config) (r : Course) (port : ℕ) (source : Addr) (by
   pub new_is : new ≡ holding packet entries r
 
 -- no packet is taken
-pub record HoldsNone (config : Config) (r : Course) (port : ℕ) (source : Ip) (e : Printed) (new : Course) : Type 0 where
+pub record HoldsNone (config : Config) (r : Course) (port : ℕ) (source : Addr) (bytes : List ℕ) (e : Printed) (new : Course) : Type 0 where
   pub entries : List Entry
-  pub misses : Misses config r.entries port source (fails model.Taking r.past) e entries
+  pub misses : Misses config r.entries port source bytes (fails model.Taking r.past) e entries
   pub new_is : new ≡ with_entries entries r
 
 -- a packet is taken, and relayed at once
@@ -245,8 +252,9 @@ pub record Passes (config : Config) (r : Course) (port : ℕ) (source : Addr) (b
   pub entries : List Entry
   pub asked : fails model.Taking r.past ≡ false
   pub takes : TakesPacket config r.entries port source bytes packet between
-  pub relays : RelaysPacket config r.clock between packet.1 e entries
-  pub new_is : new ≡ with_entries entries r
+  pub past : List Happening
+  pub relays : RelaysPacket config r.clock between r.past packet.1 e entries past
+  pub new_is : new ≡ with_past past (with_entries entries r)
 
 -- the packet of that number is relayed, and held no more
 pub record RelaysHeld (config : Config) (r : Course) (number : ℕ) (e : Printed) (new : Course) : Type 0 where
@@ -255,11 +263,12 @@ pub record RelaysHeld (config : Config) (r : Course) (number : ℕ) (e : Printed
   pub after : List (ℕ × Packet)
   pub held_is : r.held ≡ before ++ (number, packet) ∷ after
   pub entries : List Entry
-  pub relays : RelaysPacket config r.clock r.entries packet.1 e entries
-  pub new_is : new ≡ left_with (before ++ after) entries r
+  pub past : List Happening
+  pub relays : RelaysPacket config r.clock r.entries r.past packet.1 e entries past
+  pub new_is : new ≡ with_past past (left_with (before ++ after) entries r)
 
 -- a control turn, which touches no packet that is held; its calls fail just where the lines ask for it
-pub record Commands (config : Config) (r : Course) (source : Addr) (bytes : List ℕ) (e : Printed) (new : Course) : Type 0 where
+pub record Commands (config : Config) (seed : ℕ) (r : Course) (source : Addr) (bytes : List ℕ) (e : Printed) (new : Course) : Type 0 where
   pub entries : List Entry
   pub opened : List PortCall
   pub drawn : List KeyCall
@@ -267,24 +276,24 @@ pub record Commands (config : Config) (r : Course) (source : Addr) (bytes : List
   pub between : List Happening
   pub opens : OpensAsked config opened r.past between
   pub past : List Happening
-  pub draws : DrawsAsked drawn between past
+  pub draws : DrawsAsked seed drawn between past
   pub new_is : new ≡ with_past (replied e past) (with_entries entries r)
 
--- Makes config r step prints new: with the step, made at r, a replay comes to new, and this is printed. That the line was passed is
+-- Makes config seed r step prints new: with the step, made at r, a replay comes to new, and this is printed. That the line was passed is
 -- not noted yet
-abbrev pub Makes : Config → Course → Step → List Printed → Course → Type 0
-Makes config r step.Skip prints new = IsQuiet r prints new
-Makes config r (step.At moment) prints new = (prints ≡ []) × (new ≡ at_moment moment r)
-Makes config r (step.Key bytes) prints new = IsQuiet r prints new
-Makes config r (step.Fail kind count) prints new = IsQuiet r prints new
-Makes config r (step.FailSend port count) prints new = IsQuiet r prints new
-Makes config r (step.Ng source bytes) prints new = PrintsOne prints (λ e. Commands config r source bytes e new)
-Makes config r (step.Take port source bytes) prints new =
-    (length r.held < 64) × PrintsOne prints (λ e. Holds config r port source bytes e new ⊎ HoldsNone config r port source.ip e new)
-Makes config r (step.Relay number) prints new = PrintsOne prints (λ e. RelaysHeld config r number e new)
-Makes config r (step.Packet port source bytes) prints new =
-    PrintsOne prints (λ e. Passes config r port source bytes e new ⊎ HoldsNone config r port source.ip e new)
-Makes config r step.Tick prints new = ⊥
+abbrev pub Makes : Config → (seed : ℕ) → Course → Step → List Printed → Course → Type 0
+Makes config seed r step.Skip prints new = IsQuiet r prints new
+Makes config seed r (step.At moment) prints new = (prints ≡ []) × (new ≡ at_moment moment r)
+Makes config seed r (step.Key bytes) prints new = IsQuiet r prints new
+Makes config seed r (step.Fail kind count) prints new = IsQuiet r prints new
+Makes config seed r (step.FailSend port count) prints new = IsQuiet r prints new
+Makes config seed r (step.Ng source bytes) prints new = PrintsOne prints (λ e. Commands config seed r source bytes e new)
+Makes config seed r (step.Take port source bytes) prints new =
+    (length r.held < 64) × PrintsOne prints (λ e. Holds config r port source bytes e new ⊎ HoldsNone config r port source bytes e new)
+Makes config seed r (step.Relay number) prints new = PrintsOne prints (λ e. RelaysHeld config r number e new)
+Makes config seed r (step.Packet port source bytes) prints new =
+    PrintsOne prints (λ e. Passes config r port source bytes e new ⊎ HoldsNone config r port source bytes e new)
+Makes config seed r step.Tick prints new = ⊥
 
 abbrev pub is_under : ℕ → ℕ × Packet → Bool
 is_under number h = h.0 == number
@@ -298,18 +307,18 @@ IsFaulty r step.Tick = Unit {0}
 IsFaulty r _ = ⊥
 
 -- what a step did: it was made, and printed this; or it can't be made, and nothing was done. Of want of memory nothing is said
-abbrev pub OfStep : Config → Course → Step → Stepped → Course → Type 0
-OfStep config r s stepped.Quiet new = Makes config r s [] new
-OfStep config r s (stepped.Prints e) new = Makes config r s (event_of e ∷ []) new
-OfStep config r s stepped.Faulty new = IsFaulty r s × (new ≡ r)
-OfStep config r s stepped.Starved new = Unit {0}
+abbrev pub OfStep : Config → (seed : ℕ) → Course → Step → Stepped → Course → Type 0
+OfStep config seed r s stepped.Quiet new = Makes config seed r s [] new
+OfStep config seed r s (stepped.Prints e) new = Makes config seed r s (event_of e ∷ []) new
+OfStep config seed r s stepped.Faulty new = IsFaulty r s × (new ≡ r)
+OfStep config seed r s stepped.Starved new = Unit {0}
 
--- Plays config steps r prints new: with these steps, each made where the ones before it came to, a replay comes from r to new, and
+-- Plays config seed steps r prints new: with these steps, each made where the ones before it came to, a replay comes from r to new, and
 -- this is printed
-abbrev pub Plays : Config → List Step → Course → List Printed → Course → Type 0
-Plays config [] r prints new = (prints ≡ []) × (new ≡ r)
-Plays config (s ∷ steps) r prints new =
-    (between : Course) × (first rest : List Printed) × (prints ≡ first ++ rest) × Makes config r s first between × Plays config steps (after s between) rest new
+abbrev pub Plays : Config → (seed : ℕ) → List Step → Course → List Printed → Course → Type 0
+Plays config seed [] r prints new = (prints ≡ []) × (new ≡ r)
+Plays config seed (s ∷ steps) r prints new =
+    (between : Course) × (first rest : List Printed) × (prints ≡ first ++ rest) × Makes config seed r s first between × Plays config seed steps (after s between) rest new
 
 -- A stop after these entries: one more turn of the board, which ends all calls. The entries and those of the stop are what a table
 -- records of a list that is legal, and so safe

@@ -1,5 +1,5 @@
 -- What a watch notes of the calls of a control turn.
-use Rattle.std.specs.Prelude.{◌≡◌, ℕ, List, Option, Some, drop}
+use Rattle.std.specs.Prelude.{◌≡◌, ℕ, Bool, true, false, List, Option, Some, None, drop}
 use Rattle.relay_outside.specs.declared.keys.KeyCall.{KeyCall}
 use Rattle.relay_outside.specs.declared.ports.PortCall.{PortCall}
 use Rattle.relay_outside.specs.declared.settings.Config.{Config}
@@ -7,23 +7,52 @@ use Rattle.replay_model.specs.Devices.{Happening}
 use Rattle.replay_devices.specs.Watch.{WatchState, StandsFor}
 use Rattle.replay_steps.specs.declared.stepping.Stepped.{Stepped}
 use Rattle.replay_steps.specs.declared.stepping.Stepped.TheVariants as stepped
-use Rattle.replay_steps.specs.Steps.{OpensAsked, DrawsAsked}
+use Rattle.call_cell.specs.declared.outcome.Lost.{Lost}
+use Rattle.call_cell.specs.declared.outcome.Lost.TheVariants as lost
+use Rattle.call_cell.specs.declared.outcome.Outcome.{Outcome}
+use Rattle.call_cell.specs.declared.outcome.Outcome.TheVariants as outcomes
+use Rattle.relay_core.specs.Entries.{Entry}
+use Rattle.relay_script.specs.declared.event.Printed as coded
+use Rattle.relay_script.specs.Printing.{event_of}
+use Rattle.replay_steps.specs.Steps.{Packet, OpensAsked, DrawsAsked, RelaysPacket}
 
 -- of whatever happened before, this happened since
-abbrev pub Watches : WatchState → WatchState → (List Happening → List Happening → Type 0) → Type 0
-Watches old new P = (past : List Happening) → StandsFor past old → (now : List Happening) × P past now × StandsFor now new
+abbrev pub Watches : Config → (seed : ℕ) → WatchState → WatchState → (List Happening → List Happening → Type 0) → Type 0
+Watches config seed old new P = (past : List Happening) → StandsFor config seed past old → (now : List Happening) × P past now × StandsFor config seed now new
 
--- the calls of both are told, and each of those behind the first so many failed just where it had to
-pub record WatchesTurn (config : Config) (ports : Option (List PortCall)) (opened : ℕ) (keys : Option (List KeyCall)) (drawn : ℕ) (old new : WatchState) : Type 0 where
+-- the calls of both are told, and each of those behind the first so many failed just where it had to, and gave the key that was due
+pub record WatchesTurn (config : Config) (seed : ℕ) (ports : Option (List PortCall)) (opened : ℕ) (keys : Option (List KeyCall)) (drawn : ℕ) (old new : WatchState) : Type 0 where
   pub openings : List PortCall
   pub draws : List KeyCall
   pub ports_tell : ports ≡ Some openings
   pub keys_tell : keys ≡ Some draws
-  pub watches : Watches old new (λ past now. (between : List Happening) × OpensAsked config (drop opened openings) past between × DrawsAsked (drop drawn draws) between now)
+  pub watches :
+      Watches config seed old new
+      (λ past now. (between : List Happening) × OpensAsked config (drop opened openings) past between × DrawsAsked seed (drop drawn draws) between now)
 
 -- the same of a step that did this; where it was starved, nothing is said
-abbrev pub StepsSo : Stepped → WatchState → WatchState → (List Happening → List Happening → Type 0) → Type 0
-StepsSo stepped.Quiet old new P = Watches old new P
-StepsSo (stepped.Prints e) old new P = Watches old new P
-StepsSo stepped.Faulty old new P = Watches old new P
-StepsSo stepped.Starved old new P = Unit {0}
+abbrev pub StepsSo : Config → (seed : ℕ) → Stepped → WatchState → WatchState → (List Happening → List Happening → Type 0) → Type 0
+StepsSo config seed stepped.Quiet old new P = Watches config seed old new P
+StepsSo config seed (stepped.Prints e) old new P = Watches config seed old new P
+StepsSo config seed stepped.Faulty old new P = Watches config seed old new P
+StepsSo config seed stepped.Starved old new P = Unit {0}
+
+-- the same of what is printed of a relay; without memory for it, or where its send failed otherwise, nothing is said
+abbrev pub RelaysSo : Config → (seed clock : ℕ) → List Entry → Packet → Option coded.Printed → WatchState → WatchState → List Entry → Type 0
+RelaysSo config seed clock l p None old now new = Unit {0}
+RelaysSo config seed clock l p (Some e) old now new = Watches config seed old now (λ past past_now. RelaysPacket config clock l past p.1 (event_of e) new past_now)
+
+-- By which port a relay with this outcome sent, and whether its send was answered Ok
+
+abbrev pub failed_send_of : Lost → Option (ℕ × Bool)
+failed_send_of (lost.SendFault port) = Some (port, false)
+failed_send_of lost.Hold = None
+failed_send_of lost.OutTooOld = None
+failed_send_of lost.IndexUsed = None
+failed_send_of lost.OutSources = None
+failed_send_of lost.KeySpent = None
+
+abbrev pub send_of : Outcome → Option (ℕ × Bool)
+send_of (outcomes.Sent port to len) = Some (port, true)
+send_of (outcomes.Lost cause) = failed_send_of cause
+send_of (outcomes.Refused cause) = None

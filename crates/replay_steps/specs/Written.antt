@@ -62,63 +62,63 @@ DidStep stepped.Starved line end writes = (end ≡ Some ended.OutOfMemory) × (w
 -- Several steps, from the first on.
 
 -- all steps were made, the entries are these, and what they print was written
-pub record Played (config : Config) (steps : List Step) (l : List Entry) (writes : List WriteCall) : Type 0 where
+pub record Played (config : Config) (seed : ℕ) (steps : List Step) (l : List Entry) (writes : List WriteCall) : Type 0 where
   pub prints : List Printed
   pub course : Course
-  pub plays : Plays config steps at_first prints course
+  pub plays : Plays config seed steps at_first prints course
   pub entries_are : course.entries ≡ l
   pub writes_are : writes ≡ map written prints
 
 -- steps were made up to one that can't be, and then its line's number was written, from 1
-pub record StopsAt (config : Config) (steps : List Step) (l : List Entry) (writes : List WriteCall) : Type 0 where
+pub record StopsAt (config : Config) (seed : ℕ) (steps : List Step) (l : List Entry) (writes : List WriteCall) : Type 0 where
   pub before : List Step
   pub step : Step
   pub after : List Step
   pub steps_are : steps ≡ before ++ step ∷ after
   pub prints : List Printed
   pub course : Course
-  pub plays : Plays config before at_first prints course
+  pub plays : Plays config seed before at_first prints course
   pub faulty : IsFaulty course step
   pub entries_are : course.entries ≡ l
   pub writes_are : writes ≡ map written (prints ++ ScriptFault (length before + 1) ∷ [])
 
 -- the step prints this event: it was made, or can't be, and then it is the number of its line
-abbrev pub Demands : Config → Course → Step → (line : ℕ) → Printed → Course → Type 0
-Demands config r step line event new = Makes config r step (event ∷ []) new ⊎ (IsFaulty r step × (event ≡ ScriptFault line) × (new ≡ r))
+abbrev pub Demands : Config → (seed : ℕ) → Course → Step → (line : ℕ) → Printed → Course → Type 0
+Demands config seed r step line event new = Makes config seed r step (event ∷ []) new ⊎ (IsFaulty r step × (event ≡ ScriptFault line) × (new ≡ r))
 
 -- steps were made, and what they print was written but for the last event, whose write failed
-pub record FailsAt (config : Config) (steps : List Step) (l : List Entry) (writes : List WriteCall) : Type 0 where
+pub record FailsAt (config : Config) (seed : ℕ) (steps : List Step) (l : List Entry) (writes : List WriteCall) : Type 0 where
   pub before : List Step
   pub step : Step
   pub after : List Step
   pub steps_are : steps ≡ before ++ step ∷ after
   pub prints : List Printed
   pub course : Course
-  pub plays : Plays config before at_first prints course
+  pub plays : Plays config seed before at_first prints course
   pub event : Printed
   pub last : Course
-  pub demands : Demands config course step (length before + 1) event last
+  pub demands : Demands config seed course step (length before + 1) event last
   pub entries_are : last.entries ≡ l
   pub writes_are : writes ≡ map written prints ++ unwritten event ∷ []
 
 -- some of the steps were made, and what these print was written
-pub record PlayedSome (config : Config) (steps : List Step) (writes : List WriteCall) : Type 0 where
+pub record PlayedSome (config : Config) (seed : ℕ) (steps : List Step) (writes : List WriteCall) : Type 0 where
   pub before : List Step
   pub after : List Step
   pub steps_are : steps ≡ before ++ after
   pub prints : List Printed
   pub course : Course
-  pub plays : Plays config before at_first prints course
+  pub plays : Plays config seed before at_first prints course
   pub writes_are : writes ≡ map written prints
 
 -- what is written by steps, when all were made or the replay ended, and the entries are these
-abbrev pub DidSteps : Config → List Step → List Entry → Option Ended → List WriteCall → Type 0
-DidSteps config steps l None writes = Played config steps l writes
-DidSteps config steps l (Some ended.ScriptFault) writes = StopsAt config steps l writes
-DidSteps config steps l (Some ended.PrintFault) writes = FailsAt config steps l writes
-DidSteps config steps l (Some ended.OutOfMemory) writes = PlayedSome config steps writes
-DidSteps config steps l (Some ended.Finished) writes = ⊥
-DidSteps config steps l (Some ended.ScriptRead) writes = ⊥
+abbrev pub DidSteps : Config → (seed : ℕ) → List Step → List Entry → Option Ended → List WriteCall → Type 0
+DidSteps config seed steps l None writes = Played config seed steps l writes
+DidSteps config seed steps l (Some ended.ScriptFault) writes = StopsAt config seed steps l writes
+DidSteps config seed steps l (Some ended.PrintFault) writes = FailsAt config seed steps l writes
+DidSteps config seed steps l (Some ended.OutOfMemory) writes = PlayedSome config seed steps writes
+DidSteps config seed steps l (Some ended.Finished) writes = ⊥
+DidSteps config seed steps l (Some ended.ScriptRead) writes = ⊥
 
 -- The whole script.
 
@@ -134,34 +134,34 @@ DidFinish None how line end writes = DidEnd how line end writes
 DidFinish (Some already) how line end writes = (end ≡ already) × (writes ≡ [])
 
 -- all steps were made, and this is written behind what they print
-pub record PlayedAnd (config : Config) (steps : List Step) (l : List Entry) (more : List WriteCall) (writes : List WriteCall) : Type 0 where
+pub record PlayedAnd (config : Config) (seed : ℕ) (steps : List Step) (l : List Entry) (more : List WriteCall) (writes : List WriteCall) : Type 0 where
   pub front : List WriteCall
-  pub played : Played config steps l front
+  pub played : Played config seed steps l front
   pub writes_are : writes ≡ front ++ more
 
 -- a step can't be made, or all were made, the line behind them is outside the grammar, and its number is told so
-abbrev pub AtFault : Config → List Step → Ending → List Entry → (List Step → List Entry → List WriteCall → Type 0) → WriteCall → List WriteCall → Type 0
-AtFault config steps how l At last writes = At steps l writes ⊎ ((how ≡ ending.Outside) × PlayedAnd config steps l (last ∷ []) writes)
+abbrev pub AtFault : Config → (seed : ℕ) → List Step → Ending → List Entry → (List Step → List Entry → List WriteCall → Type 0) → WriteCall → List WriteCall → Type 0
+AtFault config seed steps how l At last writes = At steps l writes ⊎ ((how ≡ ending.Outside) × PlayedAnd config seed steps l (last ∷ []) writes)
 
 -- what is written by these steps, whose reading ended so, how the replay ended, and which entries it made
-abbrev pub DidWrite : Config → List Step → Ending → Ended → List Entry → List WriteCall → Type 0
-DidWrite config steps how ended.Finished l writes = (how ≡ ending.End) × Played config steps l writes
-DidWrite config steps how ended.ScriptRead l writes = (how ≡ ending.Fault) × Played config steps l writes
-DidWrite config steps how ended.ScriptFault l writes = AtFault config steps how l (StopsAt config) (written (ScriptFault (length steps + 1))) writes
-DidWrite config steps how ended.PrintFault l writes = AtFault config steps how l (FailsAt config) (unwritten (ScriptFault (length steps + 1))) writes
-DidWrite config steps how ended.OutOfMemory l writes = PlayedSome config steps writes
+abbrev pub DidWrite : Config → (seed : ℕ) → List Step → Ending → Ended → List Entry → List WriteCall → Type 0
+DidWrite config seed steps how ended.Finished l writes = (how ≡ ending.End) × Played config seed steps l writes
+DidWrite config seed steps how ended.ScriptRead l writes = (how ≡ ending.Fault) × Played config seed steps l writes
+DidWrite config seed steps how ended.ScriptFault l writes = AtFault config seed steps how l (StopsAt config seed) (written (ScriptFault (length steps + 1))) writes
+DidWrite config seed steps how ended.PrintFault l writes = AtFault config seed steps how l (FailsAt config seed) (unwritten (ScriptFault (length steps + 1))) writes
+DidWrite config seed steps how ended.OutOfMemory l writes = PlayedSome config seed steps writes
 
 -- the same of some entries, behind which all calls were stopped
-abbrev pub DidPlay : Config → List Step → Ending → Ended → List WriteCall → Type 0
-DidPlay config steps how ended.OutOfMemory writes = PlayedSome config steps writes
-DidPlay config steps how end writes = (l : List Entry) × DidWrite config steps how end l writes × Stops config l
+abbrev pub DidPlay : Config → (seed : ℕ) → List Step → Ending → Ended → List WriteCall → Type 0
+DidPlay config seed steps how ended.OutOfMemory writes = PlayedSome config seed steps writes
+DidPlay config seed steps how end writes = (l : List Entry) × DidWrite config seed steps how end l writes × Stops config l
 
 -- the same of a script that this was read of
-pub record DidReplay (config : Config) (end : Ended) (read read_now : Option (List LineCall)) (writes : List WriteCall) : Type 0 where
+pub record DidReplay (config : Config) (seed : ℕ) (end : Ended) (read read_now : Option (List LineCall)) (writes : List WriteCall) : Type 0 where
   pub steps : List Step
   pub how : Ending
   pub reads_are : Gained read read_now (Reads steps how)
-  pub did : DidPlay config steps how end writes
+  pub did : DidPlay config seed steps how end writes
 
 -- lines of some events were written
 pub record Prints (writes : List WriteCall) : Type 0 where
@@ -169,6 +169,6 @@ pub record Prints (writes : List WriteCall) : Type 0 where
   pub writes_are : writes ≡ map written events
 
 -- want of memory says nothing of the script: perhaps it was not read to its end
-abbrev pub Replays : Config → Ended → Option (List LineCall) → Option (List LineCall) → List WriteCall → Type 0
-Replays config ended.OutOfMemory read read_now writes = Prints writes
-Replays config end read read_now writes = DidReplay config end read read_now writes
+abbrev pub Replays : Config → (seed : ℕ) → Ended → Option (List LineCall) → Option (List LineCall) → List WriteCall → Type 0
+Replays config seed ended.OutOfMemory read read_now writes = Prints writes
+Replays config seed end read read_now writes = DidReplay config seed end read read_now writes

@@ -1,5 +1,5 @@
 //! The packets of lines `take` and `packet`, and their relays.
-ghost use Rattle.std.specs.Prelude.{◌≡◌, ℕ, List, Some};
+ghost use Rattle.std.specs.Prelude.{◌≡◌, ℕ, List, Some, IsTrue};
 ghost use Rattle.relay_outside.specs.Ports.{IsOpen};
 ghost use Rattle.relay_outside.specs.declared.settings.Config.{Config};
 ghost use Rattle.rtp_packet.specs.declared.head.Half.{Half};
@@ -12,16 +12,22 @@ ghost use Rattle.main_sweeps.specs.Steps.{IsIn, IsNew, Took, KeepsReceipts, Keep
 ghost use Rattle.replay_steps.specs.Arrivals.{IsEndAt, IsGood};
 ghost use Rattle.replay_steps.specs.Holding.{taken_by};
 ghost use Rattle.ng_server.specs.Servers.{OpensJust};
+ghost use Rattle.call_cell.specs.Cells.{CellEntry};
+ghost use Rattle.call_cell.specs.Cells as cells;
+ghost use Rattle.main_sweeps.specs.Steps.{deed_after};
 ghost use Rattle.replay_steps.specs.Arrivals.{IsShutUnless};
-ghost use Rattle.replay_steps.specs.Steps.{Arrives, RelaysSo};
+ghost use Rattle.replay_steps.specs.Steps.{Arrives, SendsAsked};
+ghost use Rattle.replay_steps.specs.Watching.{Watches, RelaysSo, send_of, failed_send_of};
 
 use crate::ends::find_end;
 use crate::opened::is_open;
+use call_cell::{Lost, Outcome};
 use main_sweeps::{receive_between, relay_between};
 use media_lane::{Receipt, Received};
 use relay_core::Relay;
 use relay_outside::{Addr, Config, InEnd, OutEnd, PortCall};
 use relay_script::Printed;
+use replay_devices::Watch;
 use std::alloc::Global;
 use std::sync::Wait;
 use turn_table::{Hand, Turns};
@@ -36,6 +42,9 @@ pub(crate) enum Arrived {
     /// Another packet than the line's was taken, or the take failed where it had not to, or did not where it had to.
     Other,
 }
+
+/// How many bytes a packet may have.
+const MOST: usize = 2_000;
 
 /// What came of a take at the port of this address, of which these calls tell whether it is open; the take had to fail or not.
 fn tell_arrival(
@@ -65,10 +74,10 @@ fn tell_arrival(
             }
         }
         Received::TooLong => {
-            if failing {
-                Arrived::Other
-            } else {
+            if !failing && bytes.len() > MOST {
                 Arrived::Printed(Printed::TooLong)
+            } else {
+                Arrived::Other
             }
         }
         Received::TakeFault => {
@@ -120,7 +129,46 @@ pub(crate) fn arrive<I: InEnd, O: OutEnd, R: Wait>(
     }
 }
 
-/// Relays a packet, handed a moment in milliseconds, and says what is printed. `None`: there was no memory for it.
+/// By which port a relay with this outcome sent, and whether its send succeeded. `None`: it sent nothing.
+fn send_of(outcome: Outcome) -> Option<(u16, bool)>
+    ensures { result ≡ send_of outcome }
+{
+    match outcome {
+        Outcome::Sent { port, .. } => Some((port, true)),
+        Outcome::Lost(cause) => failed_send_of(cause),
+        Outcome::Refused(_) => None,
+    }
+}
+
+/// The same of a lost packet.
+fn failed_send_of(cause: Lost) -> Option<(u16, bool)>
+    ensures { result ≡ failed_send_of cause }
+{
+    match cause {
+        Lost::SendFault { port } => Some((port, false)),
+        Lost::Hold => None,
+        Lost::OutTooOld => None,
+        Lost::IndexUsed => None,
+        Lost::OutSources => None,
+        Lost::KeySpent => None,
+    }
+}
+
+/// Notes the send of a relay with this outcome, if it made one, and says whether it failed just where it had to.
+fn note_send(watch: &mut Watch, outcome: Outcome) -> bool
+    ensures { IsTrue result → (config : Config) (seed : ℕ) (h : List CellEntry) (p : cells.Receipt) → outcome ≡ (deed_after config h p outcome).outcome →
+        Watches config seed watch.old watch.new (SendsAsked config outcome (deed_after config h p outcome).sending) }
+{
+    let Some((port, done)) = send_of(outcome) else {
+        return true;
+    };
+    let failing = watch.send_fails(port);
+    watch.sent(port);
+    done != failing
+}
+
+/// Relays a packet, handed a moment in milliseconds, and says what is printed. `None`: there was no memory for it, or its send failed
+/// where it had not to, or did not where it had to.
 pub(crate) fn pass<I: InEnd, O: OutEnd, R: Wait>(
     rt: &R,
     alloc: Global,
@@ -128,6 +176,7 @@ pub(crate) fn pass<I: InEnd, O: OutEnd, R: Wait>(
     hand: Hand<Relay<I, O>>,
     config: &Config,
     receipt: Receipt,
+    watch: &mut Watch,
     now: u64,
 ) -> (Option<Printed>, Hand<Relay<I, O>>)
     requires between { IsBetween config.now turns.now hand }
@@ -137,9 +186,12 @@ pub(crate) fn pass<I: InEnd, O: OutEnd, R: Wait>(
     ensures between { IsBetween config.now turns.now result.1 }
     ensures board { board_of (made_by result.1) ≡ board_of (made_by hand) }
     ensures receipts { KeepsOthers config.now (made_by hand) (taken_by receipt) (made_by result.1) }
-    ensures relays { RelaysSo config.now now (made_by hand) (taken_by receipt) result.0 (made_by result.1) }
+    ensures relays { (seed : ℕ) → RelaysSo config.now seed now (made_by hand) (taken_by receipt) result.0 watch.old watch.new (made_by result.1) }
 {
     let (outcome, sent, hand) = relay_between(rt, alloc, turns, hand, config, receipt, now);
+    if !note_send(watch, outcome) {
+        return (None, hand);
+    }
     match sent {
         Ok(bytes) => (Some(Printed::Relayed { outcome, bytes }), hand),
         Err(_) => (None, hand),

@@ -1,5 +1,5 @@
 //! The steps of a script in order.
-ghost use Rattle.std.specs.Prelude.{◌≡◌, ◌≤◌, ◌≢◌, [], None, Some, map, length};
+ghost use Rattle.std.specs.Prelude.{◌≡◌, ◌≤◌, ◌≢◌, ℕ, [], None, Some, map, length};
 ghost use Rattle.relay_outside.specs.Told.{Gained, Rose};
 ghost use Rattle.turn_table.specs.Hands.{IsSameHand};
 ghost use Rattle.relay_core.specs.Turning.{made_by};
@@ -83,11 +83,10 @@ pub(crate) fn play_steps<'a, O: LineSink, R: Wait>(
     requires config { server.now.config ≡ config.now }
     requires ready { IsReady server.now.config server.now.turns hand devices.old.ports.told receipts.old }
     requires none { course_of (made_by hand) receipts.old 0 [] ≡ at_first }
-    requires nothing { StandsFor [] watch.old }
     requires most { length steps.now ≤ 50000 }
     ensures same { IsSameHand hand.entry result.2 }
     ensures ready { IsReady server.now.config server.now.turns result.2 devices.new.ports.told receipts.new }
-    ensures told { Gained (O.told out.old) (O.told out.new) (DidSteps config.now (map meaning steps.now) (made_by result.2) result.0) }
+    ensures told { (seed : ℕ) → StandsFor config.now seed [] watch.old → Gained (O.told out.old) (O.told out.new) (DidSteps config.now seed (map meaning steps.now) (made_by result.2) result.0) }
     ensures all { result.0 ≡ None → result.1 ≡ length steps.now }
     ensures few { result.1 ≤ 50000 }
     ensures fault { result.0 ≡ Some Ended.PrintFault → Rose (O.faults out.old) (O.faults out.new) }

@@ -62,7 +62,7 @@ fn play<O: LineSink, R: Wait>(
     out: &mut O,
 ) -> Ended
     requires most { length steps.now ≤ 50000 }
-    ensures told { Gained (O.told out.old) (O.told out.new) (DidPlay config.now (map meaning steps.now) ending result) }
+    ensures told { Gained (O.told out.old) (O.told out.new) (DidPlay config.now seed (map meaning steps.now) ending result) }
     ensures fault { result ≡ Ended.PrintFault → Rose (O.faults out.old) (O.faults out.new) }
     ensures later { O.faults out.old ≤ O.faults out.new }
     ensures read { result ≡ Ended.ScriptRead → ending ≡ Ending.Fault }
@@ -70,7 +70,7 @@ fn play<O: LineSink, R: Wait>(
     let Ok(mut devices) = Devices::new(alloc, steps, timetable, seed) else {
         return Ended::OutOfMemory;
     };
-    let Ok(mut watch) = Watch::new(alloc) else {
+    let Ok(mut watch) = Watch::new(alloc, seed) else {
         return Ended::OutOfMemory;
     };
     let Ok(mut receipts) = Receipts::new(alloc) else {
@@ -112,7 +112,7 @@ pub fn replay<S: LineSource, O: LineSink, R: Wait>(
     source: &mut S,
     out: &mut O,
 ) -> Ended
-    ensures replayed { Gained (O.told out.old) (O.told out.new) (Replays config.now result (S.told source.old) (S.told source.new)) }
+    ensures replayed { Gained (O.told out.old) (O.told out.new) (Replays config.now seed result (S.told source.old) (S.told source.new)) }
     ensures script_read { result ≡ Ended.ScriptRead → Rose (S.faults source.old) (S.faults source.new) }
     ensures print_fault { result ≡ Ended.PrintFault → Rose (O.faults out.old) (O.faults out.new) }
     ensures later { (S.faults source.old ≤ S.faults source.new) × (O.faults out.old ≤ O.faults out.new) }

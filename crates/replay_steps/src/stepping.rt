@@ -11,6 +11,7 @@ ghost use Rattle.relay_script.specs.Steps as line;
 ghost use Rattle.relay_script.specs.Printing.{event_of};
 ghost use Rattle.replay_model.specs.Steps as model;
 ghost use Rattle.replay_model.specs.Devices.{Happening, fails};
+ghost use Rattle.relay_outside.specs.declared.settings.Config.{Config};
 ghost use Rattle.replay_devices.specs.Watch.{StandsFor};
 ghost use Rattle.ng_server.specs.Servers.{OpensJust, history_of};
 ghost use Rattle.replay_steps.specs.Steps.{course_of, replied, OfStep};
@@ -77,7 +78,7 @@ fn take_packet<I: InEnd, O: OutEnd, R: Wait>(
     ensures receipts { AreReceipts config.now (made_by result.1) receipts.new.list }
     ensures room { receipts.new.room ≡ 64 }
     ensures received { receipts.new.received ≤ receipts.old.received + 1 }
-    ensures step { (clock : ℕ) (past : List Happening) → failing ≡ fails model.Taking past → OfStep config.now (course_of (made_by hand) receipts.old clock past) (line.Take port source bytes.now) result.0 (course_of (made_by result.1) receipts.new clock past) }
+    ensures step { (seed clock : ℕ) (past : List Happening) → failing ≡ fails model.Taking past → OfStep config.now seed (course_of (made_by hand) receipts.old clock past) (line.Take port source bytes.now) result.0 (course_of (made_by result.1) receipts.new clock past) }
 {
     if receipts.is_full() {
         return (Stepped::Faulty, hand);
@@ -98,6 +99,7 @@ fn relay_receipt<I: InEnd, O: OutEnd, R: Wait>(
     hand: Hand<Relay<I, O>>,
     config: &Config,
     receipts: &mut Receipts,
+    watch: &mut Watch,
     number: u32,
     now: u64,
 ) -> (Stepped, Hand<Relay<I, O>>)
@@ -110,18 +112,18 @@ fn relay_receipt<I: InEnd, O: OutEnd, R: Wait>(
     ensures receipts { AreReceipts config.now (made_by result.1) receipts.new.list }
     ensures room { receipts.new.room ≡ receipts.old.room }
     ensures received { receipts.new.received ≡ receipts.old.received }
-    ensures step { (past : List Happening) → OfStep config.now (course_of (made_by hand) receipts.old now past) (line.Relay number) result.0 (course_of (made_by result.1) receipts.new now past) }
+    ensures step { (seed : ℕ) → StepsSo config.now seed result.0 watch.old watch.new (λ past past_now. OfStep config.now seed (course_of (made_by hand) receipts.old now past) (line.Relay number) result.0 (course_of (made_by result.1) receipts.new now past_now)) }
 {
     match receipts.take(number) {
         Some(receipt) => {
-            let (event, hand) = pass(rt, alloc, turns, hand, config, receipt, now);
+            let (event, hand) = pass(rt, alloc, turns, hand, config, receipt, watch, now);
             (tell_event(event), hand)
         }
         None => (Stepped::Faulty, hand),
     }
 }
 
-/// The packet of a line arrives, whose take has to fail or not, and is relayed at once.
+/// The packet of a line arrives, and is relayed at once.
 fn pass_packet<I: InEnd, O: OutEnd, R: Wait>(
     rt: &R,
     alloc: Global,
@@ -131,8 +133,8 @@ fn pass_packet<I: InEnd, O: OutEnd, R: Wait>(
     port: u16,
     source: Addr,
     bytes: &[u8],
-    failing: bool,
     told: &[PortCall],
+    watch: &mut Watch,
     now: u64,
 ) -> (Stepped, Hand<Relay<I, O>>)
     requires between { IsBetween config.now turns.now hand }
@@ -142,12 +144,13 @@ fn pass_packet<I: InEnd, O: OutEnd, R: Wait>(
     ensures between { IsBetween config.now turns.now result.1 }
     ensures board { board_of (made_by result.1) ≡ board_of (made_by hand) }
     ensures receipts { KeepsReceipts config.now (made_by hand) (made_by result.1) }
-    ensures step { (held : ReceiptList) (past : List Happening) → failing ≡ fails model.Taking past → OfStep config.now (course_of (made_by hand) held now past) (line.Packet port source bytes.now) result.0 (course_of (made_by result.1) held now past) }
+    ensures step { (seed : ℕ) (held : ReceiptList) → StepsSo config.now seed result.0 watch.old watch.new (λ past past_now. OfStep config.now seed (course_of (made_by hand) held now past) (line.Packet port source bytes.now) result.0 (course_of (made_by result.1) held now past_now)) }
 {
+    let failing = watch.fails(FailKind::Take);
     let (arrived, hand) = arrive(rt, turns, hand, config, port, source, bytes, failing, told);
     match arrived {
         Arrived::Packet(receipt) => {
-            let (event, hand) = pass(rt, alloc, turns, hand, config, receipt, now);
+            let (event, hand) = pass(rt, alloc, turns, hand, config, receipt, watch, now);
             (tell_event(event), hand)
         }
         Arrived::Printed(event) => (Stepped::Prints(event), hand),
@@ -157,7 +160,7 @@ fn pass_packet<I: InEnd, O: OutEnd, R: Wait>(
 
 /// Notes that a reply was sent, or its send failed, where that is the event.
 fn note_event(watch: &mut Watch, event: &Printed)
-    ensures { (past : List Happening) → StandsFor past watch.old → StandsFor (replied (event_of event.now) past) watch.new }
+    ensures { (config : Config) (seed : ℕ) (past : List Happening) → StandsFor config seed past watch.old → StandsFor config seed (replied (event_of event.now) past) watch.new }
 {
     match event {
         Printed::Reply(_, _) => watch.replied(),
@@ -168,7 +171,7 @@ fn note_event(watch: &mut Watch, event: &Printed)
 
 /// The same of what is printed.
 fn note_reply(watch: &mut Watch, event: &Option<Printed>)
-    ensures { (e : Printed) → event.now ≡ Some e → (past : List Happening) → StandsFor past watch.old → StandsFor (replied (event_of e) past) watch.new }
+    ensures { (e : Printed) → event.now ≡ Some e → (config : Config) (seed : ℕ) (past : List Happening) → StandsFor config seed past watch.old → StandsFor config seed (replied (event_of e) past) watch.new }
 {
     match event {
         Some(event) => note_event(watch, event),
@@ -197,7 +200,7 @@ fn control<'a, R: Wait>(
     ensures between { IsBetween server.now.config server.now.turns hand.new }
     ensures open { OpensJust server.now.config (history_of hand.new) devices.new.ports.told }
     ensures receipts { KeepsReceipts server.now.config (made_by hand.old) (made_by hand.new) }
-    ensures step { (held : ReceiptList) → StepsSo result watch.old watch.new (λ past past_now. OfStep config.now (course_of (made_by hand.old) held now past) (line.Ng source bytes.now) result (course_of (made_by hand.new) held now past_now)) }
+    ensures step { (seed : ℕ) (held : ReceiptList) → StepsSo config.now seed result watch.old watch.new (λ past past_now. OfStep config.now seed (course_of (made_by hand.old) held now past) (line.Ng source bytes.now) result (course_of (made_by hand.new) held now past_now)) }
 {
     let read_fails = watch.fails(FailKind::Read);
     let reply_fails = watch.fails(FailKind::Reply);
@@ -246,7 +249,7 @@ pub(crate) fn make_step<'a, R: Wait>(
     ensures same { IsSameHand hand.entry result.1 }
     ensures ready { IsReady server.now.config server.now.turns result.1 devices.new.ports.told receipts.new }
     ensures received { receipts.new.received ≤ receipts.old.received + 1 }
-    ensures step { StepsSo result.0 watch.old watch.new (λ past past_now. OfStep config.now (course_of (made_by hand.entry) receipts.old clock.old past) (meaning step.now) result.0 (course_of (made_by result.1) receipts.new clock.new past_now)) }
+    ensures step { (seed : ℕ) → StepsSo config.now seed result.0 watch.old watch.new (λ past past_now. OfStep config.now seed (course_of (made_by hand.entry) receipts.old clock.old past) (meaning step.now) result.0 (course_of (made_by result.1) receipts.new clock.new past_now)) }
 {
     let turns = server.turns();
     let mut hand = hand;
@@ -289,7 +292,7 @@ pub(crate) fn make_step<'a, R: Wait>(
             )
         }
         Step::Relay(number) => relay_receipt(
-            rt, alloc, turns, hand, config, receipts, *number, *clock,
+            rt, alloc, turns, hand, config, receipts, watch, *number, *clock,
         ),
         Step::Packet(port, source, bytes) => {
             let Some(told) = devices.ports.calls() else {
@@ -304,8 +307,8 @@ pub(crate) fn make_step<'a, R: Wait>(
                 *port,
                 *source,
                 bytes.as_slice(),
-                watch.fails(FailKind::Take),
                 told,
+                watch,
                 *clock,
             )
         }

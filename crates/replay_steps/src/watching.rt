@@ -1,7 +1,9 @@
 //! The calls that a control turn made of the port maker and of the key source.
-ghost use Rattle.std.specs.Prelude.{◌≡◌, List, [], ◌∷◌, IsTrue, Some, drop, length};
+ghost use Rattle.std.specs.Prelude.{◌≡◌, ℕ, List, [], ◌∷◌, IsTrue, Some, drop, length};
 ghost use Rattle.relay_outside.specs.declared.keys.KeyCall.{KeyCall};
 ghost use Rattle.relay_outside.specs.declared.ports.PortCall.{PortCall};
+ghost use Rattle.relay_outside.specs.declared.settings.Config.{Config};
+ghost use Rattle.replay_devices.specs.Watch.{NotesDraw};
 ghost use Rattle.replay_steps.specs.Steps.{OpensAsked, DrawsAsked};
 ghost use Rattle.replay_steps.specs.Watching.{Watches, WatchesTurn};
 
@@ -12,12 +14,12 @@ use replay_devices::{ReplayKeys, ReplayPorts, Watch};
 
 /// Notes a call of the port maker, and says whether it failed just where it had to, and was of an end of a pair.
 fn note_opening(watch: &mut Watch, config: &Config, call: &PortCall) -> bool
-    ensures { IsTrue result → Watches watch.old watch.new (OpensAsked config.now (call.now ∷ [])) }
+    ensures { IsTrue result → (seed : ℕ) → Watches config.now seed watch.old watch.new (OpensAsked config.now (call.now ∷ [])) }
 {
     match call {
         PortCall::Open { at, done } => {
             let failing = watch.fails(FailKind::Open);
-            watch.opened();
+            watch.opened(at.port, *done);
             if *done == failing {
                 return false;
             }
@@ -29,7 +31,7 @@ fn note_opening(watch: &mut Watch, config: &Config, call: &PortCall) -> bool
 
 /// Notes calls of the port maker, in order, and says whether each failed just where it had to.
 fn note_openings(watch: &mut Watch, config: &Config, calls: &[PortCall]) -> bool
-    ensures { IsTrue result → Watches watch.old watch.new (OpensAsked config.now calls.now) }
+    ensures { IsTrue result → (seed : ℕ) → Watches config.now seed watch.old watch.new (OpensAsked config.now calls.now) }
 {
     for call in calls {
         if !note_opening(watch, config, call) {
@@ -39,21 +41,33 @@ fn note_openings(watch: &mut Watch, config: &Config, calls: &[PortCall]) -> bool
     true
 }
 
-/// Notes a draw, and says whether it failed just where it had to.
-fn note_draw(watch: &mut Watch, call: &KeyCall) -> bool
-    ensures { IsTrue result → Watches watch.old watch.new (DrawsAsked (call.now ∷ [])) }
+/// Notes a draw that gave a key, and says whether that is the key that was due.
+fn note_key(watch: &mut Watch, key: [u8; 30]) -> bool
+    ensures { IsTrue result → (config : Config) (seed : ℕ) → NotesDraw config seed watch.old watch.new key }
 {
-    let failing = watch.fails(FailKind::Draw);
-    watch.drew();
-    match call {
-        KeyCall::Drawn { .. } => !failing,
-        KeyCall::Failed => failing,
+    match watch.drew() {
+        Some(due) => due == key,
+        None => false,
     }
 }
 
-/// Notes draws, in order, and says whether each failed just where it had to.
+/// Notes a draw, and says whether it failed just where it had to, and else gave the key that was due.
+fn note_draw(watch: &mut Watch, call: &KeyCall) -> bool
+    ensures { IsTrue result → (config : Config) (seed : ℕ) → Watches config seed watch.old watch.new (DrawsAsked seed (call.now ∷ [])) }
+{
+    let failing = watch.fails(FailKind::Draw);
+    match call {
+        KeyCall::Drawn { key } => !failing && note_key(watch, *key),
+        KeyCall::Failed => {
+            watch.failed_to_draw();
+            failing
+        }
+    }
+}
+
+/// Notes draws, in order, and says whether each failed just where it had to, and else gave the key that was due.
 fn note_draws(watch: &mut Watch, calls: &[KeyCall]) -> bool
-    ensures { IsTrue result → Watches watch.old watch.new (DrawsAsked calls.now) }
+    ensures { IsTrue result → (config : Config) (seed : ℕ) → Watches config seed watch.old watch.new (DrawsAsked seed calls.now) }
 {
     for call in calls {
         if !note_draw(watch, call) {
@@ -94,8 +108,8 @@ pub(crate) fn count_draws(keys: &ReplayKeys<'_>) -> usize
     }
 }
 
-/// Notes the calls of the port maker and of the key source behind the first so many, and says whether both tell them, and whether each
-/// call failed just where it had to.
+/// Notes the calls of the port maker and of the key source behind the first so many, and says whether both tell them, whether each
+/// call failed just where it had to, and whether each draw gave the key that was due.
 pub(crate) fn note_calls(
     watch: &mut Watch,
     config: &Config,
@@ -104,7 +118,7 @@ pub(crate) fn note_calls(
     keys: &ReplayKeys<'_>,
     drawn: usize,
 ) -> bool
-    ensures { IsTrue result → WatchesTurn config.now ports.now.told opened keys.now.told drawn watch.old watch.new }
+    ensures { IsTrue result → (seed : ℕ) → WatchesTurn config.now seed ports.now.told opened keys.now.told drawn watch.old watch.new }
 {
     let Some(openings) = ports.calls() else {
         return false;

@@ -19,72 +19,72 @@ steps-init g c = record {
   received = let none = ap (λ (r : Course). r.received) c.requires.none in omega (arith, none);
   below = omega arith;
   numbered = refl;
-  told = ([], c.requires.nothing, gained_none (g.O.LineSink.told c.args.out.now) _ (none_played c.args.config.now _ c.requires.none));
+  told = λ seed begins. ([], begins, gained_none (g.O.LineSink.told c.args.out.now) _ (none_played c.args.config.now seed _ c.requires.none));
   later = omega arith;
 }
 
 pub returns-in-Some-clause-told : goal.returns-in-Some-clause-told
-returns-in-Some-clause-told g c =
+returns-in-Some-clause-told g c seed begins =
     let config = c.args.config.now in
     let steps = c.args.steps.now in
     let made = c.steps.made in
     let x = c.index-steps-made.result in
     let did = c.make_step-stepped.result.0 in
-    let told = c.steps.invariant.told in
+    let told = c.steps.invariant.told seed begins in
     let from : List Happening → Course = λ past. course_of (made_by c.steps.hand) c.steps.receipts c.steps.clock past in
     let to : List Happening → Course = λ past. course_of (made_by c.make_step-stepped.result.1) c.make_step-stepped.new.receipts c.make_step-stepped.new.clock past in
-    let step = some_step config from (meaning x) did to c.steps.watch c.make_step-stepped.new.watch c.make_step-stepped.ensures.step told.0 told.1 in
+    let step = some_step config seed from (meaning x) did to c.steps.watch c.make_step-stepped.new.watch (c.make_step-stepped.ensures.step seed) told.0 told.1 in
     let less = c.steps-test.true in
     let count = upto_count steps made x less c.index-steps-made.is in
     let numbered = c.steps.invariant.numbered in
-    gained_both (g.O.LineSink.told c.args.out.now) (g.O.LineSink.told c.steps.out) (g.O.LineSink.told c.write_step.new.out) (PlayedTo config (upto made steps) (from told.0))
-    (DidStep did (c.steps.line + 1) (Some c.in-Some.ended)) (DidSteps config (map meaning steps) (made_by c.make_step-stepped.result.1) (Some c.in-Some.ended))
-    (ended_in config (upto made steps) (from told.0) (meaning x) (to step.0) (c.steps.line + 1) (map meaning steps) (map meaning (drop (suc made) steps)) (step_at steps made x less c.index-steps-made.is)
+    gained_both (g.O.LineSink.told c.args.out.now) (g.O.LineSink.told c.steps.out) (g.O.LineSink.told c.write_step.new.out) (PlayedTo config seed (upto made steps) (from told.0))
+    (DidStep did (c.steps.line + 1) (Some c.in-Some.ended)) (DidSteps config seed (map meaning steps) (made_by c.make_step-stepped.result.1) (Some c.in-Some.ended))
+    (ended_in config seed (upto made steps) (from told.0) (meaning x) (to step.0) (c.steps.line + 1) (map meaning steps) (map meaning (drop (suc made) steps)) (step_at steps made x less c.index-steps-made.is)
     (made_by c.make_step-stepped.result.1) (omega (arith, count, numbered)) refl did c.in-Some.ended step.1)
     told.2 c.in-Some.ensures.told
 
 pub returns-in_default-clause-told : goal.returns-in_default-clause-told
-returns-in_default-clause-told g c =
+returns-in_default-clause-told g c seed begins =
     let config = c.args.config.now in
     let steps = c.args.steps.now in
     let made = c.steps.made in
     let x = c.index-steps-made.result in
-    let told = c.steps.invariant.told in
+    let told = c.steps.invariant.told seed begins in
     let at = course_of (made_by c.steps.hand) c.steps.receipts c.steps.clock told.0 in
-    gained_less (g.O.LineSink.told c.args.out.now) (g.O.LineSink.told c.steps.out) (PlayedTo config (upto made steps) at) (PlayedSome config (map meaning steps))
-    (some_played config (map meaning steps) (upto made steps) (meaning x ∷ map meaning (drop (suc made) steps)) at (step_at steps made x c.steps-test.true c.index-steps-made.is)) told.2
+    gained_less (g.O.LineSink.told c.args.out.now) (g.O.LineSink.told c.steps.out) (PlayedTo config seed (upto made steps) at) (PlayedSome config seed (map meaning steps))
+    (some_played config seed (map meaning steps) (upto made steps) (meaning x ∷ map meaning (drop (suc made) steps)) at (step_at steps made x c.steps-test.true c.index-steps-made.is)) told.2
 
 pub returns-then-not-tell-clause-told : goal.returns-then-not-tell-clause-told
-returns-then-not-tell-clause-told g c =
+returns-then-not-tell-clause-told g c seed begins =
     let config = c.args.config.now in
     let steps = c.args.steps.now in
     let made = c.steps.made in
     let x = c.index-steps-made.result in
     let did = c.make_step-stepped.result.0 in
-    let told = c.steps.invariant.told in
+    let told = c.steps.invariant.told seed begins in
     let from : List Happening → Course = λ past. course_of (made_by c.steps.hand) c.steps.receipts c.steps.clock past in
     let to : List Happening → Course = λ past. course_of (made_by c.make_step-stepped.result.1) c.make_step-stepped.new.receipts c.make_step-stepped.new.clock past in
-    let step = one_step config from (meaning x) did to c.steps.watch c.make_step-stepped.new.watch c.make_step-stepped.ensures.step told.0 told.1 (c.write_step.ensures.starved c.in-None.is) in
+    let step = one_step config seed from (meaning x) did to c.steps.watch c.make_step-stepped.new.watch (c.make_step-stepped.ensures.step seed) told.0 told.1 (c.write_step.ensures.starved c.in-None.is) in
     let less = c.steps-test.true in
     let behind = map meaning (drop (suc made) steps) in
-    gained_both (g.O.LineSink.told c.args.out.now) (g.O.LineSink.told c.steps.out) (g.O.LineSink.told c.write_step.new.out) (PlayedTo config (upto made steps) (from told.0))
-    (DidStep did (c.steps.line + 1) None) (PlayedSome config (map meaning steps))
-    (λ xs ys played wrote. some_played config (map meaning steps) (upto made steps ++ meaning x ∷ []) behind (after (meaning x) (to step.0))
+    gained_both (g.O.LineSink.told c.args.out.now) (g.O.LineSink.told c.steps.out) (g.O.LineSink.told c.write_step.new.out) (PlayedTo config seed (upto made steps) (from told.0))
+    (DidStep did (c.steps.line + 1) None) (PlayedSome config seed (map meaning steps))
+    (λ xs ys played wrote. some_played config seed (map meaning steps) (upto made steps ++ meaning x ∷ []) behind (after (meaning x) (to step.0))
     (step_at steps made x less c.index-steps-made.is ∙ sym (append_assoc (upto made steps) (meaning x ∷ []) behind)) (xs ++ ys)
-    (went_on config (upto made steps) (from told.0) (meaning x) (to step.0) (c.steps.line + 1) did step.1 xs ys played wrote))
+    (went_on config seed (upto made steps) (from told.0) (meaning x) (to step.0) (c.steps.line + 1) did step.1 xs ys played wrote))
     told.2 c.in-None.ensures.told
 
 pub returns-clause-told : goal.returns-clause-told
-returns-clause-told g c =
+returns-clause-told g c seed begins =
     let config = c.args.config.now in
     let steps = c.args.steps.now in
     let made = c.steps.made in
-    let told = c.steps.invariant.told in
+    let told = c.steps.invariant.told seed begins in
     let most = c.steps.invariant.below in
     let least = c.steps-test.false in
     let at = course_of (made_by c.steps.hand) c.steps.receipts c.steps.clock told.0 in
-    gained_less (g.O.LineSink.told c.args.out.now) (g.O.LineSink.told c.steps.out) (PlayedTo config (upto made steps) at) (Played config (map meaning steps) (made_by c.steps.hand))
-    (all_played config (map meaning steps) (upto made steps) at (made_by c.steps.hand) (upto_all steps made (omega (arith, most, least))) refl) told.2
+    gained_less (g.O.LineSink.told c.args.out.now) (g.O.LineSink.told c.steps.out) (PlayedTo config seed (upto made steps) at) (Played config seed (map meaning steps) (made_by c.steps.hand))
+    (all_played config seed (map meaning steps) (upto made steps) at (made_by c.steps.hand) (upto_all steps made (omega (arith, most, least))) refl) told.2
 
 pub steps-preserved : goal.steps-preserved
 steps-preserved g c =
@@ -93,10 +93,8 @@ steps-preserved g c =
     let made = c.steps.made in
     let x = c.index-steps-made.result in
     let did = c.make_step-stepped.result.0 in
-    let told = c.steps.invariant.told in
     let from : List Happening → Course = λ past. course_of (made_by c.steps.hand) c.steps.receipts c.steps.clock past in
     let to : List Happening → Course = λ past. course_of (made_by c.make_step-stepped.result.1) c.make_step-stepped.new.receipts c.make_step-stepped.new.clock past in
-    let step = one_step config from (meaning x) did to c.steps.watch c.make_step-stepped.new.watch c.make_step-stepped.ensures.step told.0 told.1 (c.write_step.ensures.starved c.in-None.is) in
     let numbered = c.steps.invariant.numbered in
     let test = c.steps-test.true in
     let was = c.steps.invariant.same in
@@ -111,14 +109,16 @@ steps-preserved g c =
       received = omega (arith, before, more);
       below = omega (arith, test);
       numbered = omega (arith, numbered);
-      told = (
-        Made (step_of (meaning x)) ∷ step.0,
-        c.in-Ok.ensures step.0 step.2,
-        gained_both (g.O.LineSink.told c.args.out.now) (g.O.LineSink.told c.steps.out) (g.O.LineSink.told c.write_step.new.out) (PlayedTo config (upto made steps) (from told.0))
-            (DidStep did (c.steps.line + 1) None) (PlayedTo config (upto (made + 1) steps) (after (meaning x) (to step.0)))
-            (λ xs ys played wrote. subst (λ (k : List Step). PlayedTo config k (after (meaning x) (to step.0)) (xs ++ ys)) (upto_next steps made x test c.index-steps-made.is)
-            (went_on config (upto made steps) (from told.0) (meaning x) (to step.0) (c.steps.line + 1) did step.1 xs ys played wrote))
-            told.2 c.in-None.ensures.told,
-      );
+      told = λ seed begins.
+          let told = c.steps.invariant.told seed begins in
+          let step = one_step config seed from (meaning x) did to c.steps.watch c.make_step-stepped.new.watch (c.make_step-stepped.ensures.step seed) told.0 told.1 (c.write_step.ensures.starved c.in-None.is) in (
+            Made (step_of (meaning x)) ∷ step.0,
+            c.in-Ok.ensures config seed step.0 step.2,
+            gained_both (g.O.LineSink.told c.args.out.now) (g.O.LineSink.told c.steps.out) (g.O.LineSink.told c.write_step.new.out) (PlayedTo config seed (upto made steps) (from told.0))
+                (DidStep did (c.steps.line + 1) None) (PlayedTo config seed (upto (made + 1) steps) (after (meaning x) (to step.0)))
+                (λ xs ys played wrote. subst (λ (k : List Step). PlayedTo config seed k (after (meaning x) (to step.0)) (xs ++ ys)) (upto_next steps made x test c.index-steps-made.is)
+                (went_on config seed (upto made steps) (from told.0) (meaning x) (to step.0) (c.steps.line + 1) did step.1 xs ys played wrote))
+                told.2 c.in-None.ensures.told,
+          );
       later = omega (arith, early, late);
     }

@@ -1,4 +1,4 @@
-use Rattle.std.proofs.Common.{◌≡◌, ◌-◌, ◌≤◌, List, length}
+use Rattle.std.proofs.Common.{◌≡◌, ◌-◌, ◌≤◌, ℕ, List, [], length}
 use Rattle.relay_outside.specs.Told.{Gained}
 use Rattle.turn_table.specs.Hands.{IsSameHand}
 use Rattle.relay_core.specs.Turning.{made_by}
@@ -17,8 +17,8 @@ invariant-steps g l = record {
   received : l.receipts.received ≤ l.made;
   below : l.made ≤ length l.steps;
   numbered : l.line ≡ l.made;
-  told : (past : List Happening) × StandsFor past l.watch
-      × Gained (g.O.LineSink.told l.fn.out) (g.O.LineSink.told l.out) (PlayedTo l.config (upto l.made l.steps) (course_of (made_by l.hand) l.receipts l.clock past));
+  told : (seed : ℕ) → StandsFor l.config seed [] l.fn.watch → (past : List Happening) × StandsFor l.config seed past l.watch
+      × Gained (g.O.LineSink.told l.fn.out) (g.O.LineSink.told l.out) (PlayedTo l.config seed (upto l.made l.steps) (course_of (made_by l.hand) l.receipts l.clock past));
   later : g.O.LineSink.faults l.fn.out ≤ g.O.LineSink.faults l.out;
 }
 

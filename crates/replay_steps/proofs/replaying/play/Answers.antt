@@ -22,6 +22,7 @@ play_steps-ended-requires-clause-none g c = same_receipts [] _ _ _ 0 [] c.in-Ok-
 pub returns-clause-told : goal.returns-clause-told
 returns-clause-told g c =
     let config = c.args.config.now in
+    let seed = c.args.seed in
     let steps = map meaning c.args.steps.now in
     let ran = c.play_steps-ended.result.0 in
     let line = c.play_steps-ended.result.1 + 1 in
@@ -29,8 +30,8 @@ returns-clause-told g c =
     let l = made_by old in
     let how = c.args.ending in
     let end = c.end_replay-ended.result in
-    gained_both (g.O.LineSink.told c.args.out.now) (g.O.LineSink.told c.play_steps-ended.new.out) (g.O.LineSink.told c.end_replay-ended.new.out) (DidSteps config steps l ran)
-    (DidFinish ran how line end) (DidPlay config steps how end)
-    (after_stop config steps l line ran how end (λ q. ap (λ (k : ℕ). k + 1) (c.play_steps-ended.ensures.all q ∙ sym (length-map c.args.steps.now meaning)))
+    gained_both (g.O.LineSink.told c.args.out.now) (g.O.LineSink.told c.play_steps-ended.new.out) (g.O.LineSink.told c.end_replay-ended.new.out) (DidSteps config seed steps l ran)
+    (DidFinish ran how line end) (DidPlay config seed steps how end)
+    (after_stop config seed steps l line ran how end (λ q. ap (λ (k : ℕ). k + 1) (c.play_steps-ended.ensures.all q ∙ sym (length-map c.args.steps.now meaning)))
     (subst (λ (k : Config). Stops k l) c.in-Ok-start.ensures.config (stops c.in-Ok-start.server.config old c.stop.new.hand c.stop.ensures.makes c.close.ensures.legal)))
-    c.play_steps-ended.ensures.told c.end_replay-ended.ensures.told
+    (c.play_steps-ended.ensures.told seed (c.in-Ok-new.ensures config)) c.end_replay-ended.ensures.told

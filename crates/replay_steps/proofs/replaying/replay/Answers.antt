@@ -12,12 +12,13 @@ use Rattle.replay_steps.proofs.replaying.replay.Goals as goal
 pub returns-clause-replayed : goal.returns-clause-replayed
 returns-clause-replayed g c =
     let config = c.args.config.now in
+    let seed = c.args.seed in
     let steps = map meaning c.steps-2.result.now in
     let how = c.ending.result in
     let read = g.S.LineSource.told c.args.source.now in
     let read_now = g.S.LineSource.told c.read_script.new.source in
-    gained_less (g.O.LineSink.told c.args.out.now) (g.O.LineSink.told c.play.new.out) (DidPlay config steps how c.play.result) (Replays config c.play.result read read_now)
-    (replays config steps how c.play.result read read_now
+    gained_less (g.O.LineSink.told c.args.out.now) (g.O.LineSink.told c.play.new.out) (DidPlay config seed steps how c.play.result) (Replays config seed c.play.result read read_now)
+    (replays config seed steps how c.play.result read read_now
     (subst (λ (xs : List coded.Step). Gained read read_now (Reads (map meaning xs) how)) (sym c.steps-2.ensures)
     (subst (λ (e : Ending). Gained read read_now (Reads (map meaning c.in-Ok.script.steps) e)) (sym c.ending.ensures) c.in-Ok.ensures.reads)))
     c.play.ensures.told

@@ -65,51 +65,52 @@ returns-in-Some-calls-clause-ready g c =
     (subst (λ (k : Config). AreReceipts k (made_by c.args.hand) c.args.receipts.now.list) c.requires.config c.requires.ready.receipts)) c.requires.ready.room
 
 pub returns-in-Ng-clause-step : goal.returns-in-Ng-clause-step
-returns-in-Ng-clause-step g c =
+returns-in-Ng-clause-step g c seed =
     let config = c.args.config.now in
     let l = made_by c.args.hand in
     let new = made_by c.control-stepped.new.hand in
     let held = c.args.receipts.now in
     let clock = c.args.clock.now in
     let did = c.control-stepped.result in
-    subst (λ (s : coded.Step). StepsSo did c.args.watch.now c.control-stepped.new.watch
-    (λ past now. OfStep config (course_of l held clock past) (meaning s) did (course_of new held clock now))) (sym c.in-Ng.is)
-    (subst (λ (bytes : List ℕ). StepsSo did c.args.watch.now c.control-stepped.new.watch
-    (λ past now. OfStep config (course_of l held clock past) (line.Ng c.in-Ng.source bytes) did (course_of new held clock now))) c.as_slice.ensures
-    (c.control-stepped.ensures.step held))
+    subst (λ (s : coded.Step). StepsSo config seed did c.args.watch.now c.control-stepped.new.watch
+    (λ past now. OfStep config seed (course_of l held clock past) (meaning s) did (course_of new held clock now))) (sym c.in-Ng.is)
+    (subst (λ (bytes : List ℕ). StepsSo config seed did c.args.watch.now c.control-stepped.new.watch
+    (λ past now. OfStep config seed (course_of l held clock past) (line.Ng c.in-Ng.source bytes) did (course_of new held clock now))) c.as_slice.ensures
+    (c.control-stepped.ensures.step seed held))
 
 pub returns-in-Some-clause-step : goal.returns-in-Some-clause-step
-returns-in-Some-clause-step g c =
+returns-in-Some-clause-step g c seed =
     let config = c.args.config.now in
     let l = made_by c.args.hand in
     let new = made_by c.take_packet.result.1 in
     let clock = c.args.clock.now in
     let did = c.take_packet.result.0 in
-    steps_unwatched did c.args.watch.now (λ past now. OfStep config (course_of l c.args.receipts.now clock past) (meaning c.args.step.now) did (course_of new c.take_packet.new.receipts clock now))
-    (λ past s. subst (λ (k : coded.Step). OfStep config (course_of l c.args.receipts.now clock past) (meaning k) did (course_of new c.take_packet.new.receipts clock past)) (sym c.in-Take.is)
-    (subst (λ (bytes : List ℕ). OfStep config (course_of l c.args.receipts.now clock past) (line.Take c.in-Take.port c.in-Take.source bytes) did (course_of new c.take_packet.new.receipts clock past))
-    c.as_slice-in-Take.ensures (c.take_packet.ensures.step clock past (c.fails.ensures past s))))
+    steps_unwatched config seed did c.args.watch.now (λ past now. OfStep config seed (course_of l c.args.receipts.now clock past) (meaning c.args.step.now) did (course_of new c.take_packet.new.receipts clock now))
+    (λ past s. subst (λ (k : coded.Step). OfStep config seed (course_of l c.args.receipts.now clock past) (meaning k) did (course_of new c.take_packet.new.receipts clock past)) (sym c.in-Take.is)
+    (subst (λ (bytes : List ℕ). OfStep config seed (course_of l c.args.receipts.now clock past) (line.Take c.in-Take.port c.in-Take.source bytes) did (course_of new c.take_packet.new.receipts clock past))
+    c.as_slice-in-Take.ensures (c.take_packet.ensures.step seed clock past (c.fails.ensures config seed past s))))
 
 pub returns-in-Relay-clause-step : goal.returns-in-Relay-clause-step
-returns-in-Relay-clause-step g c =
+returns-in-Relay-clause-step g c seed =
     let config = c.args.config.now in
     let l = made_by c.args.hand in
     let new = made_by c.relay_receipt.result.1 in
     let clock = c.args.clock.now in
     let did = c.relay_receipt.result.0 in
-    steps_unwatched did c.args.watch.now (λ past now. OfStep config (course_of l c.args.receipts.now clock past) (meaning c.args.step.now) did (course_of new c.relay_receipt.new.receipts clock now))
-    (λ past s. subst (λ (k : coded.Step). OfStep config (course_of l c.args.receipts.now clock past) (meaning k) did (course_of new c.relay_receipt.new.receipts clock past)) (sym c.in-Relay.is)
-    (c.relay_receipt.ensures.step past))
+    subst (λ (k : coded.Step). StepsSo config seed did c.args.watch.now c.relay_receipt.new.watch
+    (λ past now. OfStep config seed (course_of l c.args.receipts.now clock past) (meaning k) did (course_of new c.relay_receipt.new.receipts clock now))) (sym c.in-Relay.is)
+    (c.relay_receipt.ensures.step seed)
 
 pub returns-in-Some-calls-clause-step : goal.returns-in-Some-calls-clause-step
-returns-in-Some-calls-clause-step g c =
+returns-in-Some-calls-clause-step g c seed =
     let config = c.args.config.now in
     let l = made_by c.args.hand in
     let new = made_by c.pass_packet.result.1 in
     let held = c.args.receipts.now in
     let clock = c.args.clock.now in
     let did = c.pass_packet.result.0 in
-    steps_unwatched did c.args.watch.now (λ past now. OfStep config (course_of l held clock past) (meaning c.args.step.now) did (course_of new held clock now))
-    (λ past s. subst (λ (k : coded.Step). OfStep config (course_of l held clock past) (meaning k) did (course_of new held clock past)) (sym c.in-Packet.is)
-    (subst (λ (bytes : List ℕ). OfStep config (course_of l held clock past) (line.Packet c.in-Packet.port c.in-Packet.source bytes) did (course_of new held clock past)) c.as_slice-in-Packet.ensures
-    (c.pass_packet.ensures.step held past (c.fails-in-Packet.ensures past s))))
+    subst (λ (k : coded.Step). StepsSo config seed did c.args.watch.now c.pass_packet.new.watch
+    (λ past now. OfStep config seed (course_of l held clock past) (meaning k) did (course_of new held clock now))) (sym c.in-Packet.is)
+    (subst (λ (bytes : List ℕ). StepsSo config seed did c.args.watch.now c.pass_packet.new.watch
+    (λ past now. OfStep config seed (course_of l held clock past) (line.Packet c.in-Packet.port c.in-Packet.source bytes) did (course_of new held clock now))) c.as_slice-in-Packet.ensures
+    (c.pass_packet.ensures.step seed held))

@@ -6,8 +6,8 @@ use Rattle.replay_steps.specs.Steps.{replied}
 use Rattle.replay_steps.proofs.stepping.note_event.Goals as goal
 
 pub returns-in-Reply : goal.returns-in-Reply
-returns-in-Reply c past s = subst (λ (e : coded.Printed). StandsFor (replied (event_of e) past) c.replied.new.self) (sym c.in-Reply.is) (c.replied.ensures true past s)
+returns-in-Reply c config seed past s = subst (λ (e : coded.Printed). StandsFor config seed (replied (event_of e) past) c.replied.new.self) (sym c.in-Reply.is) (c.replied.ensures config seed true past s)
 
 pub returns-in-ReplyFault : goal.returns-in-ReplyFault
-returns-in-ReplyFault c past s =
-    subst (λ (e : coded.Printed). StandsFor (replied (event_of e) past) c.replied-in-ReplyFault.new.self) (sym c.in-ReplyFault.is) (c.replied-in-ReplyFault.ensures false past s)
+returns-in-ReplyFault c config seed past s =
+    subst (λ (e : coded.Printed). StandsFor config seed (replied (event_of e) past) c.replied-in-ReplyFault.new.self) (sym c.in-ReplyFault.is) (c.replied-in-ReplyFault.ensures config seed false past s)

@@ -7,5 +7,5 @@ use Rattle.replay_steps.proofs.Controls.{same_some}
 use Rattle.replay_steps.proofs.stepping.note_reply.Goals as goal
 
 pub returns-in-Some : goal.returns-in-Some
-returns-in-Some c e is past s =
-    subst (λ (x : coded.Printed). StandsFor (replied (event_of x) past) c.note_event.new.watch) (same_some c.in-Some.event e (sym c.in-Some.is ∙ is)) (c.note_event.ensures past s)
+returns-in-Some c e is config seed past s =
+    subst (λ (x : coded.Printed). StandsFor config seed (replied (event_of x) past) c.note_event.new.watch) (same_some c.in-Some.event e (sym c.in-Some.is ∙ is)) (c.note_event.ensures config seed past s)

@@ -23,11 +23,14 @@ returns-in-Some-clause-receipts g c =
     (receipts_passed config l new c.in-Some.receipt _ c.pass-event.ensures.receipts one.apart one.others)
 
 pub returns-in-Some-clause-step : goal.returns-in-Some-clause-step
-returns-in-Some-clause-step g c past =
-    relayed c.args.config.now (made_by c.args.hand) c.args.receipts.now c.args.now past c.args.number c.in-Some.receipt (made_by c.pass-event.result.1) c.take.new.self c.pass-event.result.0
-    c.tell_event.result c.tell_event.ensures c.in-Some.ensures c.pass-event.ensures.relays
+returns-in-Some-clause-step g c seed =
+    relayed c.args.config.now seed (made_by c.args.hand) c.args.receipts.now c.args.now c.args.watch.now c.pass-event.new.watch c.args.number c.in-Some.receipt (made_by c.pass-event.result.1)
+    c.take.new.self c.pass-event.result.0 c.tell_event.result c.tell_event.ensures c.in-Some.ensures (c.pass-event.ensures.relays seed)
 
 pub returns-in-None-clause-step : goal.returns-in-None-clause-step
-returns-in-None-clause-step g c past =
-    let nothing = c.in-None.ensures in
-    (lacks_under c.args.number c.args.receipts.now.list nothing.1, same_receipts (made_by c.args.hand) (made_by c.args.hand) c.args.receipts.now c.take.new.self c.args.now past refl nothing.0)
+returns-in-None-clause-step g c seed past s =
+    let nothing = c.in-None.ensures in (
+      past,
+      (lacks_under c.args.number c.args.receipts.now.list nothing.1, same_receipts (made_by c.args.hand) (made_by c.args.hand) c.args.receipts.now c.take.new.self c.args.now past refl nothing.0),
+      s,
+    )

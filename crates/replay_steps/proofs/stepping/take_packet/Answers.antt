@@ -30,18 +30,18 @@ returns-in-Other-clause-receipts g c =
     receipts_kept c.args.config.now (made_by c.args.hand) (made_by c.arrive-arrived.result.1) c.args.receipts.now.list c.arrive-arrived.ensures.receipts c.requires.receipts
 
 pub returns-in-Packet-clause-step : goal.returns-in-Packet-clause-step
-returns-in-Packet-clause-step g c clock past asked =
+returns-in-Packet-clause-step g c seed clock past asked =
     let config = c.args.config.now in
     let l = made_by c.args.hand in
     let new = made_by c.arrive-arrived.result.1 in
-    holds_packet config l c.args.receipts.now clock past c.args.failing asked c.args.port c.args.source c.args.bytes.now c.in-Packet.receipt c.keep.result new c.keep.new.self (λ more. absurd (let k : IsTrue false = c.if-is_full.ensures.1 more in cc))
+    holds_packet config seed l c.args.receipts.now clock past c.args.failing asked c.args.port c.args.source c.args.bytes.now c.in-Packet.receipt c.keep.result new c.keep.new.self (λ more. absurd (let k : IsTrue false = c.if-is_full.ensures.1 more in cc))
     (subst (λ (a : Arrived). Arrives config l c.args.port c.args.source c.args.bytes.now c.args.failing a new) c.in-Packet.is c.arrive-arrived.ensures.arrives)
     c.keep.ensures.number c.keep.ensures.list c.keep.ensures.received
 
 pub returns-in-Printed-clause-step : goal.returns-in-Printed-clause-step
-returns-in-Printed-clause-step g c clock past asked =
+returns-in-Printed-clause-step g c seed clock past asked =
     let config = c.args.config.now in
     let l = made_by c.args.hand in
     let new = made_by c.arrive-arrived.result.1 in
-    holds_none config l c.args.receipts.now clock past c.args.failing asked c.args.port c.args.source c.args.bytes.now (event_of c.in-Printed.event) new (λ more. absurd (let k : IsTrue false = c.if-is_full.ensures.1 more in cc))
+    holds_none config seed l c.args.receipts.now clock past c.args.failing asked c.args.port c.args.source c.args.bytes.now (event_of c.in-Printed.event) new (λ more. absurd (let k : IsTrue false = c.if-is_full.ensures.1 more in cc))
     (subst (λ (a : Arrived). Arrives config l c.args.port c.args.source c.args.bytes.now c.args.failing a new) c.in-Printed.is c.arrive-arrived.ensures.arrives)

@@ -6,10 +6,10 @@ use Rattle.replay_steps.specs.Watching.{Watches}
 use Rattle.replay_steps.proofs.watching.note_calls.Goals as goal
 
 pub returns : goal.returns
-returns c sent =
-    let first = subst (λ (calls : List PortCall). Watches c.args.watch.now c.note_openings.new.watch (OpensAsked c.args.config.now calls)) c.behind.ensures
-    (c.note_openings.ensures c.if-not-note_openings.false) in
-    let second = subst (λ (calls : List KeyCall). Watches c.note_openings.new.watch c.note_draws.new.watch (DrawsAsked calls)) c.behind-2.ensures (c.note_draws.ensures sent) in
+returns c sent seed =
+    let first = subst (λ (calls : List PortCall). Watches c.args.config.now seed c.args.watch.now c.note_openings.new.watch (OpensAsked c.args.config.now calls)) c.behind.ensures
+    (c.note_openings.ensures c.if-not-note_openings.false seed) in
+    let second = subst (λ (calls : List KeyCall). Watches c.args.config.now seed c.note_openings.new.watch c.note_draws.new.watch (DrawsAsked seed calls)) c.behind-2.ensures (c.note_draws.ensures sent c.args.config.now seed) in
     record {
       openings = c.in-Some.openings.now;
       draws = c.in-Some-calls.draws.now;
