@@ -51,6 +51,10 @@ takes_packet config l new port source bytes pair half r at took source_is bytes_
       at = subst (λ (h : Half). IsEndAt config port source.ip (pair_of r, h)) (sym tells.half_is) (subst (λ (k : ℕ). IsEndAt config port source.ip (k, half)) (sym tells.pair_is) at);
       source_is = source_is;
       bytes_are = bytes_are;
+      at_front = subst (λ (n : ℕ). IsAbove l (box_of config (pair_of r)) n) (sym tells.number_is) (subst (λ (k : ℕ). IsAbove l (box_of config k) took.number) (sym tells.pair_is) took.at_front);
+      fits = subst (λ (t : Taken). FitsTaken (holder (box_history l (box_of config (pair_of r)) (packet_of r).take)) t) tells.gave
+          (subst (λ (n : ℕ). FitsTaken (holder (box_history l (box_of config (pair_of r)) n)) took.taken) (sym tells.number_is)
+          (subst (λ (k : ℕ). FitsTaken (holder (box_history l (box_of config k) took.number)) took.taken) (sym tells.pair_is) took.fits));
       list_is = took.list_is
           ∙ ap (λ (k : ℕ). l ++ take_entry config k half took.number took.taken ∷ []) (sym tells.pair_is)
           ∙ ap (λ (h : Half). l ++ take_entry config (pair_of r) h took.number took.taken ∷ []) (sym tells.half_is)
@@ -64,7 +68,9 @@ module _ (config : Config) (l new : List Entry) (port : ℕ) (source : Addr) (by
     end = (pair, half);
     at = at;
     number = took.number;
+    at_front = took.at_front;
     taken = took.taken;
+    fits = took.fits;
     printed = printed;
     asked = asked;
     list_is = took.list_is;

@@ -10,17 +10,17 @@ use Rattle.relay_outside.specs.declared.ports.PortCall.{PortCall}
 use Rattle.relay_outside.specs.declared.ports.PortCall.TheVariants.{Open, Close}
 use Rattle.relay_outside.specs.declared.settings.Config.{Config}
 use Rattle.port_pool.specs.Boxes as box
-use Rattle.port_pool.specs.Boxes.{Taken}
+use Rattle.port_pool.specs.Boxes.{Taken, FitsTaken, holder}
 use Rattle.call_board.specs.Acts.{BoardEntry}
 use Rattle.call_cell.specs.declared.outcome.Outcome.{Outcome}
 use Rattle.call_cell.specs.Cells as cells
 use Rattle.call_cell.specs.Cells.{Sending}
 use Rattle.call_cell.specs.Standing.{sent_ok}
-use Rattle.relay_core.specs.Entries.{Entry, board_entry}
+use Rattle.relay_core.specs.Entries.{Entry, board_entry, box_of, box_history}
 use Rattle.relay_core.specs.Legal.{Legal}
 use Rattle.relay_core.specs.Safe.{Safe}
 use Rattle.relay_core.specs.Made.{told}
-use Rattle.relay_core.specs.Turning.{IsTurn, with_turn}
+use Rattle.relay_core.specs.Turning.{IsAbove, IsTurn, with_turn}
 use Rattle.board_turns.specs.Between.{board_of}
 use Rattle.board_turns.specs.Stopping.{stop_entry}
 use Rattle.control_entries.specs.Controls.{Hearing, control_of, entry_at, moment_at}
@@ -162,11 +162,14 @@ replied _ past = past
 
 -- Packets.
 
--- the packet of a line was taken, once, at the end of its port
+-- the packet of a line was taken, once, at the end of its port, behind all that the list has of the pair's box, for the leg that
+-- holds the box
 pub record TakesPacket (config : Config) (l : List Entry) (port : ℕ) (source : Addr) (bytes : List ℕ) (p : Packet) (new : List Entry) : Type 0 where
   pub at : IsEndAt config port source.ip (p.0, p.1.half)
   pub source_is : p.1.source ≡ source
   pub bytes_are : p.1.bytes ≡ bytes
+  pub at_front : IsAbove l (box_of config p.0) p.1.take
+  pub fits : FitsTaken (holder (box_history l (box_of config p.0) p.1.take)) (box.Datagram p.1.holder p.1.source p.1.bytes)
   pub list_is : new ≡ l ++ take_entry config p.0 p.1.half p.1.take (box.Datagram p.1.holder p.1.source p.1.bytes) ∷ []
 
 -- what is printed of the take of a packet that it did not give; an open port gives one that isn't too long
@@ -185,12 +188,14 @@ FailsSo (box.Datagram holder source bytes) failing = failing ≡ false
 FailsSo (box.TooLong source bytes) failing = failing ≡ false
 FailsSo box.Fault failing = failing ≡ true
 
--- one take was made at the end of the port, and gave no packet
+-- one take was made at the end of the port, and gave no packet: Closed exactly where the box has no holder
 pub record TakesNone (config : Config) (l : List Entry) (port : ℕ) (source : Addr) (bytes : List ℕ) (failing : Bool) (e : Printed) (new : List Entry) : Type 0 where
   pub end : End
   pub at : IsEndAt config port source.ip end
   pub number : ℕ
+  pub at_front : IsAbove l (box_of config end.0) number
   pub taken : Taken
+  pub fits : FitsTaken (holder (box_history l (box_of config end.0) number)) taken
   pub printed : PrintsTaken taken bytes e
   pub asked : FailsSo taken failing
   pub list_is : new ≡ l ++ take_entry config end.0 end.1 number taken ∷ []
