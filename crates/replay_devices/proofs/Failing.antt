@@ -1,5 +1,5 @@
 -- The sends that lines asked to fail say whether the next one by an end fails.
-use Rattle.std.proofs.Common.{◌≡◌, ◌∙◌, refl, sym, ap, subst, ℕ, zero, suc, ◌+◌, ◌-◌, ◌*◌, Bool, true, false, ◌&&◌, ◌||◌, ◌==◌, List, [], ◌∷◌, ◌++◌, map, arith, if◌then◌else◌, cond}
+use Rattle.std.proofs.Common.{◌≡◌, ◌∙◌, refl, sym, ap, ℕ, ◌+◌, ◌-◌, Bool, true, false, ◌&&◌, ◌||◌, ◌==◌, List, [], ◌∷◌, ◌++◌, map, arith, if◌then◌else◌, cond}
 use Rattle.std.specs.Prelude.{count_by}
 use Rattle.std.specs.List.{list_any}
 use Rattle.std.proofs.lemmas.List.{append-nil}
@@ -12,12 +12,12 @@ use Rattle.srtp_sources.specs.Notes.{is_half}
 use Rattle.histories.specs.Words.{until}
 use Rattle.port_pool.specs.Ports.{half_port}
 use Rattle.replay_model.specs.Steps as model
-use Rattle.replay_model.specs.Devices.{Happening, Made, Opened, Drew, Replied, Sent, Received, behind, makes_end, makes_at, sends_by, fails_send, next_send, waiting, send_fails}
+use Rattle.replay_model.specs.Devices.{Happening, Made, Opened, Drew, Replied, Sent, Received, behind, makes_end, makes_at, sends_by, fails_send, next_send, send_fails}
 use Rattle.replay_devices.specs.declared.failures.Stage.{Stage}
 use Rattle.replay_devices.specs.declared.failures.Stage.TheVariants.{Waiting, Counting}
 use Rattle.replay_devices.specs.declared.failures.SendFailure.{SendFailure}
-use Rattle.replay_devices.specs.Failures.{waiting_for, opened_by, opened_at, sent_by, sent_at, is_next_by, is_next_at, any_next_at}
-use Rattle.replay_devices.specs.Watch.{sends_after, sends, send_asked}
+use Rattle.replay_devices.specs.Failures.{waiting_for, opened_by, opened_at, sent_by, sent_at, is_next_at, any_next_at}
+use Rattle.replay_devices.specs.Watch.{sends, send_asked}
 use Rattle.replay_devices.proofs.Watches.{or_none, or_swap}
 
 -- Lists.

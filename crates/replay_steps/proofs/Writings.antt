@@ -19,7 +19,7 @@ use Rattle.replay_steps.specs.declared.ended.Ended.TheVariants as ended
 use Rattle.replay_steps.specs.declared.stepping.Stepped.{Stepped}
 use Rattle.replay_steps.specs.declared.stepping.Stepped.TheVariants as stepped
 use Rattle.replay_steps.specs.Steps.{Course, at_first, after, Makes, IsFaulty, OfStep, Plays, Stops}
-use Rattle.replay_steps.specs.Written.{written, unwritten, EndsFor, DidTell, DidPrint, DidStep, Played, Demands, FailsAt, PlayedSome, DidSteps, DidEnd, DidFinish, PlayedAnd, DidWrite, DidPlay, Prints, Replays}
+use Rattle.replay_steps.specs.Written.{written, unwritten, EndsFor, DidTell, DidPrint, DidStep, Played, Demands, FailsAt, PlayedSome, DidSteps, DidEnd, DidFinish, PlayedAnd, DidWrite, DidPlay, Replays}
 use Rattle.replay_steps.proofs.Courses.{plays_more}
 
 -- One line.
@@ -227,8 +227,4 @@ replays config seed steps how ended.Finished read read_now reads writes did = re
 replays config seed steps how ended.ScriptFault read read_now reads writes did = record { steps = steps; how = how; reads_are = reads; did = did }
 replays config seed steps how ended.ScriptRead read read_now reads writes did = record { steps = steps; how = how; reads_are = reads; did = did }
 replays config seed steps how ended.PrintFault read read_now reads writes did = record { steps = steps; how = how; reads_are = reads; did = did }
-replays config seed steps how ended.OutOfMemory read read_now reads writes did = record { events = did.prints; writes_are = did.writes_are }
-
--- nothing was written for want of memory
-pub no_lines : Prints []
-no_lines = record { events = []; writes_are = refl }
+replays config seed steps how ended.OutOfMemory read read_now reads writes did = inr (record { steps = steps; how = how; reads_are = reads; did = did })

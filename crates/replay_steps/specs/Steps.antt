@@ -3,7 +3,6 @@ use Rattle.std.specs.Prelude.{◌≡◌, ◌⊎◌, ◌+◌, ◌<◌, ◌≤◌,
 use Rattle.std.specs.List.{list_any}
 use Rattle.ng_frame.specs.Frame.{frame}
 use Rattle.relay_outside.specs.declared.address.Addr.{Addr}
-use Rattle.relay_outside.specs.declared.address.Ip.{Ip}
 use Rattle.relay_outside.specs.declared.keys.KeyCall.{KeyCall}
 use Rattle.relay_outside.specs.declared.keys.KeyCall.TheVariants as key
 use Rattle.relay_outside.specs.declared.ports.PortCall.{PortCall}
@@ -30,7 +29,6 @@ use Rattle.media_ports.specs.Asked.{OpensWith}
 use Rattle.main_sweeps.specs.Steps.{take_entry, deed_after, RelaysBy}
 use Rattle.relay_script.specs.Steps as step
 use Rattle.relay_script.specs.Steps.{Step}
-use Rattle.relay_script.specs.declared.event.Printed as coded
 use Rattle.relay_script.specs.Printing as event
 use Rattle.relay_script.specs.Printing.{Printed, event_of}
 use Rattle.replay_model.specs.Steps as model

@@ -163,12 +163,7 @@ pub record DidReplay (config : Config) (seed : ℕ) (end : Ended) (read read_now
   pub reads_are : Gained read read_now (Reads steps how)
   pub did : DidPlay config seed steps how end writes
 
--- lines of some events were written
-pub record Prints (writes : List WriteCall) : Type 0 where
-  pub events : List Printed
-  pub writes_are : writes ≡ map written events
-
--- want of memory says nothing of the script: perhaps it was not read to its end
+-- with want of memory perhaps the script was not read to its end; then nothing was written
 abbrev pub Replays : Config → (seed : ℕ) → Ended → Option (List LineCall) → Option (List LineCall) → List WriteCall → Type 0
-Replays config seed ended.OutOfMemory read read_now writes = Prints writes
+Replays config seed ended.OutOfMemory read read_now writes = (writes ≡ []) ⊎ DidReplay config seed ended.OutOfMemory read read_now writes
 Replays config seed end read read_now writes = DidReplay config seed end read read_now writes
