@@ -1,4 +1,4 @@
-ghost use Rattle.std.specs.Prelude.{◌≡◌, [], ◌∷◌, ◌++◌, OnOk, IfSome};
+ghost use Rattle.std.specs.Prelude.{◌≡◌, ◌≤◌, ◌-◌, ◌^◌, [], ◌∷◌, ◌++◌, None, OnOk, IfSome};
 ghost use Rattle.replay_devices.specs.Keys.{stream_of};
 ghost use Rattle.replay_devices.specs.Due.{Draws};
 
@@ -55,7 +55,8 @@ impl KeysDue {
 
     /// The next key, which is used up. `None`: 2^64 - 1 keys of the stream were drawn.
     pub(crate) fn draw(&mut self) -> Option<[u8; 30]>
-        ensures { IfSome result (λ key. Draws self.old self.new key) }
+        ensures draws { IfSome result (λ key. Draws self.old self.new key) }
+        ensures spent { result ≡ None → (self.old.unused ≡ []) × (2 ^ 64 - 1 ≤ self.old.streamed) }
     {
         if self.used < self.lines.len() {
             let key = self.lines[self.used];

@@ -1,10 +1,10 @@
-ghost use Rattle.std.specs.Prelude.{◌≡◌, ℕ, Bool, false, List, [], IfOk, IfSome, OnOk};
+ghost use Rattle.std.specs.Prelude.{◌≡◌, ◌≤◌, ◌-◌, ◌^◌, ℕ, Bool, false, None, List, [], IfOk, IfSome, OnOk};
 ghost use Rattle.relay_outside.specs.declared.settings.Config.{Config};
 ghost use Rattle.relay_script.specs.Steps.{meaning};
 ghost use Rattle.rtp_packet.specs.declared.head.Half.{Half};
 ghost use Rattle.port_pool.specs.Ports.{half_port};
 ghost use Rattle.replay_model.specs.Steps as model;
-ghost use Rattle.replay_model.specs.Devices.{Happening, Made, Opened, Drew, Replied, Sent, fails, send_fails};
+ghost use Rattle.replay_model.specs.Devices.{Happening, Made, Opened, Drew, Replied, Sent, fails, send_fails, unused, streamed};
 ghost use Rattle.replay_devices.specs.Watch.{StandsFor, Notes, NotesDraw, kind_of, step_of};
 
 use crate::countdowns::Countdowns;
@@ -87,7 +87,8 @@ impl Watch {
 
     /// A key was drawn, which has to be the one that is answered. `None`: 2^64 - 1 keys of the seed's stream were drawn.
     pub fn drew(&mut self) -> Option<[u8; 30]>
-        ensures { IfSome result (λ key. (config : Config) (seed : ℕ) → NotesDraw config seed self.old self.new key) }
+        ensures drew { IfSome result (λ key. (config : Config) (seed : ℕ) → NotesDraw config seed self.old self.new key) }
+        ensures spent { result ≡ None → (config : Config) (seed : ℕ) (past : List Happening) → StandsFor config seed past self.old → (unused past ≡ []) × (2 ^ 64 - 1 ≤ streamed past) }
     {
         self.draws.count_call();
         self.keys.draw()

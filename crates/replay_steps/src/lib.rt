@@ -2,10 +2,11 @@
 //! written.
 //!
 //! Module `replaying` reads the script and plays it, `playing` makes its steps in order, `stepping` one step, `controlling` that of a
-//! line `ng`, `arriving` those of packets, `watching` notes the calls of a control turn, `held` has the receipts that are held, `devices` the devices, `ends` which end has a port, `opened` which ports are open.
+//! line `ng`, `arriving` those of packets with their sends, `watching` notes the calls of a control turn; `held` has the receipts that are
+//! held, `devices` the devices, `ends` which end has a port, `opened` which ports are open.
 //!
 //! `specs/Ready.antt` says what holds between two steps, `specs/Holding.antt` which receipts are held, `specs/Arrivals.antt` at which
-//! end a packet arrives, `specs/Written.antt` what a replay writes.
+//! end a packet arrives, `specs/Steps.antt` what each step does and prints, `specs/Written.antt` what a replay writes.
 #![tactic(auto)]
 
 mod arriving;

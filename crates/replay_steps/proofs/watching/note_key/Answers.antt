@@ -7,4 +7,4 @@ use Rattle.replay_steps.proofs.watching.note_key.Goals as goal
 pub returns-in-Some : goal.returns-in-Some
 returns-in-Some c sent config seed =
     subst (λ (key : List ℕ). NotesDraw config seed c.args.watch.now c.drew.new.self key)
-    ((slice_eq-Decides Decides-eqb c.in-Some.due c.args.key c.eq.result c.eq.ensures).0 sent) (c.in-Some.ensures config seed)
+    ((slice_eq-Decides Decides-eqb c.in-Some.due c.args.key c.eq.result c.eq.ensures).0 sent) (c.in-Some.ensures.drew config seed)
