@@ -8,7 +8,5 @@ mod cipher;
 mod key_schedule;
 mod state;
 mod substitution;
-#[cfg(test)]
-mod tests;
 
 pub use cipher::Cipher;

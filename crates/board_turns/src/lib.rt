@@ -13,8 +13,6 @@ mod deleting;
 mod ending;
 mod putting;
 mod stopping;
-#[cfg(test)]
-mod tests;
 
 pub use closing::close_legs;
 pub use deleting::delete_call;

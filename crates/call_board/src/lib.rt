@@ -21,8 +21,6 @@ mod law;
 mod leasing;
 mod live_call;
 mod planning;
-#[cfg(test)]
-mod tests;
 
 pub use board::Board;
 pub use board_plan::BoardPlan;

@@ -30,8 +30,6 @@ mod prepare;
 mod receiving;
 mod sending;
 mod signals;
-#[cfg(test)]
-mod tests;
 
 pub use cell::Cell;
 pub use gone::Gone;

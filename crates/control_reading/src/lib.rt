@@ -5,8 +5,6 @@
 
 mod body;
 mod description;
-#[cfg(test)]
-mod tests;
 
 pub use body::{Body, read_body};
 pub use description::{DescriptionFault, read_description};

@@ -7,8 +7,6 @@
 
 mod room;
 mod short;
-#[cfg(test)]
-mod tests;
 mod texts;
 
 pub use room::{reply_room, write_described, write_error};

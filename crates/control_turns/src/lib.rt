@@ -15,8 +15,6 @@ mod putting;
 mod replying;
 mod sending;
 mod taking;
-#[cfg(test)]
-mod tests;
 mod turn;
 
 pub use taking::{ControlTurn, control_turn};

@@ -9,8 +9,6 @@
 mod cache;
 mod kept_reply;
 mod law;
-#[cfg(test)]
-mod tests;
 
 pub use cache::CookieCache;
 pub use law::kept_is_latest;

@@ -5,7 +5,5 @@
 #![tactic(auto)]
 
 mod deleting;
-#[cfg(test)]
-mod tests;
 
 pub use deleting::delete;

@@ -5,7 +5,5 @@
 #![tactic(auto)]
 
 mod learner;
-#[cfg(test)]
-mod tests;
 
 pub use learner::{Judge, Learner};

@@ -10,8 +10,6 @@
 mod receiving;
 mod relaying;
 mod sweep;
-#[cfg(test)]
-mod tests;
 
 pub use receiving::receive_between;
 pub use relaying::relay_between;

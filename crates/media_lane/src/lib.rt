@@ -22,8 +22,6 @@ mod receipt;
 mod receiving;
 mod relaying;
 mod sweeping;
-#[cfg(test)]
-mod tests;
 
 pub use answers::{Received, Relayed, Totals};
 pub use lane::Lane;

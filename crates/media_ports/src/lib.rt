@@ -12,8 +12,6 @@ mod drawing;
 mod ends;
 mod law;
 mod opening;
-#[cfg(test)]
-mod tests;
 
 pub use address::address_of;
 pub use closing::close_pair;

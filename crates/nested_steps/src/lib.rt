@@ -13,8 +13,6 @@ mod cells;
 mod nest;
 mod puts;
 mod signals;
-#[cfg(test)]
-mod tests;
 
 pub use boxes::{open_box, shut_box};
 pub use brought::{Brought, BroughtKey};

@@ -11,8 +11,6 @@ mod law;
 mod nested;
 mod row;
 mod scan;
-#[cfg(test)]
-mod tests;
 mod text;
 mod value;
 mod write;

@@ -9,8 +9,6 @@ mod fault;
 mod kind;
 mod options;
 mod reading;
-#[cfg(test)]
-mod tests;
 mod values;
 mod verdict;
 

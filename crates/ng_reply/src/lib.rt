@@ -6,8 +6,6 @@
 mod code;
 mod error;
 mod success;
-#[cfg(test)]
-mod tests;
 mod words;
 
 pub use code::{ErrorCode, SdpPart};

@@ -6,12 +6,8 @@
 #![tactic(auto)]
 
 mod desk;
-#[cfg(test)]
-mod exchanges;
 mod law;
 mod server;
-#[cfg(test)]
-mod tests;
 
 pub use control_turns::ControlTurn;
 pub use desk::Desk;

@@ -26,8 +26,6 @@ mod planning;
 mod rejecting;
 mod signalling;
 mod tag;
-#[cfg(test)]
-mod tests;
 mod writing;
 mod writing_back;
 

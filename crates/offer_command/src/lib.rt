@@ -8,7 +8,5 @@
 mod accepting;
 mod offering;
 mod replying;
-#[cfg(test)]
-mod tests;
 
 pub use offering::offer;

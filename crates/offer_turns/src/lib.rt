@@ -12,8 +12,6 @@ mod offering;
 mod preparing;
 mod room;
 mod taking;
-#[cfg(test)]
-mod tests;
 
 pub use offering::{AcceptedOffer, offer_act};
 pub use room::OfferRoom;

@@ -12,14 +12,15 @@ mod keys;
 mod lines;
 mod link;
 mod ports;
+mod seed;
 mod sink;
 
+pub use address::{addr_of, socket_addr};
 pub use clocks::{SystemClock, SystemTimer};
 pub use keys::ChaChaKeys;
 pub use lines::StdLines;
 pub use link::UdpLink;
 pub use ports::{UdpIn, UdpMaker, UdpOut};
+pub use seed::read_seed;
 pub use sink::StdSink;
 
-#[cfg(test)]
-mod tests;

@@ -13,8 +13,6 @@ mod lease_list;
 mod pairs;
 mod sections;
 mod signal;
-#[cfg(test)]
-mod tests;
 
 pub use boxes::{BoxTake, PairBox};
 pub use holder::{Holder, Side};

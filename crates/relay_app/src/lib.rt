@@ -15,9 +15,3 @@ mod words;
 pub use app::run;
 pub use status::Status;
 
-#[cfg(test)]
-mod replay_tests;
-#[cfg(test)]
-mod tests;
-#[cfg(test)]
-mod words_tests;

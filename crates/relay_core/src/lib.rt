@@ -16,8 +16,6 @@ mod closing;
 mod laws;
 mod machine;
 mod part;
-#[cfg(test)]
-mod tests;
 
 pub use beginning::parts;
 pub use closing::close_relay;

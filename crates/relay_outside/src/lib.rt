@@ -37,5 +37,3 @@ pub use memory::sink::{MemorySink, SteadySink};
 pub use ports::{InCall, InEnd, InGiven, OutCall, OutEnd, PortCall, PortMaker};
 pub use settings::{Config, Flags};
 
-#[cfg(test)]
-mod tests;

@@ -10,8 +10,6 @@ mod law;
 mod payload;
 mod reading;
 mod step;
-#[cfg(test)]
-mod tests;
 mod writing;
 
 pub use event::Printed;

@@ -14,8 +14,6 @@ mod keys;
 mod lines;
 mod link;
 mod ports;
-#[cfg(test)]
-mod tests;
 mod timetable;
 mod watch;
 

@@ -6,8 +6,6 @@
 
 mod reading;
 mod script;
-#[cfg(test)]
-mod tests;
 mod writing;
 
 pub use reading::read_script;

@@ -18,11 +18,7 @@ mod held;
 mod opened;
 mod playing;
 mod replaying;
-#[cfg(test)]
-mod scripts;
 mod stepping;
-#[cfg(test)]
-mod tests;
 mod watching;
 
 pub use ended::Ended;

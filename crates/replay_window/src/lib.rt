@@ -6,8 +6,6 @@
 #![tactic(auto)]
 
 mod answers;
-#[cfg(test)]
-mod tests;
 mod window;
 
 pub use answers::{Fresh, Near};

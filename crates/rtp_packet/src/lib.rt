@@ -6,7 +6,5 @@
 #![tactic(auto)]
 
 mod head;
-#[cfg(test)]
-mod tests;
 
 pub use head::{Half, RtpHead, rtcp, rtp};

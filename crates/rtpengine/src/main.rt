@@ -3,12 +3,12 @@
 //! pass on is trusted; all that is proved is over these devices.
 #![tactic(auto)]
 
-mod seed;
 mod words;
 
-use crate::seed::read_seed;
 use crate::words::{Words, read_words};
-use outside_real::{ChaChaKeys, StdLines, StdSink, SystemClock, SystemTimer, UdpLink, UdpMaker};
+use outside_real::{
+    ChaChaKeys, StdLines, StdSink, SystemClock, SystemTimer, UdpLink, UdpMaker, read_seed,
+};
 use relay_app::{Status, run};
 use relay_outside::OpenGate;
 use std::alloc::Global;
@@ -62,6 +62,3 @@ where
         &mut StdSink::new(io::writer(rt)),
     )
 }
-
-#[cfg(test)]
-mod tests;

@@ -12,8 +12,6 @@
 
 mod crypto_line;
 mod read;
-#[cfg(test)]
-mod tests;
 mod write;
 
 pub use crypto_line::{CryptoLine, Suite};

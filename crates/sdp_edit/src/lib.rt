@@ -16,8 +16,6 @@
 mod ahead;
 mod attribute;
 mod choosing;
-#[cfg(test)]
-mod descriptions;
 mod editing;
 mod edits;
 mod field;
@@ -25,8 +23,6 @@ mod image;
 mod place;
 mod rewritten;
 mod step;
-#[cfg(test)]
-mod tests;
 mod text;
 
 pub use choosing::{choose, choose_among};

@@ -15,8 +15,6 @@ mod role;
 mod sdp;
 mod section;
 mod summary;
-#[cfg(test)]
-mod tests;
 mod written;
 
 pub use bytes::{Bytes, OutOfMemory};

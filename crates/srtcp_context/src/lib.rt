@@ -12,8 +12,6 @@ mod inbound;
 mod laws;
 mod outbound;
 mod session;
-#[cfg(test)]
-mod tests;
 
 pub use inbound::InRtcp;
 pub use laws::a_protected_packet_opens;

@@ -10,8 +10,6 @@ mod inbound;
 mod laws;
 mod outbound;
 mod session;
-#[cfg(test)]
-mod tests;
 
 pub use inbound::InRtp;
 pub use laws::a_protected_packet_opens;

@@ -10,8 +10,6 @@ mod derivation;
 mod faults;
 mod mac;
 mod master_key;
-#[cfg(test)]
-mod tests;
 
 pub use derivation::{Session, derive};
 pub use faults::{ProtectFault, UnprotectFault};

@@ -7,8 +7,6 @@
 
 mod counter;
 mod sources;
-#[cfg(test)]
-mod tests;
 
 pub use counter::packet_counter;
 pub use sources::Sources;

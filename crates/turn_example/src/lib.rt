@@ -11,8 +11,6 @@
 mod boxes;
 mod machine;
 mod puts;
-#[cfg(test)]
-mod tests;
 
 pub use boxes::{open_box, try_take};
 pub use machine::{End, Event, Outcome, Part, Relay};

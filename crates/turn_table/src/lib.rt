@@ -22,8 +22,6 @@ mod machine;
 mod plays;
 mod room;
 mod steps;
-#[cfg(test)]
-mod tests;
 mod threads;
 mod turn;
 mod view;

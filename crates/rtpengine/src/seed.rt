@@ -1,9 +1,0 @@
-use std::io;
-use std::random::RandomSource;
-
-/// The seed of a run's keys: 32 bytes of the runtime's random source.
-pub(crate) fn read_seed(random: &impl RandomSource) -> io::Result<[u8; 32]> {
-    let mut seed = [0; 32];
-    random.fill_bytes(&mut seed)?;
-    Ok(seed)
-}
