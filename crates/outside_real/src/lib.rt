@@ -23,4 +23,3 @@ pub use link::UdpLink;
 pub use ports::{UdpIn, UdpMaker, UdpOut};
 pub use seed::read_seed;
 pub use sink::StdSink;
-

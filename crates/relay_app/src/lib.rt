@@ -14,4 +14,3 @@ mod words;
 
 pub use app::run;
 pub use status::Status;
-

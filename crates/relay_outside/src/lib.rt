@@ -36,4 +36,3 @@ pub use memory::ports::{Arrivals, Packet, SteadyIn, SteadyMaker, SteadyOut};
 pub use memory::sink::{MemorySink, SteadySink};
 pub use ports::{InCall, InEnd, InGiven, OutCall, OutEnd, PortCall, PortMaker};
 pub use settings::{Config, Flags};
-
