@@ -2,7 +2,7 @@
 
 ghost use Rattle.std.specs.Prelude.{◌≡◌, IfOk};
 
-use crate::*;
+use call_board::*;
 use ng_bencode::Text;
 use ng_command::{AnswerIn, OfferIn, Options};
 use relay_outside::{Addr, Config, Flags, Ip};

@@ -1,7 +1,7 @@
 ghost use Rattle.std.specs.Prelude.{◌≡◌, ◌∷◌, [], IfOk};
 ghost use Rattle.port_pool.specs.Pools.{Pairs};
 
-use crate::{Cell, Gone, InContexts, Incoming, Outcome, Prepare, Refused};
+use call_cell::{Cell, Gone, InContexts, Incoming, Outcome, Prepare, Refused};
 use port_pool::{Holder, Pool, Side, Signal};
 use relay_outside::{Addr, Config, Ip, PortMaker, SteadyMaker, SteadyOut};
 use rtp_packet::Half;

@@ -1,4 +1,4 @@
-use crate::{Judge, Learner};
+use endpoint_learn::{Judge, Learner};
 use relay_outside::{Addr, Flags, Ip};
 
 const PLAIN: Flags = Flags {

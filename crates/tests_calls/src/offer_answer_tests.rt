@@ -2,7 +2,7 @@
 
 ghost use Rattle.offer_answer.specs.Widths.{WritesFrom};
 
-use crate::*;
+use offer_answer::*;
 use ng_bencode::Text;
 use ng_command::{AnswerIn, OfferIn, Options};
 use port_pool::Side;

@@ -1,6 +1,6 @@
 ghost use Rattle.std.specs.Prelude.{◌≡◌, None};
 
-use crate::{Part, Relay, close_relay, parts};
+use relay_core::{Part, Relay, close_relay, parts};
 use relay_outside::{Addr, Config, Failed, InEnd, Ip, OutEnd};
 use std::test::Fail;
 use turn_table::{Hand, Turns};

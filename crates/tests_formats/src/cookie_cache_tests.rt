@@ -1,7 +1,7 @@
 ghost use Rattle.std.specs.Prelude.{◌≡◌, IfOk};
 ghost use Rattle.cookie_cache.specs.Keepings.{IsCookie};
 
-use crate::{CookieCache, kept_is_latest};
+use cookie_cache::{CookieCache, kept_is_latest};
 use ng_bencode::Text;
 use relay_outside::{Addr, Ip};
 use std::alloc::Global;

@@ -1,4 +1,4 @@
-use crate::{Bad, Pairs, Text, Value, Values, decode, encode, lookup, one_reading, same_key};
+use ng_bencode::{Bad, Pairs, Text, Value, Values, decode, encode, lookup, one_reading, same_key};
 use std::alloc::Global;
 use std::test::Fail;
 

@@ -1,4 +1,4 @@
-use crate::{Command, CommandFault, KeyName, Options, read};
+use ng_command::{Command, CommandFault, KeyName, Options, read};
 use ng_bencode::Text;
 use relay_outside::{Flags, Ip};
 use sdp_text::Proto;

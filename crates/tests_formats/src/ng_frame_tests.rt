@@ -1,4 +1,4 @@
-use crate::{join, one_frame, split};
+use ng_frame::{join, one_frame, split};
 use std::test::Fail;
 
 #[test]

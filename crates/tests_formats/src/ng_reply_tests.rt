@@ -1,4 +1,4 @@
-use crate::{ErrorCode, SdpPart, done, fixed_error, pong, sdp_reply_into, sdp_reply_len, warned};
+use ng_reply::{ErrorCode, SdpPart, done, fixed_error, pong, sdp_reply_into, sdp_reply_len, warned};
 use ng_bencode::{Text, encode};
 use ng_command::KeyName;
 use std::test::Fail;

@@ -1,6 +1,6 @@
 //! Lines of RFC 4568 and RFC 3711, and of the narrowed grammar's edges.
 
-use super::*;
+use sdes_lines::*;
 use std::test::Fail;
 
 // RFC 3711 appendix B.3: the master key and the master salt

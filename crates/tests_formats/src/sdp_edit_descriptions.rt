@@ -1,7 +1,7 @@
 //! Descriptions as they come, and as they are to be written. The edited texts come from another
 //! implementation of the rules, made for this table.
 
-use crate::tests::{Case, Keys, SectionCase};
+use crate::sdp_edit_tests::{Case, Keys, SectionCase};
 use sdp_text::{Host, Proto};
 
 pub(crate) const PROXY: Host = Host::V4([203, 0, 113, 1]);

@@ -3,10 +3,10 @@
 ghost use Rattle.std.specs.Prelude.{IfOk};
 ghost use Rattle.sdp_edit.specs.Editing.{KeysHaveTags, HaveTags};
 
-use crate::descriptions::{
+use crate::sdp_edit_descriptions::{
     connections_and_ends, families_and_names, orders_and_sizes, titles_and_protocols, whole_calls,
 };
-use crate::*;
+use sdp_edit::*;
 use sdes_lines::{CryptoLine, Suite};
 use sdp_text::{Bytes, Host, OutOfMemory, Proto, read};
 use std::alloc::Global;

@@ -1,4 +1,4 @@
-use crate::{Bytes, Host, Proto, Sdp, SdpFault, Section, host_text, read, read_host};
+use sdp_text::{Bytes, Host, Proto, Sdp, SdpFault, Section, host_text, read, read_host};
 use std::alloc::Global;
 use std::process::Abort;
 use std::test::Fail;

@@ -3,7 +3,7 @@ ghost use Rattle.turn_table.specs.Hands.{parts};
 ghost use Rattle.relay_core.specs.Turning.{made_by};
 ghost use Rattle.board_turns.specs.Between.{IsBetween};
 
-use crate::sweep_between;
+use main_sweeps::sweep_between;
 use media_lane::Totals;
 use relay_core::{Relay, close_relay};
 use relay_outside::{Config, HandClock, Ip, MemoryIn, MemoryOut, OpenGate};

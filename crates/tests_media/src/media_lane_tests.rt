@@ -5,10 +5,10 @@ ghost use Rattle.media_lane.specs.Lanes.{hand_of, list_of, config_of, sent_of, p
 ghost use Rattle.media_lane.specs.Receipts.{IsReceiptOf};
 ghost use Rattle.media_lane.specs.Relaying.{RelaysBy};
 
-use crate::puts::{put_relay, put_take};
-use crate::receiving::take_from;
-use crate::relaying::relay_in;
-use crate::{Lane, Receipt, Received, Relayed, Totals};
+use media_lane::puts::{put_relay, put_take};
+use media_lane::receiving::take_from;
+use media_lane::relaying::relay_in;
+use media_lane::{Lane, Receipt, Received, Relayed, Totals};
 use call_board::Board;
 use call_cell::{Cell, Incoming, Outcome, Refused};
 use port_pool::{Holder, PairBox, Side};

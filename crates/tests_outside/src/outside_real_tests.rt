@@ -1,5 +1,5 @@
-use crate::address::{addr_of, socket_addr};
-use crate::{
+use outside_real::address::{addr_of, socket_addr};
+use outside_real::{
     ChaChaKeys, StdLines, StdSink, SystemClock, SystemTimer, UdpIn, UdpLink, UdpMaker, UdpOut,
 };
 use relay_outside::{

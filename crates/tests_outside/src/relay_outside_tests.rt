@@ -1,6 +1,6 @@
 ghost use Rattle.std.specs.Prelude.{◌≡◌, Some, [], IfOk};
 
-use crate::{
+use relay_outside::{
     Addr, Arrivals, Clock, ControlLink, Copied, Failed, Gate, HandClock, HandTimer, InEnd, Ip,
     KeyList, KeySource, LineRead, LineSink, LineSource, LinkGift, MemoryIn, MemoryLines,
     MemoryLink, MemoryMaker, MemoryOut, MemoryPort, MemorySink, OpenGate, OutEnd, Packet,

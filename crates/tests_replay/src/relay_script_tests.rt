@@ -1,4 +1,4 @@
-use crate::{FailKind, ParseFault, Printed, Step, one_step, parse, print, printed_text_is_read};
+use relay_script::{FailKind, ParseFault, Printed, Step, one_step, parse, print, printed_text_is_read};
 use call_cell::{Lost, Outcome, Refused};
 use ng_bencode::Text;
 use relay_outside::{Addr, Ip};

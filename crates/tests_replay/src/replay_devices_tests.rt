@@ -1,6 +1,6 @@
 ghost use Rattle.std.specs.Prelude.{◌≡◌, Some, [], IfOk};
 
-use crate::{ReplayKeys, ReplayLink, ReplayPorts, Timetable};
+use replay_devices::{ReplayKeys, ReplayLink, ReplayPorts, Timetable};
 use outside_real::ChaChaKeys;
 use relay_outside::{Addr, ControlLink, Failed, InEnd, Ip, KeySource, OutEnd, PortMaker, Taken};
 use relay_script::{Step, parse};

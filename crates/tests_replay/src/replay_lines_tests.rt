@@ -1,4 +1,4 @@
-use crate::{Ending, Script, WriteFault, read_script, write_event};
+use replay_lines::{Ending, Script, WriteFault, read_script, write_event};
 use ng_bencode::Text;
 use relay_outside::{Addr, Copied, Ip, MemoryLines, MemorySink, WriteCall};
 use relay_script::{Printed, Step};

@@ -1,5 +1,5 @@
 //! Tables of scripts and of what they print, one module for each subject, and how they are played.
-use crate::{Ended, replay};
+use replay_steps::{Ended, replay};
 use relay_outside::{Config, Copied, Ip, MemorySink, SteadyLines, WriteCall};
 use std::alloc::Global;
 use std::sync::Wait;

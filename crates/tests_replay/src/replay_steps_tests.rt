@@ -1,18 +1,18 @@
 //! Scripts are replayed, and print what they are to print.
 
-use crate::scripts::addresses::ADDRESSES;
-use crate::scripts::calls::CALLS;
-use crate::scripts::cookies::COOKIES;
-use crate::scripts::failures::FAILURES;
-use crate::scripts::faults::FAULTS;
-use crate::scripts::faults_of_fields::FAULTS_OF_FIELDS;
-use crate::scripts::packets_lost::PACKETS_LOST;
-use crate::scripts::receipts::RECEIPTS;
-use crate::scripts::sections::SECTIONS;
-use crate::scripts::secure_calls::SECURE_CALLS;
-use crate::scripts::sources::SOURCES;
-use crate::scripts::srtp::SRTP;
-use crate::scripts::{Ending, play};
+use crate::replay_steps_scripts::addresses::ADDRESSES;
+use crate::replay_steps_scripts::calls::CALLS;
+use crate::replay_steps_scripts::cookies::COOKIES;
+use crate::replay_steps_scripts::failures::FAILURES;
+use crate::replay_steps_scripts::faults::FAULTS;
+use crate::replay_steps_scripts::faults_of_fields::FAULTS_OF_FIELDS;
+use crate::replay_steps_scripts::packets_lost::PACKETS_LOST;
+use crate::replay_steps_scripts::receipts::RECEIPTS;
+use crate::replay_steps_scripts::sections::SECTIONS;
+use crate::replay_steps_scripts::secure_calls::SECURE_CALLS;
+use crate::replay_steps_scripts::sources::SOURCES;
+use crate::replay_steps_scripts::srtp::SRTP;
+use crate::replay_steps_scripts::{Ending, play};
 
 #[test]
 fn calls_are_replayed(rt: HostRuntime) {

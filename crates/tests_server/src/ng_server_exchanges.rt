@@ -4,7 +4,7 @@ ghost use Rattle.turn_table.specs.Hands.{parts};
 ghost use Rattle.board_turns.specs.Between.{IsBetween};
 ghost use Rattle.ng_server.specs.Servers.{OpensJust, history_of};
 
-use crate::{ControlTurn, Desk, Server};
+use ng_server::{ControlTurn, Desk, Server};
 use relay_core::Relay;
 use relay_outside::{
     Addr, Config, Ip, KeyList, LinkGift, MemoryIn, MemoryLink, MemoryMaker, MemoryOut, PortCall,

@@ -1,17 +1,17 @@
 //! The server of the control protocol, asked over devices in memory.
 
-use crate::exchanges::calls::CALLS;
-use crate::exchanges::datagrams::DATAGRAMS;
-use crate::exchanges::descriptions::{MALFORMED, REWRITTEN, UNSUPPORTED};
-use crate::exchanges::keys::KEYS;
-use crate::exchanges::keys_of_commands::COMMAND_KEYS;
-use crate::exchanges::port_faults::{ONE_SECTION, TWO_SECTIONS};
-use crate::exchanges::ports::PORTS;
-use crate::exchanges::refusals::{DELETES, FIRST_FAULTS, UNKNOWN};
-use crate::exchanges::reoffers::{FORKS, REOFFERS};
-use crate::exchanges::sections::{SECTION_KINDS, SECTIONS};
-use crate::exchanges::srtp::{BOTH_SIDES, KEY_FAULTS, ONE_SIDE};
-use crate::exchanges::{Ending, play};
+use crate::ng_server_exchanges::calls::CALLS;
+use crate::ng_server_exchanges::datagrams::DATAGRAMS;
+use crate::ng_server_exchanges::descriptions::{MALFORMED, REWRITTEN, UNSUPPORTED};
+use crate::ng_server_exchanges::keys::KEYS;
+use crate::ng_server_exchanges::keys_of_commands::COMMAND_KEYS;
+use crate::ng_server_exchanges::port_faults::{ONE_SECTION, TWO_SECTIONS};
+use crate::ng_server_exchanges::ports::PORTS;
+use crate::ng_server_exchanges::refusals::{DELETES, FIRST_FAULTS, UNKNOWN};
+use crate::ng_server_exchanges::reoffers::{FORKS, REOFFERS};
+use crate::ng_server_exchanges::sections::{SECTION_KINDS, SECTIONS};
+use crate::ng_server_exchanges::srtp::{BOTH_SIDES, KEY_FAULTS, ONE_SIDE};
+use crate::ng_server_exchanges::{Ending, play};
 
 #[test]
 fn calls_are_offered_answered_and_deleted(rt: HostRuntime) {

@@ -1,4 +1,4 @@
-use crate::{Status, run};
+use relay_app::{Status, run};
 use relay_outside::{
     Copied, HandClock, HandTimer, LineSource, MemoryLines, OpenGate, OutOfMemory, SteadyKeys,
     SteadyLink, SteadyMaker, SteadySink, WriteCall,

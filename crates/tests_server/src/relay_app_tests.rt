@@ -1,4 +1,4 @@
-use crate::{Status, run};
+use relay_app::{Status, run};
 use relay_outside::{
     Addr, Arrivals, ControlLink, HandClock, HandTimer, Ip, LineSink, LinkGift, MemoryLink,
     MemorySink, OpenGate, Packet, SteadyKeys, SteadyLines, SteadyLink, SteadyMaker, SteadySink,

@@ -1,4 +1,4 @@
-use crate::words::{ReplaySettings, Settings, read_replay, read_settings};
+use relay_app::words::{ReplaySettings, Settings, read_replay, read_settings};
 use relay_outside::{Addr, Config, Ip};
 use std::process::Abort;
 

@@ -1,6 +1,6 @@
 // Vectors of FIPS 197 and RFC 3711, and the keystream at lengths round a block.
 
-use super::Cipher;
+use aes_ctr::Cipher;
 use std::test::Fail;
 
 /// Session key and counters of RFC 3711, appendix B.2.

@@ -1,4 +1,4 @@
-use crate::{Fresh, Near, Window};
+use replay_window::{Fresh, Near, Window};
 
 #[test]
 fn the_nearest_index(rt: HostRuntime) {

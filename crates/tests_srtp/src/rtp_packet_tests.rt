@@ -1,4 +1,4 @@
-use crate::{Half, RtpHead, rtcp, rtp};
+use rtp_packet::{Half, RtpHead, rtcp, rtp};
 
 // The values stand in the packets at the places of RFC 3550, figures of sections 5.1, 5.3.1 and 6.4.2.
 #[test]

@@ -1,4 +1,4 @@
-use crate::{InRtcp, OutRtcp};
+use srtcp_context::{InRtcp, OutRtcp};
 use rtp_packet::rtcp;
 use srtp_keys::{DrawnKey, ProtectFault, UnprotectFault};
 

@@ -1,4 +1,4 @@
-use crate::{InRtp, OutRtp};
+use srtp_context::{InRtp, OutRtp};
 use rtp_packet::rtp;
 use sdes_lines::Suite;
 use srtp_keys::{DrawnKey, ProtectFault, UnprotectFault};

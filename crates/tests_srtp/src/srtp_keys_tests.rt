@@ -1,6 +1,6 @@
 // Vectors of RFC 2202 and RFC 3711, and the keys of a draw.
 
-use super::{DrawnKey, MacKey, derive, hmac};
+use srtp_keys::{DrawnKey, MacKey, derive, hmac};
 use rtp_packet::Half;
 
 /// Master key and master salt of RFC 3711, appendix B.3.

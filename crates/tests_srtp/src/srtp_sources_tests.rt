@@ -1,4 +1,4 @@
-use crate::{Sources, packet_counter};
+use srtp_sources::{Sources, packet_counter};
 use replay_window::{Fresh, Near};
 
 // The counter of RFC 3711, appendix B.2, and the same salt with an SSRC and an index, added up by hand.

@@ -3,7 +3,7 @@ ghost use Rattle.turn_table.specs.Hands.{parts};
 ghost use Rattle.relay_core.specs.Turning.{made_by};
 ghost use Rattle.board_turns.specs.Between.{IsBetween};
 
-use crate::stop_turn;
+use board_turns::stop_turn;
 use call_cell::Gone;
 use relay_core::{Relay, close_relay};
 use relay_outside::{Config, Ip, MemoryIn, MemoryMaker, MemoryOut};

@@ -1,6 +1,6 @@
 //! Bodies and descriptions, and what is read of them.
 
-use crate::*;
+use control_reading::*;
 use ng_command::{Command, KeyName};
 use ng_reply::{ErrorCode, SdpPart};
 use relay_outside::{Config, Ip};

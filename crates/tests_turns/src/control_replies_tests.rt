@@ -1,4 +1,4 @@
-use crate::{
+use control_replies::{
     copy, done_datagram, error_datagram, pong_datagram, reply_room, warned_datagram,
     write_described, write_error,
 };

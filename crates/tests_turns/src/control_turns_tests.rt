@@ -7,7 +7,7 @@ ghost use Rattle.media_ports.specs.Held.{TellsHeld};
 ghost use Rattle.board_turns.specs.Between.{IsBetween, board_of};
 ghost use Rattle.board_turns.specs.Ending.{leg_pairs};
 
-use crate::{ControlTurn, control_turn};
+use control_turns::{ControlTurn, control_turn};
 use call_cell::Gone;
 use relay_core::{Relay, close_relay};
 use relay_outside::{

@@ -9,7 +9,7 @@ ghost use Rattle.relay_core.specs.Turning.{made_by};
 ghost use Rattle.board_turns.specs.Between.{IsBetween};
 ghost use Rattle.control_entries.specs.Telling.{IsAnew};
 
-use crate::delete;
+use delete_command::delete;
 use call_board::Board;
 use call_cell::Gone;
 use control_entries::Request;

@@ -4,7 +4,7 @@ ghost use Rattle.relay_outside.specs.Told.{WhereTold};
 ghost use Rattle.media_ports.specs.Addresses.{ports_of, addresses_of};
 ghost use Rattle.media_ports.specs.Calls.{AllOpen};
 
-use crate::{
+use media_ports::{
     DrawnList, KeyFault, OpenedPairs, PairEnds, PortFault, address_of, close_pair, draw_keys,
     open_pairs,
 };

@@ -3,7 +3,7 @@ ghost use Rattle.turn_table.specs.Hands.{HasNoTurn, parts};
 ghost use Rattle.relay_core.specs.Turning.{made_by};
 ghost use Rattle.nested_steps.specs.Nesting.{MayNest};
 
-use crate::{Nest, open_box, shut_box};
+use nested_steps::{Nest, open_box, shut_box};
 use port_pool::{BoxTake, Holder, Side};
 use relay_core::{Part, Relay};
 use relay_outside::{Addr, Config, Failed, InEnd, Ip, OutEnd};

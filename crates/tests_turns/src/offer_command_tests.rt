@@ -1,6 +1,6 @@
 //! The replies to an offer.
 
-use crate::replying::{accepted, undone};
+use offer_command::replying::{accepted, undone};
 use call_board::BoardFault;
 use control_entries::{Done, Gave, misdescribed, unplanned};
 use control_reading::DescriptionFault;

@@ -1,6 +1,6 @@
 //! The memory of the first offer of a board with two pairs.
 
-use crate::OfferRoom;
+use offer_turns::OfferRoom;
 use call_board::Board;
 use ng_bencode::Text;
 use ng_command::{OfferIn, Options};

@@ -1,6 +1,6 @@
 ghost use Rattle.std.specs.Prelude.{◌≡◌, ◌+◌, ◌%◌, IfOk, Some};
 
-use crate::{End, Outcome, open_box, try_take};
+use turn_example::{End, Outcome, open_box, try_take};
 use std::test::Fail;
 
 // It gives the numbers from `next` on, modulo 256.

@@ -1,6 +1,6 @@
 ghost use Rattle.std.specs.Prelude.{◌≡◌, ◌+◌, ◌^◌, ◌%◌};
 
-use crate::{Machine, Said, Turns};
+use turn_table::{Machine, Said, Turns};
 use std::test::Fail;
 use std::thread::join_mut;
 

@@ -1,6 +1,6 @@
 ghost use Rattle.std.specs.Prelude.{◌≡◌, ℕ, ◌≤◌, None};
 
-use crate::{BoxTake, Holder, PairBox, Side};
+use port_pool::{BoxTake, Holder, PairBox, Side};
 use relay_outside::{Addr, Arrivals, Failed, InEnd, Ip, Packet, PortMaker, SteadyIn, SteadyMaker};
 use rtp_packet::Half;
 use std::alloc::Global;

@@ -1,7 +1,7 @@
 ghost use Rattle.std.specs.Prelude.{◌≡◌, ◌∷◌, [], IfOk};
 ghost use Rattle.port_pool.specs.Pools.{Pairs};
 
-use crate::{Lease, Leases, Pool};
+use port_pool::{Lease, Leases, Pool};
 use std::alloc::Global;
 use std::test::Fail;
 

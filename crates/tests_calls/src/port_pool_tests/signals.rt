@@ -1,6 +1,6 @@
 ghost use Rattle.std.specs.Prelude.{◌<◌};
 
-use crate::{LegSignal, SectionSignal, Signal};
+use port_pool::{LegSignal, SectionSignal, Signal};
 use relay_outside::{Addr, Flags, Ip};
 use std::test::Fail;
 

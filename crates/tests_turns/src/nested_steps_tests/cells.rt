@@ -4,7 +4,7 @@ ghost use Rattle.call_cell.specs.Preparing.{IsReady, PrepareFor, added};
 ghost use Rattle.nested_steps.specs.Bringing.{brought_keys, brought_dropped};
 
 use super::{CONFIG, Mute, begin};
-use crate::{Brought, Nest, commit_cell, end_cell, expire_cell, prepare_cell};
+use nested_steps::{Brought, Nest, commit_cell, end_cell, expire_cell, prepare_cell};
 use call_cell::{Gone, InContexts, Prepare};
 use port_pool::{Side, Signal};
 use relay_outside::OutOfMemory;

@@ -3,7 +3,7 @@ ghost use Rattle.turn_table.specs.Hands.{IsHandOf, HasNoTurn, IsMain, starts, pa
 ghost use Rattle.turn_example.specs.Parts.{BeginsAsBoard, BeginsAsBox};
 
 use super::Numbers;
-use crate::{Part, Relay};
+use turn_example::{Part, Relay};
 use std::alloc::Global;
 use turn_table::{Hand, Turns};
 

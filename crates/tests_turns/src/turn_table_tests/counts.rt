@@ -3,7 +3,7 @@ ghost use Rattle.turn_table.specs.Hands.{IsHandOf, HasNoTurn, IsSameHand, HasTur
 ghost use Rattle.turn_table.specs.Steps.{entry};
 
 use super::{Added, Counter};
-use crate::{Hand, Turn, Turns};
+use turn_table::{Hand, Turn, Turns};
 use std::sync::Wait;
 use std::thread::{Threads, join_mut};
 

@@ -2,7 +2,7 @@ use Rattle.std.proofs.Common.{sym, subst, rules}
 use Rattle.media_lane.specs.Starts.{HasLaneStarts}
 use Rattle.media_lane.specs.declared.tests.TheConstants.{CONFIG}
 use Rattle.media_lane.proofs.Places.{parts_begin}
-use Rattle.media_lane.proofs.tests.begin_closed.Goals as goal
+use Rattle.tests_media.proofs.media_lane_tests.begin_closed.Goals as goal
 
 pub returns : goal.returns
 returns c = (

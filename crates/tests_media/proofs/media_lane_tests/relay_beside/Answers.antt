@@ -5,7 +5,7 @@ use Rattle.media_lane.specs.Relaying.{RelaysPart}
 use Rattle.media_lane.specs.declared.tests.TheConstants.{CONFIG}
 use Rattle.media_lane.proofs.Places.{gives_cell}
 use Rattle.media_lane.proofs.Relays.{relates}
-use Rattle.media_lane.proofs.tests.relay_beside.Goals as goal
+use Rattle.tests_media.proofs.media_lane_tests.relay_beside.Goals as goal
 
 pub relay_in-outcome-requires-clause-cell : goal.relay_in-outcome-requires-clause-cell
 relay_in-outcome-requires-clause-cell g c =

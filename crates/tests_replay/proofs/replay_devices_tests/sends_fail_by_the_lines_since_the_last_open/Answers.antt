@@ -1,5 +1,5 @@
 use Rattle.replay_devices.proofs.Opened.{first_open, closed}
-use Rattle.replay_devices.proofs.tests.sends_fail_by_the_lines_since_the_last_open.Goals as goal
+use Rattle.tests_replay.proofs.replay_devices_tests.sends_fail_by_the_lines_since_the_last_open.Goals as goal
 
 pub open-requires : goal.open-requires
 open-requires g c = first_open _ _ c.in_ok-maker.ensures

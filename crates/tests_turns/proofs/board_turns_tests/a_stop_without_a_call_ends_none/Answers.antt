@@ -2,7 +2,7 @@ use Rattle.std.proofs.Common.{ap}
 use Rattle.relay_outside.specs.PortTape.{MakerState}
 use Rattle.relay_core.specs.Turning.{made_by}
 use Rattle.board_turns.proofs.Firsts.{first_opens}
-use Rattle.board_turns.proofs.tests.a_stop_without_a_call_ends_none.Goals as goal
+use Rattle.tests_turns.proofs.board_turns_tests.a_stop_without_a_call_ends_none.Goals as goal
 
 pub stop_turn-count-requires-clause-open : goal.stop_turn-count-requires-clause-open
 stop_turn-count-requires-clause-open g c =

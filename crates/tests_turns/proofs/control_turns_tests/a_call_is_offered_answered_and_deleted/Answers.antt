@@ -2,7 +2,7 @@ use Rattle.std.proofs.Common.{◌∙◌, ap}
 use Rattle.relay_outside.specs.PortTape.{MakerState}
 use Rattle.relay_core.specs.Turning.{made_by}
 use Rattle.board_turns.proofs.Firsts.{first_opens}
-use Rattle.control_turns.proofs.tests.a_call_is_offered_answered_and_deleted.Goals as goal
+use Rattle.tests_turns.proofs.control_turns_tests.a_call_is_offered_answered_and_deleted.Goals as goal
 
 pub is_answered-offered-requires-clause-open : goal.is_answered-offered-requires-clause-open
 is_answered-offered-requires-clause-open g c =

@@ -1,6 +1,6 @@
 use Rattle.std.proofs.Common.{refl, arith}
 use Rattle.delete_command.proofs.Firsts.{none_kept}
-use Rattle.delete_command.proofs.tests.a_delete_of_no_call_is_told.Goals as goal
+use Rattle.tests_turns.proofs.delete_command_tests.a_delete_of_no_call_is_told.Goals as goal
 
 pub replied-requires-clause-anew : goal.replied-requires-clause-anew
 replied-requires-clause-anew g c = record {

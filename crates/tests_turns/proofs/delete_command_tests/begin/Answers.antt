@@ -1,5 +1,5 @@
 use Rattle.board_turns.proofs.Firsts.{first_between}
-use Rattle.delete_command.proofs.tests.begin.Goals as goal
+use Rattle.tests_turns.proofs.delete_command_tests.begin.Goals as goal
 
 pub returns-clause-between : goal.returns-clause-between
 returns-clause-between c =

@@ -1,7 +1,7 @@
 use Rattle.std.proofs.Common.{ap, Some}
 use Rattle.relay_outside.specs.PortTape.{MakerState}
 use Rattle.delete_command.proofs.Firsts.{in_first, asking_so}
-use Rattle.delete_command.proofs.tests.replied.Goals as goal
+use Rattle.tests_turns.proofs.delete_command_tests.replied.Goals as goal
 
 pub delete-done-requires-clause-turn : goal.delete-done-requires-clause-turn
 delete-done-requires-clause-turn g c =

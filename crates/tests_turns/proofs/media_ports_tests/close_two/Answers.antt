@@ -6,7 +6,7 @@ use Rattle.media_ports.specs.Calls.{AllOpen, Closes, ClosesPair}
 use Rattle.media_ports.specs.Ends.{EndsTold}
 use Rattle.media_ports.proofs.Telling.{told_less, told_after}
 use Rattle.media_ports.proofs.Leased.{length-ports_of, port_fits, open_here, open_later}
-use Rattle.media_ports.proofs.tests.close_two.Goals as goal
+use Rattle.tests_turns.proofs.media_ports_tests.close_two.Goals as goal
 
 four_ports : ArePorts (30000 ∷ 30001 ∷ 30002 ∷ 30003 ∷ [])
 four_ports = (omega arith, refl, (omega arith, refl, (omega arith, refl, (omega arith, refl, tt))))

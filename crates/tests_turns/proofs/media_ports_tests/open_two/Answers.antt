@@ -9,7 +9,7 @@ use Rattle.media_ports.specs.Calls.{NoneOpen}
 use Rattle.media_ports.proofs.Closed.{none_open_first}
 use Rattle.media_ports.proofs.Leased.{length-ports_of}
 use Rattle.media_ports.proofs.UpTo.{told_all_open}
-use Rattle.media_ports.proofs.tests.open_two.Goals as goal
+use Rattle.tests_turns.proofs.media_ports_tests.open_two.Goals as goal
 
 pub open_pairs-requires-clause-room : goal.open_pairs-requires-clause-room
 open_pairs-requires-clause-room c =

@@ -1,7 +1,7 @@
 use Rattle.std.proofs.Common.{lit<}
 use Rattle.port_pool.specs.Ports.{pair_count}
 use Rattle.nested_steps.proofs.First.{first_shut}
-use Rattle.nested_steps.proofs.tests.a_box_is_opened_for_its_leg.Goals as goal
+use Rattle.tests_turns.proofs.nested_steps_tests.a_box_is_opened_for_its_leg.Goals as goal
 
 pub open_box-requires-clause-pair : goal.open_box-requires-clause-pair
 unfolding pair_count

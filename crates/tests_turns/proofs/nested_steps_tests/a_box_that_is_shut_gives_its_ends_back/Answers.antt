@@ -5,7 +5,7 @@ use Rattle.port_pool.specs.Ports.{pair_count}
 use Rattle.relay_core.specs.Turning.{made_by}
 use Rattle.nested_steps.proofs.After.{gained_last, opened}
 use Rattle.nested_steps.proofs.First.{first_shut}
-use Rattle.nested_steps.proofs.tests.a_box_that_is_shut_gives_its_ends_back.Goals as goal
+use Rattle.tests_turns.proofs.nested_steps_tests.a_box_that_is_shut_gives_its_ends_back.Goals as goal
 
 pub open_box-requires-clause-pair : goal.open_box-requires-clause-pair
 unfolding pair_count

@@ -4,7 +4,7 @@ use Rattle.relay_outside.specs.declared.address.Ip.TheVariants as ip
 use Rattle.relay_outside.specs.declared.answers.OutOfMemory.{OutOfMemory}
 use Rattle.port_pool.specs.Ports.{pair_count}
 use Rattle.port_pool.specs.Pools.{Pairs, IsFresh}
-use Rattle.port_pool.proofs.tests.pairs.two_pairs.Goals as goal
+use Rattle.tests_calls.proofs.port_pool_tests.pairs.two_pairs.Goals as goal
 
 of_two : Config
 of_two = record { interface = ip.V4 (192 ∷ 0 ∷ 2 ∷ 1 ∷ []); interface6 = None; port_min = 29999; port_max = 30004; timeout_ms = 0; offer_timeout_ms = 0; max_sessions = 0 }

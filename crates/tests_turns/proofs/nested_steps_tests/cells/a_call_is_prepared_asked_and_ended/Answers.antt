@@ -1,7 +1,7 @@
 use Rattle.std.proofs.Common.{refl, ◌∙◌}
 use Rattle.nested_steps.proofs.After.{keys_still}
 use Rattle.nested_steps.proofs.First.{first_new, first_comes, new_first}
-use Rattle.nested_steps.proofs.tests.cells.a_call_is_prepared_asked_and_ended.Goals as goal
+use Rattle.tests_turns.proofs.nested_steps_tests.cells.a_call_is_prepared_asked_and_ended.Goals as goal
 
 pub prepare_cell-requires-clause-keys : goal.prepare_cell-requires-clause-keys
 prepare_cell-requires-clause-keys g c = first_new _ 1 c.in-Some.ensures.hand.0

@@ -1,7 +1,7 @@
 use Rattle.std.proofs.Common.{refl, inl}
 use Rattle.nested_steps.proofs.After.{keys_still}
 use Rattle.nested_steps.proofs.First.{first_new, first_room, new_first}
-use Rattle.nested_steps.proofs.tests.cells.a_committed_call_is_due_by_its_last_answer.Goals as goal
+use Rattle.tests_turns.proofs.nested_steps_tests.cells.a_committed_call_is_due_by_its_last_answer.Goals as goal
 
 pub commit_cell-requires-clause-keys : goal.commit_cell-requires-clause-keys
 commit_cell-requires-clause-keys g c = first_new _ 2 c.in-Some.ensures.hand.0

@@ -1,7 +1,7 @@
 use Rattle.std.proofs.Common.{refl, ◌∙◌}
 use Rattle.nested_steps.specs.Bringing.{brought_keys, brought_dropped}
 use Rattle.nested_steps.proofs.First.{tells_same, one_added}
-use Rattle.nested_steps.proofs.tests.cells.offer.Goals as goal
+use Rattle.tests_turns.proofs.nested_steps_tests.cells.offer.Goals as goal
 
 pub returns-clause-tells : goal.returns-clause-tells
 returns-clause-tells c =

@@ -1,5 +1,5 @@
 use Rattle.turn_table.specs.Hands.{IsSameHand, HasNoTurn}
-use Rattle.turn_table.proofs.tests.counts.add_times.Given as goal
+use Rattle.tests_turns.proofs.turn_table_tests.counts.add_times.Given as goal
 
 abbrev pub invariant-loop : goal.invariant-loop
 invariant-loop g l = record { same : IsSameHand l.initial.hand l.hand; idle : HasNoTurn l.hand }

@@ -1,0 +1,14 @@
+//! Tests of scripts, of the devices of a replay, and of what is read and written.
+//! Nothing stands on this crate: the libraries that it tests are proved once, without their tests.
+#![tactic(auto)]
+
+#[cfg(test)]
+mod relay_script_tests;
+#[cfg(test)]
+mod replay_devices_tests;
+#[cfg(test)]
+mod replay_lines_tests;
+#[cfg(test)]
+mod replay_steps_scripts;
+#[cfg(test)]
+mod replay_steps_tests;

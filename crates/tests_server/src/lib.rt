@@ -1,0 +1,14 @@
+//! Tests of the server and of the whole relay as one call.
+//! Nothing stands on this crate: the libraries that it tests are proved once, without their tests.
+#![tactic(auto)]
+
+#[cfg(test)]
+mod ng_server_exchanges;
+#[cfg(test)]
+mod ng_server_tests;
+#[cfg(test)]
+mod relay_app_replay_tests;
+#[cfg(test)]
+mod relay_app_tests;
+#[cfg(test)]
+mod relay_app_words_tests;
