@@ -10,7 +10,7 @@ use Rattle.sdp_text.specs.Lines.{lines_of}
 use Rattle.offer_answer.specs.Rounds.{AnswerAsk}
 use Rattle.offer_answer.specs.Plan.{AnswerHeard}
 use Rattle.call_board.specs.Acts.{Call, BoardEntry}
-use Rattle.call_board.specs.Asked.{asked}
+use Rattle.call_board.specs.Asked.{asked, sdp_error}
 use Rattle.call_board.specs.Calls.{find_call, rounds}
 use Rattle.call_board.specs.Fits.{Hears, HearsAnswer}
 use Rattle.call_board.proofs.Done.{Asks}
@@ -18,6 +18,7 @@ use Rattle.call_board.proofs.Dues.{AsksOf}
 use Rattle.control_entries.specs.declared.request.Request.{Request}
 use Rattle.control_entries.specs.declared.gave.Gave.{Gave}
 use Rattle.control_entries.specs.Controls.{unanswered}
+use Rattle.control_entries.specs.Telling.{IsAnew, IsAsking}
 use Rattle.control_entries.specs.Giving.{given_by}
 use Rattle.control_entries.specs.Carrying.{hearing_as}
 use Rattle.control_entries.proofs.Asking.{asks_so}
@@ -51,3 +52,13 @@ asks_of h input lines chosen (Some of) lines_are heard =
 pub heard_by : (h : List BoardEntry) (ask : AnswerAsk) (o : Option Call) → ((of : Call) → o ≡ Some of → AnswerHeard (rounds h of.number) ask) → HearsAnswer h ask o
 heard_by h ask None hears = tt
 heard_by h ask (Some of) hears = hears of refl
+
+-- the description that was read has no error
+pub asks_for : (config : Config) (h : List BoardEntry) (moment : ℕ) (request : Request) (pairs : Option Entries) (input : AnswerIn) (text : List ℕ) → IsAnew h moment request
+    → IsAsking request pairs (says_of input) → text ≡ input.sdp.list → sdp_error config text ≡ None → AsksFor config h moment request pairs input
+asks_for config h moment request pairs input text anew asking is fine =
+    record { anew = anew; asking = asking; fine = subst (λ (t : List ℕ). sdp_error config t ≡ None) is fine }
+
+-- the lines of the description that was read
+pub lines_read : (input : AnswerIn) (text : List ℕ) (lines : List (List ℕ)) → lines ≡ lines_of text → text ≡ input.sdp.list → lines_of input.sdp.list ≡ lines
+lines_read input text lines are is = sym (are ∙ ap lines_of is)

@@ -2,7 +2,6 @@
 ghost use Rattle.std.specs.Prelude.{◌≡◌, ◌≤◌, ◌<◌, ◌^◌, [], Option, length};
 ghost use Rattle.relay_outside.specs.Told.{Gained};
 ghost use Rattle.turn_table.specs.Hands.{IsSameHand, SameTurns};
-ghost use Rattle.sdp_text.specs.Lines.{lines_of};
 ghost use Rattle.ng_bencode.specs.Tree.{Entries};
 ghost use Rattle.ng_command.specs.Said.{Answer};
 ghost use Rattle.call_board.specs.Boards.{KeepsReplies};
@@ -14,60 +13,21 @@ ghost use Rattle.board_turns.specs.Acting.{InTurn};
 ghost use Rattle.control_entries.specs.Carrying.{hearing_by, Carries};
 ghost use Rattle.control_entries.specs.Giving.{IsUnasked};
 ghost use Rattle.control_entries.specs.Telling.{IsAnew, IsAsking};
-ghost use Rattle.answer_command.specs.Commands.{AsksFor};
 
-use crate::accepting::accept_answer;
+use crate::room::{AnswerRoom, answer_room};
+use answer_turns::answer_act;
 use call_board::Board;
 use call_cell::Gone;
-use control_entries::{Done, Request, misdescribed, unplanned};
+use control_entries::{Done, Gave, Request, misdescribed, short, unplanned};
 use control_reading::read_description;
+use control_replies::write_described;
 use nested_steps::Nest;
 use ng_command::AnswerIn;
 use relay_core::Relay;
 use relay_outside::{Config, PortMaker};
-use sdp_text::Sdp;
 use std::alloc::Global;
 use std::sync::Wait;
 use turn_table::{Hand, Turns};
-
-/// Carries out an answer whose description was read.
-fn answer_described<P: PortMaker, R: Wait>(
-    rt: &R,
-    alloc: Global,
-    turns: &Turns<Relay<P::In, P::Out>>,
-    hand: &mut Hand<Relay<P::In, P::Out>>,
-    config: &Config,
-    nest: Nest,
-    board: &mut Board,
-    ports: &mut P,
-    gone: &mut Gone<P::Out>,
-    request: &Request,
-    input: &AnswerIn,
-    sdp: &Sdp,
-) -> Done
-    requires turn { InTurn config.now turns.now hand.old nest board.old (P.told ports.old) }
-    requires empty { gone.old ≡ [] }
-    requires asked { (pairs : Option Entries) × AsksFor config.now (board_history (made_by hand.old) nest.number) nest.moment request.now pairs input.now }
-    requires read { lines_of input.now.sdp.list ≡ sdp.now }
-    ensures same { IsSameHand hand.old hand.new × SameTurns hand.old hand.new }
-    ensures may { MayNest config.now turns.now hand.new }
-    ensures carries { (pairs : Option Entries) → AsksFor config.now (board_history (made_by hand.old) nest.number) nest.moment request.now pairs input.now →
-        Carries config.now hand.old hand.new nest (hearing_by request.now pairs result) result.reply board.new (P.told ports.new) }
-    ensures replies { KeepsReplies board.old board.new }
-    ensures empty { gone.new ≡ [] }
-    ensures later { P.faults ports.old ≤ P.faults ports.new }
-    ensures closes { Gained (P.told ports.old) (P.told ports.new) OpensNone }
-    ensures unasked { IsUnasked result.gave }
-{
-    let heard = board.hear_answer(input.call_id.as_slice(), sdp);
-    match board.plan_answer(alloc, input, sdp) {
-        Ok(plan) => accept_answer(
-            rt, alloc, turns, hand, config, nest, board, ports, gone, request, input, sdp, heard,
-            plan,
-        ),
-        Err(fault) => unplanned(alloc, request.cookie, fault, heard),
-    }
-}
 
 /// Carries out an answer in the board's turn of its datagram, for which no reply is kept. It takes all memory that it needs before
 /// it changes anything, and where that is short nothing has changed. `gone` is empty before and after.
@@ -99,10 +59,30 @@ pub fn answer<P: PortMaker, R: Wait>(
     ensures closes { Gained (P.told ports.old) (P.told ports.new) OpensNone }
     ensures unasked { IsUnasked result.gave }
 {
-    match read_description(alloc, config, input.sdp.as_slice()) {
-        Ok(sdp) => answer_described(
-            rt, alloc, turns, hand, config, nest, board, ports, gone, request, input, &sdp,
-        ),
-        Err(fault) => misdescribed(alloc, request.cookie, fault),
+    let sdp = match read_description(alloc, config, input.sdp.as_slice()) {
+        Ok(sdp) => sdp,
+        Err(fault) => return misdescribed(alloc, request.cookie, fault),
+    };
+    let heard = board.hear_answer(input.call_id.as_slice(), &sdp);
+    let plan = match board.plan_answer(alloc, input, &sdp) {
+        Ok(plan) => plan,
+        Err(fault) => return unplanned(alloc, request.cookie, fault, heard),
+    };
+    let Ok(room) = answer_room(alloc, request.cookie, plan.planned().reply_len()) else {
+        return short();
+    };
+    let AnswerRoom {
+        contexts,
+        mut text,
+        mut reply,
+    } = room;
+    answer_act(
+        rt, turns, hand, config, nest, board, ports, gone, plan, &sdp, contexts, &mut text,
+    );
+    write_described(request.cookie, text.as_slice(), &mut reply);
+    Done {
+        heard,
+        gave: Gave::Nothing,
+        reply: Some(reply),
     }
 }

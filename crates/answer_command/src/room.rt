@@ -1,5 +1,5 @@
 //! The memory of an answer that the board planned.
-ghost use Rattle.std.specs.Prelude.{◌≡◌, ◌≤◌, ◌<◌, ◌^◌, [], IfOk};
+ghost use Rattle.std.specs.Prelude.{◌≡◌, ◌≤◌, ◌<◌, ◌^◌, [], IfOk, OnOk};
 ghost use Rattle.cookie_cache.specs.Keepings.{IsCookie};
 ghost use Rattle.control_replies.specs.Rooms.{IsReplyRoom};
 
@@ -12,6 +12,9 @@ use std::alloc::Global;
 
 /// How many inbound keys a commit has at most.
 const MOST_KEYS: usize = 16;
+
+/// No description that is written for an answer has so many bytes.
+const MOST_BYTES: usize = 1 << 40;
 
 /// The memory of an answer.
 #[derive(Drop)]
@@ -35,18 +38,21 @@ fn text_room(alloc: Global, len: usize) -> Result<Bytes, OutOfMemory>
     Ok(text)
 }
 
-/// The memory of an answer under this cookie whose description has at most so many bytes.
+/// The memory of an answer under this cookie whose description has at most so many bytes. There is none for 2^40 bytes.
 pub(crate) fn answer_room(
     alloc: Global,
     cookie: &[u8],
     len: usize,
 ) -> Result<AnswerRoom, OutOfMemory>
-    requires cookie { IsCookie cookie.now }
-    requires small { len < 2 ^ 40 }
+    requires { IsCookie cookie.now }
+    ensures small { OnOk result (len < 2 ^ 40) }
     ensures contexts { IfOk result (λ room. 16 ≤ room.contexts) }
     ensures text { IfOk result (λ room. (room.text.list ≡ []) × (len ≤ room.text.spare)) }
     ensures reply { IfOk result (λ room. IsReplyRoom cookie.now len room.reply) }
 {
+    if len >= MOST_BYTES {
+        return Err(OutOfMemory);
+    }
     let contexts = InContexts::reserve(alloc, MOST_KEYS)?;
     let text = text_room(alloc, len)?;
     let reply = reply_room(alloc, cookie, len)?;

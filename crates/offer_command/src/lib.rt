@@ -1,11 +1,11 @@
 //! An offer, carried out in the board's turn of its datagram: what there is to do is done, and its reply is made.
 //!
-//! Module `offering` reads the description and has the board plan the offer. `accepting` makes all memory that a planned offer
-//! needs before anything is leased, and carries its plan out. `replying` makes the replies
-//! to an accepted and to an undone offer. `specs/Commands.antt` says what the command asks and what it gives.
+//! Module `offering` reads the description, has the board plan the offer, makes all memory that it needs before anything is leased
+//! (`memory`), and carries the plan out. `replying` makes the replies to an accepted and to an undone offer.
+//! `specs/Commands.antt` says what the command asks and what it gives.
 #![tactic(auto)]
 
-mod accepting;
+mod memory;
 mod offering;
 mod replying;
 

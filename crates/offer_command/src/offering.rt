@@ -1,7 +1,6 @@
 //! An offer.
 ghost use Rattle.std.specs.Prelude.{◌≡◌, ◌≤◌, ◌<◌, ◌^◌, [], Option, length};
 ghost use Rattle.turn_table.specs.Hands.{IsSameHand, SameTurns};
-ghost use Rattle.sdp_text.specs.Lines.{lines_of};
 ghost use Rattle.ng_bencode.specs.Tree.{Entries};
 ghost use Rattle.ng_command.specs.Said.{Offer};
 ghost use Rattle.call_board.specs.Boards.{KeepsReplies};
@@ -12,61 +11,22 @@ ghost use Rattle.board_turns.specs.Acting.{InTurn};
 ghost use Rattle.control_entries.specs.Carrying.{hearing_by, Carries};
 ghost use Rattle.control_entries.specs.Giving.{given_by, IsGivenBy};
 ghost use Rattle.control_entries.specs.Telling.{IsAnew, IsAsking};
-ghost use Rattle.offer_command.specs.Commands.{AsksFor};
 
-use crate::accepting::accept_offer;
+use crate::memory::{OfferMemory, offer_memory};
+use crate::replying::{accepted, undone};
 use call_board::Board;
 use call_cell::Gone;
-use control_entries::{Done, Request, misdescribed, unplanned};
+use control_entries::{Done, Request, misdescribed, short, unplanned};
 use control_reading::read_description;
 use nested_steps::Nest;
 use ng_command::OfferIn;
 use offer_answer::Heard;
+use offer_turns::offer_act;
 use relay_core::Relay;
 use relay_outside::{Config, KeySource, PortMaker};
-use sdp_text::Sdp;
 use std::alloc::Global;
 use std::sync::Wait;
 use turn_table::{Hand, Turns};
-
-/// Carries out an offer whose description was read.
-fn offer_described<P: PortMaker, K: KeySource, R: Wait>(
-    rt: &R,
-    alloc: Global,
-    turns: &Turns<Relay<P::In, P::Out>>,
-    hand: &mut Hand<Relay<P::In, P::Out>>,
-    config: &Config,
-    nest: Nest,
-    board: &mut Board,
-    ports: &mut P,
-    keys: &mut K,
-    gone: &mut Gone<P::Out>,
-    request: &Request,
-    input: &OfferIn,
-    sdp: &Sdp,
-) -> Done
-    requires turn { InTurn config.now turns.now hand.old nest board.old (P.told ports.old) }
-    requires empty { gone.old ≡ [] }
-    requires asked { (pairs : Option Entries) × AsksFor config.now (board_history (made_by hand.old) nest.number) nest.moment request.now pairs input.now }
-    requires read { lines_of input.now.sdp.list ≡ sdp.now }
-    ensures same { IsSameHand hand.old hand.new × SameTurns hand.old hand.new }
-    ensures may { MayNest config.now turns.now hand.new }
-    ensures carries { (pairs : Option Entries) → AsksFor config.now (board_history (made_by hand.old) nest.number) nest.moment request.now pairs input.now →
-        Carries config.now hand.old hand.new nest (hearing_by request.now pairs result) result.reply board.new (P.told ports.new) }
-    ensures replies { KeepsReplies board.old board.new }
-    ensures empty { gone.new ≡ [] }
-    ensures later { (P.faults ports.old ≤ P.faults ports.new) × (K.faults keys.old ≤ K.faults keys.new) }
-    ensures given { IsGivenBy (given_by result.gave) (P.faults ports.old) (P.faults ports.new) (K.faults keys.old) (K.faults keys.new) (P.told ports.old) (P.told ports.new) (K.told keys.old) (K.told keys.new) }
-{
-    let heard = Heard::of_offer(sdp);
-    match board.plan_offer(alloc, input, sdp) {
-        Ok(plan) => accept_offer(
-            rt, alloc, turns, hand, config, nest, board, ports, keys, gone, request, input, sdp,
-            heard, plan,
-        ),
-        Err(fault) => unplanned(alloc, request.cookie, fault, heard),
-    }
-}
 
 /// Carries out an offer in the board's turn of its datagram, for which no reply is kept. It takes all memory that it needs before
 /// it leases anything, and where that is short it changes nothing. `gone` is empty before and after.
@@ -98,10 +58,24 @@ pub fn offer<P: PortMaker, K: KeySource, R: Wait>(
     ensures later { (P.faults ports.old ≤ P.faults ports.new) × (K.faults keys.old ≤ K.faults keys.new) }
     ensures given { IsGivenBy (given_by result.gave) (P.faults ports.old) (P.faults ports.new) (K.faults keys.old) (K.faults keys.new) (P.told ports.old) (P.told ports.new) (K.told keys.old) (K.told keys.new) }
 {
-    match read_description(alloc, config, input.sdp.as_slice()) {
-        Ok(sdp) => offer_described(
-            rt, alloc, turns, hand, config, nest, board, ports, keys, gone, request, input, &sdp,
-        ),
-        Err(fault) => misdescribed(alloc, request.cookie, fault),
+    let sdp = match read_description(alloc, config, input.sdp.as_slice()) {
+        Ok(sdp) => sdp,
+        Err(fault) => return misdescribed(alloc, request.cookie, fault),
+    };
+    let heard = Heard::of_offer(&sdp);
+    let plan = match board.plan_offer(alloc, input, &sdp) {
+        Ok(plan) => plan,
+        Err(fault) => return unplanned(alloc, request.cookie, fault, heard),
+    };
+    let Ok(memory) = offer_memory(alloc, request.cookie, plan.planned()) else {
+        return short();
+    };
+    let OfferMemory { room, reply } = memory;
+    let opens = 2 * plan.planned().pairs();
+    match offer_act(
+        rt, turns, hand, config, nest, board, ports, keys, gone, plan, &sdp, room,
+    ) {
+        Ok(offered) => accepted(request.cookie, offered, opens, heard, reply),
+        Err(fault) => undone(request.cookie, fault, opens, heard, reply),
     }
 }
