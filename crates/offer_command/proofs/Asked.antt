@@ -12,7 +12,7 @@ use Rattle.offer_answer.specs.Rounds.{Round}
 use Rattle.offer_answer.specs.Plan as plan
 use Rattle.offer_answer.specs.Plan.{OfferHeard}
 use Rattle.call_board.specs.Acts.{Call, BoardEntry}
-use Rattle.call_board.specs.Asked.{asked}
+use Rattle.call_board.specs.Asked.{asked, sdp_error}
 use Rattle.call_board.specs.Calls.{find_call, rounds_of_call}
 use Rattle.call_board.specs.Fits.{Hears, demanded, demanded_by}
 use Rattle.call_board.specs.Planned.{Target, PlansOffer}
@@ -28,6 +28,7 @@ use Rattle.control_entries.specs.Carrying.{hearing_as}
 use Rattle.control_entries.proofs.Asking.{asks_so}
 use Rattle.offer_turns.specs.Offers.{CanOffer, demand_of}
 use Rattle.offer_turns.proofs.Accepted.{can_offer}
+use Rattle.control_entries.specs.Telling.{IsAnew, IsAsking}
 use Rattle.offer_command.specs.Commands.{AsksFor, says_of, ask_of}
 
 -- it asks for the offer
@@ -82,3 +83,13 @@ none_fails (suc n) = none_fails n
 pub one_fails : (n : ℕ) → list_any not (replicate n true ++ false ∷ []) ≡ true
 one_fails zero = refl
 one_fails (suc n) = one_fails n
+
+-- the description that was read has no error
+pub asks_for : (config : Config) (h : List BoardEntry) (moment : ℕ) (request : Request) (pairs : Option Entries) (input : OfferIn) (text : List ℕ) → IsAnew h moment request
+    → IsAsking request pairs (says_of input) → text ≡ input.sdp.list → sdp_error config text ≡ None → AsksFor config h moment request pairs input
+asks_for config h moment request pairs input text anew asking is fine =
+    record { anew = anew; asking = asking; fine = subst (λ (t : List ℕ). sdp_error config t ≡ None) is fine }
+
+-- the lines of the description that was read
+pub lines_read : (input : OfferIn) (text : List ℕ) (lines : List (List ℕ)) → lines ≡ lines_of text → text ≡ input.sdp.list → lines_of input.sdp.list ≡ lines
+lines_read input text lines are is = sym (are ∙ ap lines_of is)

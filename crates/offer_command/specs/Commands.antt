@@ -1,5 +1,5 @@
 -- What the command of an offer asks, and how it is carried out.
-use Rattle.std.specs.Prelude.{◌≡◌, ℕ, List, Option, Some, None, Ok}
+use Rattle.std.specs.Prelude.{◌≡◌, ℕ, List, Option, Some, None}
 use Rattle.relay_outside.specs.declared.settings.Config.{Config}
 use Rattle.ng_bencode.specs.Room.{Room}
 use Rattle.ng_bencode.specs.Tree.{Entries}
@@ -8,18 +8,11 @@ use Rattle.ng_command.specs.Said.{Said, Offer}
 use Rattle.ng_reply.specs.declared.code.ErrorCode.{ErrorCode}
 use Rattle.ng_reply.specs.declared.code.ErrorCode.TheVariants.{E15, E16}
 use Rattle.sdes_lines.specs.declared.crypto_line.CryptoLine.{CryptoLine}
-use Rattle.sdp_text.specs.Lines.{lines_of}
 use Rattle.offer_answer.specs.Rounds.{OfferAsk}
-use Rattle.offer_answer.specs.Plan.{OfferHeard}
-use Rattle.offer_answer.specs.Widths.{WritesFrom}
-use Rattle.call_board.specs.declared.board.Board.{Board}
-use Rattle.call_board.specs.declared.board_plan.BoardPlan.{BoardPlan}
 use Rattle.call_board.specs.Acts.{BoardEntry}
 use Rattle.call_board.specs.Answers.{offer_ask}
 use Rattle.call_board.specs.Asked.{sdp_error}
-use Rattle.call_board.specs.Planned.{HasRoom, PlansOffer}
 use Rattle.call_board.specs.Replies.{Reply, reply_datagram}
-use Rattle.call_board.specs.Views.{view_of}
 use Rattle.offer_leases.specs.declared.fault.LeaseFault.{LeaseFault}
 use Rattle.offer_leases.specs.declared.fault.LeaseFault.TheVariants.{Port, Key}
 use Rattle.control_entries.specs.declared.done.Done.{Done}
@@ -41,14 +34,6 @@ pub record AsksFor (config : Config) (h : List BoardEntry) (moment : ℕ) (reque
   pub anew : IsAnew h moment request
   pub asking : IsAsking request pairs (says_of input)
   pub fine : sdp_error config input.sdp.list ≡ None
-
--- These crypto lines were chosen in the description, which has these lines, and so the board planned the offer
-pub record IsPlanned (config : Config) (h : List BoardEntry) (board : Board) (input : OfferIn) (lines : List (List ℕ)) (chosen : List (Option CryptoLine)) (p : BoardPlan) : Type 0 where
-  pub lines_are : lines_of input.sdp.list ≡ lines
-  pub heard : OfferHeard (ask_of input chosen)
-  pub plans : PlansOffer config (view_of config h) input.call_id.list (ask_of input chosen) (Ok p)
-  pub room : HasRoom board p
-  pub writes : WritesFrom p.plan lines
 
 -- How it is carried out.
 

@@ -72,10 +72,11 @@ pub fn offer<P: PortMaker, K: KeySource, R: Wait>(
     };
     let OfferMemory { room, reply } = memory;
     let opens = 2 * plan.planned().pairs();
-    match offer_act(
+    let offered = match offer_act(
         rt, turns, hand, config, nest, board, ports, keys, gone, plan, &sdp, room,
     ) {
-        Ok(offered) => accepted(request.cookie, offered, opens, heard, reply),
-        Err(fault) => undone(request.cookie, fault, opens, heard, reply),
-    }
+        Ok(offered) => offered,
+        Err(fault) => return undone(request.cookie, fault, opens, heard, reply),
+    };
+    accepted(request.cookie, offered, opens, heard, reply)
 }
