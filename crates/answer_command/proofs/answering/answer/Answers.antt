@@ -1,4 +1,4 @@
-use Rattle.std.proofs.Common.{◌≡◌, ◌∙◌, ◌≤◌, ◌<◌, refl, sym, ap, subst, arith, ℕ, List, Option, length}
+use Rattle.std.proofs.Common.{◌∙◌, refl, sym, ap, subst, arith, ℕ, List, Option, length}
 use Rattle.std.specs.Prelude.{option_map}
 use Rattle.media_ports.proofs.Asked.{gained_no_opening}
 use Rattle.offer_answer.specs.declared.plan.Plan.{Plan}
@@ -6,7 +6,6 @@ use Rattle.call_board.specs.declared.board.Board.{Board}
 use Rattle.call_board.specs.Acts.{Call}
 use Rattle.call_board.specs.Asked.{sdp_error}
 use Rattle.call_board.specs.Calls.{find_call}
-use Rattle.call_board.specs.Fits.{HearsAnswer}
 use Rattle.call_board.specs.Replies.{Described, reply_datagram}
 use Rattle.call_board.specs.Views.{view_of, at_moment, call_of_id, call_view}
 use Rattle.call_board.proofs.Found.{found_by_id}
