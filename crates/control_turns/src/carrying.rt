@@ -1,5 +1,5 @@
 //! A command that is no repeat, carried out.
-ghost use Rattle.std.specs.Prelude.{◌≡◌, ◌≤◌, [], Option, Ok, false, IfOk, length};
+ghost use Rattle.std.specs.Prelude.{◌≡◌, ◌≤◌, [], Option, false, IfOk, length};
 ghost use Rattle.ng_command.specs.Said.{said};
 ghost use Rattle.turn_table.specs.Hands.{IsSameHand, SameTurns};
 ghost use Rattle.ng_bencode.specs.Tree.{Entries};
@@ -42,51 +42,6 @@ pub(crate) struct Carried {
     pub done: Done,
 }
 
-/// Carries out a command.
-fn carry_out_known<P: PortMaker, K: KeySource, R: Wait>(
-    rt: &R,
-    alloc: Global,
-    turns: &Turns<Relay<P::In, P::Out>>,
-    hand: &mut Hand<Relay<P::In, P::Out>>,
-    config: &Config,
-    nest: Nest,
-    board: &mut Board,
-    ports: &mut P,
-    keys: &mut K,
-    gone: &mut Gone<P::Out>,
-    request: &Request,
-    command: &Command,
-) -> Done
-    requires turn { InTurn config.now turns.now hand.old nest board.old (P.told ports.old) }
-    requires anew { IsAnew (board_history (made_by hand.old) nest.number) nest.moment request.now }
-    requires empty { gone.old ≡ [] }
-    requires small { length (description_in (said command.now)) ≤ length request.now.body.now }
-    requires asked { (pairs : Option Entries) × (request.now.too_long ≡ false) × Reads request.now.body.now pairs × (command_in false pairs ≡ Ok (said command.now)) }
-    ensures same { IsSameHand hand.old hand.new × SameTurns hand.old hand.new }
-    ensures may { MayNest config.now turns.now hand.new }
-    ensures carries { (pairs : Option Entries) → request.now.too_long ≡ false → Reads request.now.body.now pairs → command_in false pairs ≡ Ok (said command.now) →
-        Carries config.now hand.old hand.new nest (hearing_by request.now pairs result) result.reply board.new (P.told ports.new) }
-    ensures replies { KeepsReplies board.old board.new }
-    ensures empty { gone.new ≡ [] }
-    ensures later { (P.faults ports.old ≤ P.faults ports.new) × (K.faults keys.old ≤ K.faults keys.new) }
-    ensures given { IsGivenBy (given_by result.gave) (P.faults ports.old) (P.faults ports.new) (K.faults keys.old) (K.faults keys.new) (P.told ports.old) (P.told ports.new) (K.told keys.old) (K.told keys.new) }
-{
-    match command {
-        Command::Ping => told(Heard::none(), pong_datagram(alloc, request.cookie)),
-        Command::Offer(input) => offer(
-            rt, alloc, turns, hand, config, nest, board, ports, keys, gone, request, input,
-        ),
-        Command::Answer(input) => answer(
-            rt, alloc, turns, hand, config, nest, board, ports, gone, request, input,
-        ),
-        Command::Delete(input) => delete(
-            rt, alloc, turns, hand, config, nest, board, ports, gone, request, input,
-        ),
-        Command::Query(_) => unreachable!(),
-        Command::List(_) => unreachable!(),
-    }
-}
-
 /// Carries out a command, or answers the error that there is in its place.
 fn carry_out_command<P: PortMaker, K: KeySource, R: Wait>(
     rt: &R,
@@ -116,11 +71,23 @@ fn carry_out_command<P: PortMaker, K: KeySource, R: Wait>(
     ensures later { (P.faults ports.old ≤ P.faults ports.new) × (K.faults keys.old ≤ K.faults keys.new) }
     ensures given { IsGivenBy (given_by result.gave) (P.faults ports.old) (P.faults ports.new) (K.faults keys.old) (K.faults keys.new) (P.told ports.old) (P.told ports.new) (K.told keys.old) (K.told keys.new) }
 {
+    let command = match command {
+        Ok(command) => command,
+        Err(code) => return refused(alloc, request.cookie, *code, Heard::none()),
+    };
     match command {
-        Ok(command) => carry_out_known(
-            rt, alloc, turns, hand, config, nest, board, ports, keys, gone, request, command,
+        Command::Ping => told(Heard::none(), pong_datagram(alloc, request.cookie)),
+        Command::Offer(input) => offer(
+            rt, alloc, turns, hand, config, nest, board, ports, keys, gone, request, input,
         ),
-        Err(code) => refused(alloc, request.cookie, *code, Heard::none()),
+        Command::Answer(input) => answer(
+            rt, alloc, turns, hand, config, nest, board, ports, gone, request, input,
+        ),
+        Command::Delete(input) => delete(
+            rt, alloc, turns, hand, config, nest, board, ports, gone, request, input,
+        ),
+        Command::Query(_) => unreachable!(),
+        Command::List(_) => unreachable!(),
     }
 }
 

@@ -1,8 +1,11 @@
-use Rattle.std.proofs.Common.{◌∙◌, ap, Bool}
+use Rattle.std.proofs.Common.{◌≡◌, ◌∙◌, ap, Bool, false, Ok}
+use Rattle.ng_command.specs.Said.{said}
+use Rattle.ng_command.specs.declared.command.Command.{Command}
 use Rattle.call_board.specs.Asked.{command_in}
+use Rattle.call_board.specs.Replies.{Pong, reply_datagram}
 use Rattle.control_reading.specs.Bodies.{said_by}
-use Rattle.control_entries.proofs.Givings.{unasked_given}
-use Rattle.control_turns.proofs.Commands.{faulty_carries}
+use Rattle.control_entries.proofs.Givings.{unasked_given, closing_given}
+use Rattle.control_turns.proofs.Commands.{faulty_carries, no_list, no_query, ping_carries}
 use Rattle.control_turns.proofs.carrying.carry_out_command.Goals as goal
 
 pub returns-in-Err-clause-carries : goal.returns-in-Err-clause-carries
@@ -15,3 +18,25 @@ pub returns-in-Err-clause-given : goal.returns-in-Err-clause-given
 returns-in-Err-clause-given g c =
     unasked_given c.refused.result.gave (g.P.PortMaker.faults c.args.ports.now) (g.P.PortMaker.faults c.args.ports.now) (g.K.KeySource.faults c.args.keys.now) (g.K.KeySource.faults c.args.keys.now)
     (g.P.PortMaker.told c.args.ports.now) (g.K.KeySource.told c.args.keys.now) c.refused.ensures.unasked
+
+pub returns-in-Ping-clause-carries : goal.returns-in-Ping-clause-carries
+returns-in-Ping-clause-carries g c pairs short reads is =
+    ping_carries c.args.config.now c.args.turns.now c.args.hand.now c.args.nest c.args.request.now pairs c.none-in-Ping.result c.told.result c.args.board.now
+    (g.P.PortMaker.told c.args.ports.now) c.requires.turn c.requires.anew (λ s. reads)
+    (ap (λ (b : Bool). command_in b pairs) short ∙ is ∙ ap said_by c.in-Ok.is ∙ ap (λ (x : Command). Ok (said x)) c.in-Ping.is)
+    (c.told.ensures.tells (reply_datagram c.args.config.now c.args.request.now.cookie.now Pong) (c.pong_datagram.ensures c.args.config.now))
+
+pub returns-in-Ping-clause-given : goal.returns-in-Ping-clause-given
+returns-in-Ping-clause-given g c =
+    unasked_given c.told.result.gave (g.P.PortMaker.faults c.args.ports.now) (g.P.PortMaker.faults c.args.ports.now) (g.K.KeySource.faults c.args.keys.now) (g.K.KeySource.faults c.args.keys.now)
+    (g.P.PortMaker.told c.args.ports.now) (g.K.KeySource.told c.args.keys.now) c.told.ensures.unasked
+
+pub returns-in-Answer-clause-given : goal.returns-in-Answer-clause-given
+returns-in-Answer-clause-given g c =
+    closing_given c.answer.result.gave (g.P.PortMaker.faults c.args.ports.now) (g.P.PortMaker.faults c.answer.new.ports) (g.K.KeySource.faults c.args.keys.now) (g.K.KeySource.faults c.args.keys.now)
+    (g.P.PortMaker.told c.args.ports.now) (g.P.PortMaker.told c.answer.new.ports) (g.K.KeySource.told c.args.keys.now) c.answer.ensures.closes c.answer.ensures.unasked
+
+pub returns-in-Delete-clause-given : goal.returns-in-Delete-clause-given
+returns-in-Delete-clause-given g c =
+    closing_given c.delete.result.gave (g.P.PortMaker.faults c.args.ports.now) (g.P.PortMaker.faults c.delete.new.ports) (g.K.KeySource.faults c.args.keys.now) (g.K.KeySource.faults c.args.keys.now)
+    (g.P.PortMaker.told c.args.ports.now) (g.P.PortMaker.told c.delete.new.ports) (g.K.KeySource.told c.args.keys.now) c.delete.ensures.closes c.delete.ensures.unasked
