@@ -3,8 +3,6 @@
 #![tactic(auto)]
 
 #[cfg(test)]
-mod ng_server_exchanges;
-#[cfg(test)]
 mod ng_server_tests;
 #[cfg(test)]
 mod relay_app_replay_tests;

@@ -1,254 +1,78 @@
-//! The server of the control protocol, asked over devices in memory.
+//! A server over devices in memory, from its start to its close. What it answers to other datagrams is shown by scripts, which
+//! `check_scripts` plays.
 
-use crate::ng_server_exchanges::calls::CALLS;
-use crate::ng_server_exchanges::datagrams::DATAGRAMS;
-use crate::ng_server_exchanges::descriptions::{MALFORMED, REWRITTEN, UNSUPPORTED};
-use crate::ng_server_exchanges::keys::KEYS;
-use crate::ng_server_exchanges::keys_of_commands::COMMAND_KEYS;
-use crate::ng_server_exchanges::port_faults::{ONE_SECTION, TWO_SECTIONS};
-use crate::ng_server_exchanges::ports::PORTS;
-use crate::ng_server_exchanges::refusals::{DELETES, FIRST_FAULTS, UNKNOWN};
-use crate::ng_server_exchanges::reoffers::{FORKS, REOFFERS};
-use crate::ng_server_exchanges::sections::{SECTION_KINDS, SECTIONS};
-use crate::ng_server_exchanges::srtp::{BOTH_SIDES, KEY_FAULTS, ONE_SIDE};
-use crate::ng_server_exchanges::{Ending, play};
+use ng_server::{ControlTurn, Desk, Server};
+use relay_outside::{
+    Addr, Config, Ip, KeyList, LinkGift, MemoryLink, MemoryMaker, OutOfMemory, PortCall,
+};
+use std::alloc::{AllocError, Global};
+use std::test::Fail;
 
-#[test]
-fn calls_are_offered_answered_and_deleted(rt: HostRuntime) {
-    for scenario in &CALLS {
-        assert_eq!(rt;
-            play(&rt, rt.alloc(), scenario),
-            Ending::AsTold,
-            "{}",
-            scenario.name
-        );
+const CONFIG: Config = Config {
+    interface: Ip::V4([203, 0, 113, 1]),
+    interface6: None,
+    port_min: 30_000,
+    port_max: 40_000,
+    timeout_ms: 60_000,
+    offer_timeout_ms: 3_600_000,
+    max_sessions: 16,
+};
+
+const PROXY: Addr = Addr {
+    ip: Ip::V4([192, 0, 2, 9]),
+    port: 5060,
+};
+
+const OFFER: &[u8] =
+    b"1 d7:call-id2:c17:command5:offer8:from-tag1:a3:sdp93:v=0\r\no=alice 1 1 IN IP4 192.0.2.10\r\ns=-\r\nc=IN IP4 192.0.2.10\r\nt=0 0\r\nm=audio 6000 RTP/AVP 0\r\ne";
+
+const OFFERED: &[u8] =
+    b"1 d6:result2:ok3:sdp116:v=0\r\no=alice 1 1 IN IP4 192.0.2.10\r\ns=-\r\nc=IN IP4 192.0.2.10\r\nt=0 0\r\nm=audio 30000 RTP/AVP 0\r\nc=IN IP4 203.0.113.1\r\ne";
+
+/// A link that gives this datagram of the proxy.
+fn link_with(alloc: Global, datagram: &[u8]) -> Result<MemoryLink, OutOfMemory> {
+    let mut gifts = Vec::new(alloc);
+    match gifts.push(LinkGift::datagram(alloc, PROXY, datagram)?) {
+        Ok(()) => Ok(MemoryLink::new(alloc, gifts, Vec::new(alloc))),
+        Err(_) => Err(OutOfMemory),
     }
 }
 
-#[test]
-fn each_datagram_gets_its_reply_or_silence(rt: HostRuntime) {
-    for scenario in &DATAGRAMS {
-        assert_eq!(rt;
-            play(&rt, rt.alloc(), scenario),
-            Ending::AsTold,
-            "{}",
-            scenario.name
-        );
+/// The ports that are open after these calls, in the order in which they were opened.
+fn open_after(alloc: Global, calls: &[PortCall]) -> Result<Vec<u16>, AllocError> {
+    let mut open = Vec::new(alloc);
+    for call in calls {
+        match call {
+            PortCall::Open { at, done: true } => open.push(at.port)?,
+            PortCall::Open { .. } => {}
+            PortCall::Close { at, .. } => open.retain(|port| *port != at.port),
+        }
     }
+    Ok(open)
 }
 
 #[test]
-fn malformed_descriptions_are_refused(rt: HostRuntime) {
-    for scenario in &MALFORMED {
-        assert_eq!(rt;
-            play(&rt, rt.alloc(), scenario),
-            Ending::AsTold,
-            "{}",
-            scenario.name
-        );
-    }
-}
-
-#[test]
-fn unsupported_descriptions_are_refused(rt: HostRuntime) {
-    for scenario in &UNSUPPORTED {
-        assert_eq!(rt;
-            play(&rt, rt.alloc(), scenario),
-            Ending::AsTold,
-            "{}",
-            scenario.name
-        );
-    }
-}
-
-#[test]
-fn descriptions_are_rewritten(rt: HostRuntime) {
-    for scenario in &REWRITTEN {
-        assert_eq!(rt;
-            play(&rt, rt.alloc(), scenario),
-            Ending::AsTold,
-            "{}",
-            scenario.name
-        );
-    }
-}
-
-#[test]
-fn keys_are_drawn_in_order(rt: HostRuntime) {
-    for scenario in &KEYS {
-        assert_eq!(rt;
-            play(&rt, rt.alloc(), scenario),
-            Ending::AsTold,
-            "{}",
-            scenario.name
-        );
-    }
-}
-
-#[test]
-fn commands_need_their_keys(rt: HostRuntime) {
-    for scenario in &COMMAND_KEYS {
-        assert_eq!(rt;
-            play(&rt, rt.alloc(), scenario),
-            Ending::AsTold,
-            "{}",
-            scenario.name
-        );
-    }
-}
-
-#[test]
-fn a_fault_of_each_port_is_undone(rt: HostRuntime) {
-    for scenario in &ONE_SECTION {
-        assert_eq!(rt;
-            play(&rt, rt.alloc(), scenario),
-            Ending::AsTold,
-            "{}",
-            scenario.name
-        );
-    }
-}
-
-#[test]
-fn port_faults_leave_other_ports(rt: HostRuntime) {
-    for scenario in &TWO_SECTIONS {
-        assert_eq!(rt;
-            play(&rt, rt.alloc(), scenario),
-            Ending::AsTold,
-            "{}",
-            scenario.name
-        );
-    }
-}
-
-#[test]
-fn pairs_and_calls_run_out(rt: HostRuntime) {
-    for scenario in &PORTS {
-        assert_eq!(rt;
-            play(&rt, rt.alloc(), scenario),
-            Ending::AsTold,
-            "{}",
-            scenario.name
-        );
-    }
-}
-
-#[test]
-fn deletes_that_find_nothing_warn(rt: HostRuntime) {
-    for scenario in &DELETES {
-        assert_eq!(rt;
-            play(&rt, rt.alloc(), scenario),
-            Ending::AsTold,
-            "{}",
-            scenario.name
-        );
-    }
-}
-
-#[test]
-fn unknown_tags_are_refused(rt: HostRuntime) {
-    for scenario in &UNKNOWN {
-        assert_eq!(rt;
-            play(&rt, rt.alloc(), scenario),
-            Ending::AsTold,
-            "{}",
-            scenario.name
-        );
-    }
-}
-
-#[test]
-fn the_first_of_several_faults_is_told(rt: HostRuntime) {
-    for scenario in &FIRST_FAULTS {
-        assert_eq!(rt;
-            play(&rt, rt.alloc(), scenario),
-            Ending::AsTold,
-            "{}",
-            scenario.name
-        );
-    }
-}
-
-#[test]
-fn offers_come_from_both_sides(rt: HostRuntime) {
-    for scenario in &REOFFERS {
-        assert_eq!(rt;
-            play(&rt, rt.alloc(), scenario),
-            Ending::AsTold,
-            "{}",
-            scenario.name
-        );
-    }
-}
-
-#[test]
-fn forks_and_holds_are_answered(rt: HostRuntime) {
-    for scenario in &FORKS {
-        assert_eq!(rt;
-            play(&rt, rt.alloc(), scenario),
-            Ending::AsTold,
-            "{}",
-            scenario.name
-        );
-    }
-}
-
-#[test]
-fn sections_come_and_go(rt: HostRuntime) {
-    for scenario in &SECTIONS {
-        assert_eq!(rt;
-            play(&rt, rt.alloc(), scenario),
-            Ending::AsTold,
-            "{}",
-            scenario.name
-        );
-    }
-}
-
-#[test]
-fn sections_of_all_kinds_are_rewritten(rt: HostRuntime) {
-    for scenario in &SECTION_KINDS {
-        assert_eq!(rt;
-            play(&rt, rt.alloc(), scenario),
-            Ending::AsTold,
-            "{}",
-            scenario.name
-        );
-    }
-}
-
-#[test]
-fn one_side_has_crypto_lines(rt: HostRuntime) {
-    for scenario in &ONE_SIDE {
-        assert_eq!(rt;
-            play(&rt, rt.alloc(), scenario),
-            Ending::AsTold,
-            "{}",
-            scenario.name
-        );
-    }
-}
-
-#[test]
-fn both_sides_have_crypto_lines(rt: HostRuntime) {
-    for scenario in &BOTH_SIDES {
-        assert_eq!(rt;
-            play(&rt, rt.alloc(), scenario),
-            Ending::AsTold,
-            "{}",
-            scenario.name
-        );
-    }
-}
-
-#[test]
-fn key_faults_are_undone(rt: HostRuntime) {
-    for scenario in &KEY_FAULTS {
-        assert_eq!(rt;
-            play(&rt, rt.alloc(), scenario),
-            Ending::AsTold,
-            "{}",
-            scenario.name
-        );
-    }
+fn a_stop_closes_the_ports_of_an_offer(rt: HostRuntime) -> Result<(), Fail> {
+    let alloc = rt.alloc();
+    let mut link = link_with(alloc, OFFER)?;
+    let mut maker = MemoryMaker::new(alloc, Vec::new(alloc), Vec::new(alloc));
+    let mut keys = KeyList::new(alloc, Vec::new(alloc), Vec::new(alloc));
+    let mut desk = Desk::new(alloc)?;
+    let Ok((server, mut hand)) = Server::start(alloc, CONFIG) else {
+        panic!(rt; "no memory");
+    };
+    let turn = server.control_turn(
+        &rt, alloc, &mut hand, &mut desk, &mut link, &mut maker, &mut keys, 0,
+    );
+    assert_eq!(rt; turn, ControlTurn::Replied);
+    assert!(rt; link.last_sent() == Some((PROXY, OFFERED)));
+    let opened = open_after(alloc, maker.calls().unwrap_or(&[]));
+    assert!(rt;
+        opened.is_ok_and(|ports| ports.as_slice() == [30_000, 30_001, 30_002, 30_003].as_slice())
+    );
+    assert_eq!(rt; server.stop(&rt, &mut hand, &mut desk, &mut maker), 1);
+    let left = open_after(alloc, maker.calls().unwrap_or(&[]));
+    assert!(rt; left.is_ok_and(|ports| ports.is_empty()) && maker.tells());
+    drop(server.close(hand));
+    Ok(())
 }

@@ -1,0 +1,13 @@
+-- What a script prints, as one text.
+use Rattle.std.specs.Prelude.{ℕ, List, [], ◌∷◌, ◌++◌}
+use Rattle.relay_outside.specs.declared.lines.WriteCall.{WriteCall}
+use Rattle.relay_outside.specs.declared.lines.WriteCall.TheVariants.{Write}
+
+-- the line that a call was given to write, with its line feed
+abbrev pub line_of : WriteCall → List ℕ
+line_of (Write line done) = line
+
+-- the text of all these lines, one behind the other
+abbrev pub text_of : List WriteCall → List ℕ
+text_of [] = []
+text_of (call ∷ calls) = line_of call ++ text_of calls
