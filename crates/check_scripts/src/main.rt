@@ -1,6 +1,6 @@
 //! Plays the scripts of a folder by `relay_app::run` over devices in memory, and tells which of them print another thing than they
-//! should. `NAME.script` is a script, and `NAME.out` what it prints (docs/SCRIPTS.md). The folder is the first word, or else the one that the
-//! program runs in. It ends well only where there are scripts and none differs.
+//! should. `NAME.script` is a script, and `NAME.out` what it prints (docs/SCRIPTS.md). The folder is the first word, or else `data` where
+//! there is one, or else the one that the program runs in, as in `rt ci`. It ends well only where there are scripts and none differs.
 #![tactic(auto)]
 
 mod difference;
@@ -33,7 +33,12 @@ fn check<R: Wait + Files + AllocGlobal>(
 
 fn main(rt: HostRuntime) -> io::Result<ExitCode> {
     let word = env::args(&rt)?.nth(1);
-    let folder = word.as_ref().map_or(".", |word| word.as_str());
+    let home = if fs::exists(&rt, "data")? {
+        "data"
+    } else {
+        "."
+    };
+    let folder = word.as_ref().map_or(home, |word| word.as_str());
     let names = read_names(&rt, folder)?;
     let mut differing = 0u64;
     for name in &names {
