@@ -3,11 +3,9 @@
 #![tactic(auto)]
 
 #[cfg(test)]
-mod ng_server_exchanges;
-#[cfg(test)]
-mod ng_server_tests;
-#[cfg(test)]
 mod relay_app_replay_tests;
+#[cfg(test)]
+mod relay_app_runs;
 #[cfg(test)]
 mod relay_app_tests;
 #[cfg(test)]
