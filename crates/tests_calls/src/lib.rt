@@ -14,3 +14,5 @@ mod offer_answer_tests;
 mod port_pool_tests;
 #[cfg(test)]
 mod relay_core_tests;
+#[cfg(test)]
+mod two_pairs;

@@ -2,16 +2,15 @@
 
 ghost use Rattle.offer_answer.specs.Widths.{WritesFrom};
 
-use offer_answer::*;
 use ng_bencode::Text;
 use ng_command::{AnswerIn, OfferIn, Options};
+use offer_answer::*;
 use port_pool::Side;
 use relay_outside::{Config, Flags, Ip};
 use sdes_lines::{CryptoLine, Suite};
 use sdp_text::{Bytes, Proto, Sdp, read};
 use std::alloc::Global;
 use std::process::Abort;
-use std::test::Fail;
 
 const CONFIG: Config = Config {
     interface: Ip::V4([203, 0, 113, 1]),
@@ -74,17 +73,27 @@ fn cases() -> [Case; 4] {
     ]
 }
 
-fn text(alloc: Global, bytes: &[u8]) -> Result<Text, Fail> {
+fn text(rt: &impl Abort, alloc: Global, bytes: &[u8]) -> Text {
     let mut text = Text::new(alloc);
-    text.reserve(bytes.len())?;
+    text.reserve(bytes.len()).expect(rt, "memory");
     text.extend(bytes);
-    Ok(text)
+    text
 }
 
-fn asked(alloc: Global, transport: Option<Proto>) -> Result<OfferIn, Fail> {
-    Ok(OfferIn {
-        call_id: text(alloc, b"call")?,
-        from_tag: text(alloc, b"alice")?,
+fn read_sdp<'a>(rt: &impl Abort, alloc: Global, description: &'a [u8]) -> Sdp<'a> {
+    assert!(rt; description.len() < 65_536);
+    read(alloc, description).expect(rt, "the description is read")
+}
+
+fn alices_dialog(rt: &impl Abort, alloc: Global) -> Dialog {
+    let tag = text(rt, alloc, b"alice");
+    Dialog::new(alloc, &tag).expect(rt, "memory")
+}
+
+fn asked(rt: &impl Abort, alloc: Global, transport: Option<Proto>) -> OfferIn {
+    OfferIn {
+        call_id: text(rt, alloc, b"call"),
+        from_tag: text(rt, alloc, b"alice"),
         sdp: Text::new(alloc),
         options: Options {
             flags: Flags {
@@ -97,7 +106,7 @@ fn asked(alloc: Global, transport: Option<Proto>) -> Result<OfferIn, Fail> {
             transport,
             source: None,
         },
-    })
+    }
 }
 
 /// What a first offer of this description is answered.
@@ -106,60 +115,64 @@ fn answered(
     alloc: Global,
     description: &[u8],
     transport: Option<Proto>,
-) -> Result<Result<Plan, OaFault>, Fail> {
-    assert!(rt; description.len() < 65_536);
-    let sdp = read(alloc, description)?;
-    let input = asked(alloc, transport)?;
-    let dialog = Dialog::new(alloc, &input.from_tag)?;
-    Ok(offer(alloc, &CONFIG, &dialog, &input, &sdp))
+) -> Result<Plan, OaFault> {
+    let sdp = read_sdp(rt, alloc, description);
+    let input = asked(rt, alloc, transport);
+    let dialog = alices_dialog(rt, alloc);
+    offer(alloc, &CONFIG, &dialog, &input, &sdp)
 }
 
-fn legs_of(alloc: Global, plan: &Plan) -> Result<Vec<(u8, Side)>, Fail> {
-    let mut legs = Vec::new(alloc);
-    for index in 0..plan.pairs() {
-        legs.push(plan.pair_leg(index))?;
+/// Whether the plan demands just these pairs of ports.
+fn has_pairs(plan: &Plan, want: &[(u8, Side)]) -> bool {
+    let count = plan.pairs();
+    if count != want.len() {
+        return false;
     }
-    Ok(legs)
-}
-
-fn key_places_of(alloc: Global, plan: &Plan) -> Result<Vec<(u8, Side, Suite)>, Fail> {
-    let mut places = Vec::new(alloc);
-    for index in 0..plan.keys() {
-        places.push(plan.key_leg(index))?;
+    for index in 0..count {
+        if plan.pair_leg(index) != want[index] {
+            return false;
+        }
     }
-    Ok(places)
+    true
 }
 
-fn check(rt: &impl Abort, alloc: Global, case: &Case) -> Result<(), Fail> {
-    let plan = answered(rt, alloc, case.text, case.transport)??;
-    assert_eq!(rt; legs_of(alloc, &plan)?.as_slice(), case.pairs);
-    assert_eq!(rt; key_places_of(alloc, &plan)?.as_slice(), case.keys);
-    assert!(rt; !plan.drops(0));
-    Ok(())
+/// Whether the plan demands just these keys.
+fn has_keys(plan: &Plan, want: &[(u8, Side, Suite)]) -> bool {
+    let count = plan.keys();
+    if count != want.len() {
+        return false;
+    }
+    for index in 0..count {
+        if plan.key_leg(index) != want[index] {
+            return false;
+        }
+    }
+    true
 }
 
 #[test]
-fn first_offers_demand_pairs_and_keys(rt: HostRuntime) -> Result<(), Fail> {
+fn first_offers_demand_pairs_and_keys(rt: HostRuntime) {
     for case in cases() {
-        check(&rt, rt.alloc(), &case)?;
+        let Ok(plan) = answered(&rt, rt.alloc(), case.text, case.transport) else {
+            panic!(rt; "the offer is planned");
+        };
+        assert!(rt; has_pairs(&plan, case.pairs), "{:?}", case.pairs);
+        assert!(rt; has_keys(&plan, case.keys), "{:?}", case.keys);
+        assert!(rt; !plan.drops(0));
     }
-    Ok(())
 }
 
 #[test]
-fn an_offer_with_srtp_needs_a_crypto_line(rt: HostRuntime) -> Result<(), Fail> {
-    let refused = answered(&rt, rt.alloc(), BARE, None)?;
+fn an_offer_with_srtp_needs_a_crypto_line(rt: HostRuntime) {
+    let refused = answered(&rt, rt.alloc(), BARE, None);
     assert!(rt; matches!(refused, Err(OaFault::NoCrypto)));
-    Ok(())
 }
 
 #[test]
-fn a_new_dialog_has_no_tag_and_no_profile(rt: HostRuntime) -> Result<(), Fail> {
-    let alloc = rt.alloc();
-    let dialog = Dialog::new(alloc, &text(alloc, b"alice")?)?;
+fn a_new_dialog_has_no_tag_and_no_profile(rt: HostRuntime) {
+    let dialog = alices_dialog(&rt, rt.alloc());
     assert!(rt; dialog.tag(Side::A).is_none() && dialog.tag(Side::B).is_none());
     assert!(rt; dialog.protocol(0, Side::A).is_none() && dialog.protocol(9, Side::B).is_none());
-    Ok(())
 }
 
 const KEYS: [[u8; 30]; 2] = [[1; 30], [2; 30]];
@@ -190,20 +203,20 @@ const BOB_SECURED: &[u8] =
 const BOB_ANSWERED: &[u8] =
     b"v=0\r\no=bob 2 2 IN IP4 203.0.113.1\r\ns=-\r\nc=IN IP4 203.0.113.1\r\nt=0 0\r\nm=audio 30002 RTP/AVP 0\r\nc=IN IP4 203.0.113.1\r\n";
 
-fn replied(alloc: Global) -> Result<AnswerIn, Fail> {
+fn replied(rt: &impl Abort, alloc: Global) -> AnswerIn {
     let OfferIn {
         call_id,
         from_tag,
         sdp,
         options,
-    } = asked(alloc, None)?;
-    Ok(AnswerIn {
+    } = asked(rt, alloc, None);
+    AnswerIn {
         call_id,
         from_tag,
-        to_tag: text(alloc, b"bob")?,
+        to_tag: text(rt, alloc, b"bob"),
         sdp,
         options,
-    })
+    }
 }
 
 /// What the plan writes, with these ports and keys.
@@ -214,14 +227,16 @@ fn written(
     sdp: &Sdp,
     ports: &[u16],
     keys: &[[u8; 30]],
-) -> Result<Bytes, Fail>
+) -> Bytes
     requires { WritesFrom plan.old sdp.now }
 {
     assert!(rt; plan.pairs() == ports.len() && plan.keys() == keys.len());
     let mut out = Bytes::new(alloc);
-    out.reserve(plan.reply_len())?;
+    let Ok(()) = out.reserve(plan.reply_len()) else {
+        panic!(rt; "no memory");
+    };
     plan.fill(sdp, ports, 0, keys, &mut out);
-    Ok(out)
+    out
 }
 
 /// What bob gets of an offer by alice that asks for this protocol. The dialog takes it in.
@@ -232,88 +247,76 @@ fn offered(
     transport: Option<Proto>,
     ports: &[u16],
     keys: &[[u8; 30]],
-) -> Result<Bytes, Fail> {
-    let input = asked(alloc, transport)?;
-    let sdp = read(alloc, ALICE)?;
-    let mut plan = offer(alloc, &CONFIG, dialog, &input, &sdp)?;
-    let out = written(rt, alloc, &mut plan, &sdp, ports, keys)?;
+) -> Bytes {
+    let input = asked(rt, alloc, transport);
+    let sdp = read_sdp(rt, alloc, ALICE);
+    let Ok(mut plan) = offer(alloc, &CONFIG, dialog, &input, &sdp) else {
+        panic!(rt; "the offer is planned");
+    };
+    let out = written(rt, alloc, &mut plan, &sdp, ports, keys);
     dialog.apply(plan);
-    Ok(out)
+    out
 }
 
 /// What alice gets of this answer by bob. The dialog takes it in.
-fn replied_to(
-    rt: &impl Abort,
-    alloc: Global,
-    dialog: &mut Dialog,
-    description: &[u8],
-) -> Result<Bytes, Fail> {
-    assert!(rt; description.len() < 65_536);
-    let input = replied(alloc)?;
-    let sdp = read(alloc, description)?;
-    let mut plan = answer(alloc, &CONFIG, dialog, &input, &sdp)?;
-    let out = written(rt, alloc, &mut plan, &sdp, &[], &[])?;
+fn replied_to(rt: &impl Abort, alloc: Global, dialog: &mut Dialog, description: &[u8]) -> Bytes {
+    let input = replied(rt, alloc);
+    let sdp = read_sdp(rt, alloc, description);
+    let Ok(mut plan) = answer(alloc, &CONFIG, dialog, &input, &sdp) else {
+        panic!(rt; "the answer is planned");
+    };
+    let out = written(rt, alloc, &mut plan, &sdp, &[], &[]);
     assert!(rt; plan.signal().len() == 1);
     dialog.apply(plan);
-    Ok(out)
+    out
 }
 
 #[test]
-fn a_call_is_offered_and_answered(rt: HostRuntime) -> Result<(), Fail> {
+fn a_call_is_offered_and_answered(rt: HostRuntime) {
     let alloc = rt.alloc();
-    let mut dialog = Dialog::new(alloc, &text(alloc, b"alice")?)?;
-    let out = offered(&rt, alloc, &mut dialog, None, &[30_000, 30_002], &[])?;
-    assert_eq!(rt; out.as_slice(), ALICE_OFFERED);
-    let out = replied_to(&rt, alloc, &mut dialog, BOB)?;
-    assert_eq!(rt; out.as_slice(), BOB_ANSWERED);
+    let mut dialog = alices_dialog(&rt, alloc);
+    let out = offered(&rt, alloc, &mut dialog, None, &[30_000, 30_002], &[]);
+    assert!(rt; out.as_slice() == ALICE_OFFERED);
+    let out = replied_to(&rt, alloc, &mut dialog, BOB);
+    assert!(rt; out.as_slice() == BOB_ANSWERED);
     assert!(rt; dialog.protocol(0, Side::B) == Some(Proto::Avp));
-    Ok(())
 }
 
 #[test]
-fn a_later_offer_carries_the_key_in_force_alone(rt: HostRuntime) -> Result<(), Fail> {
+fn a_later_offer_carries_the_key_in_force_alone(rt: HostRuntime) {
     let alloc = rt.alloc();
     let secure = Some(Proto::Savp);
-    let mut dialog = Dialog::new(alloc, &text(alloc, b"alice")?)?;
-    let out = offered(&rt, alloc, &mut dialog, secure, &[30_000, 30_002], &KEYS)?;
-    assert_eq!(rt; out.as_slice(), ALICE_SECURED);
-    let out = replied_to(&rt, alloc, &mut dialog, BOB_SECURED)?;
-    assert_eq!(rt; out.as_slice(), BOB_ANSWERED);
-    let out = offered(&rt, alloc, &mut dialog, None, &[], &[])?;
-    assert_eq!(rt; out.as_slice(), ALICE_AGAIN);
-    Ok(())
+    let mut dialog = alices_dialog(&rt, alloc);
+    let out = offered(&rt, alloc, &mut dialog, secure, &[30_000, 30_002], &KEYS);
+    assert!(rt; out.as_slice() == ALICE_SECURED);
+    let out = replied_to(&rt, alloc, &mut dialog, BOB_SECURED);
+    assert!(rt; out.as_slice() == BOB_ANSWERED);
+    let out = offered(&rt, alloc, &mut dialog, None, &[], &[]);
+    assert!(rt; out.as_slice() == ALICE_AGAIN);
 }
 
 #[test]
-fn an_offer_is_heard_section_by_section(rt: HostRuntime) -> Result<(), Fail> {
-    let sdp = read(rt.alloc(), SECURE)?;
+fn an_offer_is_heard_section_by_section(rt: HostRuntime) {
+    let sdp = read_sdp(&rt, rt.alloc(), SECURE);
     let heard = Heard::of_offer(&sdp);
     let line = CryptoLine {
         tag: 7,
         suite: Suite::Tag32,
         key: KEYS[0],
     };
-    assert_eq!(rt; heard.lines(), [None, Some(line)].as_slice());
+    assert!(rt; heard.lines() == [None, Some(line)].as_slice());
     assert!(rt; Heard::none().lines().is_empty());
-    Ok(())
 }
 
 #[test]
-fn an_answer_is_heard_by_the_lines_that_were_offered(rt: HostRuntime) -> Result<(), Fail> {
+fn an_answer_is_heard_by_the_lines_that_were_offered(rt: HostRuntime) {
     let alloc = rt.alloc();
-    let mut dialog = Dialog::new(alloc, &text(alloc, b"alice")?)?;
-    let sdp = read(alloc, BOB_SECURED)?;
+    let mut dialog = alices_dialog(&rt, alloc);
+    let sdp = read_sdp(&rt, alloc, BOB_SECURED);
     let unheard = dialog.hear(&sdp);
     assert!(rt; matches!(unheard.lines(), [None]));
-    offered(
-        &rt,
-        alloc,
-        &mut dialog,
-        Some(Proto::Savp),
-        &[30_000, 30_002],
-        &KEYS,
-    )?;
+    let ports = [30_000, 30_002];
+    offered(&rt, alloc, &mut dialog, Some(Proto::Savp), &ports, &KEYS);
     let heard = dialog.hear(&sdp);
     assert!(rt; matches!(heard.lines(), [Some(line)] if line.tag == 1));
-    Ok(())
 }

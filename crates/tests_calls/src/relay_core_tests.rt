@@ -2,7 +2,6 @@ ghost use Rattle.std.specs.Prelude.{◌≡◌, None};
 
 use relay_core::{Part, Relay, close_relay, parts};
 use relay_outside::{Addr, Config, Failed, InEnd, Ip, OutEnd};
-use std::test::Fail;
 use turn_table::{Hand, Turns};
 
 const CONFIG: Config = Config {
@@ -64,16 +63,15 @@ fn kinds(places: &[Part<Quiet, Mute>]) -> (u32, u32, u32, bool) {
 }
 
 #[test]
-fn a_relay_begins_with_its_board_its_cells_and_its_boxes(rt: HostRuntime) -> Result<(), Fail> {
+fn a_relay_begins_with_its_board_its_cells_and_its_boxes(rt: HostRuntime) {
     let Ok(places) = parts::<Quiet, Mute>(rt.alloc(), &CONFIG) else {
         panic!(rt; "no memory");
     };
     assert!(rt; kinds(places.as_slice()) == (1, 2, 3, true));
-    Ok(())
 }
 
 #[test]
-fn a_relay_without_a_step_is_closed_as_it_began(rt: HostRuntime) -> Result<(), Fail> {
+fn a_relay_without_a_step_is_closed_as_it_began(rt: HostRuntime) {
     let Ok(places) = parts::<Quiet, Mute>(rt.alloc(), &CONFIG) else {
         panic!(rt; "no memory");
     };
@@ -82,5 +80,4 @@ fn a_relay_without_a_step_is_closed_as_it_began(rt: HostRuntime) -> Result<(), F
     };
     let places = close_relay(turns, hand);
     assert!(rt; kinds(places.as_slice()) == (1, 2, 3, true));
-    Ok(())
 }

@@ -1,26 +1,18 @@
 ghost use Rattle.std.specs.Prelude.{◌≡◌, IfOk};
-ghost use Rattle.turn_table.specs.Hands.{IsHandOf, HasNoTurn, IsSameHand, starts, parts};
+ghost use Rattle.turn_table.specs.Hands.{IsHandOf, HasNoTurn, starts, parts};
 ghost use Rattle.media_lane.specs.Starts.{HasCells, HasLaneStarts};
-ghost use Rattle.media_lane.specs.Lanes.{hand_of, list_of, config_of, sent_of, packet_of, pair_of, IsSameLane};
-ghost use Rattle.media_lane.specs.Receipts.{IsReceiptOf};
-ghost use Rattle.media_lane.specs.Relaying.{RelaysBy};
 
-use media_lane::puts::{put_relay, put_take};
-use media_lane::receiving::take_from;
-use media_lane::relaying::relay_in;
-use media_lane::{Lane, Receipt, Received, Relayed, Totals};
 use call_board::Board;
-use call_cell::{Cell, Incoming, Outcome, Refused};
+use call_cell::{Cell, Outcome, Refused};
+use media_lane::{Lane, Received, Relayed, Totals};
 use port_pool::{Holder, PairBox, Side};
 use relay_core::{Part, Relay};
 use relay_outside::{
-    Addr, Arrivals, Config, HandClock, InEnd, Ip, OpenGate, OutEnd, Packet, PortMaker, SteadyIn,
-    SteadyMaker, SteadyOut,
+    Addr, Arrivals, Config, HandClock, Ip, OpenGate, Packet, PortMaker, SteadyIn, SteadyMaker,
+    SteadyOut,
 };
 use rtp_packet::Half;
 use std::alloc::Global;
-use std::marker::Brand;
-use std::sync::Wait;
 use std::test::Fail;
 use turn_table::{Hand, Turns};
 
@@ -97,6 +89,18 @@ fn begin(
     Ok(Turns::start(alloc, states)?)
 }
 
+// How many events a busy box had made.
+fn front_of(received: &Received) -> Option<u64> {
+    match received {
+        Received::Busy { front } => Some(*front),
+        _ => None,
+    }
+}
+
+mod beside;
+
+use beside::{receive_beside, relay_beside};
+
 fn is_nothing(received: Received) -> bool {
     match received {
         Received::Nothing => true,
@@ -158,77 +162,20 @@ fn begin_closed(
     Ok(Turns::start(alloc, states)?)
 }
 
-// What a lane receives while another hand has the turn of the pair's box, which that hand ends by a take.
-#[tactic(auto, unfolding(port_pool::specs::Ports::pair_count))]
-fn receive_beside<I: InEnd, O: OutEnd, R: Wait>(
-    rt: &R,
-    turns: &Turns<Relay<I, O>>,
-    hand: &mut Hand<Relay<I, O>>,
-    lane: &mut Lane<I, O>,
-) -> Received
-    requires tables { IsHandOf turns.now hand.old × IsHandOf turns.now (hand_of lane.old) }
-    requires idle { HasNoTurn hand.old }
-    requires begins { HasLaneStarts CONFIG (starts hand.old) × (config_of lane.old ≡ CONFIG) }
-    ensures same { IsSameHand hand.old hand.new × IsSameLane lane.old lane.new }
-    ensures over { HasNoTurn hand.new }
-{
-    let mut turn = turns.turn(rt, hand, 2);
-    let received = lane.receive_try(turns, 0, Half::Rtp);
-    let mut buf = [0; 2001];
-    let given = take_from(turn.state(), Half::Rtcp, &mut buf);
-    put_take::<I, O, Brand>(turns, hand, turn, Half::Rtcp, &given, &buf);
-    received
-}
-
 #[test]
 #[tactic(auto, unfolding(port_pool::specs::Ports::pair_count))]
 fn a_box_is_busy_while_another_hand_has_its_turn(rt: HostRuntime) -> Result<(), Fail> {
     let (turns, mut main) = begin(rt.alloc(), 1)?;
     let mut lane = Lane::new(turns.split_hand(&mut main), 0, 1, &CONFIG);
-    let front = match receive_beside(&rt, &turns, &mut main, &mut lane) {
-        Received::Busy { front } => Some(front),
-        _ => None,
-    };
-    assert!(rt; front == Some(0), "the box had made no event");
-    let Received::Got(receipt) = lane.receive_try(&turns, 0, Half::Rtp) else {
-        panic!(rt; "nothing was taken meanwhile");
-    };
-    let number = receipt.take;
+    let first = front_of(&receive_beside(&rt, &turns, &mut main, &mut lane));
+    let is_there = matches!(lane.receive_try(&turns, 0, Half::Rtp), Received::Got(_));
+    let third = front_of(&receive_beside(&rt, &turns, &mut main, &mut lane));
     turns.join_hand(&mut main, lane.into_hand());
     drop(turns.close(main));
-    assert!(rt; number == 1, "it was the box's second event");
+    assert!(rt; first == Some(0), "the box had made no event");
+    assert!(rt; is_there, "nothing was taken meanwhile");
+    assert!(rt; third == Some(2), "it was the box's second event");
     Ok(())
-}
-
-// What becomes of a receipt while another hand has the turn of its cell, which that hand ends by the relay of a packet of no call.
-fn relay_beside<I: InEnd, O: OutEnd, R: Wait>(
-    rt: &R,
-    turns: &Turns<Relay<I, O>>,
-    hand: &mut Hand<Relay<I, O>>,
-    lane: &mut Lane<I, O>,
-    receipt: Receipt,
-) -> Relayed
-    requires tables { IsHandOf turns.now hand.old × IsHandOf turns.now (hand_of lane.old) }
-    requires idle { HasNoTurn hand.old }
-    requires begins { HasLaneStarts CONFIG (starts hand.old) }
-    requires receipt { IsReceiptOf (config_of lane.old) (list_of lane.old) (pair_of receipt) (packet_of receipt) }
-    ensures same { IsSameHand hand.old hand.new × IsSameLane lane.old lane.new }
-    ensures over { HasNoTurn hand.new }
-    ensures relayed { RelaysBy I.told I.faults O.told O.faults receipt 5 result (sent_of lane.old) (sent_of lane.new) (hand_of lane.old) (hand_of lane.new) }
-{
-    let mut turn = turns.turn(rt, hand, 1);
-    let relayed = lane.relay_try(turns, &OpenGate::new(), receipt, 5);
-    let packet = Incoming {
-        holder: HOLDER,
-        half: Half::Rtcp,
-        source: SOURCE,
-        len: 0,
-    };
-    let bytes = [0; 2001];
-    let mut buf = [0; 2064];
-    let outcome = relay_in(turn.state(), 9, &packet, &bytes, &mut buf, 3);
-    put_relay::<I, O, Brand>(turns, hand, turn, 9, &packet, &bytes, 3, outcome);
-    relayed
 }
 
 #[test]

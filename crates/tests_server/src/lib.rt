@@ -7,6 +7,8 @@ mod ng_server_tests;
 #[cfg(test)]
 mod relay_app_replay_tests;
 #[cfg(test)]
+mod relay_app_runs;
+#[cfg(test)]
 mod relay_app_tests;
 #[cfg(test)]
 mod relay_app_words_tests;

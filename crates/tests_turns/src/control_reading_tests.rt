@@ -1,10 +1,12 @@
 //! Bodies and descriptions, and what is read of them.
 
+ghost use Rattle.std.specs.Prelude.{◌<◌, ◌^◌, length};
+
 use control_reading::*;
 use ng_command::{Command, KeyName};
 use ng_reply::{ErrorCode, SdpPart};
 use relay_outside::{Config, Ip};
-use std::test::Fail;
+use std::alloc::Global;
 
 const CONFIG: Config = Config {
     interface: Ip::V4([203, 0, 113, 1]),
@@ -22,9 +24,15 @@ const V4: &[u8] =
 const V6: &[u8] =
     b"v=0\r\no=- 1 1 IN IP4 192.0.2.10\r\ns=-\r\nc=IN IP6 2001:db8::1\r\nt=0 0\r\nm=audio 4000 RTP/AVP 0\r\n";
 
+/// What is said of a body: whether it is a dictionary, and the error that comes in place of a command.
+fn said(alloc: Global, text: &[u8]) -> Option<(bool, Option<ErrorCode>)> {
+    let body = read_body(alloc, text).ok()?;
+    Some((body.dictionary.is_some(), body.command.err()))
+}
+
 #[test]
-fn a_body_is_read_once(rt: HostRuntime) -> Result<(), Fail> {
-    let ping = read_body(rt.alloc(), b"d7:command4:pinge")?;
+fn a_body_is_read_once(rt: HostRuntime) {
+    let ping = read_body(rt.alloc(), b"d7:command4:pinge").expect(&rt, "memory");
     assert!(rt; ping.dictionary.is_some() && matches!(ping.command, Ok(Command::Ping)));
     let cases: [(&[u8], bool, ErrorCode); 4] = [
         (b"ping", false, ErrorCode::E1),
@@ -33,28 +41,31 @@ fn a_body_is_read_once(rt: HostRuntime) -> Result<(), Fail> {
         (b"d7:command5:querye", true, ErrorCode::E4(KeyName::CallId)),
     ];
     for (text, is_dictionary, code) in cases {
-        let body = read_body(rt.alloc(), text)?;
-        assert!(rt; body.dictionary.is_some() == is_dictionary);
-        assert!(rt; matches!(body.command, Err(other) if other == code));
+        assert!(rt; said(rt.alloc(), text) == Some((is_dictionary, Some(code))));
     }
-    Ok(())
+}
+
+/// How many sections a description has, or the error by which it is refused.
+fn sections(alloc: Global, config: &Config, text: &[u8]) -> Result<usize, Option<ErrorCode>>
+    requires { length text.now < 2 ^ 31 }
+{
+    match read_description(alloc, config, text) {
+        Ok(sdp) => Ok(sdp.section_count()),
+        Err(DescriptionFault::Error(code)) => Err(Some(code)),
+        Err(_) => Err(None),
+    }
 }
 
 #[test]
-fn a_description_needs_an_address_of_its_version(rt: HostRuntime) -> Result<(), Fail> {
+fn a_description_needs_an_address_of_its_version(rt: HostRuntime) {
     let both = Config {
         interface6: Some(Ip::V6([0; 16])),
         ..CONFIG
     };
-    let sdp = read_description(rt.alloc(), &CONFIG, V4)?;
-    assert!(rt; sdp.section_count() == 1);
-    let sdp = read_description(rt.alloc(), &both, V6)?;
-    assert!(rt; sdp.section_count() == 1);
-    let refused = read_description(rt.alloc(), &CONFIG, V6);
-    let code = ErrorCode::E7(SdpPart::Line(4));
-    assert!(rt; matches!(refused, Err(DescriptionFault::Error(other)) if other == code));
-    let refused = read_description(rt.alloc(), &both, b"v=0\r\nx\r\n");
-    let code = ErrorCode::E6(2);
-    assert!(rt; matches!(refused, Err(DescriptionFault::Error(other)) if other == code));
-    Ok(())
+    let refused = Err(Some(ErrorCode::E7(SdpPart::Line(4))));
+    let malformed = Err(Some(ErrorCode::E6(2)));
+    assert!(rt; sections(rt.alloc(), &CONFIG, V4) == Ok(1));
+    assert!(rt; sections(rt.alloc(), &both, V6) == Ok(1));
+    assert!(rt; sections(rt.alloc(), &CONFIG, V6) == refused);
+    assert!(rt; sections(rt.alloc(), &both, b"v=0\r\nx\r\n") == malformed);
 }

@@ -1,5 +1,5 @@
 //! A call from its offer to its delete, over devices in memory.
-ghost use Rattle.std.specs.Prelude.{◌≡◌, [], IfSome};
+ghost use Rattle.std.specs.Prelude.{◌≡◌, []};
 ghost use Rattle.turn_table.specs.Hands.{parts};
 ghost use Rattle.call_board.specs.Pairs.{held};
 ghost use Rattle.relay_core.specs.Turning.{made_by};
@@ -7,31 +7,45 @@ ghost use Rattle.media_ports.specs.Held.{TellsHeld};
 ghost use Rattle.board_turns.specs.Between.{IsBetween, board_of};
 ghost use Rattle.board_turns.specs.Ending.{leg_pairs};
 
-use control_turns::{ControlTurn, control_turn};
+use crate::first_relay::{CONFIG, InMemory, begin};
 use call_cell::Gone;
-use relay_core::{Relay, close_relay};
-use relay_outside::{
-    Addr, Config, Ip, KeyList, LinkGift, MemoryIn, MemoryLink, MemoryMaker, MemoryOut,
-};
+use control_turns::{ControlTurn, control_turn};
+use relay_core::close_relay;
+use relay_outside::{Addr, Ip, KeyList, LinkGift, MemoryLink, MemoryMaker, MemoryOut};
 use std::alloc::Global;
 use std::sync::Wait;
 use std::test::Fail;
 use turn_table::{Hand, Turns};
 
-const CONFIG: Config = Config {
-    interface: Ip::V4([203, 0, 113, 1]),
-    interface6: None,
-    port_min: 30_000,
-    port_max: 30_003,
-    timeout_ms: 60_000,
-    offer_timeout_ms: 120_000,
-    max_sessions: 2,
-};
-
 const PROXY: Addr = Addr {
     ip: Ip::V4([192, 0, 2, 9]),
     port: 5060,
 };
+
+/// What the proxy asks in turn, and what it is answered.
+const ASKED: [(&[u8], &[u8]); 7] = [
+    (OFFER, OFFERED),
+    // again, with the same cookie
+    (OFFER, OFFERED),
+    (ANSWER, ANSWERED),
+    (
+        b"3_1 d7:call-id4:call7:command6:deletee",
+        b"3_1 d6:result2:oke",
+    ),
+    (
+        b"4_1 d7:call-id4:call7:command6:deletee",
+        b"4_1 d6:result2:ok7:warning15:unknown call-ide",
+    ),
+    // deletes of a call that never was
+    (
+        b"5_1 d7:call-id1:x7:command6:deletee",
+        b"5_1 d6:result2:ok7:warning15:unknown call-ide",
+    ),
+    (
+        b"5_2 d7:call-id1:x7:command6:delete5:flagsl5:fatalee",
+        b"5_2 d12:error-reason15:unknown call-id6:result5:errore",
+    ),
+];
 
 const OFFER: &[u8] =
     b"1_1 d7:call-id4:call7:command5:offer8:from-tag5:alice7:replacel6:origin18:session connectione3:sdp129:v=0\r\no=alice 1 1 IN IP4 192.0.2.10\r\ns=-\r\nc=IN IP4 192.0.2.10\r\nt=0 0\r\nm=audio 6000 RTP/AVP 0 8\r\na=rtpmap:0 PCMU/8000\r\na=sendrecv\r\ne";
@@ -44,23 +58,6 @@ const ANSWER: &[u8] =
 
 const ANSWERED: &[u8] =
     b"2_1 d6:result2:ok3:sdp116:v=0\r\no=bob 2 2 IN IP4 203.0.113.1\r\ns=-\r\nc=IN IP4 203.0.113.1\r\nt=0 0\r\nm=audio 30002 RTP/AVP 0\r\nc=IN IP4 203.0.113.1\r\ne";
-
-// The places of a relay, in memory.
-type InMemory = Relay<MemoryIn, MemoryOut>;
-
-// A table before its first step, and its main hand.
-fn begin(alloc: Global) -> Option<(Turns<InMemory>, Hand<InMemory>)>
-    ensures between { IfSome result (λ r. IsBetween CONFIG r.0 r.1) }
-    ensures hand { IfSome result (λ r. (made_by r.1 ≡ []) × (parts r.1 ≡ 1024)) }
-{
-    let Ok(states) = relay_core::parts(alloc, &CONFIG) else {
-        return None;
-    };
-    let Ok((turns, hand)) = Turns::start(alloc, states) else {
-        return None;
-    };
-    Some((turns, hand))
-}
 
 // Whether a datagram of the proxy gets just this reply, where memory suffices.
 fn is_answered<R: Wait>(
@@ -118,42 +115,12 @@ fn a_call_is_offered_answered_and_deleted(rt: HostRuntime) -> Result<(), Fail> {
     let Some((turns, mut hand)) = begin(alloc) else {
         panic!(rt; "no memory");
     };
-    let offered = is_answered(
-        &rt, alloc, &turns, &mut hand, &mut gone, &mut maker, &mut keys, OFFER, OFFERED,
-    );
-    assert!(rt; offered);
-    let repeated = is_answered(
-        &rt, alloc, &turns, &mut hand, &mut gone, &mut maker, &mut keys, OFFER, OFFERED,
-    );
-    assert!(rt; repeated);
-    let answered = is_answered(
-        &rt, alloc, &turns, &mut hand, &mut gone, &mut maker, &mut keys, ANSWER, ANSWERED,
-    );
-    assert!(rt; answered);
-    let deleted = is_answered(
-        &rt,
-        alloc,
-        &turns,
-        &mut hand,
-        &mut gone,
-        &mut maker,
-        &mut keys,
-        b"3_1 d7:call-id4:call7:command6:deletee",
-        b"3_1 d6:result2:oke",
-    );
-    assert!(rt; deleted);
-    let again = is_answered(
-        &rt,
-        alloc,
-        &turns,
-        &mut hand,
-        &mut gone,
-        &mut maker,
-        &mut keys,
-        b"4_1 d7:call-id4:call7:command6:deletee",
-        b"4_1 d6:result2:ok7:warning15:unknown call-ide",
-    );
-    assert!(rt; again);
+    for (ask, want) in ASKED {
+        let is_so = is_answered(
+            &rt, alloc, &turns, &mut hand, &mut gone, &mut maker, &mut keys, ask, want,
+        );
+        assert!(rt; is_so, "{ask:?}");
+    }
     drop(close_relay(turns, hand));
     Ok(())
 }

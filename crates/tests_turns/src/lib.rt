@@ -5,19 +5,19 @@
 #[cfg(test)]
 mod board_turns_tests;
 #[cfg(test)]
+mod control_entries_tests;
+#[cfg(test)]
 mod control_reading_tests;
 #[cfg(test)]
 mod control_replies_tests;
 #[cfg(test)]
 mod control_turns_tests;
 #[cfg(test)]
-mod delete_command_tests;
+mod first_relay;
 #[cfg(test)]
 mod media_ports_tests;
 #[cfg(test)]
 mod nested_steps_tests;
-#[cfg(test)]
-mod offer_command_tests;
 #[cfg(test)]
 mod offer_turns_tests;
 #[cfg(test)]

@@ -1,4 +1,4 @@
-ghost use Rattle.std.specs.Prelude.{◌≡◌, ◌<◌, ◌≤◌, ◌∷◌, [], length, IfOk, OnOk, Some};
+ghost use Rattle.std.specs.Prelude.{◌≡◌, ◌<◌, ◌≤◌, ◌∷◌, [], length, OnOk, Some};
 ghost use Rattle.port_pool.specs.Pools.{Pairs};
 ghost use Rattle.relay_outside.specs.Told.{WhereTold};
 ghost use Rattle.media_ports.specs.Addresses.{ports_of, addresses_of};
@@ -14,7 +14,7 @@ use relay_outside::{
     PortCall,
 };
 use std::alloc::Global;
-use std::test::Fail;
+use std::process::Abort;
 
 const INTERFACE: Ip = Ip::V4([192, 0, 2, 1]);
 
@@ -24,21 +24,26 @@ const PHONE: Addr = Addr {
 };
 
 /// A pool of the two pairs that begin at the ports 30000 and 30002.
-fn two_pairs(alloc: Global) -> Result<Pool, Fail>
-    ensures { IfOk result (λ pool. pool ≡ record { first_port = 30000; free = 0 ∷ 1 ∷ []; generations = 0 ∷ 0 ∷ [] }) }
+fn two_pairs(rt: &impl Abort, alloc: Global) -> Pool
+    ensures { result ≡ record { first_port = 30000; free = 0 ∷ 1 ∷ []; generations = 0 ∷ 0 ∷ [] } }
 {
-    Ok(Pool::new(alloc, 29_999, 30_004)?)
+    let Ok(pool) = Pool::new(alloc, 29_999, 30_004) else {
+        panic!(rt; "no memory");
+    };
+    pool
 }
 
 /// Leases of both.
-fn two_leases(alloc: Global) -> Result<Leases, Fail>
-    ensures { IfOk result (λ leases. ports_of leases.list ≡ 30000 ∷ 30001 ∷ 30002 ∷ 30003 ∷ []) }
+fn two_leases(rt: &impl Abort, alloc: Global) -> Leases
+    ensures { ports_of result.list ≡ 30000 ∷ 30001 ∷ 30002 ∷ 30003 ∷ [] }
 {
-    let mut pool = two_pairs(alloc)?;
-    let mut leases = Leases::with_room(alloc, 2)?;
+    let mut pool = two_pairs(rt, alloc);
+    let Ok(mut leases) = Leases::with_room(alloc, 2) else {
+        panic!(rt; "no memory");
+    };
     leases.push(pool.lease().unwrap());
     leases.push(pool.lease().unwrap());
-    Ok(leases)
+    leases
 }
 
 /// Whether the call is that at this place, from 0, where so many ports are opened, the last of them fails and the others are
@@ -108,15 +113,15 @@ fn close_two(
 }
 
 /// A maker whose port 30003 receives `hello` from a phone.
-fn hearing(alloc: Global) -> Result<MemoryMaker, Fail>
-    ensures { IfOk result (λ maker. maker.told ≡ Some []) }
+fn hearing(rt: &impl Abort, alloc: Global) -> MemoryMaker
+    ensures { result.told ≡ Some [] }
 {
-    let mut packets = Vec::new(alloc);
-    packets.push(Packet::datagram(alloc, PHONE, b"hello")?)?;
+    let hello = Packet::datagram(alloc, PHONE, b"hello").expect(rt, "memory");
+    let packets = Vec::from_array(alloc, [hello]).expect(rt, "memory");
     let at = address_of(INTERFACE, 30_003);
-    let mut heard = Vec::new(alloc);
-    heard.push(MemoryPort::new(at, packets, Vec::new(alloc), Vec::new(alloc)))?;
-    Ok(MemoryMaker::new(alloc, heard, Vec::new(alloc)))
+    let port = MemoryPort::new(at, packets, Vec::new(alloc), Vec::new(alloc));
+    let heard = Vec::from_array(alloc, [port]).expect(rt, "memory");
+    MemoryMaker::new(alloc, heard, Vec::new(alloc))
 }
 
 /// The ends of two opened pairs.
@@ -162,62 +167,73 @@ fn are_closed(calls: &[PortCall]) -> bool {
 }
 
 #[test]
-fn each_end_is_that_of_its_port(rt: HostRuntime) -> Result<(), Fail> {
-    let alloc = rt.alloc();
-    let leases = two_leases(alloc)?;
-    let mut maker = hearing(alloc)?;
-    let mut opened = OpenedPairs::with_room(alloc, 2)?;
-    open_two(&mut maker, &leases, &mut opened)?;
+fn each_end_is_that_of_its_port(rt: HostRuntime) {
+    let leases = two_leases(&rt, rt.alloc());
+    let mut maker = hearing(&rt, rt.alloc());
+    let Ok(mut opened) = OpenedPairs::with_room(rt.alloc(), 2) else {
+        panic!(rt; "no memory");
+    };
+    let Ok(()) = open_two(&mut maker, &leases, &mut opened) else {
+        panic!(rt; "the ports are opened");
+    };
     let (first, mut second) = two_ends(opened);
     assert!(rt; hears_and_sends(&mut second));
     close_two(&mut maker, &leases, first, second);
     assert!(rt; are_closed(maker.calls().unwrap_or(&[])));
-    Ok(())
 }
 
 /// Whether all is undone where this opening fails.
-fn is_undone(alloc: Global, failing: u16) -> Result<bool, Fail>
+fn is_undone(rt: &impl Abort, alloc: Global, failing: u16) -> bool
     requires few { failing ≤ 4 }
     requires some { 0 < failing }
 {
-    let leases = two_leases(alloc)?;
-    let mut maker = MemoryMaker::new(alloc, Vec::new(alloc), [failing as u64].to_vec(alloc)?);
-    let mut opened = OpenedPairs::with_room(alloc, 2)?;
+    let leases = two_leases(rt, alloc);
+    let numbers = Vec::from_array(alloc, [failing as u64]).expect(rt, "memory");
+    let mut maker = MemoryMaker::new(alloc, Vec::new(alloc), numbers);
+    let Ok(mut opened) = OpenedPairs::with_room(alloc, 2) else {
+        panic!(rt; "no memory");
+    };
     let answer = open_two(&mut maker, &leases, &mut opened);
     let fault = PortFault {
         opened: failing as usize - 1,
     };
     let calls = maker.calls().unwrap_or(&[]);
-    Ok(answer == Err(fault) && opened.len() == 0 && are_due(calls, failing))
+    answer == Err(fault) && opened.len() == 0 && are_due(calls, failing)
 }
 
 #[test]
-fn each_opening_fails_in_turn(rt: HostRuntime) -> Result<(), Fail> {
+fn each_opening_fails_in_turn(rt: HostRuntime) {
     for failing in 1..5 {
-        assert!(rt; is_undone(rt.alloc(), failing)?, "opening {failing}");
+        assert!(rt; is_undone(&rt, rt.alloc(), failing), "opening {failing}");
     }
-    Ok(())
 }
 
 /// Two keys, of which the second draw fails.
-fn two_keys(alloc: Global) -> Result<KeyList, Fail> {
-    let keys = [[1; 30], [2; 30]].to_vec(alloc)?;
-    Ok(KeyList::new(alloc, keys, [2].to_vec(alloc)?))
+fn two_keys(rt: &impl Abort, alloc: Global) -> KeyList {
+    let keys = Vec::from_array(alloc, [[1; 30], [2; 30]]).expect(rt, "memory");
+    let failing = Vec::from_array(alloc, [2]).expect(rt, "memory");
+    KeyList::new(alloc, keys, failing)
 }
 
-/// Draws so many keys: whether all were drawn, and the keys.
-fn drawn(alloc: Global, keys: &mut KeyList, count: usize) -> Result<(bool, DrawnList), Fail> {
-    let mut drawn = DrawnList::with_room(alloc, count)?;
+/// Whether all of so many keys are drawn, and these are drawn.
+fn is_drawn(
+    rt: &impl Abort,
+    alloc: Global,
+    keys: &mut KeyList,
+    count: usize,
+    all: bool,
+    want: &[[u8; 30]],
+) -> bool {
+    let Ok(mut drawn) = DrawnList::with_room(alloc, count) else {
+        panic!(rt; "no memory");
+    };
     let answer = draw_keys(keys, count, &mut drawn);
-    Ok((answer != Err(KeyFault), drawn))
+    (answer != Err(KeyFault)) == all && drawn.as_slice() == want
 }
 
 #[test]
-fn keys_are_drawn_up_to_a_draw_that_fails(rt: HostRuntime) -> Result<(), Fail> {
-    let mut keys = two_keys(rt.alloc())?;
-    let (all, first) = drawn(rt.alloc(), &mut keys, 3)?;
-    assert!(rt; !all && first.as_slice() == [[1; 30]].as_slice());
-    let (all, second) = drawn(rt.alloc(), &mut keys, 1)?;
-    assert!(rt; all && second.as_slice() == [[2; 30]].as_slice());
-    Ok(())
+fn keys_are_drawn_up_to_a_draw_that_fails(rt: HostRuntime) {
+    let mut keys = two_keys(&rt, rt.alloc());
+    assert!(rt; is_drawn(&rt, rt.alloc(), &mut keys, 3, false, &[[1; 30]]));
+    assert!(rt; is_drawn(&rt, rt.alloc(), &mut keys, 1, true, &[[2; 30]]));
 }

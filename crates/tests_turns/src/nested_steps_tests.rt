@@ -9,7 +9,6 @@ use relay_core::{Part, Relay};
 use relay_outside::{Addr, Config, Failed, InEnd, Ip, OutEnd};
 use rtp_packet::Half;
 use std::alloc::Global;
-use std::test::Fail;
 use turn_table::{Hand, Turns};
 
 const CONFIG: Config = Config {
@@ -77,7 +76,7 @@ fn taken(places: &mut [Part<Quiet, Mute>], place: usize) -> Option<BoxTake> {
 }
 
 #[test]
-fn a_box_is_opened_for_its_leg(rt: HostRuntime) -> Result<(), Fail> {
+fn a_box_is_opened_for_its_leg(rt: HostRuntime) {
     let Some((turns, mut hand)) = begin(rt.alloc()) else {
         panic!(rt; "no memory");
     };
@@ -90,11 +89,10 @@ fn a_box_is_opened_for_its_leg(rt: HostRuntime) -> Result<(), Fail> {
     let mut places = turns.close(hand);
     assert!(rt; taken(places.as_mut_slice(), 3) == Some(BoxTake::Closed));
     assert!(rt; taken(places.as_mut_slice(), 4) == Some(BoxTake::Nothing));
-    Ok(())
 }
 
 #[test]
-fn a_box_that_is_shut_gives_its_ends_back(rt: HostRuntime) -> Result<(), Fail> {
+fn a_box_that_is_shut_gives_its_ends_back(rt: HostRuntime) {
     let Some((turns, mut hand)) = begin(rt.alloc()) else {
         panic!(rt; "no memory");
     };
@@ -105,8 +103,7 @@ fn a_box_that_is_shut_gives_its_ends_back(rt: HostRuntime) -> Result<(), Fail> {
     let (rtp, rtcp) = (Quiet { port: 30_002 }, Quiet { port: 30_003 });
     open_box(&rt, &turns, &mut hand, &CONFIG, nest, HOLDER, rtp, rtcp);
     let (rtp, rtcp) = shut_box(&rt, &turns, &mut hand, &CONFIG, nest, HOLDER.pair);
-    assert_eq!(rt; (rtp.port, rtcp.port), (30_002, 30_003));
+    assert!(rt; (rtp.port, rtcp.port) == (30_002, 30_003));
     let mut places = turns.close(hand);
     assert!(rt; taken(places.as_mut_slice(), 4) == Some(BoxTake::Closed));
-    Ok(())
 }

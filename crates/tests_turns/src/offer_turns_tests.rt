@@ -1,14 +1,13 @@
 //! The memory of the first offer of a board with two pairs.
 
-use offer_turns::OfferRoom;
-use call_board::Board;
+use call_board::{Board, BoardPlan};
 use ng_bencode::Text;
 use ng_command::{OfferIn, Options};
+use offer_turns::OfferRoom;
 use relay_outside::{Config, Flags, Ip, MemoryIn, MemoryOut};
 use sdp_text::{Proto, read};
 use std::alloc::Global;
 use std::process::Abort;
-use std::test::Fail;
 
 /// One call may be live, over two pairs of ports.
 const CONFIG: Config = Config {
@@ -37,33 +36,33 @@ const OPTIONS: Options = Options {
     source: None,
 };
 
-fn text(alloc: Global, bytes: &[u8]) -> Result<Text, Fail> {
+fn text(rt: &impl Abort, alloc: Global, bytes: &[u8]) -> Text {
     let mut text = Text::new(alloc);
-    text.reserve(bytes.len())?;
+    text.reserve(bytes.len()).expect(rt, "memory");
     text.extend(bytes);
-    Ok(text)
+    text
 }
 
-/// Room for the first offer, which demands two pairs and two keys.
-fn room_of_first(rt: &impl Abort, alloc: Global) -> Result<OfferRoom<MemoryIn, MemoryOut>, Fail> {
-    let mut board = Board::new(alloc, &CONFIG)?;
-    assert!(rt; AUDIO.len() < 65_536);
-    let sdp = read(alloc, AUDIO)?;
+/// What a first offer is planned as: it demands two pairs and two keys.
+fn first_plan(rt: &impl Abort, alloc: Global) -> BoardPlan {
+    let mut board = Board::new(alloc, &CONFIG).expect(rt, "memory");
+    let sdp = read(alloc, AUDIO).expect(rt, "the description is read");
     let input = OfferIn {
-        call_id: text(alloc, b"call")?,
-        from_tag: text(alloc, b"alice")?,
+        call_id: text(rt, alloc, b"call"),
+        from_tag: text(rt, alloc, b"alice"),
         sdp: Text::new(alloc),
         options: OPTIONS,
     };
-    let plan = board.plan_offer(alloc, &input, &sdp)?;
-    let room = OfferRoom::reserve(alloc, plan.planned())?;
-    Ok(room)
+    board
+        .plan_offer(alloc, &input, &sdp)
+        .expect(rt, "the offer is planned")
 }
 
 #[test]
-fn an_offer_has_room_for_two_pairs(rt: HostRuntime) -> Result<(), Fail> {
-    let room = room_of_first(&rt, rt.alloc())?;
-    assert!(rt; room.opened.len() == 0 && room.drawn.as_slice().len() == 0);
-    assert!(rt; room.numbers.capacity() >= 2 && room.text.as_slice().len() == 0);
-    Ok(())
+fn an_offer_has_room_for_two_pairs_and_two_keys(rt: HostRuntime) {
+    let plan = first_plan(&rt, rt.alloc());
+    let planned = plan.planned();
+    assert!(rt; planned.pairs() == 2 && planned.keys() == 2);
+    let room = OfferRoom::<MemoryIn, MemoryOut>::reserve(rt.alloc(), planned);
+    assert!(rt; room.is_ok());
 }

@@ -1,7 +1,6 @@
 ghost use Rattle.std.specs.Prelude.{◌≡◌, ◌+◌, ◌%◌, IfOk, Some};
 
 use turn_example::{End, Outcome, open_box, try_take};
-use std::test::Fail;
 
 // It gives the numbers from `next` on, modulo 256.
 #[derive(Drop)]
@@ -24,7 +23,7 @@ mod two_boxes;
 use two_boxes::begin;
 
 #[test]
-fn a_box_gives_what_its_end_gives(rt: HostRuntime) -> Result<(), Fail> {
+fn a_box_gives_what_its_end_gives(rt: HostRuntime) {
     let Some((turns, mut main)) = begin(rt.alloc()) else {
         panic!(rt; "no memory");
     };
@@ -42,5 +41,4 @@ fn a_box_gives_what_its_end_gives(rt: HostRuntime) -> Result<(), Fail> {
     assert!(rt; shut == Ok(Outcome::Shut) && other == Ok(Outcome::Shut));
     assert!(rt; first == Ok(Outcome::Gave(Some(255))) && second == Ok(Outcome::Gave(Some(0))));
     assert!(rt; third == Ok(Outcome::Gave(Some(40))));
-    Ok(())
 }

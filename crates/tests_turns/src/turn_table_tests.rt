@@ -1,8 +1,8 @@
 ghost use Rattle.std.specs.Prelude.{◌≡◌, ◌+◌, ◌^◌, ◌%◌};
 
-use turn_table::{Machine, Said, Turns};
 use std::test::Fail;
 use std::thread::join_mut;
+use turn_table::{Machine, Said, Turns};
 
 // The state is a number, and each event adds one.
 struct Counter;

@@ -4,7 +4,7 @@ use port_pool::{BoxTake, Holder, PairBox, Side};
 use relay_outside::{Addr, Arrivals, Failed, InEnd, Ip, Packet, PortMaker, SteadyIn, SteadyMaker};
 use rtp_packet::Half;
 use std::alloc::Global;
-use std::test::Fail;
+use std::process::Abort;
 
 /// An address of documentation (RFC 5737).
 const HERE: Addr = Addr {
@@ -23,35 +23,35 @@ const LEG: Holder = Holder {
 };
 
 /// An in end that gives these packets.
-fn end(alloc: Global, packets: Vec<Packet>) -> Result<SteadyIn, Fail> {
-    let mut arrivals = Vec::new(alloc);
-    arrivals.push(Arrivals::new(HERE, packets))?;
+fn end(rt: &impl Abort, alloc: Global, packets: Vec<Packet>) -> SteadyIn {
+    let arrivals = Vec::from_array(alloc, [Arrivals::new(HERE, packets)]).expect(rt, "memory");
     let mut maker = SteadyMaker::new(alloc, arrivals);
-    let (receiving, _) = maker.open(HERE)?;
-    Ok(receiving)
+    let Ok((receiving, _)) = maker.open(HERE) else {
+        panic!(rt; "the port is opened");
+    };
+    receiving
 }
 
 /// A datagram of so many bytes.
-fn datagram(alloc: Global, len: usize) -> Result<Packet, Fail> {
-    let bytes = Vec::from_elem(alloc, 5u8, len)?;
-    Ok(Packet::datagram(alloc, HERE, bytes.as_slice())?)
+fn datagram(rt: &impl Abort, alloc: Global, len: usize) -> Packet {
+    let bytes = Vec::from_elem(alloc, 5u8, len).expect(rt, "memory");
+    Packet::datagram(alloc, HERE, bytes.as_slice()).expect(rt, "memory")
 }
 
 /// A box of that leg. For RTP nothing is there at first, then datagrams of 2,000, 2,001 and 3,000 bytes; for RTCP there
 /// is one of 28.
-fn full(alloc: Global) -> Result<PairBox<SteadyIn>, Fail> {
-    let mut rtp = Vec::new(alloc);
-    rtp.push(Packet::Nothing)?;
-    for len in [2_000, 2_001, 3_000] {
-        rtp.push(datagram(alloc, len)?)?;
-    }
-    let mut rtcp = Vec::new(alloc);
-    rtcp.push(datagram(alloc, 28)?)?;
-    let rtp = end(alloc, rtp)?;
-    let rtcp = end(alloc, rtcp)?;
+fn full(rt: &impl Abort, alloc: Global) -> PairBox<SteadyIn> {
+    let rtp = [
+        Packet::Nothing,
+        datagram(rt, alloc, 2_000),
+        datagram(rt, alloc, 2_001),
+        datagram(rt, alloc, 3_000),
+    ];
+    let rtp = Vec::from_array(alloc, rtp).expect(rt, "memory");
+    let rtcp = Vec::from_array(alloc, [datagram(rt, alloc, 28)]).expect(rt, "memory");
     let mut pair = PairBox::empty(4);
-    pair.put_in(LEG, rtp, rtcp);
-    Ok(pair)
+    pair.put_in(LEG, end(rt, alloc, rtp), end(rt, alloc, rtcp));
+    pair
 }
 
 /// A datagram of so many bytes for that leg.
@@ -64,11 +64,11 @@ fn for_leg(len: usize) -> BoxTake {
 }
 
 #[test]
-fn a_box_takes_from_the_end_of_each_half(rt: HostRuntime) -> Result<(), Fail> {
-    let mut pair = full(rt.alloc())?;
+fn a_box_takes_from_the_end_of_each_half(rt: HostRuntime) {
+    let mut pair = full(&rt, rt.alloc());
     let mut buf = [0; 2001];
     let too_long = BoxTake::TooLong { source: HERE };
-    for (step, (half, want)) in [
+    for (half, want) in [
         (Half::Rtp, BoxTake::Nothing),
         (Half::Rtp, for_leg(2_000)),
         (Half::Rtcp, for_leg(28)),
@@ -76,17 +76,13 @@ fn a_box_takes_from_the_end_of_each_half(rt: HostRuntime) -> Result<(), Fail> {
         (Half::Rtcp, BoxTake::Nothing),
         (Half::Rtp, too_long),
         (Half::Rtp, BoxTake::Nothing),
-    ]
-    .into_iter()
-    .enumerate()
-    {
-        assert_eq!(rt; pair.take(half, &mut buf), want, "take {step}");
+    ] {
+        assert!(rt; pair.take(half, &mut buf) == want, "{want:?}");
     }
     assert!(rt; buf[0] == 5 && buf[2000] == 5);
     assert!(rt; pair.shut().is_some());
-    assert_eq!(rt; pair.take(Half::Rtp, &mut buf), BoxTake::Closed);
+    assert!(rt; pair.take(Half::Rtp, &mut buf) == BoxTake::Closed);
     assert!(rt; pair.shut().is_none());
-    Ok(())
 }
 
 /// An in end whose takes all fail.
@@ -111,7 +107,7 @@ fn a_fault_of_the_end_is_told(rt: HostRuntime) {
     let mut pair = PairBox::empty(4);
     pair.put_in(LEG, BrokenIn { faults: 0 }, BrokenIn { faults: 0 });
     let mut buf = [0; 2001];
-    assert_eq!(rt; pair.take(Half::Rtcp, &mut buf), BoxTake::Fault);
+    assert!(rt; pair.take(Half::Rtcp, &mut buf) == BoxTake::Fault);
     let ends = pair.shut();
     assert!(rt; ends.is_some_and(|(rtp, rtcp)| rtp.faults == 0 && rtcp.faults == 1));
 }

@@ -2,7 +2,6 @@ ghost use Rattle.std.specs.Prelude.{◌<◌};
 
 use port_pool::{LegSignal, SectionSignal, Signal};
 use relay_outside::{Addr, Flags, Ip};
-use std::test::Fail;
 
 /// An address of documentation (RFC 5737) with this port.
 fn address(port: u16) -> Addr {
@@ -32,20 +31,21 @@ fn leg(port: u16) -> LegSignal
 }
 
 #[test]
-fn a_signal_gives_its_sections_in_order(rt: HostRuntime) -> Result<(), Fail> {
-    let mut signal = Signal::new(rt.alloc())?;
+fn a_signal_gives_its_sections_in_order(rt: HostRuntime) {
+    let Ok(mut signal) = Signal::new(rt.alloc()) else {
+        panic!(rt; "no memory");
+    };
     let sections = [
         SectionSignal::Commit(leg(6000), leg(7000)),
         SectionSignal::Reject,
         SectionSignal::Commit(leg(6002), leg(7002)),
     ];
-    assert_eq!(rt; signal.len(), 0);
+    assert!(rt; signal.len() == 0);
     signal.push(sections[0]);
     signal.push(sections[1]);
     signal.push(sections[2]);
-    assert_eq!(rt; signal.len(), 3);
-    assert_eq!(rt; signal.section(0), sections[0]);
-    assert_eq!(rt; signal.section(1), sections[1]);
-    assert_eq!(rt; signal.section(2), sections[2]);
-    Ok(())
+    assert!(rt; signal.len() == 3);
+    assert!(rt; signal.section(0) == sections[0]);
+    assert!(rt; signal.section(1) == sections[1]);
+    assert!(rt; signal.section(2) == sections[2]);
 }

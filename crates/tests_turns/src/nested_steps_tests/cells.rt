@@ -4,8 +4,8 @@ ghost use Rattle.call_cell.specs.Preparing.{IsReady, PrepareFor, added};
 ghost use Rattle.nested_steps.specs.Bringing.{brought_keys, brought_dropped};
 
 use super::{CONFIG, Mute, begin};
-use nested_steps::{Brought, Nest, commit_cell, end_cell, expire_cell, prepare_cell};
 use call_cell::{Gone, InContexts, Prepare};
+use nested_steps::{Brought, Nest, commit_cell, end_cell, expire_cell, prepare_cell};
 use port_pool::{Side, Signal};
 use relay_outside::OutOfMemory;
 use sdes_lines::Suite;
@@ -37,8 +37,12 @@ fn at(number: u64, moment: u64) -> Nest {
 fn a_call_is_prepared_asked_and_ended(rt: HostRuntime) -> Result<(), Fail> {
     let alloc = rt.alloc();
     let (signal, brought) = offer(alloc)?;
-    let mut dropped = Gone::new(alloc)?;
-    let mut ended = Gone::new(alloc)?;
+    let Ok(mut dropped) = Gone::new(alloc) else {
+        panic!(rt; "no memory");
+    };
+    let Ok(mut ended) = Gone::new(alloc) else {
+        panic!(rt; "no memory");
+    };
     let Some((turns, mut hand)) = begin(alloc) else {
         panic!(rt; "no memory");
     };
@@ -83,8 +87,12 @@ fn a_call_is_prepared_asked_and_ended(rt: HostRuntime) -> Result<(), Fail> {
 fn a_committed_call_is_due_by_its_last_answer(rt: HostRuntime) -> Result<(), Fail> {
     let alloc = rt.alloc();
     let signal = Signal::new(alloc)?;
-    let contexts = InContexts::reserve(alloc, 0)?;
-    let mut rejected = Gone::new(alloc)?;
+    let Ok(contexts) = InContexts::reserve(alloc, 0) else {
+        panic!(rt; "no memory");
+    };
+    let Ok(mut rejected) = Gone::new(alloc) else {
+        panic!(rt; "no memory");
+    };
     let Some((turns, mut hand)) = begin(alloc) else {
         panic!(rt; "no memory");
     };

@@ -3,8 +3,8 @@ ghost use Rattle.turn_table.specs.Hands.{IsHandOf, HasNoTurn, IsMain, starts, pa
 ghost use Rattle.turn_example.specs.Parts.{BeginsAsBoard, BeginsAsBox};
 
 use super::Numbers;
-use turn_example::{Part, Relay};
 use std::alloc::Global;
+use turn_example::{Part, Relay};
 use turn_table::{Hand, Turns};
 
 // A table with a board and two boxes.

@@ -3,9 +3,9 @@ ghost use Rattle.turn_table.specs.Hands.{IsHandOf, HasNoTurn, IsSameHand, HasTur
 ghost use Rattle.turn_table.specs.Steps.{entry};
 
 use super::{Added, Counter};
-use turn_table::{Hand, Turn, Turns};
 use std::sync::Wait;
 use std::thread::{Threads, join_mut};
+use turn_table::{Hand, Turn, Turns};
 
 pub(super) fn add_one(
     turns: &Turns<Counter>,

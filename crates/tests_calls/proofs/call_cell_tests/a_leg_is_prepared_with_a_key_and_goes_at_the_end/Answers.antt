@@ -4,5 +4,5 @@ use Rattle.tests_calls.proofs.call_cell_tests.a_leg_is_prepared_with_a_key_and_g
 
 pub prepare-requires-clause-room : goal.prepare-requires-clause-room
 prepare-requires-clause-room g c =
-    empty_fits _ c.empty-cell.result c.add_key.new.self _ _ c.empty-cell.ensures c.in_ok-signal.ensures.nothing.1
+    empty_fits _ c.empty-cell.result c.add_key.new.self _ _ c.empty-cell.ensures c.in-Ok.ensures.nothing.1
     (c.add_key.ensures.legs.0 ∙ c.add_leg.ensures.holders)

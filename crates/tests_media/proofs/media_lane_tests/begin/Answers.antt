@@ -7,7 +7,7 @@ use Rattle.relay_core.specs.declared.part.Part.{Part}
 use Rattle.relay_core.specs.declared.part.Part.TheVariants as part
 use Rattle.relay_core.specs.Standing.{IsCellPart}
 use Rattle.media_lane.specs.Starts.{HasCells, IsBoxOf, HasLaneStarts}
-use Rattle.media_lane.specs.declared.tests.TheConstants.{CONFIG}
+use Rattle.tests_media.specs.declared.media_lane_tests.TheConstants.{CONFIG}
 use Rattle.tests_media.proofs.media_lane_tests.begin.Goals as goal
 
 module _ {I O : Type 0} (b : board.Board) (c : cell.Cell O) (held : PairBox I) (has : HasCells 1 held) where

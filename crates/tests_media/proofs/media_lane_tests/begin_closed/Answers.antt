@@ -1,6 +1,6 @@
 use Rattle.std.proofs.Common.{sym, subst, rules}
 use Rattle.media_lane.specs.Starts.{HasLaneStarts}
-use Rattle.media_lane.specs.declared.tests.TheConstants.{CONFIG}
+use Rattle.tests_media.specs.declared.media_lane_tests.TheConstants.{CONFIG}
 use Rattle.media_lane.proofs.Places.{parts_begin}
 use Rattle.tests_media.proofs.media_lane_tests.begin_closed.Goals as goal
 

@@ -1,6 +1,6 @@
 use Rattle.std.proofs.Common.{◌∙◌, [], ◌∷◌, ◌++◌, ap, sym, subst, refl, length, arith}
 use Rattle.std.specs.List.{AllZip}
-use Rattle.media_ports.specs.declared.tests.TheConstants.{INTERFACE}
+use Rattle.tests_turns.specs.declared.media_ports_tests.TheConstants.{INTERFACE}
 use Rattle.media_ports.specs.Addresses.{addresses_of, ArePorts}
 use Rattle.media_ports.specs.Calls.{AllOpen, Closes, ClosesPair}
 use Rattle.media_ports.specs.Ends.{EndsTold}

@@ -3,7 +3,7 @@ use Rattle.std.proofs.lemmas.Result.{on_ok_weaker}
 use Rattle.relay_outside.specs.declared.address.Addr.{Addr}
 use Rattle.relay_outside.specs.declared.ports.PortCall.{PortCall}
 use Rattle.relay_outside.specs.Told.{WhereTold}
-use Rattle.media_ports.specs.declared.tests.TheConstants.{INTERFACE}
+use Rattle.tests_turns.specs.declared.media_ports_tests.TheConstants.{INTERFACE}
 use Rattle.media_ports.specs.Addresses.{addresses_of}
 use Rattle.media_ports.specs.Calls.{NoneOpen}
 use Rattle.media_ports.proofs.Closed.{none_open_first}

@@ -15,6 +15,6 @@ two pool fresh = λ i. record { first_port = fresh.first_is i; free = fresh.all_
 
 pub returns : goal.returns
 unfolding of_two
-returns c =
+returns g c =
     let made : IfOk c.new.result (IsFresh of_two) = c.new.ensures of_two refl refl in
-    two c.in_ok-new.field-0 (subst (λ (r : Result Pairs OutOfMemory). IfOk r (IsFresh of_two)) c.in_ok-new.was made)
+    two c.in-Ok.pool (subst (λ (r : Result Pairs OutOfMemory). IfOk r (IsFresh of_two)) c.in-Ok.is made)

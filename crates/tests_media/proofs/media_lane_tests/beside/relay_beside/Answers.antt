@@ -2,10 +2,10 @@ use Rattle.std.proofs.Common.{◌∙◌, sym, subst, arith}
 use Rattle.turn_table.specs.Hands.{taken_of}
 use Rattle.relay_core.specs.Standing.{IsCellPart}
 use Rattle.media_lane.specs.Relaying.{RelaysPart}
-use Rattle.media_lane.specs.declared.tests.TheConstants.{CONFIG}
+use Rattle.tests_media.specs.declared.media_lane_tests.TheConstants.{CONFIG}
 use Rattle.media_lane.proofs.Places.{gives_cell}
 use Rattle.media_lane.proofs.Relays.{relates}
-use Rattle.tests_media.proofs.media_lane_tests.relay_beside.Goals as goal
+use Rattle.tests_media.proofs.media_lane_tests.beside.relay_beside.Goals as goal
 
 pub relay_in-outcome-requires-clause-cell : goal.relay_in-outcome-requires-clause-cell
 relay_in-outcome-requires-clause-cell g c =

@@ -1,5 +1,5 @@
 use Rattle.board_turns.proofs.Firsts.{first_between}
-use Rattle.tests_turns.proofs.board_turns_tests.begin.Goals as goal
+use Rattle.tests_turns.proofs.first_relay.begin.Goals as goal
 
 pub returns-clause-between : goal.returns-clause-between
 returns-clause-between c =

@@ -1,8 +1,8 @@
 use Rattle.std.proofs.Common.{sym, subst, arith}
 use Rattle.media_lane.specs.Starts.{IsPair}
-use Rattle.media_lane.specs.declared.tests.TheConstants.{CONFIG}
+use Rattle.tests_media.specs.declared.media_lane_tests.TheConstants.{CONFIG}
 use Rattle.media_lane.proofs.Places.{gives_box, is_pair}
-use Rattle.tests_media.proofs.media_lane_tests.receive_beside.Goals as goal
+use Rattle.tests_media.proofs.media_lane_tests.beside.receive_beside.Goals as goal
 
 pub take_from-given-requires : goal.take_from-given-requires
 take_from-given-requires g c =

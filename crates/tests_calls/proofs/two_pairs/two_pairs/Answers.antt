@@ -4,7 +4,7 @@ use Rattle.relay_outside.specs.declared.address.Ip.TheVariants as ip
 use Rattle.relay_outside.specs.declared.answers.OutOfMemory.{OutOfMemory}
 use Rattle.port_pool.specs.Ports.{pair_count}
 use Rattle.port_pool.specs.Pools.{Pairs, IsFresh}
-use Rattle.tests_calls.proofs.call_cell_tests.two_pairs.Goals as goal
+use Rattle.tests_calls.proofs.two_pairs.two_pairs.Goals as goal
 
 of_two : Config
 of_two = record { interface = ip.V4 (192 ∷ 0 ∷ 2 ∷ 1 ∷ []); interface6 = None; port_min = 29999; port_max = 30004; timeout_ms = 0; offer_timeout_ms = 0; max_sessions = 0 }
@@ -15,6 +15,6 @@ two pool fresh = λ i. record { first_port = fresh.first_is i; free = fresh.all_
 
 pub returns : goal.returns
 unfolding of_two
-returns c =
+returns g c =
     let made : IfOk c.new.result (IsFresh of_two) = c.new.ensures of_two refl refl in
-    two c.in_ok-new.field-0 (subst (λ (r : Result Pairs OutOfMemory). IfOk r (IsFresh of_two)) c.in_ok-new.was made)
+    two c.in-Ok.pool (subst (λ (r : Result Pairs OutOfMemory). IfOk r (IsFresh of_two)) c.in-Ok.is made)
