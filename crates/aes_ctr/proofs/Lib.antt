@@ -1,7 +1,9 @@
-pub mod SBox
-pub mod FieldLemmas
-pub mod Expanding
-pub mod StateLemmas
+pub mod Columns
 pub mod Enciphering
-pub mod StreamLemmas
+pub mod Expanding
 pub mod FieldLaws
+pub mod FieldLemmas
+pub mod RoundKeys
+pub mod SBox
+pub mod StreamLemmas
+pub mod TableLemmas

@@ -1,3 +1,4 @@
-pub mod Field
 pub mod Aes
+pub mod Columns
+pub mod Field
 pub mod Keystream

@@ -2,10 +2,11 @@
 
 ghost use Rattle.std.specs.Prelude.{◌≡◌, ℕ, ◌+◌, ◌*◌, ◌<◌, ◌≤◌, List, length, take};
 ghost use Rattle.aes_ctr.specs.Aes.{aes, key_schedule, round_key, rounds};
+ghost use Rattle.aes_ctr.specs.Columns.{bytes_of, HoldsSchedule};
 ghost use Rattle.aes_ctr.specs.Keystream.{counter_block, keystream, xored};
 
-use crate::key_schedule::{SCHEDULE_LENGTH, expand};
-use crate::state::{add_round_key, mix_columns, shift_rows, sub_bytes};
+use crate::key_schedule::{WORDS, schedule_words};
+use crate::state::{add_round_key, columns, mixed, state, substituted};
 use std::marker::Model;
 
 /// AES-128 under one key, which contracts see as the key's 16 bytes.
@@ -14,15 +15,17 @@ use std::marker::Model;
 /// a call takes, which may depend on the key.
 #[derive(Drop)]
 pub struct Cipher {
-    schedule: [u8; SCHEDULE_LENGTH],
+    key: [u8; 16],
+    /// The key schedule in its words.
+    words: [u32; WORDS],
 }
 
 impl Model for Cipher {
     ghost Value = { List ℕ };
 
-    ghost view = { λ c. take 16 c.schedule };
+    ghost view = { λ c. c.key };
 
-    ghost invariant = { λ c. c.schedule ≡ key_schedule (take 16 c.schedule) };
+    ghost invariant = { λ c. HoldsSchedule c.words c.key };
 }
 
 impl Cipher {
@@ -31,31 +34,41 @@ impl Cipher {
         ensures { result ≡ key }
     {
         Cipher {
-            schedule: expand(key),
+            key,
+            words: schedule_words(key),
         }
     }
 
-    fn round_key(&self, round: usize) -> &[u8]
+    /// The columns of a round's key.
+    fn round_key(&self, round: usize) -> [u32; 4]
         requires { round < 11 }
-        ensures length { length result.now ≡ 16 }
-        ensures words { result.now ≡ round_key (key_schedule self.now) round }
+        ensures { bytes_of result ≡ round_key (key_schedule self.now) round }
     {
-        &self.schedule[16 * round..16 * round + 16]
+        let first = 4 * round;
+        [
+            self.words[first],
+            self.words[first + 1],
+            self.words[first + 2],
+            self.words[first + 3],
+        ]
     }
 
     /// The block that AES-128 makes of an input block (FIPS 197, section 5.1).
     pub fn block(&self, input: [u8; 16]) -> [u8; 16]
         ensures { result ≡ aes self.now input }
     {
+        let start = columns(input);
         let first = self.round_key(0);
-        let mut state = add_round_key(input, first);
+        let mut words = add_round_key(start, first);
         'rounds: for round in 1..10 {
-            let mixed = mix_columns(shift_rows(sub_bytes(state)));
+            let next = mixed(words);
             let key = self.round_key(round);
-            state = add_round_key(mixed, key);
+            words = add_round_key(next, key);
         }
+        let ended = substituted(words);
         let last = self.round_key(10);
-        add_round_key(shift_rows(sub_bytes(state)), last)
+        let output = add_round_key(ended, last);
+        state(output)
     }
 
     /// The keystream's block `index`, from the counter `iv` on.
@@ -87,7 +100,29 @@ fn xor_into(bytes: &mut [u8], stream: &[u8; 16])
     requires { length bytes.old ≤ 16 }
     ensures { bytes.new ≡ xored bytes.old stream.now }
 {
-    'bytes: for i in 0..bytes.len() {
+    if bytes.len() == 16 {
+        xor_block(bytes, stream);
+    } else {
+        xor_rest(bytes, stream);
+    }
+}
+
+/// Changes the 16 bytes by exclusive or with `stream`: a loop of a fixed length, which is one operation on 16 bytes.
+fn xor_block(bytes: &mut [u8], stream: &[u8; 16])
+    requires { length bytes.old ≡ 16 }
+    ensures { bytes.new ≡ xored bytes.old stream.now }
+{
+    'bytes: for i in 0..16 {
         bytes[i] ^= stream[i];
+    }
+}
+
+/// Changes fewer bytes than a block by exclusive or with the first bytes of `stream`.
+fn xor_rest(bytes: &mut [u8], stream: &[u8; 16])
+    requires { length bytes.old ≤ 16 }
+    ensures { bytes.new ≡ xored bytes.old stream.now }
+{
+    'bytes: for at in 0..bytes.len() {
+        bytes[at] ^= stream[at];
     }
 }

@@ -1,12 +1,17 @@
 // The key schedule (FIPS 197, section 5.2).
 
 ghost use Rattle.std.specs.Prelude.{◌≡◌, ℕ, ◌+◌, ◌*◌, ◌<◌, ◌≤◌, length, take, ◌++◌};
+ghost use Rattle.aes_ctr.specs.Columns.{HoldsSchedule};
 ghost use Rattle.aes_ctr.specs.Aes.{word_at, add_words, rot_word, sub_word, round_constant, next_word, key_schedule};
 
+use crate::state::column;
 use crate::substitution::substitute;
 
 /// The bytes of a key schedule: the key, and four words for each of ten rounds.
-pub(crate) const SCHEDULE_LENGTH: usize = 176;
+const SCHEDULE_LENGTH: usize = 176;
+
+/// The words of a key schedule.
+pub(crate) const WORDS: usize = 44;
 
 /// The first byte of Rcon 1 to Rcon 10, behind a place for 0.
 const ROUND_CONSTANTS: [u8; 11] = [
@@ -75,7 +80,7 @@ fn put(words: &mut [u8; SCHEDULE_LENGTH], at: usize, bytes: &[u8])
 }
 
 /// The key schedule of a key.
-pub(crate) fn expand(key: [u8; 16]) -> [u8; SCHEDULE_LENGTH]
+fn expand(key: [u8; 16]) -> [u8; SCHEDULE_LENGTH]
     ensures words { result ≡ key_schedule key }
     ensures begins { take 16 result ≡ key }
 {
@@ -84,6 +89,23 @@ pub(crate) fn expand(key: [u8; 16]) -> [u8; SCHEDULE_LENGTH]
     'words: for i in 4..44 {
         let word = next_word(&words, i);
         put(&mut words, 4 * i, &word);
+    }
+    words
+}
+
+/// The words of the key schedule of a key, each as a column.
+pub(crate) fn schedule_words(key: [u8; 16]) -> [u32; WORDS]
+    ensures { HoldsSchedule result key }
+{
+    let bytes = expand(key);
+    let mut words = [0u32; WORDS];
+    'words: for i in 0..WORDS {
+        words[i] = column(
+            bytes[4 * i],
+            bytes[4 * i + 1],
+            bytes[4 * i + 2],
+            bytes[4 * i + 3],
+        );
     }
     words
 }

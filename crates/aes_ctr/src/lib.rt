@@ -8,5 +8,6 @@ mod cipher;
 mod key_schedule;
 mod state;
 mod substitution;
+mod tables;
 
 pub use cipher::Cipher;

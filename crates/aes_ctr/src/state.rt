@@ -1,111 +1,88 @@
-// The transformations of a state of 4 rows and 4 columns of bytes, which is kept column by column
-// (FIPS 197, sections 3.4 and 5.1).
+// A state of 4 rows and 4 columns of bytes (FIPS 197, section 3.4) in four numbers, one for each column, with the first row's
+// byte the highest, and the transformations of section 5.1 on it.
 
-ghost use Rattle.std.specs.Prelude.{◌≡◌, ℕ, ◌+◌, ◌<◌, ◌≤◌, length};
-ghost use Rattle.aes_ctr.specs.Field.{times_x};
-ghost use Rattle.aes_ctr.specs.Aes.{sub_bytes, shift_rows, mix_columns, mixed_byte, add_round_key};
+ghost use Rattle.std.specs.Prelude.{◌≡◌};
+ghost use Rattle.aes_ctr.specs.Aes.{sub_byte, sub_bytes, shift_rows, mix_columns, add_round_key};
+ghost use Rattle.aes_ctr.specs.Columns.{byte_in, word_bytes, bytes_of};
+ghost use Rattle.std.specs.Prelude.{[], ◌∷◌};
 
 use crate::substitution::substitute;
+use crate::tables::mixed_column;
 
-/// SubBytes (section 5.1.1).
-pub(crate) fn sub_bytes(s: [u8; 16]) -> [u8; 16]
-    ensures { result ≡ sub_bytes s }
+/// The column of four bytes, the first row's first.
+pub(crate) fn column(a: u8, b: u8, c: u8, d: u8) -> u32
+    ensures { word_bytes result ≡ a ∷ b ∷ c ∷ d ∷ [] }
+{
+    u32::from_be_bytes([a, b, c, d])
+}
+
+/// The columns of a state.
+pub(crate) fn columns(s: [u8; 16]) -> [u32; 4]
+    ensures { bytes_of result ≡ s }
 {
     [
-        substitute(s[0]),
-        substitute(s[1]),
-        substitute(s[2]),
-        substitute(s[3]),
-        substitute(s[4]),
-        substitute(s[5]),
-        substitute(s[6]),
-        substitute(s[7]),
-        substitute(s[8]),
-        substitute(s[9]),
-        substitute(s[10]),
-        substitute(s[11]),
-        substitute(s[12]),
-        substitute(s[13]),
-        substitute(s[14]),
-        substitute(s[15]),
+        column(s[0], s[1], s[2], s[3]),
+        column(s[4], s[5], s[6], s[7]),
+        column(s[8], s[9], s[10], s[11]),
+        column(s[12], s[13], s[14], s[15]),
     ]
 }
 
-/// ShiftRows (section 5.1.2).
-pub(crate) fn shift_rows(s: [u8; 16]) -> [u8; 16]
-    ensures { result ≡ shift_rows s }
+/// The state that these columns hold.
+pub(crate) fn state(columns: [u32; 4]) -> [u8; 16]
+    ensures { result ≡ bytes_of columns }
 {
+    let a = columns[0].to_be_bytes();
+    let b = columns[1].to_be_bytes();
+    let c = columns[2].to_be_bytes();
+    let d = columns[3].to_be_bytes();
     [
-        s[0], s[5], s[10], s[15], //
-        s[4], s[9], s[14], s[3], //
-        s[8], s[13], s[2], s[7], //
-        s[12], s[1], s[6], s[11],
+        a[0], a[1], a[2], a[3], //
+        b[0], b[1], b[2], b[3], //
+        c[0], c[1], c[2], c[3], //
+        d[0], d[1], d[2], d[3],
     ]
 }
 
-/// A byte times x in the field (section 4.2.1).
-fn times_x(byte: u8) -> u8
-    ensures { result ≡ times_x byte }
-{
-    if byte < 0x80 {
-        byte << 1
-    } else {
-        (byte << 1) ^ 0x1b
-    }
-}
-
-/// A byte of a mixed column, from the column's bytes beginning at its own row (section 5.1.3).
-fn mixed(own: u8, below: u8, third: u8, fourth: u8) -> u8
-    ensures { result ≡ mixed_byte own below third fourth }
-{
-    times_x(own) ^ (below ^ times_x(below)) ^ third ^ fourth
-}
-
-/// MixColumns (section 5.1.3).
-pub(crate) fn mix_columns(s: [u8; 16]) -> [u8; 16]
-    ensures { result ≡ mix_columns s }
+/// SubBytes, ShiftRows and MixColumns (sections 5.1.1 to 5.1.3).
+pub(crate) fn mixed(s: [u32; 4]) -> [u32; 4]
+    ensures { bytes_of result ≡ mix_columns (shift_rows (sub_bytes (bytes_of s))) }
 {
     [
-        mixed(s[0], s[1], s[2], s[3]),
-        mixed(s[1], s[2], s[3], s[0]),
-        mixed(s[2], s[3], s[0], s[1]),
-        mixed(s[3], s[0], s[1], s[2]),
-        mixed(s[4], s[5], s[6], s[7]),
-        mixed(s[5], s[6], s[7], s[4]),
-        mixed(s[6], s[7], s[4], s[5]),
-        mixed(s[7], s[4], s[5], s[6]),
-        mixed(s[8], s[9], s[10], s[11]),
-        mixed(s[9], s[10], s[11], s[8]),
-        mixed(s[10], s[11], s[8], s[9]),
-        mixed(s[11], s[8], s[9], s[10]),
-        mixed(s[12], s[13], s[14], s[15]),
-        mixed(s[13], s[14], s[15], s[12]),
-        mixed(s[14], s[15], s[12], s[13]),
-        mixed(s[15], s[12], s[13], s[14]),
+        mixed_column(s[0], s[1], s[2], s[3]),
+        mixed_column(s[1], s[2], s[3], s[0]),
+        mixed_column(s[2], s[3], s[0], s[1]),
+        mixed_column(s[3], s[0], s[1], s[2]),
+    ]
+}
+
+/// A column after SubBytes, from those that ShiftRows takes its four bytes of, the first row's first.
+fn substituted_column(a: u32, b: u32, c: u32, d: u32) -> u32
+    ensures { word_bytes result ≡ sub_byte (byte_in 0 a) ∷ sub_byte (byte_in 1 b) ∷ sub_byte (byte_in 2 c) ∷ sub_byte (byte_in 3 d) ∷ [] }
+{
+    column(
+        substitute((a >> 24) as u8),
+        substitute(((b >> 16) & 0xff) as u8),
+        substitute(((c >> 8) & 0xff) as u8),
+        substitute((d & 0xff) as u8),
+    )
+}
+
+/// SubBytes and ShiftRows (sections 5.1.1 and 5.1.2).
+pub(crate) fn substituted(s: [u32; 4]) -> [u32; 4]
+    ensures { bytes_of result ≡ shift_rows (sub_bytes (bytes_of s)) }
+{
+    [
+        substituted_column(s[0], s[1], s[2], s[3]),
+        substituted_column(s[1], s[2], s[3], s[0]),
+        substituted_column(s[2], s[3], s[0], s[1]),
+        substituted_column(s[3], s[0], s[1], s[2]),
     ]
 }
 
 /// AddRoundKey (section 5.1.4).
-pub(crate) fn add_round_key(s: [u8; 16], key: &[u8]) -> [u8; 16]
-    requires { length key.now ≡ 16 }
-    ensures { result ≡ add_round_key s key.now }
+pub(crate) fn add_round_key(s: [u32; 4], key: [u32; 4]) -> [u32; 4]
+    ensures { bytes_of result ≡ add_round_key (bytes_of s) (bytes_of key) }
 {
-    [
-        s[0] ^ key[0],
-        s[1] ^ key[1],
-        s[2] ^ key[2],
-        s[3] ^ key[3],
-        s[4] ^ key[4],
-        s[5] ^ key[5],
-        s[6] ^ key[6],
-        s[7] ^ key[7],
-        s[8] ^ key[8],
-        s[9] ^ key[9],
-        s[10] ^ key[10],
-        s[11] ^ key[11],
-        s[12] ^ key[12],
-        s[13] ^ key[13],
-        s[14] ^ key[14],
-        s[15] ^ key[15],
-    ]
+    [s[0] ^ key[0], s[1] ^ key[1], s[2] ^ key[2], s[3] ^ key[3]]
 }

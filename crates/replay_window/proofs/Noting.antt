@@ -1,72 +1,37 @@
--- Noting an index: what the place of each remainder then tells.
-use Rattle.std.proofs.Common.{◌≡◌, ◌≢◌, ℕ, ◌+◌, ◌%◌, ◌^◌, ◌<◌, ◌≤◌, ◌⊎◌, inl, inr, Bool, true, false, List, [], ◌∷◌, length, Option, Some, None, max, arith, sym, ◌∙◌, ap, refl, get_or-set_other, get_or-set_same, subst, replicate}
-use Rattle.std.specs.Prelude.{◌==◌, ◌||◌, nat_le, if◌then◌else◌, unwrap_or, slice_index, slice_set}
+-- Noting an index: which of the indices up to the greatest the bits then tell.
+use Rattle.std.proofs.Common.{◌≡◌, ◌≢◌, ℕ, ◌+◌, ◌-◌, ◌<◌, ◌≤◌, ◌⊎◌, inl, inr, Bool, true, false, List, [], ◌∷◌, Option, Some, None, max, arith, sym, ◌∙◌, ap, refl}
+use Rattle.std.specs.Prelude.{◌==◌, ◌||◌, nat_le, if◌then◌else◌, unwrap_or}
+use Rattle.std.specs.Int.{bit_at}
+use Rattle.std.specs.Int.RustNames.{bit_or}
 use Rattle.std.specs.Option.{option_map_or}
 use Rattle.std.proofs.lemmas.Bool.Decides.{nat_tests}
-use Rattle.std.proofs.lemmas.Bool.{cases_eq}
-use Rattle.std.proofs.lemmas.List.{get_or-replicate}
+use Rattle.std.proofs.lemmas.Bool.{cases_eq, cases_lt}
+use Rattle.std.proofs.lemmas.Nat.Bits.{bit_at_or, bit_at-pow_same, bit_at-pow_other, bit_at-zero, bit_at-lt}
 use Rattle.replay_window.specs.declared.answers.Fresh.{Fresh}
 use Rattle.replay_window.specs.declared.answers.Fresh.TheVariants.{Yes, TooOld, Used}
 use Rattle.replay_window.specs.Indices.{greatest, is_too_old, is_noted, fresh}
+use Rattle.replay_window.specs.Windows.{BitsTell}
 
--- an index is too old exactly where it lies 128 or more behind the top
-is_behind : Option ℕ → ℕ → Bool
-is_behind top index = option_map_or (λ t. nat_le (index + 128) t) top false
-
-behind_if : (top : Option ℕ) (index : ℕ) → index + 128 ≤ unwrap_or top 0 → is_behind top index ≡ true
-unfolding is_behind
-behind_if None index is = absurd (omega arith)
-behind_if (Some t) index is = grind (arith, nat_tests)
-
-not_behind : (top : Option ℕ) (index noted : ℕ) → nat_le (index + 128) (max noted (unwrap_or top 0)) ≡ false
-    → is_behind top index ≡ false
-unfolding is_behind
-not_behind None index noted is = refl
-not_behind (Some t) index noted is = grind (arith, nat_tests)
+-- the greatest index, or 0 where there is none
+abbrev pub top_of : List ℕ → ℕ
+top_of noted = unwrap_or (greatest noted) 0
 
 -- no noted index is above the greatest
-noted_below : (noted : List ℕ) (index : ℕ) → is_noted noted index ≡ true → index ≤ unwrap_or (greatest noted) 0
+noted_below : (noted : List ℕ) (index : ℕ) → is_noted noted index ≡ true → index ≤ top_of noted
 noted_below [] index is = cc
 noted_below (first ∷ noted) index is =
-    step first index (is_noted noted index) (unwrap_or (greatest noted) 0) (noted_below noted index) is
+    step first index (is_noted noted index) (top_of noted) (noted_below noted index) is
   where
     step : (first index : ℕ) (rest : Bool) (top : ℕ) → (rest ≡ true → index ≤ top) → ((first == index) || rest) ≡ true → index ≤ max first top
     step first index true top below is = omega (arith, below refl)
     step first index false top below is = grind (arith, nat_tests)
 
-is_fresh : (noted : List ℕ) (index : ℕ) → fresh noted index ≡ Yes → is_too_old noted index ≡ false
-unfolding fresh
-is_fresh noted index is = cases (is_too_old noted index) (is_noted noted index) is
-  where
-    cases : (old known : Bool) → ◌≡◌ {A = Fresh} (if old then TooOld else if known then Used else Yes) Yes → old ≡ false
-    cases true known is = cc
-    cases false known is = refl
-
--- the places tell which of the indices that aren't too old were noted
-abbrev pub Tells : List ℕ → List ℕ → Type 0
-Tells recent noted = (index : ℕ) → index < 2 ^ 48 → is_too_old noted index ≡ false
-    → (slice_index recent (index % 128) == index) ≡ is_noted noted index
-
--- an index that isn't too old is less than 128 behind every noted one
-recent_within : (top : Option ℕ) (first other : ℕ) → nat_le (other + 128) (max first (unwrap_or top 0)) ≡ false → first < other + 128
-recent_within top first other recent = grind (arith, nat_tests)
-
--- an index in the same place that was noted lies 128 or more before or behind, so it is too old, or makes this one so
-unnoted : (noted : List ℕ) (index other : ℕ) → index ≢ other → index % 128 ≡ other % 128 → is_too_old noted index ≡ false
-    → is_too_old (index ∷ noted) other ≡ false → is_noted noted other ≡ false
-unfolding is_behind
-unnoted noted index other apart same new recent = none (is_noted noted other) (λ known. clash (noted_below noted other known))
+pub unnoted_above : (noted : List ℕ) (index : ℕ) → top_of noted < index → is_noted noted index ≡ false
+unnoted_above noted index above = none (is_noted noted index) (λ known. let low : index ≤ top_of noted = noted_below noted index known in omega arith)
   where
     none : (known : Bool) → (known ≡ true → ⊥) → known ≡ false
     none true not = absurd (not refl)
     none false not = refl
-
-    within : index < other + 128
-    within = recent_within (greatest noted) index other recent
-
-    clash : other ≤ unwrap_or (greatest noted) 0 → ⊥
-    clash below =
-        let old : is_too_old noted index ≡ true = behind_if (greatest noted) index (omega (arith, within)) in cc
 
 differ : (a b : ℕ) → a ≢ b → (a == b) ≡ false
 differ a b apart = grind (arith, nat_tests)
@@ -74,47 +39,117 @@ differ a b apart = grind (arith, nat_tests)
 equal : (a b : ℕ) → a ≡ b → (a == b) ≡ true
 equal a b is = grind (arith, nat_tests)
 
-pub tells_noted : (recent noted : List ℕ) (index : ℕ) → length recent ≡ 128 → Tells recent noted → fresh noted index ≡ Yes
-    → Tells (slice_set recent (index % 128) index) (index ∷ noted)
-unfolding is_behind
-tells_noted recent noted index places tells new other within recent_enough = by_place (cases_eq (other % 128) (index % 128))
+-- a test as a bit
+abbrev pub bit_of : Bool → ℕ
+bit_of b = if b then 1 else 0
+
+here : (noted : List ℕ) (index other : ℕ) → index ≡ other → 1 ≡ bit_of (is_noted (index ∷ noted) other)
+here noted index other same = sym (ap (λ b. bit_of (b || is_noted noted other)) (equal index other same))
+
+elsewhere : (noted : List ℕ) (index other : ℕ) → index ≢ other → bit_of (is_noted noted other) ≡ bit_of (is_noted (index ∷ noted) other)
+elsewhere noted index other apart = sym (ap (λ b. bit_of (b || is_noted noted other)) (differ index other apart))
+
+-- the lowest bit set
+pub or_one_low : (n : ℕ) → bit_at (bit_or n 1) 0 ≡ 1
+or_one_low n = let least = bit_at-lt n 0 in
+    let one : bit_at 1 0 ≡ 1 = bit_at-pow_same 0 in
+    bit_at_or n 1 0 ∙ omega arith
+
+pub or_one_high : (n k : ℕ) → 0 < k → bit_at (bit_or n 1) k ≡ bit_at n k
+or_one_high n k above = let none : bit_at 1 k ≡ 0 = bit_at-pow_other 0 k (omega arith) in
+    bit_at_or n 1 k ∙ omega arith
+
+-- the bits, where nothing was noted
+pub tell_nothing : BitsTell 0 []
+tell_nothing k within below = bit_at-zero k
+
+-- the first index
+tell_one : (index : ℕ) → BitsTell 1 (index ∷ [])
+tell_one index k within below = elim (cases_lt 0 k) [
+  | inl above ↦ bit_at-pow_other 0 k (omega arith) ∙ elsewhere [] index (max index 0 - k) (omega arith)
+  | inr low ↦
+      let zeroth : k ≡ 0 = omega arith in
+      ap (λ n. bit_at 1 n) zeroth ∙ bit_at-pow_same 0 ∙ here [] index (max index 0 - k) (omega arith)
+]
+
+-- a list without a greatest index is empty
+pub tell_first : (noted : List ℕ) (index : ℕ) → greatest noted ≡ None → BitsTell 1 (index ∷ noted)
+tell_first [] index none = tell_one index
+tell_first (first ∷ noted) index none = cc
+
+-- an index that lies `gap` above the greatest
+above_bit : (noted : List ℕ) (index gap bits shifted k other : ℕ) → index ≡ top_of noted + gap → 0 < gap → BitsTell bits noted
+    → ((k : ℕ) → k < gap → bit_at shifted k ≡ 0) → ((k : ℕ) → gap ≤ k → k < 128 → bit_at shifted k ≡ bit_at bits (k - gap))
+    → k < 128 → k ≤ index → other ≡ index - k → bit_at (bit_or shifted 1) k ≡ bit_of (is_noted (index ∷ noted) other)
+above_bit noted index gap bits shifted k other apart above tell low high within under is = by_place (cases_lt 0 k)
   where
-    after : List ℕ
-    after = slice_set recent (index % 128) index
+    old : bit_at shifted k ≡ bit_of (is_noted noted other)
+    old = elim (cases_lt k gap) [
+      | inl new ↦
+          let beyond : top_of noted < other = omega arith in
+          low k new ∙ sym (ap bit_of (unnoted_above noted other beyond))
+      | inr known ↦
+          let place : top_of noted - (k - gap) ≡ other = omega arith in
+          high k known within ∙ tell (k - gap) (omega arith) (omega arith) ∙ ap (λ n. bit_of (is_noted noted n)) place
+    ]
 
-    there : other % 128 ≡ index % 128 → (slice_index after (other % 128) == other) ≡ is_noted (index ∷ noted) other
-    there place =
-        let read : slice_index after (other % 128) ≡ index =
-        ap (λ n. slice_index after n) place ∙ get_or-set_same recent (index % 128) index 0 (omega arith) in
-        ap (λ n. n == other) read ∙ alone (cases_eq index other)
-      where
-        alone : (index ≡ other) ⊎ (index ≡ other → ⊥) → (index == other) ≡ ((index == other) || is_noted noted other)
-        alone (inl same) = equal index other same ∙ sym (ap (λ b. b || is_noted noted other) (equal index other same))
-        alone (inr apart) =
-            differ index other apart
-            ∙ sym (ap (λ b. b || is_noted noted other) (differ index other apart)
-            ∙ unnoted noted index other apart (sym place) (is_fresh noted index new) recent_enough)
+    by_place : (0 < k) ⊎ (k ≤ 0) → bit_at (bit_or shifted 1) k ≡ bit_of (is_noted (index ∷ noted) other)
+    by_place (inl behind) = or_one_high shifted k behind ∙ old ∙ elsewhere noted index other (omega arith)
+    by_place (inr at) =
+        let zeroth : k ≡ 0 = omega arith in
+        ap (λ n. bit_at (bit_or shifted 1) n) zeroth ∙ or_one_low shifted ∙ here noted index other (omega arith)
 
-    by_place : (other % 128 ≡ index % 128) ⊎ (other % 128 ≡ index % 128 → ⊥)
-        → (slice_index after (other % 128) == other) ≡ is_noted (index ∷ noted) other
-    by_place (inl place) = there place
-    by_place (inr elsewhere) =
-        let apart : index ≢ other = λ same. elsewhere (sym (ap (λ n. n % 128) same)) in
-        ap (λ n. n == other) (get_or-set_other recent (index % 128) (other % 128) index 0 elsewhere)
-        ∙ tells other within (not_behind (greatest noted) other index recent_enough)
-        ∙ sym (ap (λ b. b || is_noted noted other) (differ index other apart))
+pub tell_above : (noted : List ℕ) (index gap bits shifted : ℕ) → index ≡ top_of noted + gap → 0 < gap → BitsTell bits noted
+    → ((k : ℕ) → k < gap → bit_at shifted k ≡ 0) → ((k : ℕ) → gap ≤ k → k < 128 → bit_at shifted k ≡ bit_at bits (k - gap))
+    → BitsTell (bit_or shifted 1) (index ∷ noted)
+tell_above noted index gap bits shifted apart above tell low high k within below =
+    above_bit noted index gap bits shifted k (max index (top_of noted) - k) apart above tell low high within (omega arith) (omega arith)
 
--- where nothing was noted no place tells of an index
-pub tells_nothing : (index : ℕ) → index < 2 ^ 48 → (slice_index (replicate 128 18446744073709551615) (index % 128) == index) ≡ false
-tells_nothing index within =
-    ap (λ n. n == index) (get_or-replicate 128 (index % 128) 18446744073709551615 0 (omega arith))
-    ∙ differ 18446744073709551615 index (omega arith)
+-- an index that lies `behind` below the greatest
+below_bit : (noted : List ℕ) (index behind bits marked k other : ℕ) → top_of noted ≡ index + behind → BitsTell bits noted
+    → bit_at marked behind ≡ 1 → ((k : ℕ) → k < 128 → k ≢ behind → bit_at marked k ≡ bit_at bits k)
+    → k < 128 → k ≤ top_of noted → other ≡ top_of noted - k → bit_at marked k ≡ bit_of (is_noted (index ∷ noted) other)
+below_bit noted index behind bits marked k other below tell set others within under is = elim (cases_eq k behind) [
+  | inl same ↦ ap (λ n. bit_at marked n) same ∙ set ∙ here noted index other (omega arith)
+  | inr apart ↦
+      others k within apart ∙ tell k within under ∙ ap (λ n. bit_of (is_noted noted n)) (sym is)
+      ∙ elsewhere noted index other (λ at. apart (omega arith))
+]
 
-pub top_first : (top noted : Option ℕ) (index : ℕ) → top ≡ noted → top ≡ None → Some index ≡ Some (max index (unwrap_or noted 0))
-top_first top noted index is none = let P : Option ℕ → Type 0 = λ o. Some index ≡ Some (max index (unwrap_or o 0)) in
-    subst P (sym none ∙ is) (ap Some (omega arith))
+pub tell_below : (noted : List ℕ) (index behind bits marked : ℕ) → top_of noted ≡ index + behind → BitsTell bits noted
+    → bit_at marked behind ≡ 1 → ((k : ℕ) → k < 128 → k ≢ behind → bit_at marked k ≡ bit_at bits k)
+    → BitsTell marked (index ∷ noted)
+tell_below noted index behind bits marked below tell set others k within under =
+    below_bit noted index behind bits marked k (max index (top_of noted) - k) below tell set others within (omega arith) (omega arith)
 
-pub top_next : (top noted : Option ℕ) (index last : ℕ) → top ≡ noted → top ≡ Some last
-    → Some (max last index) ≡ Some (max index (unwrap_or noted 0))
-top_next top noted index last is some = let P : Option ℕ → Type 0 = λ o. Some (max last index) ≡ Some (max index (unwrap_or o 0)) in
-    subst P (sym some ∙ is) (ap Some (omega arith))
+-- ---- which indices are fresh
+
+pub fresh_first : (noted : List ℕ) (index : ℕ) → greatest noted ≡ None → Yes ≡ fresh noted index
+unfolding fresh
+fresh_first [] index none = refl
+fresh_first (first ∷ noted) index none = absurd (cc)
+
+pub fresh_above : (noted : List ℕ) (index : ℕ) → top_of noted < index → Yes ≡ fresh noted index
+unfolding fresh
+fresh_above noted index above =
+    sym (by_tests (is_too_old noted index) (is_noted noted index) (not_behind (greatest noted) index above) (unnoted_above noted index above))
+  where
+    not_behind : (top : Option ℕ) (index : ℕ) → unwrap_or top 0 < index → option_map_or (λ t. nat_le (index + 128) t) top false ≡ false
+    not_behind None index is = refl
+    not_behind (Some t) index is = grind (arith, nat_tests)
+
+    by_tests : (old known : Bool) → old ≡ false → known ≡ false → ◌≡◌ {A = Fresh} (if old then TooOld else if known then Used else Yes) Yes
+    by_tests old known eo ek = rw (eo, ek) refl
+
+-- an index that is fresh is less than 128 behind the greatest
+pub fresh_near : (noted : List ℕ) (index : ℕ) → fresh noted index ≡ Yes → top_of noted < index + 128
+unfolding fresh
+fresh_near noted index is = near (greatest noted) index (cases (is_too_old noted index) (is_noted noted index) is)
+  where
+    cases : (old known : Bool) → ◌≡◌ {A = Fresh} (if old then TooOld else if known then Used else Yes) Yes → old ≡ false
+    cases true known is = cc
+    cases false known is = refl
+
+    near : (top : Option ℕ) (index : ℕ) → option_map_or (λ t. nat_le (index + 128) t) top false ≡ false → unwrap_or top 0 < index + 128
+    near None index is = omega arith
+    near (Some t) index is = grind (arith, nat_tests)

@@ -15,17 +15,13 @@ const HALF_CYCLE: u64 = 32_768;
 /// The cycles of packet indices: an index is below 2^48.
 const CYCLES: u64 = 4_294_967_296;
 
-/// What a place holds where no index was noted: no index, since it isn't below 2^48.
-const NO_INDEX: u64 = u64::MAX;
-
 /// The indices that were noted, of which those are kept that aren't too old.
 #[derive(Drop)]
 pub struct Window {
     /// The greatest noted index.
     greatest: Option<u64>,
-    /// At each remainder by 128 the last noted index with that remainder. Of the indices that aren't too old only one has
-    /// it, so the place tells whether that one was noted.
-    recent: [u64; 128],
+    /// Bit `k` says whether the index that lies `k` below the greatest was noted.
+    bits: u128,
     ghost in_range: { ForSome greatest (λ index. index < 2 ^ 48) },
 }
 
@@ -39,10 +35,9 @@ impl Window {
     pub fn new() -> Window
         ensures { StandsFor result [] }
     {
-        let recent = [NO_INDEX; 128];
         Window {
             greatest: None,
-            recent,
+            bits: 0,
         }
     }
 
@@ -66,12 +61,17 @@ impl Window {
         requires { index < 2 ^ 48 }
         ensures { (noted : List ℕ) → StandsFor self.now noted → result ≡ fresh noted index }
     {
-        if let Some(greatest) = self.greatest
-            && index + SIZE <= greatest
-        {
+        let Some(greatest) = self.greatest else {
+            return Fresh::Yes;
+        };
+        if greatest < index {
+            return Fresh::Yes;
+        }
+        let behind = greatest - index;
+        if behind >= SIZE {
             return Fresh::TooOld;
         }
-        if self.recent[(index % SIZE) as usize] == index {
+        if (self.bits >> behind) & 1 == 1 {
             return Fresh::Used;
         }
         Fresh::Yes
@@ -82,16 +82,46 @@ impl Window {
         requires { index < 2 ^ 48 }
         ensures { (noted : List ℕ) → StandsFor self.old noted → fresh noted index ≡ Yes → StandsFor self.new (index ∷ noted) }
     {
-        self.recent[(index % SIZE) as usize] = index;
-        self.greatest = match self.greatest {
-            None => Some(index),
-            Some(greatest) => Some(greatest.max(index)),
-        };
+        match self.greatest {
+            None => {
+                self.greatest = Some(index);
+                self.bits = 1;
+            }
+            Some(greatest) => {
+                if greatest < index {
+                    self.greatest = Some(index);
+                    self.bits = shifted(self.bits, index - greatest) | 1;
+                } else {
+                    self.bits = marked(self.bits, greatest - index);
+                }
+            }
+        }
     }
 }
 
-ghost use Rattle.std.specs.Prelude.{ℕ};
+ghost use Rattle.std.specs.Prelude.{ℕ, ◌-◌, ◌≤◌, ◌≢◌};
+ghost use Rattle.std.specs.Int.{bit_at};
 ghost use Rattle.replay_window.specs.Indices.{IsNearest, as_index, nearest_lifted};
+
+// The bits when the greatest index has risen by `gap`.
+fn shifted(bits: u128, gap: u64) -> u128
+    ensures low { (k : ℕ) → k < gap → bit_at result k ≡ 0 }
+    ensures high { (k : ℕ) → gap ≤ k → k < 128 → bit_at result k ≡ bit_at bits (k - gap) }
+{
+    if gap < SIZE { bits << gap } else { 0 }
+}
+
+// The bits with the one for the index `behind` below the greatest set, where there is one.
+fn marked(bits: u128, behind: u64) -> u128
+    ensures set { behind < 128 → bit_at result behind ≡ 1 }
+    ensures others { (k : ℕ) → k < 128 → k ≢ behind → bit_at result k ≡ bit_at bits k }
+{
+    if behind < SIZE {
+        bits | 1 << behind
+    } else {
+        bits
+    }
+}
 
 // The index nearest to `greatest` among those that end in `seq`: by the halves of the cycle (RFC 3711 section 3.3.1).
 fn near_to(greatest: u64, seq: u64) -> Near

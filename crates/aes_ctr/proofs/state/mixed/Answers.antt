@@ -1,8 +1,7 @@
-use Rattle.std.proofs.Common.{refl}
-use Rattle.aes_ctr.specs.Aes.{mixed_byte}
-use Rattle.aes_ctr.proofs.FieldLemmas.{product_two, product_three}
+use Rattle.aes_ctr.specs.Aes.{mix_columns, shift_rows, sub_bytes}
+use Rattle.aes_ctr.proofs.Columns.{same_state}
 use Rattle.aes_ctr.proofs.state.mixed.Goals as goal
 
 pub returns : goal.returns
-unfolding mixed_byte
-returns c = rw (product_two, product_three, c.times_x.ensures, c.times_x-2.ensures) refl
+unfolding mix_columns shift_rows sub_bytes
+returns c = same_state c.mixed_column.ensures c.mixed_column-2.ensures c.mixed_column-3.ensures c.mixed_column-4.ensures

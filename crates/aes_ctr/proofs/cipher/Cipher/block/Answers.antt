@@ -1,16 +1,20 @@
 use Rattle.std.proofs.Common.{arith}
+use Rattle.aes_ctr.specs.Aes.{key_schedule}
+use Rattle.aes_ctr.specs.Columns.{bytes_of}
 use Rattle.aes_ctr.proofs.Enciphering.{rounds_first, rounds_more, aes_of_rounds}
 use Rattle.aes_ctr.proofs.cipher.Cipher.block.Goals as goal
 
 pub rounds-init : goal.rounds-init
-rounds-init c = rounds_first _ _ _ _ c.round_key-first.ensures.words c.add_round_key-state.ensures
+rounds-init c =
+    rounds_first (key_schedule c.args.self.now) c.args.input (bytes_of c.columns-start.result) (bytes_of c.round_key-first.result) (bytes_of c.add_round_key-words.result)
+    c.columns-start.ensures c.round_key-first.ensures c.add_round_key-words.ensures
 
 pub rounds-preserved : goal.rounds-preserved
 rounds-preserved c =
-    rounds_more _ c.args.input _ _ _ _ _ _ c.rounds.round c.rounds.auto.round c.rounds.invariant c.sub_bytes.ensures c.shift_rows.ensures c.mix_columns-mixed.ensures
-    c.round_key-key.ensures.words c.add_round_key-state-in-rounds.ensures
+    rounds_more (key_schedule c.args.self.now) c.args.input (bytes_of c.rounds.words) (bytes_of c.mixed-next.result) (bytes_of c.round_key-key.result) (bytes_of c.add_round_key-words-in-rounds.result)
+    c.rounds.round c.rounds.auto.round c.rounds.invariant c.mixed-next.ensures c.round_key-key.ensures c.add_round_key-words-in-rounds.ensures
 
 pub returns : goal.returns
 returns c =
-    aes_of_rounds c.args.self.now c.args.input _ _ _ _ _ c.rounds.round (omega arith) c.rounds.invariant c.sub_bytes-2.ensures c.shift_rows-2.ensures
-    c.round_key-last.ensures.words c.add_round_key.ensures
+    aes_of_rounds c.args.self.now c.args.input (bytes_of c.rounds.words) (bytes_of c.substituted-ended.result) (bytes_of c.round_key-last.result) (bytes_of c.add_round_key-output.result) _
+    c.rounds.round (omega arith) c.rounds.invariant c.substituted-ended.ensures c.round_key-last.ensures c.add_round_key-output.ensures c.state.ensures

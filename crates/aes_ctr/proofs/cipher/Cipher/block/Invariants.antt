@@ -1,6 +1,7 @@
 use Rattle.std.proofs.Common.{◌≡◌, ◌-◌}
 use Rattle.aes_ctr.specs.Aes.{rounds, key_schedule}
+use Rattle.aes_ctr.specs.Columns.{bytes_of}
 use Rattle.aes_ctr.proofs.cipher.Cipher.block.Given as goal
 
 abbrev pub invariant-rounds : goal.invariant-rounds
-invariant-rounds l = l.state ≡ rounds (key_schedule l.self) l.fn.input (l.round - 1)
+invariant-rounds l = bytes_of l.words ≡ rounds (key_schedule l.self) l.fn.input (l.round - 1)

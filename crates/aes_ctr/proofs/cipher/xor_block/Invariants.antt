@@ -1,5 +1,5 @@
 use Rattle.std.proofs.Common.{◌≡◌, ℕ, ◌<◌, ◌≤◌, get_or, bit_xor}
-use Rattle.aes_ctr.proofs.cipher.xor_into.Given as goal
+use Rattle.aes_ctr.proofs.cipher.xor_block.Given as goal
 
 abbrev pub invariant-bytes : goal.invariant-bytes
 invariant-bytes l = record {

@@ -1,7 +1,0 @@
-use Rattle.aes_ctr.specs.Aes.{mix_columns}
-use Rattle.aes_ctr.proofs.StateLemmas.{same_bytes}
-use Rattle.aes_ctr.proofs.state.mix_columns.Goals as goal
-
-pub returns : goal.returns
-unfolding mix_columns
-returns c = same_bytes c.mixed.ensures c.mixed-2.ensures c.mixed-3.ensures c.mixed-4.ensures c.mixed-5.ensures c.mixed-6.ensures c.mixed-7.ensures c.mixed-8.ensures c.mixed-9.ensures c.mixed-10.ensures c.mixed-11.ensures c.mixed-12.ensures c.mixed-13.ensures c.mixed-14.ensures c.mixed-15.ensures c.mixed-16.ensures
