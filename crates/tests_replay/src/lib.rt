@@ -8,7 +8,3 @@ mod relay_script_tests;
 mod replay_devices_tests;
 #[cfg(test)]
 mod replay_lines_tests;
-#[cfg(test)]
-mod replay_steps_scripts;
-#[cfg(test)]
-mod replay_steps_tests;
