@@ -1,6 +1,6 @@
-use outside_real::address::{addr_of, socket_addr};
 use outside_real::{
     ChaChaKeys, StdLines, StdSink, SystemClock, SystemTimer, UdpIn, UdpLink, UdpMaker, UdpOut,
+    addr_of, socket_addr,
 };
 use relay_outside::{
     Addr, Clock, ControlLink, Failed, InEnd, Ip, KeySource, LineRead, LineSink, LineSource, OutEnd,
@@ -147,9 +147,9 @@ impl Write for Full {
 
 #[test]
 fn lines_go_to_the_stream(rt: HostRuntime) {
-    let mut sink = StdSink::new(Vec::<u8>::new(rt.alloc()));
-    assert_eq!(rt; sink.write(b"turns 0\n"), Ok(()));
-    assert_eq!(rt; sink.stream.as_slice(), b"turns 0\n".as_slice());
+    let mut bytes = Vec::<u8>::new(rt.alloc());
+    assert_eq!(rt; StdSink::new(&mut bytes).write(b"turns 0\n"), Ok(()));
+    assert_eq!(rt; bytes.as_slice(), b"turns 0\n".as_slice());
     assert_eq!(rt; StdSink::new(Full).write(b"turns 0\n"), Err(Failed));
 }
 

@@ -1,4 +1,4 @@
-use outside_real::seed::read_seed;
+use outside_real::read_seed;
 use std::io;
 use std::random::RandomSource;
 

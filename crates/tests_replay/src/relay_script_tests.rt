@@ -1,7 +1,9 @@
-use relay_script::{FailKind, ParseFault, Printed, Step, one_step, parse, print, printed_text_is_read};
 use call_cell::{Lost, Outcome, Refused};
 use ng_bencode::Text;
 use relay_outside::{Addr, Ip};
+use relay_script::{
+    FailKind, ParseFault, Printed, Step, one_step, parse, print, printed_text_is_read,
+};
 use std::alloc::Global;
 use std::process::Abort;
 use std::test::Fail;

@@ -1,9 +1,9 @@
 ghost use Rattle.std.specs.Prelude.{◌≡◌, Some, [], IfOk};
 
-use replay_devices::{ReplayKeys, ReplayLink, ReplayPorts, Timetable};
 use outside_real::ChaChaKeys;
 use relay_outside::{Addr, ControlLink, Failed, InEnd, Ip, KeySource, OutEnd, PortMaker, Taken};
 use relay_script::{Step, parse};
+use replay_devices::{ReplayKeys, ReplayLink, ReplayPorts, Timetable};
 use std::alloc::Global;
 use std::test::Fail;
 

@@ -1,7 +1,7 @@
-use replay_lines::{Ending, Script, WriteFault, read_script, write_event};
 use ng_bencode::Text;
 use relay_outside::{Addr, Copied, Ip, MemoryLines, MemorySink, WriteCall};
 use relay_script::{Printed, Step};
+use replay_lines::{Ending, Script, WriteFault, read_script, write_event};
 use std::alloc::Global;
 use std::process::Abort;
 use std::test::Fail;
