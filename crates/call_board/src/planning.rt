@@ -44,18 +44,6 @@ pub(crate) fn room_for(alloc: Global, plan: &Plan) -> Result<Option<Leases>, Out
     Ok(Some(leases))
 }
 
-fn copy_of(alloc: Global, text: &Text) -> Result<Text, OutOfMemory>
-    ensures { IfOk result (λ copied. copied.list ≡ text.now.list) }
-{
-    let bytes = text.as_slice();
-    let mut copied = Text::new(alloc);
-    if copied.reserve(bytes.len()).is_err() {
-        return Err(OutOfMemory);
-    }
-    copied.extend(bytes);
-    Ok(copied)
-}
-
 /// What is kept for a call of this call-id, which the side with this tag is to begin.
 pub(crate) fn new_call(
     alloc: Global,
@@ -65,7 +53,9 @@ pub(crate) fn new_call(
     ensures { (config : Config) → IfOk result (NewFor config call_id.now.list from_tag.now.list) }
 {
     let dialog = Dialog::new(alloc, from_tag)?;
-    let id = copy_of(alloc, call_id)?;
+    let Ok(id) = Text::copy_of(alloc, call_id.as_slice()) else {
+        return Err(OutOfMemory);
+    };
     Ok(NewCall { id, dialog })
 }
 

@@ -1,7 +1,8 @@
 use control_replies::{
-    copy, done_datagram, error_datagram, pong_datagram, reply_room, warned_datagram,
-    write_described, write_error,
+    done_datagram, error_datagram, pong_datagram, reply_room, warned_datagram, write_described,
+    write_error,
 };
+use ng_bencode::Text;
 use ng_command::KeyName;
 use ng_reply::{ErrorCode, SdpPart};
 use std::test::Fail;
@@ -23,7 +24,7 @@ fn short_replies_are_their_bytes(rt: HostRuntime) -> Result<(), Fail> {
         error.as_slice(),
         b"5323_4 d12:error-reason29:missing or wrong key: call-id6:result5:errore".as_slice()
     );
-    let kept = copy(alloc, b"5323_4")?;
+    let kept = Text::copy_of(alloc, b"5323_4")?;
     assert_eq!(rt; kept.as_slice(), b"5323_4".as_slice());
     Ok(())
 }
