@@ -41,7 +41,8 @@ each_positive [] c apart i = elim i [ ]
 each_positive (x ∷ cs) c apart (here e) = subst (λ (d : CallView). 1 ≤ d.of.cell) (sym e) apart.1
 each_positive (x ∷ cs) c apart (there i) = each_positive cs c apart.2 i
 
-is_positive : (number : ℕ) (cs : List CallView) (c : CallView) → first (filter (is_numbered number) cs) ≡ Some c → CellsApart cs → 1 ≤ c.of.cell
+-- the cell of a live call is a number from 1 on
+pub is_positive : (number : ℕ) (cs : List CallView) (c : CallView) → first (filter (is_numbered number) cs) ≡ Some c → CellsApart cs → 1 ≤ c.of.cell
 is_positive number cs c e apart = each_positive cs c apart (filtered (is_numbered number) cs (first_is_in (filter (is_numbered number) cs) e)).0
 
 -- which cells are taken without the call

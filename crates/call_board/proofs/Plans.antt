@@ -1,6 +1,6 @@
 -- What an offer is answered, by its plan and by what is short.
-use Rattle.std.proofs.Common.{◌≡◌, ◌≢◌, ◌∙◌, refl, ap, sym, ℕ, ◌+◌, ◌-◌, ◌<◌, ◌≤◌, Bool, true, false, not, List, length, map, ◌⊎◌, inl, inr, Option, Some, None, arith, get_or, if◌then◌else◌}
-use Rattle.std.specs.Prelude.{◌&&◌, nat_le, nat_lt, position, unwrap_or, min, Err}
+use Rattle.std.proofs.Common.{◌≡◌, ◌≢◌, ◌∙◌, refl, ap, sym, ℕ, ◌+◌, ◌-◌, ◌<◌, Bool, true, false, not, List, length, map, ◌⊎◌, inl, inr, Option, Some, None, arith, get_or, if◌then◌else◌}
+use Rattle.std.specs.Prelude.{◌&&◌, nat_le, nat_lt, position, Err}
 use Rattle.std.specs.List.{position_or_len}
 use Rattle.std.proofs.lemmas.List.{length-map}
 use Rattle.std.proofs.lemmas.List.Sums.{position_or_len_is}
@@ -131,23 +131,31 @@ not_full config board v s e = below config.max_sessions (length v.calls) (is_ful
 pub has_session : (config : Config) (board : Board) (v : View) → Shows config board v → nat_le board.config.max_sessions (length board.calls.items) ≡ false → length v.calls < config.max_sessions
 has_session = not_full
 
-unwrapped : (b : Bool) (n : ℕ) → b ≡ true → unwrap_or (if b then Some n else None) 0 ≡ n
-unwrapped true n e = refl
-unwrapped false n e = absurd (let f = e in cc)
+pub some_if : (b : Bool) (n : ℕ) → b ≡ true → (if b then Some n else None) ≡ Some n
+some_if true n e = refl
+some_if false n e = absurd (let f = e in cc)
 
-is_below : (n m : ℕ) → n < m → nat_lt n m ≡ true
+pub is_below : (n m : ℕ) → n < m → nat_lt n m ≡ true
 is_below n m lt = grind (arith, nat_tests)
 
-pub lowest_result : (taken : List Bool) (cells : List ℕ) (max n most result : ℕ) → length taken ≡ max →
-    ((k : ℕ) (d : Bool) → k < length taken → get_or taken k d ≡ has cells (1 + k)) → length cells < max →
-    n ≡ unwrap_or (position not taken) 0 → most ≡ min n max → result ≡ min (most + 1) 4294967295 → max ≤ 4294967295 → result ≡ lowest_but cells
-lowest_result taken cells max n most result count are room is_n is_most is_result small =
+-- a place that isn't taken, and the cell of that place
+pub record IsLowestPlace (taken : List Bool) (cells : List ℕ) (max : ℕ) : Type 0 where
+  pub place : ℕ
+  pub found : position not taken ≡ Some place
+  pub cell_is : place + 1 ≡ lowest_but cells
+  pub inside : place < max
+
+pub lowest_free : (taken : List Bool) (cells : List ℕ) (max : ℕ) → length taken ≡ max →
+    ((k : ℕ) (d : Bool) → k < length taken → get_or taken k d ≡ has cells (1 + k)) → length cells < max → IsLowestPlace taken cells max
+lowest_free taken cells max count are room =
     let at = lowest_place taken cells max count are room in
     let bound = lowest_bound cells in
-    let inside : position_or_len not taken < length taken = omega (arith, at, bound, count, room) in
-    let there = unwrapped (nat_lt (position_or_len not taken) (length taken)) (position_or_len not taken) (is_below (position_or_len not taken) (length taken) inside) in
-    let same : n ≡ position_or_len not taken = is_n ∙ there in
-    omega (arith, at, bound, count, room, same, is_most, is_result, small)
+    let inside : position_or_len not taken < length taken = omega (arith, at, bound, count, room) in record {
+      place = position_or_len not taken;
+      found = some_if (nat_lt (position_or_len not taken) (length taken)) (position_or_len not taken) (is_below (position_or_len not taken) (length taken) inside);
+      cell_is = at;
+      inside = omega (arith, inside, count);
+    }
 
 -- a fault of an answer's plan is the answer
 pub answer_refused_by : (rounds : List Round) (ask : AnswerAsk) (lines : List (List ℕ)) (config : Config) (fault : OaFault) → AnswerAnswered config rounds ask lines (Err fault) →

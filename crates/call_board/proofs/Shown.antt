@@ -1,6 +1,6 @@
 -- What a board that shows a view keeps of its live calls.
 use Rattle.std.proofs.Common.{◌≡◌, refl, ap, subst, sym, ◌∙◌, ℕ, zero, suc, ◌<◌, Bool, true, false, cond, List, [], ◌∷◌, length, map, filter, Option, Some, None, arith, get_or}
-use Rattle.std.specs.Prelude.{◌||◌, ◌==◌, is_some, unwrap_or, position, slice_get}
+use Rattle.std.specs.Prelude.{◌||◌, ◌==◌, is_some, position, slice_get}
 use Rattle.std.specs.List.{list_any}
 use Rattle.std.specs.Str.{bytes_eq}
 use Rattle.std.proofs.lemmas.List.Quantifiers.{position-Some}
@@ -83,15 +83,11 @@ pub no_call_found : (config : Config) (p : LiveCall → Bool) (q : CallView → 
 no_call_found config p q calls cs alike s e =
     none_first config p q calls cs alike s (any-position p calls ∙ ap is_some e)
 
-is_there : (o : Option ℕ) → true ≡ is_some o → (i : ℕ) → (i ≡ unwrap_or o 0) → o ≡ Some i
-is_there None e i is = absurd (let f = e in cc)
-is_there (Some n) e i is = ap Some (sym is)
-
--- the place of a live call
-pub live_place : (calls : List LiveCall) (number i : ℕ) → list_any (λ (call : LiveCall). call.number == number) calls ≡ true →
-    i ≡ unwrap_or (position (λ (call : LiveCall). call.number == number) calls) 0 → position (λ (call : LiveCall). call.number == number) calls ≡ Some i
-live_place calls number i live is =
-    is_there (position (λ (call : LiveCall). call.number == number) calls) (sym live ∙ any-position (λ (call : LiveCall). call.number == number) calls) i is
+-- a live call has a place
+pub live_has_place : (calls : List LiveCall) (number : ℕ) → list_any (λ (call : LiveCall). call.number == number) calls ≡ true →
+    position (λ (call : LiveCall). call.number == number) calls ≡ None → ⊥
+live_has_place calls number live none =
+    let f : true ≡ false = sym live ∙ any-position (λ (call : LiveCall). call.number == number) calls ∙ ap is_some none in cc
 
 -- what is kept of a live call, in its place
 pub shown_call : (config : Config) (v : View) (calls : List LiveCall) (number i : ℕ) (d : LiveCall) → CallsFor config calls v.calls →

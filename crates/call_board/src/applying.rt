@@ -1,6 +1,6 @@
 //! Taking in a plan.
 
-ghost use Rattle.std.specs.Prelude.{◌≡◌, ◌<◌, ◌^◌, ◌-◌, ℕ, [], ◌∷◌, true, Some, slice_set};
+ghost use Rattle.std.specs.Prelude.{◌≡◌, ◌<◌, ◌^◌, ℕ, [], ◌∷◌, true, Some};
 ghost use Rattle.std.specs.Vec.{vec_len, vec_capacity};
 ghost use Rattle.relay_outside.specs.declared.settings.Config.{Config};
 ghost use Rattle.offer_answer.specs.Rounds.{Round};
@@ -12,18 +12,9 @@ ghost use Rattle.call_board.specs.Applied.{IsPlanOf, BeginsBy, IsNext, TakesIn, 
 
 use crate::board::Board;
 use crate::board_plan::{BoardPlan, NewCall};
+use crate::cell_marks::mark_cell;
 use crate::live_call::LiveCall;
 use offer_answer::Plan;
-
-/// Marks a cell, from 1, as taken.
-fn take_cell(taken: &mut [bool], cell: u32)
-    ensures { taken.new ≡ slice_set taken.old (cell - 1) true }
-{
-    let place = cell.saturating_sub(1) as usize;
-    if place < taken.len() {
-        taken[place] = true;
-    }
-}
 
 impl LiveCall {
     /// Takes in one more offer or answer, at the moment `now`.
@@ -67,7 +58,7 @@ impl Board {
             first_moment: now,
             last_moment: now,
         });
-        take_cell(self.taken.as_mut_slice(), cell);
+        mark_cell(self.taken.as_mut_slice(), cell, true);
         self.begun += 1;
     }
 

@@ -180,7 +180,10 @@ impl Board {
         ensures place { position (λ live. live.number == call) self.now.calls.items ≡ Some result }
         ensures within { result < length self.now.calls.items }
     {
-        place_of(self.calls.as_slice(), call).unwrap_or(0)
+        let Some(place) = place_of(self.calls.as_slice(), call) else {
+            unreachable!();
+        };
+        place
     }
 
     /// A live call.

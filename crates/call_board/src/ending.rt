@@ -1,21 +1,12 @@
 //! Ending a call.
 
-ghost use Rattle.std.specs.Prelude.{◌≡◌, ℕ, List, Some, option_map, slice_set, ◌-◌, false};
+ghost use Rattle.std.specs.Prelude.{◌≡◌, ℕ, List, Some, option_map};
 ghost use Rattle.relay_outside.specs.declared.settings.Config.{Config};
 ghost use Rattle.call_board.specs.Views.{View, CallView, without_call, call_numbered};
 ghost use Rattle.call_board.specs.Boards.{Shows, IsLive, CellsApart, KeepsReplies};
 
 use crate::board::Board;
-
-/// Marks a cell, from 1, as free.
-fn free_cell(taken: &mut [bool], cell: u32)
-    ensures { taken.new ≡ slice_set taken.old (cell - 1) false }
-{
-    let place = cell.saturating_sub(1) as usize;
-    if place < taken.len() {
-        taken[place] = false;
-    }
-}
+use crate::cell_marks::mark_cell;
 
 impl Board {
     /// Ends a live call, and answers its cell, from 1. Its pairs stay leased until they are given back. It takes no memory.
@@ -27,7 +18,7 @@ impl Board {
     {
         let place = self.place(call);
         let ended = self.calls.remove(place);
-        free_cell(self.taken.as_mut_slice(), ended.cell);
+        mark_cell(self.taken.as_mut_slice(), ended.cell, false);
         ended.cell
     }
 }

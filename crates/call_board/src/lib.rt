@@ -15,6 +15,7 @@ mod answering;
 mod applying;
 mod board;
 mod board_plan;
+mod cell_marks;
 mod ending;
 mod fault;
 mod law;

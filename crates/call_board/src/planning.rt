@@ -1,6 +1,6 @@
 //! What the board plans for an offer.
 
-ghost use Rattle.std.specs.Prelude.{◌≡◌, ◌≢◌, ℕ, [], List, length, nat_lt, nat_le, Option, Some, None, Ok, Err, IfOk, IfSome, OnOk, not, map, position, unwrap_or, slice_index_or, ◌<◌};
+ghost use Rattle.std.specs.Prelude.{◌≡◌, ◌≢◌, ◌+◌, ℕ, [], List, length, nat_lt, nat_le, Option, Some, None, Ok, Err, IfOk, IfSome, OnOk, not, map, position, unwrap_or, slice_index_or, ◌<◌, if◌then◌else◌};
 ghost use Rattle.std.specs.Str.{bytes_eq};
 ghost use Rattle.relay_outside.specs.declared.settings.Config.{Config};
 ghost use Rattle.offer_answer.specs.Rounds.{Round, OfferAsk};
@@ -44,18 +44,6 @@ pub(crate) fn room_for(alloc: Global, plan: &Plan) -> Result<Option<Leases>, Out
     Ok(Some(leases))
 }
 
-fn copy_of(alloc: Global, text: &Text) -> Result<Text, OutOfMemory>
-    ensures { IfOk result (λ copied. copied.list ≡ text.now.list) }
-{
-    let bytes = text.as_slice();
-    let mut copied = Text::new(alloc);
-    if copied.reserve(bytes.len()).is_err() {
-        return Err(OutOfMemory);
-    }
-    copied.extend(bytes);
-    Ok(copied)
-}
-
 /// What is kept for a call of this call-id, which the side with this tag is to begin.
 pub(crate) fn new_call(
     alloc: Global,
@@ -65,15 +53,29 @@ pub(crate) fn new_call(
     ensures { (config : Config) → IfOk result (NewFor config call_id.now.list from_tag.now.list) }
 {
     let dialog = Dialog::new(alloc, from_tag)?;
-    let id = copy_of(alloc, call_id)?;
+    let Ok(id) = Text::copy_of(alloc, call_id.as_slice()) else {
+        return Err(OutOfMemory);
+    };
     Ok(NewCall { id, dialog })
 }
 
 /// The place of the first cell that isn't taken.
 fn first_free(taken: &[bool]) -> Option<usize>
-    ensures { result ≡ position not taken.now }
+    ensures place { result ≡ position not taken.now }
+    ensures within { IfSome result (λ at. at < length taken.now) }
 {
     taken.iter().position(|taken| !*taken)
+}
+
+/// The cell of a place, from 1, where there are so many cells. `None`: that is past the last of them.
+fn cell_at(place: usize, count: u32) -> Option<u32>
+    ensures { result ≡ (if nat_lt place count then Some (place + 1) else None) }
+{
+    if place < count as usize {
+        Some(place as u32 + 1)
+    } else {
+        None
+    }
 }
 
 impl Board {
@@ -91,15 +93,15 @@ impl Board {
         self.config.max_sessions as usize <= self.calls.as_slice().len()
     }
 
-    /// The lowest cell that no live call has, from 1.
-    fn lowest_cell(&self) -> u32
+    /// The lowest cell that no live call has, from 1. `None`: each cell is taken.
+    fn lowest_cell(&self) -> Option<u32>
         ensures { (config : Config) (v : View) → Shows config self.now v → length v.calls < config.max_sessions →
-            result ≡ lowest_but (map (λ (c : CallView). c.of.cell) v.calls) }
+            result ≡ Some (lowest_but (map (λ (c : CallView). c.of.cell) v.calls)) }
     {
-        let place = first_free(self.taken.as_slice())
-            .unwrap_or(0)
-            .min(self.config.max_sessions as usize) as u32;
-        place.saturating_add(1)
+        let Some(place) = first_free(self.taken.as_slice()) else {
+            return None;
+        };
+        cell_at(place, self.config.max_sessions)
     }
 
     /// The place of the live call with this call-id.
@@ -178,7 +180,9 @@ impl Board {
         let Ok(leases) = room_for(alloc, &plan) else {
             return Err(BoardFault::OutOfMemory);
         };
-        let cell = self.lowest_cell();
+        let Some(cell) = self.lowest_cell() else {
+            return Err(BoardFault::SessionLimit);
+        };
         if self.calls.reserve(1).is_err() {
             return Err(BoardFault::OutOfMemory);
         }

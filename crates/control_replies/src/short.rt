@@ -6,7 +6,6 @@ ghost use Rattle.ng_bencode.specs.Spells.{spelling};
 ghost use Rattle.cookie_cache.specs.Keepings.{IsCookie};
 ghost use Rattle.call_board.specs.Replies.{Pong, Done, Warned, Fault, reply_datagram};
 
-use crate::texts::copy;
 use ng_bencode::{Text, Value, encode};
 use ng_frame::join;
 use ng_reply::{ErrorCode, done, fixed_error, pong, warned};
@@ -50,7 +49,10 @@ pub fn error_datagram(alloc: Global, cookie: &[u8], code: ErrorCode) -> Result<T
 {
     let mut out = [0; 512];
     let len = fixed_error(cookie, code, &mut out);
-    copy(alloc, &out[..len])
+    let Ok(datagram) = Text::copy_of(alloc, &out[..len]) else {
+        return Err(OutOfMemory);
+    };
+    Ok(datagram)
 }
 
 /// The datagram of a reply that stands as a value.

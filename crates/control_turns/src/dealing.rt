@@ -22,8 +22,8 @@ use crate::sending::{send, send_shortage};
 use call_board::Board;
 use call_cell::Gone;
 use control_entries::{Done, Gave, Request};
-use control_replies::copy;
 use nested_steps::Nest;
+use ng_bencode::Text;
 use ng_reply::ErrorCode;
 use offer_answer::Heard;
 use relay_core::{Part, Relay};
@@ -89,7 +89,7 @@ fn answer_anew<N: ControlLink, P: PortMaker, K: KeySource, R: Wait>(
     if board.reserve_reply().is_err() {
         return answer_short(link, request);
     }
-    let Ok(cookie) = copy(alloc, request.cookie) else {
+    let Ok(cookie) = Text::copy_of(alloc, request.cookie) else {
         return answer_short(link, request);
     };
     let Carried { dictionary, done } = carry_out(

@@ -9,24 +9,12 @@ ghost use Rattle.main_sweeps.specs.Steps.{Relayed, RelaysBy, KeepsOthers};
 
 use call_cell::Outcome;
 use media_lane::{Lane, Receipt};
-use ng_bencode::Text;
+use ng_bencode::{OutOfMemory, Text};
 use relay_core::Relay;
-use relay_outside::{Config, InEnd, OpenGate, OutEnd, OutOfMemory};
+use relay_outside::{Config, InEnd, OpenGate, OutEnd};
 use std::alloc::Global;
 use std::sync::Wait;
 use turn_table::{Hand, Turns};
-
-/// A copy of bytes.
-fn copy_bytes(alloc: Global, bytes: &[u8]) -> Result<Text, OutOfMemory>
-    ensures { IfOk result (λ text. text.list ≡ bytes.now) }
-{
-    let mut text = Text::new(alloc);
-    match text.reserve(bytes.len()) {
-        Ok(()) => text.extend(bytes),
-        Err(_) => return Err(OutOfMemory),
-    }
-    Ok(text)
-}
 
 /// Relays the packet of a receipt in the cell of its leg, handed the moment `now` in milliseconds, by the main hand, which holds no
 /// turn. With the outcome a copy of the bytes that were sent is answered, none where none were; `Err`: there was no memory for it.
@@ -52,6 +40,6 @@ pub fn relay_between<I: InEnd, O: OutEnd, R: Wait>(
 {
     let mut lane = Lane::new(hand, 0, 1, config);
     let outcome = lane.relay(rt, turns, &OpenGate::new(), receipt, now);
-    let sent = copy_bytes(alloc, lane.sent_bytes());
+    let sent = Text::copy_of(alloc, lane.sent_bytes());
     (outcome, sent, lane.into_hand())
 }

@@ -5,7 +5,7 @@ ghost use Rattle.ng_bencode.specs.Tree.{Tree, Trees, Entries, tree_of, trees_of,
 ghost use Rattle.ng_bencode.specs.Spells.{spelling, spellings, entry_spellings, Spells};
 ghost use Rattle.ng_bencode.specs.Fits.{Fits, ItemsFit, EntriesFit};
 
-use crate::errors::Bad;
+use crate::errors::{Bad, OutOfMemory};
 use crate::row::Row;
 use crate::scan::{read_end, read_head, read_int, read_string};
 use crate::text::Text;
@@ -83,9 +83,9 @@ fn read_value(alloc: Global, bytes: &[u8], depth: usize) -> Result<(Value, &[u8]
         };
     }
     match read_string(bytes) {
-        Some((text, rest)) => match copy(alloc, text) {
+        Some((text, rest)) => match Text::copy_of(alloc, text) {
             Ok(own) => Ok((Value::Bytes(own), rest)),
-            Err(bad) => Err(bad),
+            Err(OutOfMemory) => Err(Bad::OutOfMemory),
         },
         None => Err(Bad::NotBencode),
     }
@@ -138,9 +138,8 @@ fn read_pairs(alloc: Global, bytes: &[u8], depth: usize) -> Result<(Pairs, &[u8]
         let Some((key, behind)) = read_string(rest) else {
             return Err(Bad::NotBencode);
         };
-        let own = match copy(alloc, key) {
-            Ok(own) => own,
-            Err(bad) => return Err(bad),
+        let Ok(own) = Text::copy_of(alloc, key) else {
+            return Err(Bad::OutOfMemory);
         };
         let (value, after) = match read_value(alloc, behind, depth) {
             Ok(parts) => parts,
@@ -152,17 +151,4 @@ fn read_pairs(alloc: Global, bytes: &[u8], depth: usize) -> Result<(Pairs, &[u8]
         found.push((own, value));
         rest = after;
     }
-}
-
-/// A text of these bytes.
-fn copy(alloc: Global, bytes: &[u8]) -> Result<Text, Bad>
-    ensures text { IfOk result (λ text. text.list ≡ bytes.now) }
-    ensures cause { IfErr result (λ bad. bad ≡ Bad.OutOfMemory) }
-{
-    let mut text = Text::new(alloc);
-    let Ok(()) = text.reserve(bytes.len()) else {
-        return Err(Bad::OutOfMemory);
-    };
-    text.extend(bytes);
-    Ok(text)
 }

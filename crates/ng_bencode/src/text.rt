@@ -1,4 +1,4 @@
-ghost use Rattle.std.specs.Prelude.{◌≡◌, ◌+◌, ◌-◌, ◌<◌, ◌≤◌, ℕ, [], ◌∷◌, ◌++◌, length, OnOk, vec_len, vec_capacity};
+ghost use Rattle.std.specs.Prelude.{◌≡◌, ◌+◌, ◌-◌, ◌<◌, ◌≤◌, ℕ, [], ◌∷◌, ◌++◌, length, IfOk, OnOk, vec_len, vec_capacity};
 ghost use Rattle.ng_bencode.specs.Room.{Room};
 
 use crate::errors::OutOfMemory;
@@ -27,6 +27,18 @@ impl Text {
         Text {
             bytes: Vec::new(alloc),
         }
+    }
+
+    /// A text of these bytes, in memory of its own. `Err`: there was no memory for it.
+    pub fn copy_of(alloc: Global, bytes: &[u8]) -> Result<Text, OutOfMemory>
+        ensures { IfOk result (λ text. text.list ≡ bytes.now) }
+    {
+        let mut text = Text::new(alloc);
+        let Ok(()) = text.reserve(bytes.len()) else {
+            return Err(OutOfMemory);
+        };
+        text.extend(bytes);
+        Ok(text)
     }
 
     /// Makes room for `more` bytes. Its bytes stay, whatever the answer.

@@ -162,9 +162,10 @@ fn query_of(alloc: Global, pairs: &Pairs) -> Result<Command, OutOfMemory>
 fn copy_at(alloc: Global, pairs: &Pairs, key: &[u8]) -> Result<Text, OutOfMemory>
     ensures { IfOk result (λ text. text.list ≡ text_in (pairs_of (list_in pairs.now)) key.now) }
 {
-    match text_at(pairs, key) {
-        Some(text) => copy(alloc, text),
-        None => Ok(Text::new(alloc)),
+    match copy_if_there(alloc, pairs, key) {
+        Ok(Some(text)) => Ok(text),
+        Ok(None) => Ok(Text::new(alloc)),
+        Err(OutOfMemory) => Err(OutOfMemory),
     }
 }
 
@@ -175,19 +176,8 @@ fn copy_if_there(alloc: Global, pairs: &Pairs, key: &[u8]) -> Result<Option<Text
     let Some(text) = text_at(pairs, key) else {
         return Ok(None);
     };
-    match copy(alloc, text) {
+    match Text::copy_of(alloc, text) {
         Ok(own) => Ok(Some(own)),
-        Err(OutOfMemory) => Err(OutOfMemory),
+        Err(_) => Err(OutOfMemory),
     }
-}
-
-fn copy(alloc: Global, bytes: &[u8]) -> Result<Text, OutOfMemory>
-    ensures { IfOk result (λ text. text.list ≡ bytes.now) }
-{
-    let mut text = Text::new(alloc);
-    let Ok(()) = text.reserve(bytes.len()) else {
-        return Err(OutOfMemory);
-    };
-    text.extend(bytes);
-    Ok(text)
 }

@@ -81,10 +81,10 @@ pub fn sdp_reply_into(sdp: &[u8], out: &mut Text)
 fn put_pair(alloc: Global, pairs: &mut Pairs, key: &[u8], text: &[u8]) -> Result<(), OutOfMemory>
     ensures { OnOk result (pairs_of (list_in pairs.new) ≡ with_text (pairs_of (list_in pairs.old)) key.now text.now) }
 {
-    let Ok(name) = copy(alloc, key) else {
+    let Ok(name) = Text::copy_of(alloc, key) else {
         return Err(OutOfMemory);
     };
-    let Ok(own) = copy(alloc, text) else {
+    let Ok(own) = Text::copy_of(alloc, text) else {
         return Err(OutOfMemory);
     };
     let Ok(()) = pairs.reserve(1) else {
@@ -92,15 +92,4 @@ fn put_pair(alloc: Global, pairs: &mut Pairs, key: &[u8], text: &[u8]) -> Result
     };
     pairs.push((name, Value::bytes(own)));
     Ok(())
-}
-
-fn copy(alloc: Global, bytes: &[u8]) -> Result<Text, OutOfMemory>
-    ensures { IfOk result (λ text. text.list ≡ bytes.now) }
-{
-    let mut text = Text::new(alloc);
-    let Ok(()) = text.reserve(bytes.len()) else {
-        return Err(OutOfMemory);
-    };
-    text.extend(bytes);
-    Ok(text)
 }

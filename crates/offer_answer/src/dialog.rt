@@ -16,7 +16,6 @@ use crate::last_offer::{LastOffer, OfferedNext};
 use crate::leg::DialogSection;
 use crate::next_answer::AnsweredNext;
 use crate::plan::{Next, Plan};
-use crate::tag::copied;
 use ng_bencode::Text;
 use port_pool::Side;
 use relay_outside::OutOfMemory;
@@ -55,7 +54,9 @@ impl Dialog {
         ensures stands { IfOk result (λ dialog. (config : Config) → DialogFor config dialog []) }
         ensures awaits { IfOk result (λ dialog. Awaits dialog from_tag.now.list) }
     {
-        let first_tag = copied(alloc, from_tag)?;
+        let Ok(first_tag) = Text::copy_of(alloc, from_tag.as_slice()) else {
+            return Err(OutOfMemory);
+        };
         Ok(Dialog {
             first_tag,
             is_begun: false,

@@ -25,7 +25,6 @@ mod plan;
 mod planning;
 mod rejecting;
 mod signalling;
-mod tag;
 mod writing;
 mod writing_back;
 

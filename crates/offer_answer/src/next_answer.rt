@@ -15,7 +15,6 @@ use crate::dialog::Dialog;
 use crate::last_offer::LastOffer;
 use crate::leg::{DialogSection, DrawnKey, Leg};
 use crate::rejecting::is_rejected;
-use crate::tag::copied;
 use ng_bencode::Text;
 use ng_command::AnswerIn;
 use port_pool::Side;
@@ -127,7 +126,9 @@ pub(crate) fn next_of_answer(
     ensures { (config : Config) (rounds : List Round) (offer : MadeOffer) (ask : AnswerAsk) → DialogFor config dialog.now rounds →
         IsLast rounds offer last.now → AsksAnswer input.now sdp.now rounds ask → IfOk result (AnsweredFor config rounds ask) }
 {
-    let to_tag = copied(alloc, &input.to_tag)?;
+    let Ok(to_tag) = Text::copy_of(alloc, input.to_tag.as_slice()) else {
+        return Err(OutOfMemory);
+    };
     Ok(AnsweredNext {
         to_tag,
         count: last.count,

@@ -15,7 +15,7 @@ use crate::dialog::{Dialog, MOST_SECTIONS};
 use crate::last_offer::{LastOffer, MadeSection, OfferedNext};
 use crate::leg::{DialogSection, Leg};
 use crate::offered::{OfferedSection, is_active, offered_section, other_side, written_over};
-use crate::tag::copied;
+use ng_bencode::Text;
 use ng_command::OfferIn;
 use port_pool::Side;
 use relay_outside::OutOfMemory;
@@ -138,7 +138,9 @@ pub(crate) fn next_of_offer(
     ensures next { (config : Config) (rounds : List Round) (ask : OfferAsk) → DialogFor config dialog.now rounds → AsksOffer input.now sdp.now ask →
         side ≡ offerer rounds ask → IfOk result (λ next. NextFor config rounds ask [] [] next) }
 {
-    let from_tag = copied(alloc, &input.from_tag)?;
+    let Ok(from_tag) = Text::copy_of(alloc, input.from_tag.as_slice()) else {
+        return Err(OutOfMemory);
+    };
     let transport = input.options.transport;
     let made = made_sections(dialog, sdp, transport, side);
     let sections = sections_after(dialog, sdp, transport, side);

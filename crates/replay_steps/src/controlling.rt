@@ -45,11 +45,9 @@ fn reply_event(alloc: Global, link: &ReplayLink<'_>) -> Option<Printed>
     ensures { IfSome result (λ event. IsReply link.now.told (event_of event)) }
 {
     let (to, bytes) = link.last_sent()?;
-    let mut text = Text::new(alloc);
-    match text.reserve(bytes.len()) {
-        Ok(()) => text.extend(bytes),
-        Err(_) => return None,
-    }
+    let Ok(text) = Text::copy_of(alloc, bytes) else {
+        return None;
+    };
     Some(Printed::Reply(to, text))
 }
 

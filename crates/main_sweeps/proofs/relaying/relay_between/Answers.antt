@@ -72,6 +72,6 @@ returns-clause-demanded g c all =
     (subst (λ h. AreParts config (starts h)) (sym same) b.parts) (subst (λ h. Numbered (made_by h)) (sym same) b.numbered) (subst (λ h. Orderly config (made_by h)) (sym same) b.orderly)
     c.requires.receipt.for_cell (subst (λ h. parts h ≡ 1024) (sym same) all) relayed
     (subst (λ h. new ≡ made_by h ++ relay_entry p relayed.number relayed.moment outcome ∷ []) (sym same) list) in
-    of_copy c.copy_bytes-sent.result (λ t. t.list) c.sent_bytes.result.now (λ bytes. RelaysBy config (made_by c.args.hand) p c.args.now outcome bytes new) c.copy_bytes-sent.ensures
+    of_copy c.copy_of-sent.result (λ t. t.list) c.sent_bytes.result.now (λ bytes. RelaysBy config (made_by c.args.hand) p c.args.now outcome bytes new) c.copy_of-sent.ensures
     (subst (λ bytes. RelaysBy config (made_by c.args.hand) p c.args.now outcome bytes new) (sym c.sent_bytes.ensures)
     (subst (λ h. RelaysBy config (made_by h) p c.args.now outcome sent new) same by))

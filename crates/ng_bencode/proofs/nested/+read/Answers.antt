@@ -25,17 +25,17 @@ read_pairs-returns-in_default-read_string-clause-cause t c is pairs x fits e =
     let left = c.pairs.invariant.left pairs x fits e in
     stuck_key c.args.depth c.pairs.rest.now c.in_default-read_string.ensures.string c.in_default.ensures left.0 x left.1 left.2
 
-pub read_pairs-returns-in-Err-read_value-clause-cause :
-    goal.read_pairs-returns-in-Err-read_value-clause-cause
-read_pairs-returns-in-Err-read_value-clause-cause t c is pairs x fits e =
+pub read_pairs-returns-in-Err-clause-cause :
+    goal.read_pairs-returns-in-Err-clause-cause
+read_pairs-returns-in-Err-clause-cause t c is pairs x fits e =
     let left = c.pairs.invariant.left pairs x fits e in
-    stuck_pair c.args.depth c.pairs.rest.now c.in-Some-read_string.key.now c.in-Some-read_string.behind.now c.in-Some-read_string.ensures.fits c.in-Some-read_string.ensures.string (c.in-Err-read_value.ensures.cause is) c.in_default.ensures left.0 x left.1 left.2
+    stuck_pair c.args.depth c.pairs.rest.now c.in-Some-read_string.key.now c.in-Some-read_string.behind.now c.in-Some-read_string.ensures.fits c.in-Some-read_string.ensures.string (c.in-Err.ensures.cause is) c.in_default.ensures left.0 x left.1 left.2
 
 pub read_pairs-pairs-preserved : goal.read_pairs-pairs-preserved
 read_pairs-pairs-preserved t c =
     record {
-      read = pairs_read c.args.bytes.now c.pairs.rest.now c.in-Some-read_string.key.now c.in-Some-read_string.behind.now c.in-Ok-read_value.parts.1.now (list_in c.pairs.found) (list_in c.reserve.new.self) (list_in c.push.new.self) c.in-Ok.own c.in-Ok-read_value.parts.0 c.in-Ok-reserve.ensures.list c.push.ensures.list c.in-Ok.ensures.text c.pairs.invariant.read c.in-Some-read_string.ensures.string c.in-Ok-read_value.ensures.value;
-      fits = pairs_kept c.args.depth (list_in c.pairs.found) (list_in c.reserve.new.self) (list_in c.push.new.self) c.in-Some-read_string.key.now c.in-Ok.own c.in-Ok-read_value.parts.0 c.in-Ok-reserve.ensures.list c.push.ensures.list c.in-Ok.ensures.text c.pairs.invariant.fits c.in-Some-read_string.ensures.fits c.in-Ok-read_value.ensures.fits;
+      read = pairs_read c.args.bytes.now c.pairs.rest.now c.in-Some-read_string.key.now c.in-Some-read_string.behind.now c.in-Ok-read_value.parts.1.now (list_in c.pairs.found) (list_in c.reserve.new.self) (list_in c.push.new.self) c.in-Ok.own c.in-Ok-read_value.parts.0 c.in-Ok-reserve.ensures.list c.push.ensures.list c.in-Ok.ensures c.pairs.invariant.read c.in-Some-read_string.ensures.string c.in-Ok-read_value.ensures.value;
+      fits = pairs_kept c.args.depth (list_in c.pairs.found) (list_in c.reserve.new.self) (list_in c.push.new.self) c.in-Some-read_string.key.now c.in-Ok.own c.in-Ok-read_value.parts.0 c.in-Ok-reserve.ensures.list c.push.ensures.list c.in-Ok.ensures c.pairs.invariant.fits c.in-Some-read_string.ensures.fits c.in-Ok-read_value.ensures.fits;
       left = λ pairs x fits e.
           let left = c.pairs.invariant.left pairs x fits e in
           left_pairs c.args.depth c.pairs.rest.now c.in-Some-read_string.key.now c.in-Some-read_string.behind.now c.in-Ok-read_value.parts.1.now (tree_of c.in-Ok-read_value.parts.0) c.in-Some-read_string.ensures.fits c.in-Ok-read_value.ensures.fits c.in-Some-read_string.ensures.string c.in-Ok-read_value.ensures.value c.in_default.ensures left.0 x left.1 left.2;

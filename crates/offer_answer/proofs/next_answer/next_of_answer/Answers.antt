@@ -6,7 +6,7 @@ use Rattle.offer_answer.proofs.next_answer.next_of_answer.Goals as goal
 pub returns : goal.returns
 returns c = λ config rounds offer ask s i a. record {
   to_offer = ap is_some i.offer_is;
-  to_tag_is = c.in_ok-to_tag.ensures ∙ sym a.to_tag_is;
+  to_tag_is = c.in-Ok.ensures ∙ c.as_slice.ensures ∙ sym a.to_tag_is;
   count_is = i.kept.count_is ∙ ap section_count (sdp-last rounds offer i.offer_is);
   sections_are = c.next_sections.ensures config rounds offer ask s i a.hears;
 }

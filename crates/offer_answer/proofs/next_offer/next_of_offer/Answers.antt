@@ -7,7 +7,7 @@ returns-clause-next c = λ config rounds ask s a m.
     let t = ap (λ o. o.transport) (sym a.options_are) in
     record {
       last_for = record {
-        from_tag_is = c.in_ok-from_tag.ensures ∙ sym a.from_tag_is;
+        from_tag_is = c.in-Ok.ensures ∙ c.as_slice.ensures ∙ sym a.from_tag_is;
         maker_is = m;
         options_are = sym a.options_are;
         count_is = c.section_count.ensures.count ∙ sym (count-heard c.args.sdp.now ask a.hears);

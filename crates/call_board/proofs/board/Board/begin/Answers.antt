@@ -1,4 +1,4 @@
-use Rattle.std.proofs.Common.{◌≡◌, ◌∙◌, ◌-◌, ◌+◌, ◌++◌, ◌∷◌, [], refl, ap, sym, subst, ℕ, List, Bool, true, set, arith}
+use Rattle.std.proofs.Common.{◌≡◌, ◌∙◌, ◌-◌, ◌+◌, ◌≤◌, ◌++◌, ◌∷◌, [], refl, ap, sym, subst, ℕ, List, Bool, true, set, arith}
 use Rattle.std.proofs.lemmas.List.{with_items_is}
 use Rattle.call_board.specs.declared.live_call.LiveCall.{LiveCall}
 use Rattle.call_board.specs.Views.{CallView}
@@ -11,9 +11,9 @@ returns-clause-taken c = λ config v of round s next number cell b p.
     let view : CallView = record { of = of; rounds = round ∷ []; first = c.args.now; last = c.args.now } in
     let new = begins_by config of.id round c.args.new b in
     let items : List Bool = c.args.self.now.taken.items in
-    let whole = with_items_is c.args.self.now.taken c.take_cell.new.taken (omega (arith, c.take_cell.auto.taken, c.as_mut_slice.ensures.len)) in
-    let taken : c.take_cell.new.taken ≡ set items (c.args.cell - 1) true =
-    c.take_cell.ensures ∙ ap (λ (those : List Bool). set those (c.args.cell - 1) true) c.as_mut_slice.ensures.value in
+    let whole = with_items_is c.args.self.now.taken c.mark_cell.new.taken (omega (arith, c.mark_cell.auto.taken, c.as_mut_slice.ensures.len)) in
+    let taken : c.mark_cell.new.taken ≡ set items (c.args.cell - 1) true =
+    c.mark_cell.ensures.cell (subst (λ (n : ℕ). 1 ≤ n) (sym cell) next.cell_is_one) ∙ ap (λ (those : List Bool). set those (c.args.cell - 1) true) c.as_mut_slice.ensures.value in
     record {
       config_is = s.config_is;
       moment_is = s.moment_is;

@@ -5,7 +5,7 @@ use Rattle.call_board.specs.Boards.{CallsFor, CellsFor, ShowsCall}
 use Rattle.call_board.specs.Views.{CallView, without}
 use Rattle.std.specs.Option.{option_map}
 use Rattle.call_board.proofs.Shown.{shown_call}
-use Rattle.call_board.proofs.Ended.{removed, cells_after}
+use Rattle.call_board.proofs.Ended.{removed, cells_after, is_positive}
 use Rattle.call_board.proofs.board.Board.end_call.Goals as goal
 
 pub returns-clause-shows : goal.returns-clause-shows
@@ -20,9 +20,9 @@ returns-clause-shows c = λ config v s apart.
       calls_for = subst (λ (calls : List LiveCall). CallsFor config calls (without c.args.call v.calls)) (sym c.remove-ended.ensures.items)
           (removed config c.args.call c.args.self.now.calls.items v.calls c.place-place.result c.remove-ended.result s.calls_for c.place-place.ensures.place);
       cells_for =
-          let whole = with_items_is c.args.self.now.taken c.free_cell.new.taken (omega (arith, c.free_cell.auto.taken, c.as_mut_slice.ensures.len)) in
-          let free : c.free_cell.new.taken ≡ set c.args.self.now.taken.items (c.remove-ended.result.cell - 1) false =
-          c.free_cell.ensures ∙ ap (λ (taken : List Bool). set taken (c.remove-ended.result.cell - 1) false) c.as_mut_slice.ensures.value in
+          let whole = with_items_is c.args.self.now.taken c.mark_cell.new.taken (omega (arith, c.mark_cell.auto.taken, c.as_mut_slice.ensures.len)) in
+          let free : c.mark_cell.new.taken ≡ set c.args.self.now.taken.items (c.remove-ended.result.cell - 1) false =
+          c.mark_cell.ensures.cell (omega (arith, shown.call_for.cell_is, is_positive c.args.call v.calls shown.of shown.found apart)) ∙ ap (λ (taken : List Bool). set taken (c.remove-ended.result.cell - 1) false) c.as_mut_slice.ensures.value in
           let cell : c.remove-ended.result.cell ≡ shown.of.of.cell = shown.call_for.cell_is in
           subst (λ (taken : List Bool). CellsFor config taken (without c.args.call v.calls))
           (sym (whole ∙ free ∙ ap (λ n. set c.args.self.now.taken.items (n - 1) false) cell))

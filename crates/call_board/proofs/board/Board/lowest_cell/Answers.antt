@@ -1,17 +1,29 @@
-use Rattle.std.proofs.Common.{ap, ◌∙◌, arith, ℕ, Option, List, Bool, not, position, unwrap_or, subst, ◌≤◌, ◌≡◌, min}
+use Rattle.std.proofs.Common.{◌≡◌, ◌∙◌, ◌+◌, ◌<◌, sym, ap, subst, arith, List, Bool, not, position, nat_lt, Some, None}
 use Rattle.std.proofs.lemmas.List.{length-map}
 use Rattle.relay_outside.specs.declared.settings.Config.{Config}
+use Rattle.call_board.specs.Calls.{lowest_but}
 use Rattle.call_board.specs.Views.{CallView}
-use Rattle.call_board.proofs.Plans.{lowest_result, cells_of}
+use Rattle.call_board.proofs.Plans.{lowest_free, some_if, is_below, cells_of}
 use Rattle.call_board.proofs.board.Board.lowest_cell.Goals as goal
+
+pub returns-in_default : goal.returns-in_default
+returns-in_default c = λ config v s room.
+    let count = length-map v.calls (λ (of : CallView). of.of.cell) in
+    let low = lowest_free c.args.self.now.taken.items (cells_of v) config.max_sessions s.cells_for.count_is s.cells_for.taken_are (omega (arith, room, count)) in
+    let none : position not c.args.self.now.taken.items ≡ None =
+    ap (λ (those : List Bool). position not those) (sym c.as_slice.ensures.value) ∙ sym c.first_free.ensures.place ∙ c.in_default.is in
+    absurd (let f = sym none ∙ low.found in cc)
 
 pub returns : goal.returns
 returns c = λ config v s room.
     let count = length-map v.calls (λ (of : CallView). of.of.cell) in
-    let most : c.args.self.now.config.max_sessions ≤ 4294967295 = omega arith in
-    lowest_result c.args.self.now.taken.items (cells_of v) config.max_sessions c.unwrap_or.result c.min-place.result c.saturating_add.result
-    s.cells_for.count_is s.cells_for.taken_are (omega (arith, room, count))
-    (c.unwrap_or.ensures ∙ ap (λ (o : Option ℕ). unwrap_or o 0) (c.first_free.ensures ∙ ap (λ (those : List Bool). position not those) c.as_slice.ensures.value))
-    (subst (λ (of : Config). c.min-place.result ≡ min c.unwrap_or.result of.max_sessions) s.config_is c.min-place.ensures)
-    c.saturating_add.ensures
-    (subst (λ (of : Config). of.max_sessions ≤ 4294967295) s.config_is most)
+    let low = lowest_free c.args.self.now.taken.items (cells_of v) config.max_sessions s.cells_for.count_is s.cells_for.taken_are (omega (arith, room, count)) in
+    let found : position not c.args.self.now.taken.items ≡ Some c.in-Some.place =
+    ap (λ (those : List Bool). position not those) (sym c.as_slice.ensures.value) ∙ sym c.first_free.ensures.place ∙ c.in-Some.is in
+    let same : low.place ≡ c.in-Some.place = (let f : Some low.place ≡ Some c.in-Some.place = sym low.found ∙ found in cc) in
+    let below : c.in-Some.place < config.max_sessions = omega (arith, low.inside, same) in
+    let inside = subst (λ (of : Config). c.in-Some.place < of.max_sessions) (sym s.config_is) below in
+    let cell : c.in-Some.place + 1 ≡ lowest_but (cells_of v) = omega (arith, low.cell_is, same) in
+    c.cell_at.ensures
+    ∙ some_if (nat_lt c.in-Some.place c.args.self.now.config.max_sessions) (c.in-Some.place + 1) (is_below c.in-Some.place c.args.self.now.config.max_sessions inside)
+    ∙ ap Some cell
