@@ -1,5 +1,5 @@
-use ng_command::{Command, CommandFault, KeyName, Options, read};
 use ng_bencode::Text;
+use ng_command::{Command, CommandFault, KeyName, Options, read};
 use relay_outside::{Flags, Ip};
 use sdp_text::Proto;
 use std::alloc::Global;

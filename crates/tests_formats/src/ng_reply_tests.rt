@@ -1,6 +1,8 @@
-use ng_reply::{ErrorCode, SdpPart, done, fixed_error, pong, sdp_reply_into, sdp_reply_len, warned};
 use ng_bencode::{Text, encode};
 use ng_command::KeyName;
+use ng_reply::{
+    ErrorCode, SdpPart, done, fixed_error, pong, sdp_reply_into, sdp_reply_len, warned,
+};
 use std::test::Fail;
 
 /// Whether the error is answered so to the cookie `5323_1`.

@@ -6,8 +6,8 @@ ghost use Rattle.sdp_edit.specs.Editing.{KeysHaveTags, HaveTags};
 use crate::sdp_edit_descriptions::{
     connections_and_ends, families_and_names, orders_and_sizes, titles_and_protocols, whole_calls,
 };
-use sdp_edit::*;
 use sdes_lines::{CryptoLine, Suite};
+use sdp_edit::*;
 use sdp_text::{Bytes, Host, OutOfMemory, Proto, read};
 use std::alloc::Global;
 use std::process::Abort;

@@ -1,5 +1,5 @@
-use srtcp_context::{InRtcp, OutRtcp};
 use rtp_packet::rtcp;
+use srtcp_context::{InRtcp, OutRtcp};
 use srtp_keys::{DrawnKey, ProtectFault, UnprotectFault};
 
 // The master key and salt of RFC 3711, appendix B.3.

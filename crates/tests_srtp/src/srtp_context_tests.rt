@@ -1,6 +1,6 @@
-use srtp_context::{InRtp, OutRtp};
 use rtp_packet::rtp;
 use sdes_lines::Suite;
+use srtp_context::{InRtp, OutRtp};
 use srtp_keys::{DrawnKey, ProtectFault, UnprotectFault};
 
 // The master key and salt of RFC 3711, appendix B.3.

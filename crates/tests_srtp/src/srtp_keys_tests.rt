@@ -1,7 +1,7 @@
 // Vectors of RFC 2202 and RFC 3711, and the keys of a draw.
 
-use srtp_keys::{DrawnKey, MacKey, derive, hmac};
 use rtp_packet::Half;
+use srtp_keys::{DrawnKey, MacKey, derive, hmac};
 
 /// Master key and master salt of RFC 3711, appendix B.3.
 const MASTER: [u8; 30] =

@@ -1,5 +1,5 @@
-use srtp_sources::{Sources, packet_counter};
 use replay_window::{Fresh, Near};
+use srtp_sources::{Sources, packet_counter};
 
 // The counter of RFC 3711, appendix B.2, and the same salt with an SSRC and an index, added up by hand.
 #[test]
