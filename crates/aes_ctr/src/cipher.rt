@@ -107,7 +107,7 @@ fn xor_into(bytes: &mut [u8], stream: &[u8; 16])
     }
 }
 
-/// Changes the 16 bytes by exclusive or with `stream`: a loop of a fixed length, which is one operation on 16 bytes.
+/// Changes the 16 bytes by exclusive or with `stream`: a loop of a fixed length.
 fn xor_block(bytes: &mut [u8], stream: &[u8; 16])
     requires { length bytes.old ≡ 16 }
     ensures { bytes.new ≡ xored bytes.old stream.now }
