@@ -74,19 +74,13 @@ fn out_end(rt: &impl Abort, alloc: Global) -> SteadyOut {
     sending
 }
 
-#[test]
-fn a_leg_is_prepared_with_a_key_and_goes_at_the_end(rt: HostRuntime) {
-    let alloc = rt.alloc();
+/// A cell whose call was offered at moment 5 with one leg and one key.
+fn offered(rt: &impl Abort, alloc: Global) -> Cell<SteadyOut> {
     let Ok(mut signal) = Prepare::reserve(alloc, 1, 1) else {
         panic!(rt; "no memory");
     };
-    let lease = first_lease(&rt, alloc);
-    signal.add_leg(
-        PACKET.holder,
-        lease,
-        out_end(&rt, alloc),
-        out_end(&rt, alloc),
-    );
+    let lease = first_lease(rt, alloc);
+    signal.add_leg(PACKET.holder, lease, out_end(rt, alloc), out_end(rt, alloc));
     signal.add_key(0, Side::A, DrawnKey::from_draw(7, [9; 30]), Suite::Tag80);
     let mut cell: Cell<SteadyOut> = Cell::empty(alloc, &CONFIG);
     let Ok(mut gone) = Gone::new(alloc) else {
@@ -94,6 +88,30 @@ fn a_leg_is_prepared_with_a_key_and_goes_at_the_end(rt: HostRuntime) {
     };
     cell.prepare(1, signal, &mut gone, 5);
     assert!(rt; gone.pop().is_none(), "no leg was dropped");
+    cell
+}
+
+/// The ports for RTP of the first leg that goes at the end, and of the second.
+fn gone_at_end(
+    rt: &impl Abort,
+    alloc: Global,
+    cell: &mut Cell<SteadyOut>,
+) -> (Option<u16>, Option<u16>) {
+    let Ok(mut ended) = Gone::new(alloc) else {
+        panic!(rt; "no memory");
+    };
+    cell.end(&mut ended);
+    (next_port(&mut ended), next_port(&mut ended))
+}
+
+fn next_port(gone: &mut Gone<SteadyOut>) -> Option<u16> {
+    let (lease, _, _) = gone.pop()?;
+    Some(lease.rtp_port())
+}
+
+#[test]
+fn a_leg_is_prepared_with_a_key_and_goes_at_the_end(rt: HostRuntime) {
+    let mut cell = offered(&rt, rt.alloc());
     assert!(rt;
         !cell.expire(120_004),
         "the offer is younger than its timeout"
@@ -101,15 +119,8 @@ fn a_leg_is_prepared_with_a_key_and_goes_at_the_end(rt: HostRuntime) {
     assert!(rt; cell.expire(120_005), "the offer is as old as its timeout");
     let mut buf = [0u8; 2064];
     assert!(rt; cell.relay(&PACKET, &mut buf, 0) == Outcome::Refused(Refused::NotAnswered));
-    let Ok(mut ended) = Gone::new(alloc) else {
-        panic!(rt; "no memory");
-    };
-    cell.end(&mut ended);
-    let Some((lease, _, _)) = ended.pop() else {
-        panic!(rt; "the leg went");
-    };
-    assert!(rt; lease.rtp_port() == 30_000);
-    assert!(rt; ended.pop().is_none(), "it was the only one");
+    let ports = gone_at_end(&rt, rt.alloc(), &mut cell);
+    assert!(rt; ports == (Some(30_000), None), "its leg went alone");
 }
 
 #[test]

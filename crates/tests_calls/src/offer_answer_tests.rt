@@ -239,15 +239,16 @@ fn written(
     out
 }
 
-/// What bob gets of an offer by alice that asks for this protocol. The dialog takes it in.
-fn offered(
+/// Whether bob gets this of an offer by alice that asks for this protocol. The dialog takes it in.
+fn is_offered(
     rt: &impl Abort,
     alloc: Global,
     dialog: &mut Dialog,
     transport: Option<Proto>,
     ports: &[u16],
     keys: &[[u8; 30]],
-) -> Bytes {
+    want: &[u8],
+) -> bool {
     let input = asked(rt, alloc, transport);
     let sdp = read_sdp(rt, alloc, ALICE);
     let Ok(mut plan) = offer(alloc, &CONFIG, dialog, &input, &sdp) else {
@@ -255,30 +256,36 @@ fn offered(
     };
     let out = written(rt, alloc, &mut plan, &sdp, ports, keys);
     dialog.apply(plan);
-    out
+    out.as_slice() == want
 }
 
-/// What alice gets of this answer by bob. The dialog takes it in.
-fn replied_to(rt: &impl Abort, alloc: Global, dialog: &mut Dialog, description: &[u8]) -> Bytes {
+/// Whether alice gets this of this answer by bob. The dialog takes it in.
+fn is_answered(
+    rt: &impl Abort,
+    alloc: Global,
+    dialog: &mut Dialog,
+    description: &[u8],
+    want: &[u8],
+) -> bool {
     let input = replied(rt, alloc);
     let sdp = read_sdp(rt, alloc, description);
     let Ok(mut plan) = answer(alloc, &CONFIG, dialog, &input, &sdp) else {
         panic!(rt; "the answer is planned");
     };
     let out = written(rt, alloc, &mut plan, &sdp, &[], &[]);
-    assert!(rt; plan.signal().len() == 1);
+    let sections = plan.signal().len();
     dialog.apply(plan);
-    out
+    sections == 1 && out.as_slice() == want
 }
+
+const PORTS: [u16; 2] = [30_000, 30_002];
 
 #[test]
 fn a_call_is_offered_and_answered(rt: HostRuntime) {
     let alloc = rt.alloc();
     let mut dialog = alices_dialog(&rt, alloc);
-    let out = offered(&rt, alloc, &mut dialog, None, &[30_000, 30_002], &[]);
-    assert!(rt; out.as_slice() == ALICE_OFFERED);
-    let out = replied_to(&rt, alloc, &mut dialog, BOB);
-    assert!(rt; out.as_slice() == BOB_ANSWERED);
+    assert!(rt; is_offered(&rt, alloc, &mut dialog, None, &PORTS, &[], ALICE_OFFERED));
+    assert!(rt; is_answered(&rt, alloc, &mut dialog, BOB, BOB_ANSWERED));
     assert!(rt; dialog.protocol(0, Side::B) == Some(Proto::Avp));
 }
 
@@ -287,12 +294,19 @@ fn a_later_offer_carries_the_key_in_force_alone(rt: HostRuntime) {
     let alloc = rt.alloc();
     let secure = Some(Proto::Savp);
     let mut dialog = alices_dialog(&rt, alloc);
-    let out = offered(&rt, alloc, &mut dialog, secure, &[30_000, 30_002], &KEYS);
-    assert!(rt; out.as_slice() == ALICE_SECURED);
-    let out = replied_to(&rt, alloc, &mut dialog, BOB_SECURED);
-    assert!(rt; out.as_slice() == BOB_ANSWERED);
-    let out = offered(&rt, alloc, &mut dialog, None, &[], &[]);
-    assert!(rt; out.as_slice() == ALICE_AGAIN);
+    assert!(rt;
+        is_offered(
+            &rt,
+            alloc,
+            &mut dialog,
+            secure,
+            &PORTS,
+            &KEYS,
+            ALICE_SECURED
+        )
+    );
+    assert!(rt; is_answered(&rt, alloc, &mut dialog, BOB_SECURED, BOB_ANSWERED));
+    assert!(rt; is_offered(&rt, alloc, &mut dialog, None, &[], &[], ALICE_AGAIN));
 }
 
 #[test]
@@ -315,8 +329,18 @@ fn an_answer_is_heard_by_the_lines_that_were_offered(rt: HostRuntime) {
     let sdp = read_sdp(&rt, alloc, BOB_SECURED);
     let unheard = dialog.hear(&sdp);
     assert!(rt; matches!(unheard.lines(), [None]));
-    let ports = [30_000, 30_002];
-    offered(&rt, alloc, &mut dialog, Some(Proto::Savp), &ports, &KEYS);
+    let secure = Some(Proto::Savp);
+    assert!(rt;
+        is_offered(
+            &rt,
+            alloc,
+            &mut dialog,
+            secure,
+            &PORTS,
+            &KEYS,
+            ALICE_SECURED
+        )
+    );
     let heard = dialog.hear(&sdp);
     assert!(rt; matches!(heard.lines(), [Some(line)] if line.tag == 1));
 }

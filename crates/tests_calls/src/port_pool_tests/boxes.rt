@@ -63,12 +63,26 @@ fn for_leg(len: usize) -> BoxTake {
     }
 }
 
+/// The number of the first take, from 0, that gives something else.
+fn first_other(
+    pair: &mut PairBox<SteadyIn>,
+    buf: &mut [u8; 2001],
+    takes: &[(Half, BoxTake)],
+) -> Option<usize> {
+    for (number, (half, want)) in takes.iter().enumerate() {
+        if pair.take(*half, buf) != *want {
+            return Some(number);
+        }
+    }
+    None
+}
+
 #[test]
 fn a_box_takes_from_the_end_of_each_half(rt: HostRuntime) {
     let mut pair = full(&rt, rt.alloc());
     let mut buf = [0; 2001];
     let too_long = BoxTake::TooLong { source: HERE };
-    for (half, want) in [
+    let takes = [
         (Half::Rtp, BoxTake::Nothing),
         (Half::Rtp, for_leg(2_000)),
         (Half::Rtcp, for_leg(28)),
@@ -76,9 +90,9 @@ fn a_box_takes_from_the_end_of_each_half(rt: HostRuntime) {
         (Half::Rtcp, BoxTake::Nothing),
         (Half::Rtp, too_long),
         (Half::Rtp, BoxTake::Nothing),
-    ] {
-        assert!(rt; pair.take(half, &mut buf) == want, "{want:?}");
-    }
+    ];
+    let other = first_other(&mut pair, &mut buf, &takes);
+    assert!(rt; other.is_none(), "take {other:?}");
     assert!(rt; buf[0] == 5 && buf[2000] == 5);
     assert!(rt; pair.shut().is_some());
     assert!(rt; pair.take(Half::Rtp, &mut buf) == BoxTake::Closed);

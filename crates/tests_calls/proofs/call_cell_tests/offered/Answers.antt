@@ -1,6 +1,6 @@
 use Rattle.std.proofs.Common.{◌∙◌}
 use Rattle.call_cell.proofs.Callers.{empty_fits}
-use Rattle.tests_calls.proofs.call_cell_tests.a_leg_is_prepared_with_a_key_and_goes_at_the_end.Goals as goal
+use Rattle.tests_calls.proofs.call_cell_tests.offered.Goals as goal
 
 pub prepare-requires-clause-room : goal.prepare-requires-clause-room
 prepare-requires-clause-room g c =
