@@ -10,6 +10,7 @@ ghost use Rattle.relay_core.specs.Made.{told};
 ghost use Rattle.relay_core.specs.Turning.{made_by};
 ghost use Rattle.relay_core.specs.Beginning.{AreParts};
 ghost use Rattle.relay_core.specs.Joining.{IsSound, AreStanding};
+ghost use Rattle.relay_core.specs.Timed.{AreTimed};
 ghost use Rattle.media_ports.specs.Asked.{OpensNone};
 ghost use Rattle.media_ports.specs.Held.{TellsHeld};
 ghost use Rattle.board_turns.specs.Between.{IsBetween, MakesTurn};
@@ -153,6 +154,7 @@ impl<P: PortMaker> Server<P> {
         ensures length { length result.items ≡ length (starts hand) }
         ensures states { AreStanding self.config result.items (made_by hand) }
         ensures legal { (l : List Entry) × (map told l ≡ made_by hand) × Legal self.config l × Safe self.config l }
+        ensures timed { AreTimed (entries hand) }
     {
         let Server { config: _, turns } = self;
         close_relay(turns, hand)

@@ -1,8 +1,7 @@
+mod Counts
 mod Loops
 mod Options
-mod Replays
+mod Rounds
 mod Runs
-mod Single
-mod Steps
 mod Values
 pub mod Wholes

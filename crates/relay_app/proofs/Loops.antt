@@ -1,5 +1,5 @@
--- The control turns of a run, one after another, as the lists of the link, the timer and the keys gain their calls.
-use Rattle.std.proofs.Common.{◌≡◌, ◌∙◌, ap, refl, subst, sym, ℕ, ◌<◌, ◌≤◌, List, [], ◌∷◌, ◌++◌, Option, Some, None, arith}
+-- The control turns of a run, one after another, as the rows grow and the lists of the devices gain their calls.
+use Rattle.std.proofs.Common.{◌≡◌, ◌∙◌, ap, refl, subst, sym, ℕ, ◌<◌, ◌≤◌, List, [], ◌∷◌, ◌++◌, append-nil, Option, Some, None, true, false, arith, length}
 use Rattle.relay_outside.specs.Told.{Gains, Gained}
 use Rattle.relay_outside.specs.declared.keys.KeyCall.{KeyCall}
 use Rattle.relay_outside.specs.declared.link.LinkCall.{LinkCall}
@@ -11,23 +11,27 @@ use Rattle.media_ports.specs.Asked.{OpensWith, OpensNone}
 use Rattle.media_ports.proofs.Asked.{opens_with_both, gained_no_opening}
 use Rattle.turn_table.specs.declared.hands.Turns.{Turns}
 use Rattle.turn_table.specs.declared.hands.Hand.{Hand}
+use Rattle.turn_table.specs.Hands.{entries}
 use Rattle.call_board.specs.Acts.{Given, BoardEntry}
 use Rattle.relay_core.specs.declared.part.Part.{Part}
-use Rattle.relay_core.specs.Made.{Made}
+use Rattle.relay_core.specs.Made.{Made, list_of}
 use Rattle.relay_core.specs.Turning.{made_by}
+use Rattle.media_lane.specs.declared.answers.Totals.{Totals}
+use Rattle.media_lane.specs.Sweeping.{Sweeps}
+use Rattle.media_lane.specs.Visits.{Row}
 use Rattle.board_turns.specs.Between.{board_of, IsBetween}
-use Rattle.board_turns.proofs.Grown.{makes_history}
-use Rattle.control_entries.specs.Controls.{Hearing, entry_at, moment_at}
+use Rattle.control_entries.specs.Controls.{Hearing}
 use Rattle.control_entries.specs.Giving.{IsGivenBy}
 use Rattle.control_turns.specs.declared.taking.ControlTurn.{ControlTurn}
-use Rattle.control_turns.specs.Taking.{Follows, GaveFor, DidTurn, Turned}
+use Rattle.control_turns.specs.Taking.{Follows, GaveFor, DidTurn, Turned, is_answered}
 use Rattle.relay_app.specs.declared.status.Status.{Status}
 use Rattle.relay_app.specs.declared.status.Status.TheVariants as status
 use Rattle.relay_app.specs.declared.totals.Counts.{Counts}
-use Rattle.relay_app.specs.Served.{Outside, Gave, IsCaused, HaveCauses, given_in, openings, draws}
-use Rattle.relay_app.specs.Turned.{counts_of, turn_counts, sum_of, status_after, with_entry, made_of, GoesOn, Running, AllTurns, Ran}
-use Rattle.relay_app.proofs.Single.{one_turn}
-use Rattle.relay_app.proofs.Steps.{starts, goes_with, ends_with, all_spent}
+use Rattle.relay_app.specs.Rounds.{Round, status_after, entry_due, with_entry, history_after, moments, AreRounds}
+use Rattle.relay_app.specs.Served.{Outside, Gave, IsCaused, HaveCauses, given_in, openings, draws, counts_of, turn_counts, sum_of, counts_in, Counted, AreExchanges, AreCalls, last_take, HasEnded}
+use Rattle.relay_app.specs.Turned.{Running, DidTurns}
+use Rattle.relay_app.proofs.Counts.{calls_counted, sum_none, not_answered, ends_uncounted, ends_below, ends_with, one_take}
+use Rattle.relay_app.proofs.Rounds.{AddsTurn, turn_rows, sweep_rows, one_more, no_rounds, board_after}
 
 -- what a device gave, and then more
 gave_more : {C : Type 0} (first second third : Option (List C)) (some more : List C) → Gave first second some → Gave second third more → Gave first third (some ++ more)
@@ -41,7 +45,7 @@ gave_one before after now gains = gained_one before after now (λ ys. ys ≡ now
 
 -- the openings of a turn
 opened_for : (config : Config) (history : List BoardEntry) (now : ℕ) (made : Option Hearing) (p p2 q q2 : ℕ) (o0 o1 o2 : Option (List PortCall)) (k1 k2 : Option (List KeyCall))
-    → Gained o0 o1 (OpensWith (openings history)) → GaveFor made p p2 q q2 o1 o2 k1 k2 → Gained o0 o2 (OpensWith (openings (with_entry history (made_of config history now made))))
+    → Gained o0 o1 (OpensWith (openings history)) → GaveFor made p p2 q q2 o1 o2 k1 k2 → Gained o0 o2 (OpensWith (openings (with_entry history (entry_due config history now made))))
 opened_for config history now None p p2 q q2 o0 o1 o2 k1 k2 opened gave =
     subst (λ (o : Option (List PortCall)). Gained o0 o (OpensWith (openings history))) (sym gave.0) opened
 opened_for config history now (Some x) p p2 q q2 o0 o1 o2 k1 k2 opened gave =
@@ -50,7 +54,7 @@ opened_for config history now (Some x) p p2 q q2 o0 o1 o2 k1 k2 opened gave =
 
 -- the draws of a turn
 drew_for : (config : Config) (history : List BoardEntry) (now : ℕ) (made : Option Hearing) (p p2 q q2 : ℕ) (o1 o2 : Option (List PortCall)) (k0 k1 k2 : Option (List KeyCall))
-    → Gave k0 k1 (draws history) → GaveFor made p p2 q q2 o1 o2 k1 k2 → Gave k0 k2 (draws (with_entry history (made_of config history now made)))
+    → Gave k0 k1 (draws history) → GaveFor made p p2 q q2 o1 o2 k1 k2 → Gave k0 k2 (draws (with_entry history (entry_due config history now made)))
 drew_for config history now None p p2 q q2 o1 o2 k0 k1 k2 drew gave =
     subst (λ (k : Option (List KeyCall)). Gave k0 k (draws history)) (sym gave.1) drew
 drew_for config history now (Some x) p p2 q q2 o1 o2 k0 k1 k2 drew gave = gave_more k0 k1 k2 (draws history) _ drew gave.draws
@@ -74,7 +78,7 @@ module _ (config : Config) (history : List BoardEntry) (now : ℕ) (then later :
 
   -- the causes of the entries, and of one more
   causes_for : (made : Option Hearing) → GaveFor made then.port_faults_now later.port_faults_now then.key_faults_now later.key_faults_now o1 o2 k1 k2
-      → HaveCauses later (with_entry history (made_of config history now made))
+      → HaveCauses later (with_entry history (entry_due config history now made))
   causes_for None gave entry given i is = caused_later then later given p q port key (causes entry given i is)
   causes_for (Some x) gave entry given (here same) is =
       let told : Some given ≡ Some x.given = sym is ∙ ap (λ (e : BoardEntry). given_in e.event) same in
@@ -83,110 +87,157 @@ module _ (config : Config) (history : List BoardEntry) (now : ℕ) (then later :
   causes_for (Some x) gave entry given (there i) is = caused_later then later given p q port key (causes entry given i is)
 
 -- no turn yet
-pub begins : (config : Config) (history : List BoardEntry) (outside : Outside) (told : Option (List LinkCall)) → history ≡ [] → outside.timer ≡ outside.timer_now
-    → outside.opened ≡ outside.opened_now → outside.drew ≡ outside.drew_now → Running config history (counts_of 0 0 0) outside told told
-begins config history outside told none timer opened drew =
-    subst (λ (h : List BoardEntry). Running config h (counts_of 0 0 0) outside told told) (sym none)
-    (record {
-      moments = [];
-      gave = subst (λ (t : Option (List ℕ)). Gave outside.timer t []) timer (gained_none outside.timer (λ more. more ≡ []) refl);
-      opened = subst (λ (o : Option (List PortCall)). Gained outside.opened o OpensNone) opened (gained_no_opening outside.opened);
-      drawn = subst (λ (k : Option (List KeyCall)). Gave outside.drew k []) drew (gained_none outside.drew (λ more. more ≡ []) refl);
-      causes = λ entry given i. elim i [ ];
-      calls = gained_none told (GoesOn config [] [] (counts_of 0 0 0)) (starts config);
-    })
+pub begins : (config : Config) (range : Option (ℕ × ℕ)) (rows : List Row) (outside : Outside) → list_of rows ≡ [] → board_of (list_of rows) ≡ [] → outside.link ≡ outside.link_now
+    → outside.timer ≡ outside.timer_now → outside.opened ≡ outside.opened_now → outside.drew ≡ outside.drew_now → Running config range rows (counts_of 0 0 0) outside
+begins config range rows outside none board link timer opened drew = record {
+  rounds = [];
+  are_rounds = no_rounds config range rows none;
+  board_is = board;
+  counts_are = refl;
+  link = subst (λ (l : Option (List LinkCall)). Gained outside.link l (AreExchanges config [])) link (gained_none outside.link (AreExchanges config []) refl);
+  timer = subst (λ (t : Option (List ℕ)). Gave outside.timer t []) timer (gained_none outside.timer (λ more. more ≡ []) refl);
+  ports = subst (λ (o : Option (List PortCall)). Gained outside.opened o OpensNone) opened (gained_no_opening outside.opened);
+  keys = subst (λ (k : Option (List KeyCall)). Gave outside.drew k []) drew (gained_none outside.drew (λ more. more ≡ []) refl);
+  causes = λ entry given i. elim i [ ];
+}
 
-module _ {M I O T : Type 0} {g : _} where
-  -- the board's history, with the entry of a turn
-  history_after : (config : Config) (turns : Turns M (Part I O) Made T) (old new : Hand M (Part I O) Made T g) (now : ℕ) (answer : ControlTurn) (made : Option Hearing)
-      → IsBetween config turns old → IsBetween config turns new → Follows config old new now answer made
-      → board_of (made_by new) ≡ with_entry (board_of (made_by old)) (made_of config (board_of (made_by old)) now made)
-  history_after config turns old new now answer None before after follows =
-      ap (λ (h : Hand M (Part I O) Made T g). board_of (made_by h)) follows.1
-  history_after config turns old new now answer (Some x) before after follows =
-      makes_history config turns old new (entry_at config (board_of (made_by old)) (moment_at (board_of (made_by old)) now) x) before after follows.1
+module _ {M I O : Type 0} {g : _} where
+  -- a turn that ends the run makes no entry
+  ends_idle : (config : Config) (old new : Hand M (Part I O) Made (Unit {0}) g) (now : ℕ) (answer : ControlTurn) (made : Option Hearing) (ended : Status)
+      → Some ended ≡ status_after answer → Follows config old new now answer made → (made ≡ None) × (new ≡ old)
+  ends_idle config old new now answer None ended ends follows = (refl, follows.1)
+  ends_idle config old new now answer (Some x) ended ends follows =
+      absurd (let k : true ≡ false = sym follows.0 ∙ not_answered answer ended ends in cc)
 
-  module _ (config : Config) (turns : Turns M (Part I O) Made T) (old new : Hand M (Part I O) Made T g) (counts next : Counts) (now : ℕ) (answer : ControlTurn)
-      (t0 t1 t2 : Option (List ℕ)) (o0 o1 o2 : Option (List PortCall)) (k0 k1 k2 : Option (List KeyCall)) (p0 p1 p2 q0 q1 q2 : ℕ) (l0 l1 l2 : Option (List LinkCall))
-      (next_is : next ≡ sum_of counts (turn_counts answer)) (before : IsBetween config turns old) (after : IsBetween config turns new)
-      (running : Running config (board_of (made_by old)) counts
-      (record { timer = t0; timer_now = t1; opened = o0; opened_now = o1; drew = k0; drew_now = k1; port_faults = p0; port_faults_now = p1; key_faults = q0; key_faults_now = q1 }) l0 l1)
-      (asked : Gains t1 t2 now) (turned : Turned config old new now answer p1 p2 q1 q2 o1 o2 k1 k2 l1 l2)
+  module _ (config : Config) (range : Option (ℕ × ℕ)) (turns : Turns M (Part I O) Made (Unit {0})) (old mid : Hand M (Part I O) Made (Unit {0}) g) (counts next : Counts) (now : ℕ)
+      (answer : ControlTurn)
+      (l0 l1 l2 : Option (List LinkCall)) (t0 t1 t2 : Option (List ℕ)) (o0 o1 o2 : Option (List PortCall)) (k0 k1 k2 : Option (List KeyCall)) (p0 p1 p2 q0 q1 q2 : ℕ)
+      (next_is : next ≡ sum_of counts (turn_counts answer)) (before : IsBetween config turns old) (after : IsBetween config turns mid)
+      (running : Running config range (entries old) counts
+      (record { link = l0; link_now = l1; timer = t0; timer_now = t1; opened = o0; opened_now = o1; drew = k0; drew_now = k1; port_faults = p0; port_faults_now = p1; key_faults = q0; key_faults_now = q1 }))
+      (asked : Gains t1 t2 now) (turned : Turned config old mid now answer p1 p2 q1 q2 o1 o2 k1 k2 l1 l2)
       (p_low : p0 ≤ p1) (q_low : q0 ≤ q1) (p_later : p1 ≤ p2) (q_later : q1 ≤ q2) where
-    abbrev h0 : List BoardEntry
-    h0 = board_of (made_by old)
+    abbrev h : List BoardEntry
+    h = history_after config running.rounds
 
-    abbrev h1 : List BoardEntry
-    h1 = with_entry (board_of (made_by old)) (made_of config (board_of (made_by old)) now turned.made)
+    abbrev made : Option Hearing
+    made = turned.made
 
-    is : board_of (made_by new) ≡ h1
-    is = history_after config turns old new now answer turned.made before after turned.follows
+    -- the history behind the turn
+    abbrev h2 : List BoardEntry
+    h2 = with_entry h (entry_due config h now made)
 
     abbrev out : Outside
-    out = record { timer = t0; timer_now = t2; opened = o0; opened_now = o2; drew = k0; drew_now = k2; port_faults = p0; port_faults_now = p2; key_faults = q0; key_faults_now = q2 }
+    out = record { link = l0; link_now = l2; timer = t0; timer_now = t2; opened = o0; opened_now = o2; drew = k0; drew_now = k2; port_faults = p0; port_faults_now = p2; key_faults = q0; key_faults_now = q2 }
 
-    gave : Gave t0 t2 (running.moments ++ now ∷ [])
-    gave = gave_more t0 t1 t2 running.moments (now ∷ []) running.gave (gave_one t1 t2 now asked)
+    board_is : board_of (made_by mid) ≡ h2
+    board_is =
+        board_after config turns old mid now answer made before after turned.follows
+        ∙ ap (λ (k : List BoardEntry). with_entry k (entry_due config k now made)) running.board_is
 
-    opened : Gained o0 o2 (OpensWith (openings h1))
-    opened = opened_for config h0 now turned.made p1 p2 q1 q2 o0 o1 o2 k1 k2 running.opened turned.given
+    turn : AddsTurn config (entry_due config h now made) (entries old) (entries mid)
+    turn =
+        subst (λ (k : List BoardEntry). AddsTurn config (entry_due config k now made) (entries old) (entries mid)) running.board_is
+        (turn_rows config old mid now answer made turned.follows)
 
-    drawn : Gave k0 k2 (draws h1)
-    drawn = drew_for config h0 now turned.made p1 p2 q1 q2 o1 o2 k0 k1 k2 running.drawn turned.given
+    did : Gained l1 l2 (DidTurn config h now answer made)
+    did = subst (λ (k : List BoardEntry). Gained l1 l2 (DidTurn config k now answer made)) running.board_is turned.calls
 
-    causes : HaveCauses out h1
+    timer : Gave t0 t2 (moments running.rounds ++ now ∷ [])
+    timer = gave_more t0 t1 t2 (moments running.rounds) (now ∷ []) running.timer (gave_one t1 t2 now asked)
+
+    ports : Gained o0 o2 (OpensWith (openings h2))
+    ports = opened_for config h now made p1 p2 q1 q2 o0 o1 o2 k1 k2 running.ports turned.given
+
+    keys : Gave k0 k2 (draws h2)
+    keys = drew_for config h now made p1 p2 q1 q2 o1 o2 k0 k1 k2 running.keys turned.given
+
+    causes : HaveCauses out h2
     causes =
-        causes_for config h0 now
-        (record { timer = t0; timer_now = t1; opened = o0; opened_now = o1; drew = k0; drew_now = k1; port_faults = p0; port_faults_now = p1; key_faults = q0; key_faults_now = q1 })
-        out running.causes refl refl p_low q_low p_later q_later o1 o2 k1 k2 turned.made turned.given
+        causes_for config h now
+        (record { link = l0; link_now = l1; timer = t0; timer_now = t1; opened = o0; opened_now = o1; drew = k0; drew_now = k1; port_faults = p0; port_faults_now = p1; key_faults = q0; key_faults_now = q1 })
+        out running.causes refl refl p_low q_low p_later q_later o1 o2 k1 k2 made turned.given
 
-    -- one more turn, after which the run goes on
-    pub turn_goes : None ≡ status_after answer → Running config (board_of (made_by new)) next out l0 l2
-    turn_goes goes =
-        subst (λ (h : List BoardEntry). Running config h next out l0 l2) (sym is)
-        (subst (λ (n : Counts). Running config h1 n out l0 l2) (sym next_is)
-        (record {
-          moments = running.moments ++ now ∷ [];
-          gave = gave;
-          opened = opened;
-          drawn = drawn;
+    -- one more round: the turn, after which the run goes on, and a sweep
+    pub turn_goes : (new : Hand M (Part I O) Made (Unit {0}) g) → None ≡ status_after answer → board_of (made_by new) ≡ board_of (made_by mid)
+        → (t : Totals) × Sweeps config 0 1 range mid new t → Running config range (entries new) next out
+    turn_goes new goes same sweeps =
+        let r : Round = record { handed = now; answer = answer; heard = made } in
+        record {
+          rounds = r ∷ running.rounds;
+          are_rounds = one_more config range running.rounds r (entries old) (entries mid) (entries new) (sym goes) running.are_rounds turn (sweep_rows config range mid new sweeps);
+          board_is = same ∙ board_is;
+          counts_are = next_is ∙ ap (λ (n : Counts). sum_of n (turn_counts answer)) running.counts_are;
+          link =
+              gained_both l0 l1 l2 (AreExchanges config running.rounds) (DidTurn config h now answer made) (AreExchanges config (r ∷ running.rounds))
+              (λ xs ys x y. (xs, ys, refl, x, y)) running.link did;
+          timer = timer;
+          ports = ports;
+          keys = keys;
           causes = causes;
-          calls =
-              gained_both l0 l1 l2 (GoesOn config h0 running.moments counts) (DidTurn config h0 now answer turned.made)
-              (GoesOn config h1 (running.moments ++ now ∷ []) (sum_of counts (turn_counts answer)))
-              (λ xs ys x y. goes_with config h0 running.moments counts now (made_of config h0 now turned.made) xs ys x answer (sym goes) (one_turn config h0 now answer turned.made ys y))
-              running.calls turned.calls;
-        }))
+        }
 
-    -- one more turn, after which the run ends
-    pub turn_ends : (limit : ℕ) (last : Status) → Some last ≡ status_after answer → counts.turns < limit → Ran limit config (board_of (made_by new)) out last next l0 l2
-    turn_ends limit last ends below =
-        subst (λ (h : List BoardEntry). Ran limit config h out last next l0 l2) (sym is)
-        (subst (λ (n : Counts). Ran limit config h1 out last n l0 l2) (sym next_is)
-        (record {
-          moments = running.moments ++ now ∷ [];
-          gave = gave;
-          opened = opened;
-          drawn = drawn;
-          causes = causes;
-          calls =
-              gained_both l0 l1 l2 (GoesOn config h0 running.moments counts) (DidTurn config h0 now answer turned.made)
-              (AllTurns limit config h1 (running.moments ++ now ∷ []) last (sum_of counts (turn_counts answer)))
-              (λ xs ys x y. ends_with config h0 running.moments counts now (made_of config h0 now turned.made) xs ys x limit below answer last (sym ends)
-              (one_turn config h0 now answer turned.made ys y))
-              running.calls turned.calls;
-        }))
+    -- the turn after which the run ends
+    module _ (limit : ℕ) (ended : Status) (ends : Some ended ≡ status_after answer) (below : counts.turns < limit) where
+      idle : (made ≡ None) × (mid ≡ old)
+      idle = ends_idle config old mid now answer made ended ends turned.follows
+
+      counts_stay : next ≡ counts
+      counts_stay = next_is ∙ ap (λ (n : Counts). sum_of counts n) (ends_uncounted answer ended ends) ∙ sum_none counts
+
+      -- its calls are those of a take
+      calls : (xs ys : List LinkCall) → AreExchanges config running.rounds xs → DidTurn config h now answer made ys → AreCalls config [] running.rounds ended (xs ++ ys)
+      calls xs ys x y =
+          let take : ys ≡ last_take ended = ends_with config h now answer ended ys ends (subst (λ (m : Option Hearing). DidTurn config h now answer m ys) idle.0 y) in
+          record {
+            more = xs;
+            exchanges = x;
+            calls_are = ap (λ (zs : List LinkCall). xs ++ zs) take;
+            counted = subst (λ (zs : List LinkCall). Counted (counts_in running.rounds) (xs ++ zs)) (sym take) (calls_counted config running.rounds ended xs x);
+          }
+
+      pub turn_ends : DidTurns limit config range out ended next (entries mid)
+      turn_ends = record {
+        rounds = running.rounds;
+        last = now ∷ [];
+        are_rounds = subst (λ (k : Hand M (Part I O) Made (Unit {0}) g). AreRounds config range running.rounds (entries k)) (sym idle.1) running.are_rounds;
+        board_is = ap (λ (k : Hand M (Part I O) Made (Unit {0}) g). board_of (made_by k)) idle.1 ∙ running.board_is;
+        counts_are = counts_stay ∙ running.counts_are;
+        has_ended = subst (λ (n : Counts). HasEnded ended limit n.turns) (sym counts_stay) (ends_below limit counts.turns answer ended ends below);
+        last_is = one_take answer ended ends;
+        told = record {
+          link = gained_both l0 l1 l2 (AreExchanges config running.rounds) (DidTurn config h now answer made) (AreCalls config [] running.rounds ended) calls running.link did;
+          timer = timer;
+          ports = subst (λ (m : Option Hearing). Gained o0 o2 (OpensWith (openings (with_entry h (entry_due config h now m))))) idle.0 ports;
+          keys = subst (λ (m : Option Hearing). Gave k0 k2 (draws (with_entry h (entry_due config h now m)))) idle.0 keys;
+          causes = subst (λ (m : Option Hearing). HaveCauses out (with_entry h (entry_due config h now m))) idle.0 causes;
+        };
+      }
 
 -- all turns were made
-pub turns_spent : (config : Config) (history : List BoardEntry) (counts : Counts) (outside : Outside) (l0 l1 : Option (List LinkCall)) (limit : ℕ) → counts.turns ≡ limit
-    → Running config history counts outside l0 l1 → Ran limit config history outside status.TurnsSpent counts l0 l1
-turns_spent config history counts outside l0 l1 limit spent running = record {
-  moments = running.moments;
-  gave = running.gave;
-  opened = running.opened;
-  drawn = running.drawn;
-  causes = running.causes;
-  calls =
-      gained_less l0 l1 (GoesOn config history running.moments counts) (AllTurns limit config history running.moments status.TurnsSpent counts)
-      (λ xs before. all_spent limit config history running.moments counts spent xs before) running.calls;
+pub turns_spent : (config : Config) (range : Option (ℕ × ℕ)) (rows : List Row) (counts : Counts) (outside : Outside) (limit : ℕ) → counts.turns ≡ limit
+    → Running config range rows counts outside → DidTurns limit config range outside status.TurnsSpent counts rows
+turns_spent config range rows counts outside limit spent running = record {
+  rounds = running.rounds;
+  last = [];
+  are_rounds = running.are_rounds;
+  board_is = running.board_is;
+  counts_are = running.counts_are;
+  has_ended = spent;
+  last_is = refl;
+  told = record {
+    link =
+        gained_less outside.link outside.link_now (AreExchanges config running.rounds) (AreCalls config [] running.rounds status.TurnsSpent)
+        (λ xs x. record {
+          more = xs;
+          exchanges = x;
+          calls_are = sym (append-nil xs);
+          counted = subst (λ (zs : List LinkCall). Counted (counts_in running.rounds) zs) (append-nil xs) (calls_counted config running.rounds status.TurnsSpent xs x);
+        })
+        running.link;
+    timer = subst (λ (ms : List ℕ). Gave outside.timer outside.timer_now ms) (sym (append-nil (moments running.rounds))) running.timer;
+    ports = running.ports;
+    keys = running.keys;
+    causes = running.causes;
+  };
 }

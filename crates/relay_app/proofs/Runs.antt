@@ -1,24 +1,24 @@
 -- A run whose link was bound: the bind, the control turns, the line of totals.
-use Rattle.std.proofs.Common.{◌≡◌, ◌∙◌, ◌⊎◌, inl, inr, ap, refl, sym, subst, ℕ, List, [], ◌∷◌, ◌++◌, Option, Some, None, Bool, true, false, length, arith}
+use Rattle.std.proofs.Common.{◌≡◌, ◌∙◌, ◌⊎◌, inl, inr, ap, refl, sym, subst, ℕ, List, [], ◌∷◌, ◌++◌, Option, Some, None, Bool, true, false}
 use Rattle.relay_outside.specs.Told.{Gains, Gained}
+use Rattle.relay_outside.specs.declared.address.Addr.{Addr}
 use Rattle.relay_outside.specs.declared.link.LinkCall.{LinkCall}
 use Rattle.relay_outside.specs.declared.link.LinkCall.TheVariants as call
 use Rattle.relay_outside.specs.declared.lines.WriteCall.{WriteCall}
 use Rattle.relay_outside.specs.declared.lines.WriteCall.TheVariants as put
-use Rattle.relay_outside.specs.Link.{datagrams, sent}
 use Rattle.relay_outside.specs.declared.keys.KeyCall.{KeyCall}
 use Rattle.relay_outside.specs.declared.ports.PortCall.{PortCall}
 use Rattle.relay_outside.specs.declared.settings.Config.{Config}
 use Rattle.relay_outside.proofs.Telling.{gained_none, gained_one, gained_both}
+use Rattle.media_lane.specs.declared.answers.Totals.{Totals}
 use Rattle.relay_app.specs.declared.status.Status.{Status}
 use Rattle.relay_app.specs.declared.status.Status.TheVariants as status
 use Rattle.relay_app.specs.declared.words.Settings.{Settings}
 use Rattle.relay_app.specs.declared.totals.Counts.{Counts}
-use Rattle.relay_app.specs.Served.{Outside, Gave, turns, is_turn, line_of, totals_line, DidRun}
-use Rattle.relay_app.specs.Turned.{DidLoop, IsLoopEnd}
-use Rattle.media_lane.specs.declared.answers.Totals.{Totals}
-use Rattle.relay_app.specs.Run.{AskedNothing, DidCall, DidPrint, is_printed}
-use Rattle.relay_app.proofs.Steps.{count_append}
+use Rattle.relay_app.specs.Served.{Outside, Gave, AreCalls, DidServe, totals_line, counts_in, Counted}
+use Rattle.relay_app.specs.Turned.{IsLoopEnd}
+use Rattle.relay_app.specs.Run.{IsCalled, Serves, is_printed}
+use Rattle.relay_app.proofs.Counts.{bind_counted}
 
 -- a status of the control turns tells that the line was printed
 pub loop_prints : (ended : Status) → IsLoopEnd ended → true ≡ is_printed ended
@@ -31,72 +31,88 @@ loop_prints status.Usage ends = absurd ends
 loop_prints status.ScriptFault ends = absurd ends
 loop_prints status.ScriptRead ends = absurd ends
 
--- no device was asked
-asked_nothing : (outside : Outside) → outside.timer ≡ outside.timer_now → outside.opened ≡ outside.opened_now → outside.drew ≡ outside.drew_now → AskedNothing outside
-asked_nothing outside timer opened drew = record {
-  no_moment = subst (λ (t : Option (List ℕ)). Gave outside.timer t []) timer (gained_none outside.timer (λ more. more ≡ []) refl);
-  no_port = subst (λ (o : Option (List PortCall)). Gave outside.opened o []) opened (gained_none outside.opened (λ more. more ≡ []) refl);
-  no_draw = subst (λ (k : Option (List KeyCall)). Gave outside.drew k []) drew (gained_none outside.drew (λ more. more ≡ []) refl);
-}
-
--- the words are none of `serve`
-pub not_served : (outside : Outside) (answer : Status) (told : Option (List LinkCall)) → outside.timer ≡ outside.timer_now → outside.opened ≡ outside.opened_now → outside.drew ≡ outside.drew_now
-    → Gained told told (DidCall outside None answer)
-not_served outside answer told timer opened drew = gained_none told (DidCall outside None answer) (asked_nothing outside timer opened drew, refl)
+-- a device that was not called
+uncalled : {C : Type 0} (before after : Option (List C)) → before ≡ after → Gave before after []
+uncalled {C} before after same = subst (λ (t : Option (List C)). Gave before t []) same (gained_none before (λ more. more ≡ []) refl)
 
 -- memory was refused before the bind
-pub not_begun : (outside : Outside) (settings : Settings) (told : Option (List LinkCall)) → outside.timer ≡ outside.timer_now → outside.opened ≡ outside.opened_now → outside.drew ≡ outside.drew_now
-    → Gained told told (DidCall outside (Some settings) status.OutOfMemory)
-not_begun outside settings told timer opened drew =
-    gained_none told (DidCall outside (Some settings) status.OutOfMemory) (inl (asked_nothing outside timer opened drew, refl, refl))
+pub not_begun : (settings : Settings) (range : Option (ℕ × ℕ)) (outside : Outside) (wrote : Option (List WriteCall)) → outside.link ≡ outside.link_now
+    → outside.timer ≡ outside.timer_now → outside.opened ≡ outside.opened_now → outside.drew ≡ outside.drew_now
+    → Serves (Some settings) range outside wrote wrote status.OutOfMemory
+not_begun settings range outside wrote link timer opened drew =
+    inl (
+      record { link = uncalled _ _ link; no_moment = uncalled _ _ timer; no_port = uncalled _ _ opened; no_draw = uncalled _ _ drew },
+      uncalled wrote wrote refl,
+      refl,
+    )
 
 -- the bind failed
-pub not_bound : (outside : Outside) (settings : Settings) (l0 l1 : Option (List LinkCall)) → outside.timer ≡ outside.timer_now → outside.opened ≡ outside.opened_now → outside.drew ≡ outside.drew_now
-    → Gains l0 l1 (call.Bind settings.listen false) → Gained l0 l1 (DidCall outside (Some settings) status.ControlFault)
-not_bound outside settings l0 l1 timer opened drew bound =
-    gained_one l0 l1 (call.Bind settings.listen false) (DidCall outside (Some settings) status.ControlFault) bound
-    (inr (inl (asked_nothing outside timer opened drew, refl, refl)))
+pub not_bound : (settings : Settings) (range : Option (ℕ × ℕ)) (outside : Outside) (wrote : Option (List WriteCall)) → Gains outside.link outside.link_now (call.Bind settings.listen false)
+    → outside.timer ≡ outside.timer_now → outside.opened ≡ outside.opened_now → outside.drew ≡ outside.drew_now
+    → Serves (Some settings) range outside wrote wrote status.ControlFault
+not_bound settings range outside wrote bound timer opened drew =
+    inr (inl (
+      record {
+        link = gained_one outside.link outside.link_now (call.Bind settings.listen false) (λ more. more ≡ call.Bind settings.listen false ∷ []) bound refl;
+        no_moment = uncalled _ _ timer;
+        no_port = uncalled _ _ opened;
+        no_draw = uncalled _ _ drew;
+      },
+      uncalled wrote wrote refl,
+      refl,
+    ))
 
--- what a run did under the configuration of its words
-pub with_config : (limit : ℕ) (config same : Config) (outside : Outside) (ended : Status) (counts : Counts) (totals : Totals) (l0 l1 : Option (List LinkCall)) → config ≡ same
-    → Gained l0 l1 (DidLoop limit config outside ended counts totals) → Gained l0 l1 (DidLoop limit same outside ended counts totals)
-with_config limit config same outside ended counts totals l0 l1 is did =
-    subst (λ (c : Config). Gained l0 l1 (DidLoop limit c outside ended counts totals)) is did
+module _ (l0 l1 l2 : Option (List LinkCall)) (t0 t1 : Option (List ℕ)) (o0 o1 : Option (List PortCall)) (k0 k1 : Option (List KeyCall)) (p0 p1 q0 q1 : ℕ)
+    (settings : Settings) (config : Config) (range : Option (ℕ × ℕ)) (ended : Status) (counts : Counts) (totals : Totals)
+    (bound : Gains l0 l1 (call.Bind settings.listen true)) (config_is : config ≡ settings.config)
+    (served : DidServe [] settings.turns config range
+    (record { link = l1; link_now = l2; timer = t0; timer_now = t1; opened = o0; opened_now = o1; drew = k0; drew_now = k1; port_faults = p0; port_faults_now = p1; key_faults = q0; key_faults_now = q1 })
+    ended counts totals) where
+  abbrev out : Outside
+  out = record { link = l0; link_now = l2; timer = t0; timer_now = t1; opened = o0; opened_now = o1; drew = k0; drew_now = k1; port_faults = p0; port_faults_now = p1; key_faults = q0; key_faults_now = q1 }
 
-module _ (l0 l1 l2 : Option (List LinkCall)) (settings : Settings) (outside : Outside) (answer ended : Status) (counts : Counts) (sums : Totals)
-    (bound : Gains l0 l1 (call.Bind settings.listen true)) (looped : Gained l1 l2 (DidLoop settings.turns settings.config outside ended counts sums))
-    (told : (answer ≡ ended) ⊎ (answer ≡ status.PrintFault)) where
-  run_of : (ys : List LinkCall) → DidLoop settings.turns settings.config outside ended counts sums ys → DidRun answer settings.turns settings.config outside sums ys
-  run_of ys y = record { ended = ended; did = y.did; told = told }
+  abbrev bind : LinkCall
+  bind = call.Bind settings.listen true
 
-  pub bound_calls : Gained l0 l2 (DidCall outside (Some settings) answer)
-  bound_calls =
-      let it : LinkCall = call.Bind settings.listen true in
-      gained_both l0 l1 l2 (λ xs. xs ≡ it ∷ []) (DidLoop settings.turns settings.config outside ended counts sums) (DidCall outside (Some settings) answer)
-      (λ xs ys x y. inr (inr (ys, sums, ap (λ (zs : List LinkCall). zs ++ ys) x, run_of ys y)))
-      (gained_one l0 l1 it (λ xs. xs ≡ it ∷ []) bound refl) looped
+  calls : (xs ys : List LinkCall) → xs ≡ bind ∷ [] → AreCalls config [] served.rounds ended ys → AreCalls config (bind ∷ []) served.rounds ended (xs ++ ys)
+  calls xs ys x y = record {
+    more = y.more;
+    exchanges = y.exchanges;
+    calls_are = ap (λ (zs : List LinkCall). zs ++ ys) x ∙ ap (λ (zs : List LinkCall). bind ∷ zs) y.calls_are;
+    counted =
+        subst (λ (zs : List LinkCall). Counted (counts_in served.rounds) (zs ++ ys)) (sym x) (bind_counted settings.listen true ys (counts_in served.rounds) y.counted);
+  }
 
-  line_is : (ys : List LinkCall) (line : List ℕ) → DidLoop settings.turns settings.config outside ended counts sums ys
-      → line ≡ totals_line counts.turns counts.datagrams counts.replies sums → line ≡ line_of (call.Bind settings.listen true ∷ ys) sums
-  line_is ys line y written =
-      let t : turns (call.Bind settings.listen true ∷ ys) ≡ counts.turns = omega (arith, count_append is_turn (call.Bind settings.listen true ∷ []) ys, y.counted.turns_are) in
-      let d : length (datagrams (call.Bind settings.listen true ∷ ys)) ≡ counts.datagrams = y.counted.datagrams_are in
-      let r : length (sent (call.Bind settings.listen true ∷ ys)) ≡ counts.replies = y.counted.replies_are in
-      written
-      ∙ ap (λ (n : ℕ). totals_line n counts.datagrams counts.replies sums) (sym t)
-      ∙ ap (λ (n : ℕ). totals_line (turns (call.Bind settings.listen true ∷ ys)) n counts.replies sums) (sym d)
-      ∙ ap (λ (n : ℕ). totals_line (turns (call.Bind settings.listen true ∷ ys)) (length (datagrams (call.Bind settings.listen true ∷ ys))) n sums) (sym r)
+  bound_serves : DidServe (bind ∷ []) settings.turns config range out ended counts totals
+  bound_serves = record {
+    rounds = served.rounds;
+    last = served.last;
+    whole = served.whole;
+    counts_are = served.counts_are;
+    has_ended = served.has_ended;
+    last_is = served.last_is;
+    told = record {
+      link =
+          gained_both l0 l1 l2 (λ xs. xs ≡ bind ∷ []) (AreCalls config [] served.rounds ended) (AreCalls config (bind ∷ []) served.rounds ended) calls
+          (gained_one l0 l1 bind (λ xs. xs ≡ bind ∷ []) bound refl) served.told.link;
+      timer = served.told.timer;
+      ports = served.told.ports;
+      keys = served.told.keys;
+      causes = λ entry given i is. (let c = served.told.causes entry given i is in record { port_fault = c.port_fault; key_fault = c.key_fault });
+    };
+  }
 
-  pub bound_prints : (o0 o1 : Option (List WriteCall)) (line : List ℕ) (done : Bool) → line ≡ totals_line counts.turns counts.datagrams counts.replies sums → done ≡ is_printed answer
-      → Gains o0 o1 (put.Write line done) → Gained l0 l2 (λ calls. Gained o0 o1 (DidPrint outside (Some settings) answer calls))
-  bound_prints o0 o1 line done written done_is gains =
-      let it : LinkCall = call.Bind settings.listen true in
-      gained_both l0 l1 l2 (λ xs. xs ≡ it ∷ []) (DidLoop settings.turns settings.config outside ended counts sums)
-      (λ calls. Gained o0 o1 (DidPrint outside (Some settings) answer calls))
-      (λ xs ys x y.
-      let same : put.Write line done ≡ put.Write (line_of (it ∷ ys) sums) (is_printed answer) =
-      ap (λ (text : List ℕ). put.Write text done) (line_is ys line y written) ∙ ap (λ (b : Bool). put.Write (line_of (it ∷ ys) sums) b) done_is in
-      let P : List LinkCall → Type 0 = λ zs. Gained o0 o1 (DidPrint outside (Some settings) answer (zs ++ ys)) in
-      subst P (sym x) (gained_one o0 o1 (put.Write line done) (DidPrint outside (Some settings) answer (it ∷ ys)) gains
-      (record { more = ys; totals = sums; calls_are = refl; did = run_of ys y; writes_are = ap (λ (w : WriteCall). w ∷ []) same })))
-      (gained_one l0 l1 it (λ xs. xs ≡ it ∷ []) bound refl) looped
+  -- with the line of totals, which the sink took or not
+  pub bound_runs : (answer : Status) (wrote wrote_now : Option (List WriteCall)) (line : List ℕ) (done : Bool) → (answer ≡ ended) ⊎ (answer ≡ status.PrintFault)
+      → line ≡ totals_line counts totals → done ≡ is_printed answer → Gains wrote wrote_now (put.Write line done) → Serves (Some settings) range out wrote wrote_now answer
+  bound_runs answer wrote wrote_now line done told line_is done_is gains =
+      inr (inr (record {
+        ended = ended;
+        counts = counts;
+        totals = totals;
+        did = subst (λ (c : Config). DidServe (bind ∷ []) settings.turns c range out ended counts totals) config_is bound_serves;
+        answer_is = told;
+        line =
+            gained_one wrote wrote_now (put.Write line done) (λ more. more ≡ put.Write (totals_line counts totals) (is_printed answer) ∷ []) gains
+            (ap (λ (text : List ℕ). put.Write text done ∷ []) line_is ∙ ap (λ (b : Bool). put.Write (totals_line counts totals) b ∷ []) done_is);
+      }))

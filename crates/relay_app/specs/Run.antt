@@ -1,5 +1,5 @@
--- What one call of `run` does to its control link and to its sink, for the words that it is handed.
-use Rattle.std.specs.Prelude.{◌≡◌, ◌⊎◌, ℕ, Bool, true, false, List, [], ◌∷◌, Option, Some, None, MatchBool, nat_eq, codes}
+-- What one call of `run` does to its devices, for the words that it is handed.
+use Rattle.std.specs.Prelude.{◌≡◌, ◌⊎◌, ℕ, Bool, true, false, List, [], ◌∷◌, Option, Some, None, nat_eq, codes}
 use Rattle.std.specs.List.{starts_with}
 use Rattle.relay_outside.specs.declared.link.LinkCall.{LinkCall}
 use Rattle.relay_outside.specs.declared.link.LinkCall.TheVariants as call
@@ -17,30 +17,8 @@ use Rattle.relay_outside.specs.declared.ports.PortCall.{PortCall}
 use Rattle.relay_outside.specs.Told.{WhereTold, Gained}
 use Rattle.media_ports.specs.Held.{OpensHeld}
 use Rattle.media_lane.specs.declared.answers.Totals.{Totals}
-use Rattle.relay_app.specs.Served.{Outside, Gave, DidRun, line_of}
-
--- neither the timer nor the port maker nor the key source was asked
-pub record AskedNothing (outside : Outside) : Type 0 where
-  pub no_moment : Gave outside.timer outside.timer_now []
-  pub no_port : Gave outside.opened outside.opened_now []
-  pub no_draw : Gave outside.drew outside.drew_now []
-
--- Words that are none of `serve`, those of `replay` among them, leave the link, the timer, the ports and the keys alone. With words of `serve`, and where its memory is had,
--- the link is bound to its address, and where that succeeds the run is as `DidRun` says. Memory is refused only before any
--- call of the link
-abbrev pub DidCall : Outside → Option Settings → Status → List LinkCall → Type 0
-DidCall outside None answer calls = AskedNothing outside × (calls ≡ [])
-DidCall outside (Some settings) answer calls =
-    (AskedNothing outside × (calls ≡ []) × (answer ≡ status.OutOfMemory))
-    ⊎ (AskedNothing outside × (calls ≡ call.Bind settings.listen false ∷ []) × (answer ≡ status.ControlFault))
-    ⊎ ((more : List LinkCall) × (totals : Totals) × (calls ≡ call.Bind settings.listen true ∷ more) × DidRun answer settings.turns settings.config outside totals more)
-
--- whether the run bound its link
-abbrev pub is_bound : List LinkCall → Bool
-is_bound [] = false
-is_bound (call.Bind at done ∷ calls) = done
-is_bound (call.Take room answer ∷ calls) = false
-is_bound (call.Send to bytes done ∷ calls) = false
+use Rattle.relay_app.specs.declared.totals.Counts.{Counts}
+use Rattle.relay_app.specs.Served.{Outside, Gave, DidServe, totals_line}
 
 -- a status tells whether the sink took the line
 abbrev pub is_printed : Status → Bool
@@ -58,20 +36,30 @@ abbrev pub PrintsUsage : Status → List WriteCall → Type 0
 PrintsUsage answer writes =
     (text : List ℕ) × (writes ≡ put.Write text (is_printed answer) ∷ []) × (starts_with nat_eq text (codes "usage: rtpengine") ≡ true)
 
--- the line of totals of a run that bound its link, with what it did and the counts of its relays
-pub record PrintsLine (outside : Outside) (settings : Settings) (answer : Status) (calls : List LinkCall) (writes : List WriteCall) : Type 0 where
-  pub more : List LinkCall
-  pub totals : Totals
-  pub calls_are : calls ≡ call.Bind settings.listen true ∷ more
-  pub did : DidRun answer settings.turns settings.config outside totals more
-  pub writes_are : writes ≡ put.Write (line_of calls totals) (is_printed answer) ∷ []
+-- of the devices the link alone was called, so
+pub record IsCalled (outside : Outside) (calls : List LinkCall) : Type 0 where
+  pub link : Gave outside.link outside.link_now calls
+  pub no_moment : Gave outside.timer outside.timer_now []
+  pub no_port : Gave outside.opened outside.opened_now []
+  pub no_draw : Gave outside.drew outside.drew_now []
 
--- one line is printed: the usage where the words are those of no command, the totals where the link was bound, and otherwise none; what
--- a replay prints is said by `ReplayedBy`
-abbrev pub DidPrint : Outside → Option Settings → Status → List LinkCall → List WriteCall → Type 0
-DidPrint outside None answer calls writes = PrintsUsage answer writes
-DidPrint outside (Some settings) answer calls writes =
-    MatchBool (is_bound calls) (PrintsLine outside settings answer calls writes) (writes ≡ [])
+-- The link was bound to its address, the control turns were made, and one line was printed, of totals. This is the status at their end,
+-- unless a fault of the sink took its place
+pub record DidRun (settings : Settings) (range : Option (ℕ × ℕ)) (outside : Outside) (wrote wrote_now : Option (List WriteCall)) (answer : Status) : Type 0 where
+  pub ended : Status
+  pub counts : Counts
+  pub totals : Totals
+  pub did : DidServe (call.Bind settings.listen true ∷ []) settings.turns settings.config range outside ended counts totals
+  pub answer_is : (answer ≡ ended) ⊎ (answer ≡ status.PrintFault)
+  pub line : Gave wrote wrote_now (put.Write (totals_line counts totals) (is_printed answer) ∷ [])
+
+-- With words of `serve`: memory was refused before any call, or the bind failed, or the run is as `DidRun` says; before it nothing is printed
+abbrev pub Serves : Option Settings → (range : Option (ℕ × ℕ)) → Outside → (wrote wrote_now : Option (List WriteCall)) → Status → Type 0
+Serves None range outside wrote wrote_now answer = Unit {0}
+Serves (Some settings) range outside wrote wrote_now answer =
+    (IsCalled outside [] × Gave wrote wrote_now [] × (answer ≡ status.OutOfMemory))
+    ⊎ (IsCalled outside (call.Bind settings.listen false ∷ []) × Gave wrote wrote_now [] × (answer ≡ status.ControlFault))
+    ⊎ DidRun settings range outside wrote wrote_now answer
 
 -- how a run of `serve` may end
 abbrev pub IsServed : Status → Type 0

@@ -1,8 +1,8 @@
-ghost use Rattle.std.specs.Prelude.{◌≡◌, ◌≢◌, ◌⊎◌, ◌≤◌, ◌<◌, ◌^◌, ℕ, List, [], ◌∷◌, None, Some, IfOk, length, map};
+ghost use Rattle.std.specs.Prelude.{◌≡◌, ◌≤◌, ◌<◌, ◌^◌, [], None, Some, IfOk, map};
 ghost use Rattle.relay_outside.specs.Told.{Gained, Rose};
 ghost use Rattle.media_ports.specs.Held.{TellsHeld};
 ghost use Rattle.relay_app.specs.Words.{settings, replay_settings};
-ghost use Rattle.relay_app.specs.Run.{DidCall, DidPrint, IsServed, StatusByWords, ReplayedBy, AreOfReplay, TellsNone};
+ghost use Rattle.relay_app.specs.Run.{Serves, PrintsUsage, IsServed, StatusByWords, ReplayedBy, AreOfReplay, TellsNone};
 
 use crate::replaying::replay_else;
 use crate::serve::{close_table, serve_turns};
@@ -58,8 +58,10 @@ where
     P::Out: Drop,
     requires turns { settings.now.turns < 2 ^ 63 }
     requires open { TellsHeld settings.now.config (P.told ports.old) [] }
-    ensures calls { Gained (N.told control.old) (N.told control.new) (DidCall
+    ensures served { Serves (Some settings.now) (C.range clock.now)
         (record {
+          link = N.told control.old;
+          link_now = N.told control.new;
           timer = T.told timer.old;
           timer_now = T.told timer.new;
           opened = P.told ports.old;
@@ -71,21 +73,7 @@ where
           key_faults = K.faults keys.old;
           key_faults_now = K.faults keys.new;
         })
-        (Some settings.now) result) }
-    ensures printed { Gained (N.told control.old) (N.told control.new) (λ calls. Gained (O.told out.old) (O.told out.new) (DidPrint
-        (record {
-          timer = T.told timer.old;
-          timer_now = T.told timer.new;
-          opened = P.told ports.old;
-          opened_now = P.told ports.new;
-          drew = K.told keys.old;
-          drew_now = K.told keys.new;
-          port_faults = P.faults ports.old;
-          port_faults_now = P.faults ports.new;
-          key_faults = K.faults keys.old;
-          key_faults_now = K.faults keys.new;
-        })
-        (Some settings.now) result calls)) }
+        (O.told out.old) (O.told out.new) result }
     ensures status { IsServed result }
     ensures memory { result ≡ Status.OutOfMemory → (control.new ≡ control.old) × (ports.new ≡ ports.old) × (keys.new ≡ keys.old) × (timer.new ≡ timer.old) × (out.new ≡ out.old) }
     ensures shut { TellsHeld settings.now.config (P.told ports.new) [] }
@@ -131,7 +119,7 @@ where
 /// Runs the relay as the words of a command line say, over the devices that it is handed, and answers how
 /// it ended.
 ///
-/// `serve --interface=ADDRESS [--listen-ng=ADDRESS:PORT] [--port-min=PORT] [--port-max=PORT] [--max-sessions=NUMBER] [--turns=NUMBER]`
+/// `serve --interface=ADDRESS [--listen-ng=ADDRESS:PORT] [--port-min=PORT] [--port-max=PORT] [--max-sessions=NUMBER] [--turns=NUMBER] [--num-threads=0]`
 /// binds the control link and answers the datagrams that it takes until the link gives no more, a take
 /// fails, or `--turns` takes gave a datagram or nothing. Calls begin, are answered and end as the datagrams ask: their ports are
 /// opened and closed by the port maker, their keys drawn from the key source. After each take at most one packet of each port is
@@ -169,8 +157,10 @@ where
     S: LineSource,
     O: LineSink,
     requires open { TellsNone (settings (map (λ word. word.now) words.now)) (P.told ports.old) }
-    ensures calls { Gained (N.told control.old) (N.told control.new) (DidCall
+    ensures served { Serves (settings (map (λ word. word.now) words.now)) (C.range clock.now)
         (record {
+          link = N.told control.old;
+          link_now = N.told control.new;
           timer = T.told timer.old;
           timer_now = T.told timer.new;
           opened = P.told ports.old;
@@ -182,21 +172,8 @@ where
           key_faults = K.faults keys.old;
           key_faults_now = K.faults keys.new;
         })
-        (settings (map (λ word. word.now) words.now)) result) }
-    ensures printed { (AreOfReplay (settings (map (λ word. word.now) words.now)) (replay_settings (map (λ word. word.now) words.now)) → ⊥) → Gained (N.told control.old) (N.told control.new) (λ calls. Gained (O.told out.old) (O.told out.new) (DidPrint
-        (record {
-          timer = T.told timer.old;
-          timer_now = T.told timer.new;
-          opened = P.told ports.old;
-          opened_now = P.told ports.new;
-          drew = K.told keys.old;
-          drew_now = K.told keys.new;
-          port_faults = P.faults ports.old;
-          port_faults_now = P.faults ports.new;
-          key_faults = K.faults keys.old;
-          key_faults_now = K.faults keys.new;
-        })
-        (settings (map (λ word. word.now) words.now)) result calls)) }
+        (O.told out.old) (O.told out.new) result }
+    ensures usage { settings (map (λ word. word.now) words.now) ≡ None → replay_settings (map (λ word. word.now) words.now) ≡ None → Gained (O.told out.old) (O.told out.new) (PrintsUsage result) }
     ensures status { StatusByWords (settings (map (λ word. word.now) words.now)) (replay_settings (map (λ word. word.now) words.now)) result }
     ensures replayed { ReplayedBy (settings (map (λ word. word.now) words.now)) (replay_settings (map (λ word. word.now) words.now)) result (S.told script.old) (S.told script.new) (O.told out.old) (O.told out.new) }
     ensures control_fault { result ≡ Status.ControlFault → Rose (N.faults control.old) (N.faults control.new) }
@@ -205,7 +182,7 @@ where
     ensures memory { result ≡ Status.OutOfMemory → (AreOfReplay (settings (map (λ word. word.now) words.now)) (replay_settings (map (λ word. word.now) words.now)) → ⊥)
         → (control.new ≡ control.old) × (ports.new ≡ ports.old) × (keys.new ≡ keys.old) × (timer.new ≡ timer.old) × (out.new ≡ out.old) }
     ensures shut { TellsNone (settings (map (λ word. word.now) words.now)) (P.told ports.new) }
-    ensures unasked { settings (map (λ word. word.now) words.now) ≡ None → (timer.new ≡ timer.old) × (ports.new ≡ ports.old) × (keys.new ≡ keys.old) }
+    ensures unasked { settings (map (λ word. word.now) words.now) ≡ None → (control.new ≡ control.old) × (timer.new ≡ timer.old) × (ports.new ≡ ports.old) × (keys.new ≡ keys.old) }
     ensures unused { (AreOfReplay (settings (map (λ word. word.now) words.now)) (replay_settings (map (λ word. word.now) words.now)) → ⊥) → script.new ≡ script.old }
 {
     match read_settings(words) {

@@ -1,17 +1,22 @@
 //! The control turns of a run and their sweeps, one after another, and its end: the stop of all calls and the close of the table.
 ghost use Rattle.std.specs.Prelude.{◌≡◌, ◌≤◌, ◌<◌, ◌^◌, List, [], map, IfSome};
-ghost use Rattle.relay_outside.specs.Told.{Gained, Rose};
-ghost use Rattle.turn_table.specs.Hands.{IsSameHand, parts};
+ghost use Rattle.relay_outside.specs.Told.{Rose};
+ghost use Rattle.turn_table.specs.Hands.{IsSameHand, parts, entries};
 ghost use Rattle.relay_core.specs.Entries.{Entry};
 ghost use Rattle.relay_core.specs.Legal.{Legal};
 ghost use Rattle.relay_core.specs.Safe.{Safe};
 ghost use Rattle.relay_core.specs.Made.{told};
+ghost use Rattle.relay_core.specs.Timed.{AreTimed};
 ghost use Rattle.relay_core.specs.Turning.{made_by};
+ghost use Rattle.media_lane.specs.declared.answers.Totals.{Totals};
+ghost use Rattle.media_lane.specs.Sweeping.{Sweeps};
 ghost use Rattle.media_ports.specs.Held.{TellsHeld};
 ghost use Rattle.board_turns.specs.Between.{IsBetween};
 ghost use Rattle.main_sweeps.specs.Totals.{HasTotals};
 ghost use Rattle.ng_server.specs.Servers.{OpensJust, history_of};
-ghost use Rattle.relay_app.specs.Turned.{Ran, DidLoop, IsLoopEnd, status_after};
+ghost use Rattle.relay_app.specs.Rounds.{status_after};
+ghost use Rattle.relay_app.specs.Served.{DidServe};
+ghost use Rattle.relay_app.specs.Turned.{DidTurns, IsLoopEnd};
 
 use crate::status::Status;
 use crate::totals::Counts;
@@ -66,6 +71,7 @@ fn sweep<P: PortMaker, C: Clock, G: Gate, R: Wait>(
     ensures same { IsSameHand hand result }
     ensures between { IsBetween server.now.config server.now.turns result }
     ensures history { history_of result ≡ history_of hand }
+    ensures swept { (swept : Totals) × Sweeps server.now.config 0 1 (C.range clock.now) hand result swept }
     ensures totals { HasTotals (made_by hand) totals.old → HasTotals (made_by result) totals.new }
 {
     sweep_between(rt, server.turns(), hand, config, gate, clock, totals)
@@ -96,8 +102,10 @@ fn make_turns<N: ControlLink, P: PortMaker, K: KeySource, T: Timer, C: Clock, G:
     ensures same { IsSameHand hand result.1 }
     ensures between { IsBetween server.now.config server.now.turns result.1 }
     ensures open { OpensJust server.now.config (history_of result.1) (P.told ports.new) }
-    ensures ran { Ran limit server.now.config (history_of result.1)
+    ensures did { DidTurns limit server.now.config (C.range clock.now)
         (record {
+          link = N.told link.old;
+          link_now = N.told link.new;
           timer = T.told timer.old;
           timer_now = T.told timer.new;
           opened = P.told ports.old;
@@ -109,7 +117,7 @@ fn make_turns<N: ControlLink, P: PortMaker, K: KeySource, T: Timer, C: Clock, G:
           key_faults = K.faults keys.old;
           key_faults_now = K.faults keys.new;
         })
-        result.0.status result.0.counts (N.told link.old) (N.told link.new) }
+        result.0.status result.0.counts (entries result.1) }
     ensures totals { HasTotals (made_by result.1) result.0.totals }
     ensures later { (N.faults link.old ≤ N.faults link.new) × (P.faults ports.old ≤ P.faults ports.new) × (K.faults keys.old ≤ K.faults keys.new) }
     ensures cause { result.0.status ≡ Status.ControlFault → Rose (N.faults link.old) (N.faults link.new) }
@@ -157,6 +165,7 @@ where
     requires between { IsBetween server.config server.turns hand }
     requires all { parts hand ≡ 1024 }
     ensures legal { (l : List Entry) × (map told l ≡ made_by hand) × Legal server.config l × Safe server.config l }
+    ensures timed { AreTimed (entries hand) }
 {
     drop(server.close(hand));
 }
@@ -195,8 +204,10 @@ where
     requires nothing { made_by hand ≡ [] }
     requires all { parts hand ≡ 1024 }
     requires open { TellsHeld server.config (P.told ports.old) [] }
-    ensures calls { Gained (N.told link.old) (N.told link.new) (DidLoop limit server.config
+    ensures did { DidServe [] limit server.config (C.range clock.now)
         (record {
+          link = N.told link.old;
+          link_now = N.told link.new;
           timer = T.told timer.old;
           timer_now = T.told timer.new;
           opened = P.told ports.old;
@@ -208,7 +219,7 @@ where
           key_faults = K.faults keys.old;
           key_faults_now = K.faults keys.new;
         })
-        result.status result.counts result.totals) }
+        result.status result.counts result.totals }
     ensures shut { TellsHeld server.config (P.told ports.new) [] }
     ensures later { (N.faults link.old ≤ N.faults link.new) × (P.faults ports.old ≤ P.faults ports.new) × (K.faults keys.old ≤ K.faults keys.new) }
     ensures cause { result.status ≡ Status.ControlFault → Rose (N.faults link.old) (N.faults link.new) }

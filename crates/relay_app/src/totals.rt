@@ -1,6 +1,5 @@
 ghost use Rattle.std.specs.Prelude.{◌≡◌, ◌+◌, ◌≤◌, ◌<◌, ◌^◌, ◌++◌, ℕ, [], length, decimal};
-ghost use Rattle.relay_app.specs.Served.{totals_line};
-ghost use Rattle.relay_app.specs.Turned.{sum_of, turn_counts};
+ghost use Rattle.relay_app.specs.Served.{totals_line, sum_of, turn_counts};
 
 use media_lane::Totals;
 use ng_bencode::Text;
@@ -66,7 +65,7 @@ fn put_number(line: &mut Text, number: u64)
 pub(crate) fn put_totals(line: &mut Text, counts: Counts, totals: Totals)
     requires empty { line.old.list ≡ [] }
     requires room { 512 ≤ line.old.spare }
-    ensures { line.new.list ≡ totals_line counts.turns counts.datagrams counts.replies totals }
+    ensures { line.new.list ≡ totals_line counts totals }
 {
     line.extend(b"turns ");
     put_number(line, counts.turns);

@@ -1,6 +1,6 @@
 ghost use Rattle.std.specs.Prelude.{◌≡◌, ◌≤◌, ◌<◌, ◌==◌, ◌∷◌, ◌++◌, [], ℕ, List, Some, None, IfSome, MatchOption, IsTrue, ◌↔◌, codes, length, map, position};
 ghost use Rattle.std.specs.List.{list_all};
-ghost use Rattle.relay_app.specs.Words.{value_after, values_of, is_option, is_replay_option, ipv4, listen_address, media_port, session_count, turn_count, seed_number, one_value, default_listen, has_pair, configuration, option_settings, settings, replay_options, replay_settings, IsV4, IsPair, IsInLimits};
+ghost use Rattle.relay_app.specs.Words.{value_after, values_of, is_option, is_replay_option, ipv4, listen_address, media_port, session_count, turn_count, thread_count, seed_number, one_value, default_listen, has_pair, configuration, option_settings, settings, replay_options, replay_settings, IsV4, IsPair, IsInLimits};
 ghost use Rattle.relay_app.specs.Numbers.{whole_number, number_within};
 ghost use Rattle.relay_app.specs.Given.{IsGiven};
 
@@ -49,6 +49,8 @@ const PORT_MAX: &[u8] = b"--port-max=";
 const MAX_SESSIONS: &[u8] = b"--max-sessions=";
 
 const TURNS: &[u8] = b"--turns=";
+
+const NUM_THREADS: &[u8] = b"--num-threads=";
 
 const SEED: &[u8] = b"--seed=";
 
@@ -106,6 +108,7 @@ fn is_option(word: &str) -> bool
         || word.starts_with(PORT_MAX)
         || word.starts_with(MAX_SESSIONS)
         || word.starts_with(TURNS)
+        || word.starts_with(NUM_THREADS)
 }
 
 /// Whether a word is that of an option of `replay`.
@@ -251,6 +254,14 @@ fn find_turns(words: &[&str]) -> Option<u64>
     find_number(words, TURNS, limits, MOST_TURNS)
 }
 
+/// How many threads relay media beside the one that answers commands: none is what is built.
+fn find_threads(words: &[&str]) -> Option<u64>
+    ensures { result ≡ one_value thread_count (Some 0) (values_of (codes "--num-threads=") (map (λ word. word.now) words.now)) }
+{
+    let limits = Limits { least: 0, most: 0 };
+    find_number(words, NUM_THREADS, limits, 0)
+}
+
 /// From which number keys are drawn: any that fits 64 bits.
 fn find_seed(words: &[&str]) -> Option<u64>
     ensures { result ≡ one_value seed_number (Some 1) (values_of (codes "--seed=") (map (λ word. word.now) words.now)) }
@@ -309,6 +320,7 @@ fn option_settings(words: &[&str]) -> Option<Settings>
     let config = find_config(words, None)?;
     let listen = find_listen(words)?;
     let turns = find_turns(words)?;
+    let _threads = find_threads(words)?;
     Some(Settings {
         config,
         listen,

@@ -27,6 +27,7 @@ use Rattle.relay_core.specs.Beginning.{AreParts}
 use Rattle.relay_core.specs.Standing.{BringsNewKeys, Stands, IsBoardPart}
 use Rattle.relay_core.specs.Turning.{Numbered, IsAbove, IsReceiving}
 use Rattle.relay_core.specs.Handed.{IsHanded}
+use Rattle.relay_core.specs.Timed.{AreTimed}
 use Rattle.relay_core.specs.Joining.{TakesOwnPairs, IsSound, IsAtPlace, AreStanding}
 use Rattle.relay_core.proofs.Histories.{in_history, at_place}
 use Rattle.relay_core.proofs.Safety.{legal_safe}
@@ -328,6 +329,10 @@ module _ {T I O : Type 0} (it : I → Option (List InCall)) (ic : I → ℕ) (ot
       let orderly = sound.orderly closed_numbered in
       let recorded = sound.recorded closed_numbered in
       closed_legal config are orderly recorded (sound.receiving closed_numbered (closed_takes config are orderly recorded)) (sound.handed closed_numbered)
+
+  -- and each row has the moment that its event makes of the one that it was handed
+  pub sound_timed : (config : Config) → AreParts config starts → IsSound config rows → AreTimed rows
+  sound_timed config are sound row i = (row_right config are (sound.orderly closed_numbered) (sound.recorded closed_numbered) row i).1
 
 -- What the close answers says so of the rows.
 module _ {T I O : Type 0} (it : I → Option (List InCall)) (ic : I → ℕ) (ot : O → Option (List OutCall)) (oc : O → ℕ) where

@@ -12,4 +12,5 @@ pub mod Beginning
 pub mod Standing
 pub mod Turning
 pub mod Handed
+pub mod Timed
 pub mod Joining

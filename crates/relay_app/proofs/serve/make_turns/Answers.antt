@@ -1,8 +1,9 @@
-use Rattle.std.proofs.Common.{arith, refl}
+use Rattle.std.proofs.Common.{◌∙◌, arith, refl}
 use Rattle.nested_steps.proofs.Nesting.{same_again}
 use Rattle.board_turns.proofs.Firsts.{first_board}
 use Rattle.relay_app.proofs.Loops.{begins, turn_goes, turn_ends, turns_spent}
-use Rattle.relay_app.proofs.Wholes.{first_totals, follows_totals, opens_again, running_again}
+use Rattle.relay_app.proofs.Rounds.{follows_totals}
+use Rattle.relay_app.proofs.Wholes.{first_totals, opens_again}
 use Rattle.relay_app.proofs.serve.make_turns.Goals as goal
 
 pub turns-init : goal.turns-init
@@ -10,7 +11,7 @@ turns-init g c = record {
   same = (refl, refl, refl, refl);
   between = c.requires.between;
   opens = c.requires.open;
-  running = begins _ _ _ _ (first_board _ c.requires.nothing) refl refl refl;
+  running = begins _ _ _ _ c.requires.nothing (first_board _ c.requires.nothing) refl refl refl refl;
   totals = first_totals _ c.requires.nothing;
   later = omega arith;
   port_later = omega arith;
@@ -28,10 +29,10 @@ turns-preserved g c = record {
   between = c.sweep-hand.ensures.between;
   opens = opens_again _ _ _ _ c.sweep-hand.ensures.history c.control_turn-turn.ensures.open;
   running =
-      running_again _ _ _ _ _ _ _ c.sweep-hand.ensures.history
-      (turn_goes _ _ _ _ c.turns.counts c.with-counts.result _ c.control_turn-turn.result _ _ _ _ _ _ _ _ _ _ _ _ _ _ _ _ _ _ c.with-counts.ensures.sum c.turns.invariant.between
-      c.control_turn-turn.ensures.between c.turns.invariant.running c.now-now.ensures c.control_turn-turn.ensures.turned
-      c.turns.invariant.port_later c.turns.invariant.key_later c.control_turn-turn.ensures.later.1 c.control_turn-turn.ensures.later.2 c.in_default.ensures.answer);
+      turn_goes _ _ _ c.turns.hand c.control_turn-turn.new.hand c.turns.counts c.with-counts.result _ c.control_turn-turn.result _ _ _ _ _ _ _ _ _ _ _ _ _ _ _ _ _ _
+      c.with-counts.ensures.sum c.turns.invariant.between c.control_turn-turn.ensures.between c.turns.invariant.running c.now-now.ensures c.control_turn-turn.ensures.turned
+      c.turns.invariant.port_later c.turns.invariant.key_later c.control_turn-turn.ensures.later.1 c.control_turn-turn.ensures.later.2
+      c.sweep-hand.result c.in_default.ensures.answer c.sweep-hand.ensures.history c.sweep-hand.ensures.swept;
   totals =
       c.sweep-hand.ensures.totals
       (follows_totals c.args.server.now.config c.args.server.now.turns c.turns.hand c.control_turn-turn.new.hand _ c.control_turn-turn.result
@@ -47,10 +48,10 @@ turns-preserved g c = record {
 pub returns-in-Some-clause-same : goal.returns-in-Some-clause-same
 returns-in-Some-clause-same g c = same_again c.args.hand c.turns.hand c.control_turn-turn.new.hand c.turns.invariant.same c.control_turn-turn.ensures.same
 
-pub returns-in-Some-clause-ran : goal.returns-in-Some-clause-ran
-returns-in-Some-clause-ran g c =
-    turn_ends _ _ _ _ c.turns.counts c.with-counts.result _ c.control_turn-turn.result _ _ _ _ _ _ _ _ _ _ _ _ _ _ _ _ _ _ c.with-counts.ensures.sum c.turns.invariant.between
-    c.control_turn-turn.ensures.between c.turns.invariant.running c.now-now.ensures c.control_turn-turn.ensures.turned
+pub returns-in-Some-clause-did : goal.returns-in-Some-clause-did
+returns-in-Some-clause-did g c =
+    turn_ends _ _ _ c.turns.hand c.control_turn-turn.new.hand c.turns.counts c.with-counts.result _ c.control_turn-turn.result _ _ _ _ _ _ _ _ _ _ _ _ _ _ _ _ _ _
+    c.with-counts.ensures.sum c.turns.invariant.between c.control_turn-turn.ensures.between c.turns.invariant.running c.now-now.ensures c.control_turn-turn.ensures.turned
     c.turns.invariant.port_later c.turns.invariant.key_later c.control_turn-turn.ensures.later.1 c.control_turn-turn.ensures.later.2
     c.args.limit c.in-Some.status c.in-Some.ensures.answer c.turns-test.true
 
@@ -59,5 +60,5 @@ returns-in-Some-clause-totals g c =
     follows_totals c.args.server.now.config c.args.server.now.turns c.turns.hand c.control_turn-turn.new.hand _ c.control_turn-turn.result
     c.control_turn-turn.ensures.turned.made c.turns.totals c.turns.invariant.between c.control_turn-turn.ensures.turned.follows c.turns.invariant.totals
 
-pub returns-clause-ran : goal.returns-clause-ran
-returns-clause-ran g c = turns_spent _ _ c.turns.counts _ _ _ c.args.limit (omega (arith, c.turns-test.false, c.turns.invariant.below)) c.turns.invariant.running
+pub returns-clause-did : goal.returns-clause-did
+returns-clause-did g c = turns_spent _ _ _ c.turns.counts _ c.args.limit (omega (arith, c.turns-test.false, c.turns.invariant.below)) c.turns.invariant.running

@@ -1,5 +1,5 @@
 use Rattle.std.proofs.Common.{◌-◌, ◌≤◌}
-use Rattle.turn_table.specs.Hands.{IsSameHand}
+use Rattle.turn_table.specs.Hands.{IsSameHand, entries}
 use Rattle.board_turns.specs.Between.{IsBetween}
 use Rattle.relay_core.specs.Turning.{made_by}
 use Rattle.main_sweeps.specs.Totals.{HasTotals}
@@ -12,7 +12,9 @@ invariant-turns g l = record {
   same : IsSameHand l.fn.hand l.hand;
   between : IsBetween l.server.config l.server.turns l.hand;
   opens : OpensJust l.server.config (history_of l.hand) (g.P.PortMaker.told l.ports);
-  running : Running l.server.config (history_of l.hand) l.counts (record {
+  running : Running l.server.config (g.C.Clock.range l.clock) (entries l.hand) l.counts (record {
+    link = g.N.ControlLink.told l.fn.link;
+    link_now = g.N.ControlLink.told l.link;
     timer = g.T.Timer.told l.fn.timer;
     timer_now = g.T.Timer.told l.timer;
     opened = g.P.PortMaker.told l.fn.ports;
@@ -23,8 +25,7 @@ invariant-turns g l = record {
     port_faults_now = g.P.PortMaker.faults l.ports;
     key_faults = g.K.KeySource.faults l.fn.keys;
     key_faults_now = g.K.KeySource.faults l.keys;
-  })
-      (g.N.ControlLink.told l.fn.link) (g.N.ControlLink.told l.link);
+  });
   totals : HasTotals (made_by l.hand) l.totals;
   later : g.N.ControlLink.faults l.fn.link ≤ g.N.ControlLink.faults l.link;
   port_later : g.P.PortMaker.faults l.fn.ports ≤ g.P.PortMaker.faults l.ports;

@@ -1,0 +1,106 @@
+-- The steps of a run on one thread, in the order in which they were made: rounds, each a control turn with a sweep of media behind it, then
+-- one more sweep, then the stop.
+use Rattle.std.specs.Prelude.{◌≡◌, ℕ, List, [], ◌∷◌, ◌++◌, Option, None, Some, map, nat_lt}
+use Rattle.std.specs.Option.{option_map}
+use Rattle.relay_outside.specs.declared.settings.Config.{Config}
+use Rattle.rtp_packet.specs.declared.head.Half.{Half}
+use Rattle.port_pool.specs.Ports.{pair_count}
+use Rattle.call_board.specs.Acts.{BoardEntry}
+use Rattle.relay_core.specs.Entries.{Entry, board_entry}
+use Rattle.relay_core.specs.Legal.{Legal}
+use Rattle.relay_core.specs.Safe.{Safe}
+use Rattle.relay_core.specs.Made.{entry_of, list_of, told}
+use Rattle.relay_core.specs.Timed.{AreTimed}
+use Rattle.relay_core.specs.Turning.{IsTurn}
+use Rattle.media_lane.specs.declared.answers.Totals.{Totals}
+use Rattle.media_lane.specs.Visits.{Row, Visit, all_rows, ArePassed, times, one_if}
+use Rattle.board_turns.specs.Between.{board_of}
+use Rattle.board_turns.specs.Stopping.{stop_entry}
+use Rattle.control_entries.specs.Controls.{Hearing, entry_at, moment_at}
+use Rattle.control_turns.specs.declared.taking.ControlTurn.{ControlTurn}
+use Rattle.control_turns.specs.declared.taking.ControlTurn.TheVariants as turn
+use Rattle.main_sweeps.specs.Totals.{HasTotals}
+use Rattle.relay_app.specs.declared.status.Status.{Status}
+use Rattle.relay_app.specs.declared.status.Status.TheVariants as status
+
+-- A control turn after which the run goes on: the moment that the timer gave for its take, how it ended, and of a datagram with a frame what
+-- was heard of it, with what the ports and the keys gave
+pub record Round : Type 0 where
+  pub handed : ℕ
+  pub answer : ControlTurn
+  pub heard : Option Hearing
+
+-- the status with which a run ends after a control turn, where it does not go on
+abbrev pub status_after : ControlTurn → Option Status
+status_after turn.Replied = None
+status_after turn.ReplyFault = None
+status_after turn.Silent = None
+status_after turn.Nothing = None
+status_after turn.End = Some status.Ok
+status_after turn.ReadFault = Some status.ControlFault
+
+-- the entry that the board's history demands of what was heard: at the moment that was handed, or at the board's last one, where that is later
+abbrev pub entry_due : Config → List BoardEntry → ℕ → Option Hearing → Option BoardEntry
+entry_due config history now heard = option_map (entry_at config history (moment_at history now)) heard
+
+abbrev pub with_entry : List BoardEntry → Option BoardEntry → List BoardEntry
+with_entry history None = history
+with_entry history (Some entry) = entry ∷ history
+
+-- the board's history after these rounds; of both the latest comes first
+abbrev pub history_after : Config → List Round → List BoardEntry
+history_after config [] = []
+history_after config (r ∷ rounds) = with_entry (history_after config rounds) (entry_due config (history_after config rounds) r.handed r.heard)
+
+-- the moments that were handed to them, in order
+abbrev pub moments : List Round → List ℕ
+moments [] = []
+moments (r ∷ rounds) = moments rounds ++ r.handed ∷ []
+
+-- A turn of the board behind these rows: the nested entries that its entry owes, in their order, and then the entry
+pub record IsBoardTurn (config : Config) (before : List Row) (e : BoardEntry) (rows : List Row) : Type 0 where
+  pub nested : List Row
+  pub last : Row
+  pub rows_are : rows ≡ nested ++ last ∷ []
+  pub turn : IsTurn config (list_of before) (list_of nested) (entry_of last)
+  pub is : board_entry (entry_of last) ≡ Some e
+
+-- the same of a control turn: without an entry there is no turn of the board
+abbrev pub MakesEntry : Config → List Row → Option BoardEntry → List Row → Type 0
+MakesEntry config before None rows = rows ≡ []
+MakesEntry config before (Some e) rows = IsBoardTurn config before e rows
+
+-- One sweep: one take of each half of each pair, in any order. Directly behind a take that gave a datagram stands the one relay of it, which
+-- was handed a moment of the clock's range
+pub record IsSweep (config : Config) (range : Option (ℕ × ℕ)) (rows : List Row) : Type 0 where
+  pub visits : List Visit
+  pub rows_are : rows ≡ all_rows config visits
+  pub passed : ArePassed range visits
+  pub each_once : (pair : ℕ) (half : Half) → times pair half visits ≡ one_if (nat_lt pair (pair_count config))
+
+-- the rows of these rounds
+abbrev pub AreRounds : Config → Option (ℕ × ℕ) → List Round → List Row → Type 0
+AreRounds config range [] rows = rows ≡ []
+AreRounds config range (r ∷ rounds) rows =
+    (before : List Row) × (turn : List Row) × (sweep : List Row) × (rows ≡ (before ++ turn) ++ sweep) × (status_after r.answer ≡ None)
+    × AreRounds config range rounds before
+    × MakesEntry config before (entry_due config (history_after config rounds) r.handed r.heard) turn
+    × IsSweep config range sweep
+
+-- All steps of a run: those of its rounds, of one more sweep and of the stop, each at the moment that its event makes of the one that it was
+-- handed. With what each relay noted, protected and sent told beside its outcome they are a list that is legal, and so safe; the board's
+-- entries in it are the history and the stop, and these are the counts of its takes and relays
+pub record IsWhole (config : Config) (range : Option (ℕ × ℕ)) (rounds : List Round) (totals : Totals) : Type 0 where
+  pub in_rounds : List Row
+  pub last_sweep : List Row
+  pub stop : List Row
+  pub are_rounds : AreRounds config range rounds in_rounds
+  pub is_sweep : IsSweep config range last_sweep
+  pub is_stop : IsBoardTurn config (in_rounds ++ last_sweep) (stop_entry (history_after config rounds)) stop
+  pub timed : AreTimed ((in_rounds ++ last_sweep) ++ stop)
+  pub list : List Entry
+  pub told_is : map told list ≡ list_of ((in_rounds ++ last_sweep) ++ stop)
+  pub legal : Legal config list
+  pub safe : Safe config list
+  pub board_is : board_of list ≡ stop_entry (history_after config rounds) ∷ history_after config rounds
+  pub totals_are : HasTotals list totals
