@@ -1,5 +1,5 @@
 -- The control turns of a run, one after another, as the rows grow and the lists of the devices gain their calls.
-use Rattle.std.proofs.Common.{◌≡◌, ◌∙◌, ap, refl, subst, sym, ℕ, ◌<◌, ◌≤◌, List, [], ◌∷◌, ◌++◌, append-nil, Option, Some, None, true, false, arith, length}
+use Rattle.std.proofs.Common.{◌≡◌, ◌∙◌, ap, refl, subst, sym, ℕ, ◌<◌, ◌≤◌, List, [], ◌∷◌, ◌++◌, append-nil, Option, Some, None, true, false, arith}
 use Rattle.relay_outside.specs.Told.{Gains, Gained}
 use Rattle.relay_outside.specs.declared.keys.KeyCall.{KeyCall}
 use Rattle.relay_outside.specs.declared.link.LinkCall.{LinkCall}
@@ -23,7 +23,7 @@ use Rattle.board_turns.specs.Between.{board_of, IsBetween}
 use Rattle.control_entries.specs.Controls.{Hearing}
 use Rattle.control_entries.specs.Giving.{IsGivenBy}
 use Rattle.control_turns.specs.declared.taking.ControlTurn.{ControlTurn}
-use Rattle.control_turns.specs.Taking.{Follows, GaveFor, DidTurn, Turned, is_answered}
+use Rattle.control_turns.specs.Taking.{Follows, GaveFor, DidTurn, Turned}
 use Rattle.relay_app.specs.declared.status.Status.{Status}
 use Rattle.relay_app.specs.declared.status.Status.TheVariants as status
 use Rattle.relay_app.specs.declared.totals.Counts.{Counts}

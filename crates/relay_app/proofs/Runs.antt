@@ -1,7 +1,6 @@
 -- A run whose link was bound: the bind, the control turns, the line of totals.
-use Rattle.std.proofs.Common.{◌≡◌, ◌∙◌, ◌⊎◌, inl, inr, ap, refl, sym, subst, ℕ, List, [], ◌∷◌, ◌++◌, Option, Some, None, Bool, true, false}
-use Rattle.relay_outside.specs.Told.{Gains, Gained}
-use Rattle.relay_outside.specs.declared.address.Addr.{Addr}
+use Rattle.std.proofs.Common.{◌≡◌, ◌∙◌, ◌⊎◌, inl, inr, ap, refl, sym, subst, ℕ, List, [], ◌∷◌, ◌++◌, Option, Some, Bool, true, false}
+use Rattle.relay_outside.specs.Told.{Gains}
 use Rattle.relay_outside.specs.declared.link.LinkCall.{LinkCall}
 use Rattle.relay_outside.specs.declared.link.LinkCall.TheVariants as call
 use Rattle.relay_outside.specs.declared.lines.WriteCall.{WriteCall}
@@ -17,7 +16,7 @@ use Rattle.relay_app.specs.declared.words.Settings.{Settings}
 use Rattle.relay_app.specs.declared.totals.Counts.{Counts}
 use Rattle.relay_app.specs.Served.{Outside, Gave, AreCalls, DidServe, totals_line, counts_in, Counted}
 use Rattle.relay_app.specs.Turned.{IsLoopEnd}
-use Rattle.relay_app.specs.Run.{IsCalled, Serves, is_printed}
+use Rattle.relay_app.specs.Run.{Serves, is_printed}
 use Rattle.relay_app.proofs.Counts.{bind_counted}
 
 -- a status of the control turns tells that the line was printed
@@ -30,6 +29,11 @@ loop_prints status.PrintFault ends = absurd ends
 loop_prints status.Usage ends = absurd ends
 loop_prints status.ScriptFault ends = absurd ends
 loop_prints status.ScriptRead ends = absurd ends
+
+-- what the words say, by what was read of them
+pub serves_as : (settings found : Option Settings) (range : Option (ℕ × ℕ)) (outside : Outside) (wrote wrote_now : Option (List WriteCall)) (answer : Status) → found ≡ settings
+    → Serves found range outside wrote wrote_now answer → Serves settings range outside wrote wrote_now answer
+serves_as settings found range outside wrote wrote_now answer is serves = subst (λ (s : Option Settings). Serves s range outside wrote wrote_now answer) is serves
 
 -- a device that was not called
 uncalled : {C : Type 0} (before after : Option (List C)) → before ≡ after → Gave before after []

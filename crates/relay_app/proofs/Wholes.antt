@@ -13,7 +13,6 @@ use Rattle.relay_core.specs.Entries.{Entry}
 use Rattle.relay_core.specs.Made.{Made}
 use Rattle.media_ports.specs.Asked as asked
 use Rattle.media_ports.proofs.Asked.{gained_openings_alone}
-use Rattle.media_ports.specs.Held.{TellsHeld}
 use Rattle.media_lane.specs.declared.answers.Totals.{Totals}
 use Rattle.media_lane.specs.Visits.{Row}
 use Rattle.board_turns.specs.Between.{IsBetween}

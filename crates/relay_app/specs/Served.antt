@@ -1,7 +1,6 @@
 -- What a run of `serve` took, sent and did, by what its devices tell.
 use Rattle.std.specs.Prelude.{◌≡◌, ℕ, ◌+◌, ◌<◌, Bool, true, false, List, [], ◌∷◌, ◌++◌, length, Option, Some, None, count_by, codes, decimal}
 use Rattle.relay_outside.specs.declared.keys.KeyCall.{KeyCall}
-use Rattle.relay_outside.specs.declared.link.LinkGiven.{LinkGiven}
 use Rattle.relay_outside.specs.declared.link.LinkGiven.TheVariants as given
 use Rattle.relay_outside.specs.declared.link.LinkCall.{LinkCall}
 use Rattle.relay_outside.specs.declared.link.LinkCall.TheVariants as call

@@ -1,4 +1,4 @@
-use Rattle.std.proofs.Common.{◌∙◌, arith, refl}
+use Rattle.std.proofs.Common.{arith, refl}
 use Rattle.nested_steps.proofs.Nesting.{same_again}
 use Rattle.board_turns.proofs.Firsts.{first_board}
 use Rattle.relay_app.proofs.Loops.{begins, turn_goes, turn_ends, turns_spent}

@@ -12,7 +12,7 @@ close_table-requires-clause-all g c = c.stop.ensures.same.2 ∙ c.sweep-hand.ens
 pub returns-clause-did : goal.returns-clause-did
 returns-clause-did g c =
     let did = c.make_turns-hand.ensures.did in
-    ran_whole c.args.limit c.args.server.config _ _ _ _ _ _ _ _ _ _ _ _ _ _ c.make_turns-hand.result.0.status c.make_turns-hand.result.0.counts c.sweep-hand.new.totals _
+    ran_whole c.args.limit c.args.server.config _ _ _ _ _ _ _ _ _ _ _ _ _ _ _ c.make_turns-hand.result.0.status c.make_turns-hand.result.0.counts c.sweep-hand.new.totals _
     c.stop.ensures.later c.stop.ensures.closes did
     (whole_run c.args.server.config _ did.rounds c.sweep-hand.new.totals c.args.server.turns c.make_turns-hand.result.1 c.sweep-hand.result c.stop.new.hand
     did.are_rounds did.board_is c.sweep-hand.ensures.history c.sweep-hand.ensures.swept c.sweep-hand.ensures.between c.stop.ensures.between c.stop.ensures.makes
