@@ -5,6 +5,8 @@
 #[cfg(test)]
 mod aes_ctr_tests;
 #[cfg(test)]
+mod cases;
+#[cfg(test)]
 mod replay_window_tests;
 #[cfg(test)]
 mod rtp_packet_tests;

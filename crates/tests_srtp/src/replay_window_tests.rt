@@ -1,32 +1,77 @@
+use crate::cases::none_failed;
 use replay_window::{Fresh, Near, Window};
+
+const LAST: u64 = 281_474_976_710_655;
+
+/// What was noted, a number, and the index that is nearest.
+const NEAREST: &[(Option<u64>, u16, Near)] = &[
+    (None, 7, Near::At(7)),
+    (Some(65_535), 0, Near::At(65_536)),
+    (Some(0), 65_535, Near::Below),
+    (Some(32_768), 0, Near::At(0)),
+    (Some(32_767), 65_535, Near::At(65_535)),
+    (Some(LAST), 0, Near::Beyond),
+    (Some(65_536), 65_535, Near::At(65_535)),
+    (Some(65_536 + 32_768), 0, Near::At(65_536)),
+    (Some(65_536 + 32_769), 0, Near::At(131_072)),
+    (Some(65_536 + 32_767), 65_535, Near::At(131_071)),
+    (Some(65_536 + 32_766), 65_535, Near::At(65_535)),
+    (Some(LAST), 65_535, Near::At(LAST)),
+];
+
+/// Whether a window that noted this finds that index nearest to the number.
+fn is_nearest(noted: Option<u64>, seq: u16, wanted: Near) -> bool {
+    let mut window = Window::new();
+    if let Some(index) = noted {
+        if index > LAST {
+            return false;
+        }
+        window.note(index);
+    }
+    window.near(seq) == wanted
+}
+
+fn other_nearest() -> Option<usize> {
+    for (number, (noted, seq, wanted)) in NEAREST.iter().enumerate() {
+        if !is_nearest(*noted, *seq, *wanted) {
+            return Some(number);
+        }
+    }
+    None
+}
 
 #[test]
 fn the_nearest_index(rt: HostRuntime) {
-    let last: u64 = 281_474_976_710_655;
-    let table = [
-        (None, 7, Near::At(7)),
-        (Some(65_535), 0, Near::At(65_536)),
-        (Some(0), 65_535, Near::Below),
-        (Some(32_768), 0, Near::At(0)),
-        (Some(32_767), 65_535, Near::At(65_535)),
-        (Some(last), 0, Near::Beyond),
-        (Some(65_536), 65_535, Near::At(65_535)),
-        (Some(65_536 + 32_768), 0, Near::At(65_536)),
-        (Some(65_536 + 32_769), 0, Near::At(131_072)),
-        (Some(65_536 + 32_767), 65_535, Near::At(131_071)),
-        (Some(65_536 + 32_766), 65_535, Near::At(65_535)),
-        (Some(last), 65_535, Near::At(last)),
-    ];
-    for (noted, seq, wanted) in table {
-        let mut window = Window::new();
-        if let Some(index) = noted
-            && index <= last
-        {
-            window.note(index);
+    none_failed(&rt, "NEAREST", other_nearest());
+}
+
+/// Indices round one that was noted.
+const ALONE: &[(u64, Fresh)] = &[
+    (872, Fresh::TooOld),
+    (873, Fresh::Yes),
+    (999, Fresh::Yes),
+    (1000, Fresh::Used),
+    (1001, Fresh::Yes),
+    (1128, Fresh::Yes),
+];
+
+/// Indices round three that were noted.
+const LATER: &[(u64, Fresh)] = &[
+    (873, Fresh::TooOld),
+    (882, Fresh::TooOld),
+    (883, Fresh::Yes),
+    (1000, Fresh::Used),
+    (1001, Fresh::Yes),
+    (1010, Fresh::Used),
+];
+
+fn other_fresh(window: &Window, answers: &[(u64, Fresh)]) -> Option<usize> {
+    for (number, (index, wanted)) in answers.iter().enumerate() {
+        if *index > LAST || window.fresh(*index) != *wanted {
+            return Some(number);
         }
-        let nearest = window.near(seq);
-        assert!(rt; nearest == wanted, "{seq} after {noted:?}: {nearest:?}");
     }
+    None
 }
 
 #[test]
@@ -34,30 +79,10 @@ fn fresh_indices(rt: HostRuntime) {
     let mut window = Window::new();
     assert!(rt; window.fresh(0) == Fresh::Yes);
     window.note(1000);
-    let alone = [
-        (872, Fresh::TooOld),
-        (873, Fresh::Yes),
-        (999, Fresh::Yes),
-        (1000, Fresh::Used),
-        (1001, Fresh::Yes),
-        (1128, Fresh::Yes),
-    ];
-    for (index, wanted) in alone {
-        assert!(rt; window.fresh(index) == wanted, "{index}");
-    }
+    none_failed(&rt, "ALONE", other_fresh(&window, ALONE));
     window.note(873);
     window.note(1010);
-    let later = [
-        (873, Fresh::TooOld),
-        (882, Fresh::TooOld),
-        (883, Fresh::Yes),
-        (1000, Fresh::Used),
-        (1001, Fresh::Yes),
-        (1010, Fresh::Used),
-    ];
-    for (index, wanted) in later {
-        assert!(rt; window.fresh(index) == wanted, "{index} later");
-    }
+    none_failed(&rt, "LATER", other_fresh(&window, LATER));
     window.note(1_000_000);
     assert!(rt; window.fresh(1010) == Fresh::TooOld && window.fresh(999_999) == Fresh::Yes);
 }

@@ -1,3 +1,4 @@
+use crate::cases::none_failed;
 use rtp_packet::rtcp;
 use srtcp_context::{InRtcp, OutRtcp};
 use srtp_keys::{DrawnKey, ProtectFault, UnprotectFault};
@@ -14,27 +15,23 @@ fn outbound() -> OutRtcp {
     OutRtcp::new(key)
 }
 
-// The calls with their conditions asked first; `None` where one doesn't hold.
-fn protect(
+/// Whether a packet of so many bytes is protected so; not where the call's conditions don't hold.
+fn is_protected(
     context: &mut OutRtcp,
     buf: &mut [u8; 64],
     len: usize,
-) -> Option<Result<(usize, u64), ProtectFault>> {
-    if len > 50 || rtcp(&buf[..len]).is_none() {
-        return None;
-    }
-    Some(context.protect(buf, len))
+    wanted: Result<(usize, u64), ProtectFault>,
+) -> bool {
+    len <= 50 && rtcp(&buf[..len]).is_some() && context.protect(buf, len) == wanted
 }
 
-fn unprotect(
+fn is_unprotected(
     context: &mut InRtcp,
     buf: &mut [u8; 64],
     len: usize,
-) -> Option<Result<usize, UnprotectFault>> {
-    if len > 64 || rtcp(&buf[..len]).is_none() {
-        return None;
-    }
-    Some(context.unprotect(buf, len))
+    wanted: Result<usize, UnprotectFault>,
+) -> bool {
+    len <= 64 && rtcp(&buf[..len]).is_some() && context.unprotect(buf, len) == wanted
 }
 
 fn buffer(packet: &[u8]) -> [u8; 64] {
@@ -59,119 +56,160 @@ fn bare(ssrc: u8) -> [u8; 64] {
     buf
 }
 
-// Computed by a program over OpenSSL's AES and HMAC (Python's package cryptography 48), which also gives the packet of
-// libsrtp's own test below.
-#[test]
-fn packets_sent_to_other_implementations(rt: HostRuntime) {
-    let table: [(&[u8], &[u8]); 2] = [
-        (
-            PLAIN,
-            b"\x81\xc8\x00\x0b\xca\xfe\xba\xbe\xb1\x9c\x21\x9a\x08\x6b\x6c\x7a\xe6\x1d\x8e\x0b\xfe\xb4\xbe\x3f\x80\x00\x00\x00\x56\x31\xd6\xcf\xc9\x06\xcd\xb3\x0f\x41",
-        ),
-        (
-            b"\x80\xc8\x00\x01\x22\x22\x22\x22",
-            b"\x80\xc8\x00\x01\x22\x22\x22\x22\x80\x00\x00\x00\x2c\x84\x2e\xbf\x8c\x60\xf8\x15\xdb\x9e",
-        ),
-    ];
-    for (packet, wanted) in table {
-        let mut buf = buffer(packet);
-        let sent = protect(&mut outbound(), &mut buf, packet.len());
-        assert!(rt; sent == Some(Ok((wanted.len(), 0))), "{sent:?}");
-        assert!(rt; buf == buffer(wanted), "at {packet:?}");
-    }
+/// Packets, and what is sent of them to other implementations. Computed by a program over OpenSSL's AES and HMAC (Python's
+/// package cryptography 48), which also gives the packet of libsrtp's own test below.
+const SENT: &[(&[u8], &[u8])] = &[
+    (
+        PLAIN,
+        b"\x81\xc8\x00\x0b\xca\xfe\xba\xbe\xb1\x9c\x21\x9a\x08\x6b\x6c\x7a\xe6\x1d\x8e\x0b\xfe\xb4\xbe\x3f\x80\x00\x00\x00\x56\x31\xd6\xcf\xc9\x06\xcd\xb3\x0f\x41",
+    ),
+    (
+        b"\x80\xc8\x00\x01\x22\x22\x22\x22",
+        b"\x80\xc8\x00\x01\x22\x22\x22\x22\x80\x00\x00\x00\x2c\x84\x2e\xbf\x8c\x60\xf8\x15\xdb\x9e",
+    ),
+];
+
+fn is_sent(packet: &[u8], wanted: &[u8]) -> bool {
+    let mut buf = buffer(packet);
+    let answer = Ok((wanted.len(), 0));
+    is_protected(&mut outbound(), &mut buf, packet.len(), answer) && buf == buffer(wanted)
 }
 
-// The first is that of libsrtp's own test (test/srtp_driver.c, srtp_validate), whose index is 1; then index 0, and indices
-// 0 and 5 without the E bit, computed as above.
-#[test]
-fn packets_of_other_implementations(rt: HostRuntime) {
-    let table: [&[u8]; 4] = [
-        b"\x81\xc8\x00\x0b\xca\xfe\xba\xbe\x71\x28\x03\x5b\xe4\x87\xb9\xbd\xbe\xf8\x90\x41\xf9\x77\xa5\xa8\x80\x00\x00\x01\x99\x3e\x08\xcd\x54\xd6\xc1\x23\x07\x98",
-        b"\x81\xc8\x00\x0b\xca\xfe\xba\xbe\xb1\x9c\x21\x9a\x08\x6b\x6c\x7a\xe6\x1d\x8e\x0b\xfe\xb4\xbe\x3f\x80\x00\x00\x00\x56\x31\xd6\xcf\xc9\x06\xcd\xb3\x0f\x41",
-        b"\x81\xc8\x00\x0b\xca\xfe\xba\xbe\xab\xab\xab\xab\xab\xab\xab\xab\xab\xab\xab\xab\xab\xab\xab\xab\x00\x00\x00\x00\x21\x3f\x5f\x12\xb3\x15\x76\x2f\x07\x9d",
-        b"\x81\xc8\x00\x0b\xca\xfe\xba\xbe\xab\xab\xab\xab\xab\xab\xab\xab\xab\xab\xab\xab\xab\xab\xab\xab\x00\x00\x00\x05\x87\xfa\x5c\xd2\x18\x16\xde\x7c\x9c\x8c",
-    ];
-    for packet in table {
-        let mut buf = buffer(packet);
-        let taken = unprotect(&mut InRtcp::new(MASTER), &mut buf, 38);
-        assert!(rt; taken == Some(Ok(24)), "{taken:?}");
-        assert!(rt; is_plain(&buf), "at {packet:?}");
-        // The E bit and the index are authenticated, and so is the last byte of the tag.
-        for place in [24, 27, 37usize] {
-            let mut changed = buffer(packet);
-            changed[place] ^= 0x80;
-            let other = unprotect(&mut InRtcp::new(MASTER), &mut changed, 38);
-            assert!(rt;
-                other == Some(Err(UnprotectFault::NotAuthentic)),
-                "{place}: {other:?}"
-            );
+fn other_sent() -> Option<usize> {
+    for (number, (packet, wanted)) in SENT.iter().enumerate() {
+        if !is_sent(packet, wanted) {
+            return Some(number);
         }
     }
+    None
+}
+
+#[test]
+fn packets_sent_to_other_implementations(rt: HostRuntime) {
+    none_failed(&rt, "SENT", other_sent());
+}
+
+/// The first is that of libsrtp's own test (test/srtp_driver.c, srtp_validate), whose index is 1; then index 0, and indices
+/// 0 and 5 without the E bit, computed as above.
+const TAKEN: &[&[u8]] = &[
+    b"\x81\xc8\x00\x0b\xca\xfe\xba\xbe\x71\x28\x03\x5b\xe4\x87\xb9\xbd\xbe\xf8\x90\x41\xf9\x77\xa5\xa8\x80\x00\x00\x01\x99\x3e\x08\xcd\x54\xd6\xc1\x23\x07\x98",
+    b"\x81\xc8\x00\x0b\xca\xfe\xba\xbe\xb1\x9c\x21\x9a\x08\x6b\x6c\x7a\xe6\x1d\x8e\x0b\xfe\xb4\xbe\x3f\x80\x00\x00\x00\x56\x31\xd6\xcf\xc9\x06\xcd\xb3\x0f\x41",
+    b"\x81\xc8\x00\x0b\xca\xfe\xba\xbe\xab\xab\xab\xab\xab\xab\xab\xab\xab\xab\xab\xab\xab\xab\xab\xab\x00\x00\x00\x00\x21\x3f\x5f\x12\xb3\x15\x76\x2f\x07\x9d",
+    b"\x81\xc8\x00\x0b\xca\xfe\xba\xbe\xab\xab\xab\xab\xab\xab\xab\xab\xab\xab\xab\xab\xab\xab\xab\xab\x00\x00\x00\x05\x87\xfa\x5c\xd2\x18\x16\xde\x7c\x9c\x8c",
+];
+
+fn is_taken(packet: &[u8]) -> bool {
+    let mut buf = buffer(packet);
+    is_unprotected(&mut InRtcp::new(MASTER), &mut buf, 38, Ok(24)) && is_plain(&buf)
+}
+
+fn is_not_authentic(packet: &[u8], changed: usize) -> bool {
+    let mut buf = buffer(packet);
+    if changed >= 64 {
+        return false;
+    }
+    buf[changed] ^= 0x80;
+    let answer = Err(UnprotectFault::NotAuthentic);
+    is_unprotected(&mut InRtcp::new(MASTER), &mut buf, 38, answer)
+}
+
+/// The E bit and the index are authenticated, and so is the last byte of the tag.
+fn other_taken() -> Option<usize> {
+    for (number, packet) in TAKEN.iter().enumerate() {
+        let taken = is_taken(packet)
+            && is_not_authentic(packet, 24)
+            && is_not_authentic(packet, 27)
+            && is_not_authentic(packet, 37);
+        if !taken {
+            return Some(number);
+        }
+    }
+    None
+}
+
+#[test]
+fn packets_of_other_implementations(rt: HostRuntime) {
+    none_failed(&rt, "TAKEN", other_taken());
+}
+
+/// Whether a first packet of the source goes from the one to the other.
+fn goes_through(sender: &mut OutRtcp, receiver: &mut InRtcp, ssrc: u8) -> bool {
+    let mut buf = bare(ssrc);
+    is_protected(sender, &mut buf, 8, Ok((22, 0)))
+        && is_unprotected(receiver, &mut buf, 22, Ok(8))
+        && buf[..8] == bare(ssrc)[..8]
+}
+
+/// The first of 32 sources whose packet doesn't go through.
+fn lost_source(sender: &mut OutRtcp, receiver: &mut InRtcp) -> Option<usize> {
+    for ssrc in 0..32u8 {
+        if !goes_through(sender, receiver, ssrc) {
+            return Some(ssrc as usize);
+        }
+    }
+    None
 }
 
 #[test]
 fn sources_count_from_zero_and_none_goes(rt: HostRuntime) {
     let mut sender = outbound();
     let mut receiver = InRtcp::new(MASTER);
-    for ssrc in 0..32u8 {
-        let mut buf = bare(ssrc);
-        assert!(rt;
-            protect(&mut sender, &mut buf, 8) == Some(Ok((22, 0))),
-            "{ssrc}"
-        );
-        assert!(rt;
-            unprotect(&mut receiver, &mut buf, 22) == Some(Ok(8)),
-            "{ssrc}"
-        );
-        assert!(rt; &buf[..8] == &bare(ssrc)[..8]);
-    }
+    none_failed(&rt, "the sources", lost_source(&mut sender, &mut receiver));
     let mut buf = bare(32);
-    assert!(rt; protect(&mut sender, &mut buf, 8) == Some(Err(ProtectFault::TooManySources)));
+    assert!(rt; is_protected(&mut sender, &mut buf, 8, Err(ProtectFault::TooManySources)));
     assert!(rt; buf == bare(32));
-    assert!(rt; protect(&mut outbound(), &mut buf, 8) == Some(Ok((22, 0))));
+    assert!(rt; is_protected(&mut outbound(), &mut buf, 8, Ok((22, 0))));
     assert!(rt;
-        unprotect(&mut receiver, &mut buf, 22) == Some(Err(UnprotectFault::TooManySources))
+        is_unprotected(
+            &mut receiver,
+            &mut buf,
+            22,
+            Err(UnprotectFault::TooManySources)
+        )
     );
     let mut again = bare(0);
-    assert!(rt; protect(&mut sender, &mut again, 8) == Some(Ok((22, 1))));
+    assert!(rt; is_protected(&mut sender, &mut again, 8, Ok((22, 1))));
     let copy = again;
-    assert!(rt; unprotect(&mut receiver, &mut again, 21) == Some(Err(UnprotectFault::Short)));
-    assert!(rt; unprotect(&mut receiver, &mut again, 22) == Some(Ok(8)));
+    assert!(rt; is_unprotected(&mut receiver, &mut again, 21, Err(UnprotectFault::Short)));
+    assert!(rt; is_unprotected(&mut receiver, &mut again, 22, Ok(8)));
     again = copy;
-    assert!(rt; unprotect(&mut receiver, &mut again, 22) == Some(Err(UnprotectFault::Replayed)));
+    assert!(rt; is_unprotected(&mut receiver, &mut again, 22, Err(UnprotectFault::Replayed)));
     assert!(rt; again == copy);
+}
+
+/// Packets 1, 2 and 129 of the 130 of one source; the number of the first that isn't protected with its index.
+fn late_packets(sender: &mut OutRtcp, kept: &mut [[u8; 64]; 3]) -> Option<usize> {
+    for index in 0..130u64 {
+        let mut buf = bare(1);
+        if !is_protected(sender, &mut buf, 8, Ok((22, index))) {
+            return Some(index as usize);
+        }
+        match index {
+            1 => kept[0] = buf,
+            2 => kept[1] = buf,
+            129 => kept[2] = buf,
+            _ => {}
+        }
+    }
+    None
 }
 
 // Indices 0 to 129 are sent and 129 is taken first: 1 lies exactly 128 behind it.
 #[test]
-fn late_indices(rt: HostRuntime) -> std::io::Result<()> {
-    let mut sender = outbound();
+fn late_indices(rt: HostRuntime) {
+    let mut kept = [bare(1); 3];
+    none_failed(&rt, "the indices", late_packets(&mut outbound(), &mut kept));
     let mut receiver = InRtcp::new(MASTER);
-    let mut first = bare(1);
-    let mut second = bare(1);
-    let mut last = bare(1);
-    for index in 0..130u64 {
-        let mut buf = bare(1);
-        let sent = protect(&mut sender, &mut buf, 8);
-        assert!(rt; sent == Some(Ok((22, index))), "{sent:?}");
-        match index {
-            1 => first = buf,
-            2 => second = buf,
-            129 => last = buf,
-            _ => {}
-        }
-    }
-    assert!(rt; unprotect(&mut receiver, &mut last, 22) == Some(Ok(8)));
-    assert!(rt; unprotect(&mut receiver, &mut first, 22) == Some(Err(UnprotectFault::TooOld)));
-    assert!(rt; unprotect(&mut receiver, &mut second, 22) == Some(Ok(8)));
-    let sizes = (
-        std::mem::size_of::<InRtcp>(),
-        std::mem::size_of::<OutRtcp>(),
-    );
-    println!(rt;
-        "a context of 32 sources takes {} bytes inbound and {} outbound",
-        sizes.0, sizes.1
-    )?;
-    assert!(rt; sizes.0 <= 34_500 && sizes.1 <= 1_024);
+    assert!(rt; is_unprotected(&mut receiver, &mut kept[2], 22, Ok(8)));
+    assert!(rt; is_unprotected(&mut receiver, &mut kept[0], 22, Err(UnprotectFault::TooOld)));
+    assert!(rt; is_unprotected(&mut receiver, &mut kept[1], 22, Ok(8)));
+}
+
+#[test]
+fn memory_of_contexts(rt: HostRuntime) -> std::io::Result<()> {
+    let inbound = std::mem::size_of::<InRtcp>();
+    let outbound = std::mem::size_of::<OutRtcp>();
+    println!(rt; "a context of 32 sources takes {inbound} bytes inbound and {outbound} outbound")?;
+    assert!(rt; inbound <= 34_500 && outbound <= 1_024);
     Ok(())
 }

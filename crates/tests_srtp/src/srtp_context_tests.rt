@@ -1,3 +1,4 @@
+use crate::cases::none_failed;
 use rtp_packet::rtp;
 use sdes_lines::Suite;
 use srtp_context::{InRtp, OutRtp};
@@ -12,27 +13,23 @@ fn outbound(suite: Suite) -> OutRtp {
     OutRtp::new(key, suite)
 }
 
-// The calls with their conditions asked first; `None` where one doesn't hold.
-fn protect(
+/// Whether a packet of so many bytes is protected so; not where the call's conditions don't hold.
+fn is_protected(
     context: &mut OutRtp,
     buf: &mut [u8; 64],
     len: usize,
-) -> Option<Result<(usize, u64), ProtectFault>> {
-    if len > 54 || rtp(&buf[..len]).is_none() {
-        return None;
-    }
-    Some(context.protect(buf, len))
+    wanted: Result<(usize, u64), ProtectFault>,
+) -> bool {
+    len <= 54 && rtp(&buf[..len]).is_some() && context.protect(buf, len) == wanted
 }
 
-fn unprotect(
+fn is_unprotected(
     context: &mut InRtp,
     buf: &mut [u8; 64],
     len: usize,
-) -> Option<Result<usize, UnprotectFault>> {
-    if len > 64 || rtp(&buf[..len]).is_none() {
-        return None;
-    }
-    Some(context.unprotect(buf, len))
+    wanted: Result<usize, UnprotectFault>,
+) -> bool {
+    len <= 64 && rtp(&buf[..len]).is_some() && context.unprotect(buf, len) == wanted
 }
 
 fn buffer(packet: &[u8]) -> [u8; 64] {
@@ -53,106 +50,115 @@ fn bare(ssrc: u8, seq: u16) -> [u8; 64] {
     buf
 }
 
-// The first packet is that of libsrtp's own test (test/srtp_driver.c, srtp_validate); the others were computed by a
-// program over OpenSSL's AES and HMAC (Python's package cryptography 48), which gives the first one too.
+const PLAIN: &[u8] =
+    b"\x80\x0f\x12\x34\xde\xca\xfb\xad\xca\xfe\xba\xbe\xab\xab\xab\xab\xab\xab\xab\xab\xab\xab\xab\xab\xab\xab\xab\xab";
+
+/// Packets, and how they are protected. The first packet is that of libsrtp's own test (test/srtp_driver.c,
+/// srtp_validate); the others were computed by a program over OpenSSL's AES and HMAC (Python's package cryptography 48),
+/// which gives the first one too.
+const PROTECTED: &[(Suite, &[u8], &[u8])] = &[
+    (
+        Suite::Tag80,
+        PLAIN,
+        b"\x80\x0f\x12\x34\xde\xca\xfb\xad\xca\xfe\xba\xbe\x4e\x55\xdc\x4c\xe7\x99\x78\xd8\x8c\xa4\xd2\x15\x94\x9d\x24\x02\xb7\x8d\x6a\xcc\x99\xea\x17\x9b\x8d\xbb",
+    ),
+    (
+        Suite::Tag32,
+        PLAIN,
+        b"\x80\x0f\x12\x34\xde\xca\xfb\xad\xca\xfe\xba\xbe\x4e\x55\xdc\x4c\xe7\x99\x78\xd8\x8c\xa4\xd2\x15\x94\x9d\x24\x02\xb7\x8d\x6a\xcc",
+    ),
+    (
+        Suite::Tag80,
+        b"\x92\x08\x12\x34\x00\x00\x00\x00\xca\xfe\xba\xbe\x00\x00\x00\x01\x00\x00\x00\x02\xbe\xde\x00\x01\x10\xff\x00\x00hello",
+        b"\x92\x08\x12\x34\x00\x00\x00\x00\xca\xfe\xba\xbe\x00\x00\x00\x01\x00\x00\x00\x02\xbe\xde\x00\x01\x10\xff\x00\x00\x8d\x9b\x1b\x8b\x23\x5e\xf5\xa8\xa2\xf8\x1d\x78\xef\xa2\x60",
+    ),
+    (
+        Suite::Tag80,
+        b"\x80\x0f\x12\x34\xde\xca\xfb\xad\xca\xfe\xba\xbe",
+        b"\x80\x0f\x12\x34\xde\xca\xfb\xad\xca\xfe\xba\xbe\x77\x3c\x2e\x1c\xd9\x1d\x59\x0d\x16\xe5",
+    ),
+];
+
+fn is_protected_as(buf: &mut [u8; 64], suite: Suite, packet: &[u8], wanted: &[u8]) -> bool {
+    let answer = Ok((wanted.len(), 0x1234));
+    is_protected(&mut outbound(suite), buf, packet.len(), answer) && *buf == buffer(wanted)
+}
+
+fn is_opened_as(buf: &mut [u8; 64], suite: Suite, packet: &[u8], len: usize) -> bool {
+    let answer = Ok(packet.len());
+    is_unprotected(&mut InRtp::new(MASTER, suite), buf, len, answer)
+        && packet.len() <= 64
+        && &buf[..packet.len()] == packet
+}
+
+fn other_protected() -> Option<usize> {
+    for (number, (suite, packet, wanted)) in PROTECTED.iter().enumerate() {
+        let mut buf = buffer(packet);
+        let holds = is_protected_as(&mut buf, *suite, packet, wanted)
+            && is_opened_as(&mut buf, *suite, packet, wanted.len());
+        if !holds {
+            return Some(number);
+        }
+    }
+    None
+}
+
 #[test]
 fn packets_of_other_implementations(rt: HostRuntime) {
-    let plain =
-        b"\x80\x0f\x12\x34\xde\xca\xfb\xad\xca\xfe\xba\xbe\xab\xab\xab\xab\xab\xab\xab\xab\xab\xab\xab\xab\xab\xab\xab\xab";
-    let extended =
-        b"\x92\x08\x12\x34\x00\x00\x00\x00\xca\xfe\xba\xbe\x00\x00\x00\x01\x00\x00\x00\x02\xbe\xde\x00\x01\x10\xff\x00\x00hello";
-    let table: [(Suite, &[u8], &[u8]); 4] = [
-        (
-            Suite::Tag80,
-            plain,
-            b"\x80\x0f\x12\x34\xde\xca\xfb\xad\xca\xfe\xba\xbe\x4e\x55\xdc\x4c\xe7\x99\x78\xd8\x8c\xa4\xd2\x15\x94\x9d\x24\x02\xb7\x8d\x6a\xcc\x99\xea\x17\x9b\x8d\xbb",
-        ),
-        (
-            Suite::Tag32,
-            plain,
-            b"\x80\x0f\x12\x34\xde\xca\xfb\xad\xca\xfe\xba\xbe\x4e\x55\xdc\x4c\xe7\x99\x78\xd8\x8c\xa4\xd2\x15\x94\x9d\x24\x02\xb7\x8d\x6a\xcc",
-        ),
-        (
-            Suite::Tag80,
-            extended,
-            b"\x92\x08\x12\x34\x00\x00\x00\x00\xca\xfe\xba\xbe\x00\x00\x00\x01\x00\x00\x00\x02\xbe\xde\x00\x01\x10\xff\x00\x00\x8d\x9b\x1b\x8b\x23\x5e\xf5\xa8\xa2\xf8\x1d\x78\xef\xa2\x60",
-        ),
-        (
-            Suite::Tag80,
-            &plain[..12],
-            b"\x80\x0f\x12\x34\xde\xca\xfb\xad\xca\xfe\xba\xbe\x77\x3c\x2e\x1c\xd9\x1d\x59\x0d\x16\xe5",
-        ),
-    ];
-    for (suite, packet, wanted) in table {
-        let mut buf = buffer(packet);
-        let sent = protect(&mut outbound(suite), &mut buf, packet.len());
-        assert!(rt;
-            sent == Some(Ok((wanted.len(), 0x1234))) && wanted.len() <= 64,
-            "{sent:?}"
-        );
-        assert!(rt; buf == buffer(wanted), "at {packet:?}");
-        let taken = unprotect(&mut InRtp::new(MASTER, suite), &mut buf, wanted.len());
-        assert!(rt;
-            taken == Some(Ok(packet.len())) && packet.len() <= 64,
-            "{taken:?}"
-        );
-        assert!(rt; &buf[..packet.len()] == packet, "at {packet:?}");
-    }
+    none_failed(&rt, "PROTECTED", other_protected());
+}
+
+fn is_number_sent(sender: &mut OutRtp, seq: u16) -> bool {
+    let mut buf = bare(0xbe, seq);
+    buf[8] = 0xca;
+    buf[9] = 0xfe;
+    buf[10] = 0xba;
+    is_protected(sender, &mut buf, 12, Ok((22, seq as u64)))
 }
 
 // The same packet one cycle later, with the roll-over counter 1.
 #[test]
 fn the_rollover_counter_is_authenticated(rt: HostRuntime) {
     let mut sender = outbound(Suite::Tag80);
-    for (seq, index) in [(0x1234, 0x1234), (0x9000, 0x9000), (0xf000, 0xf000)] {
-        let mut buf = bare(0xbe, seq);
-        buf[8] = 0xca;
-        buf[9] = 0xfe;
-        buf[10] = 0xba;
-        let sent = protect(&mut sender, &mut buf, 12);
-        assert!(rt; sent == Some(Ok((22, index))), "{sent:?}");
+    assert!(rt; is_number_sent(&mut sender, 0x1234));
+    assert!(rt; is_number_sent(&mut sender, 0x9000));
+    assert!(rt; is_number_sent(&mut sender, 0xf000));
+    let mut buf = buffer(PLAIN);
+    assert!(rt; is_protected(&mut sender, &mut buf, 28, Ok((38, 0x11234))));
+    let wanted =
+        b"\x80\x0f\x12\x34\xde\xca\xfb\xad\xca\xfe\xba\xbe\x17\x92\x65\xc8\xbf\x30\x3e\x4c\x24\xe7\x27\x9f\x73\x9b\xb5\xa6\xf8\xb3\x91\x6f\xd6\x70\x05\x7b\xf1\xdc";
+    assert!(rt; buf == buffer(wanted));
+}
+
+/// Numbers that are sent in turn, and what each is answered.
+const WRAPPING: &[(u16, Result<(usize, u64), ProtectFault>)] = &[
+    (65_534, Ok((16, 65_534))),
+    (65_535, Ok((16, 65_535))),
+    (0, Ok((16, 65_536))),
+    (65_535, Err(ProtectFault::IndexUsed)),
+];
+
+const LATE: &[(u16, Result<(usize, u64), ProtectFault>)] = &[
+    (0, Ok((16, 0))),
+    (65_535, Err(ProtectFault::TooOld)),
+    (0, Err(ProtectFault::IndexUsed)),
+];
+
+fn other_answer(answers: &[(u16, Result<(usize, u64), ProtectFault>)]) -> Option<usize> {
+    let mut sender = outbound(Suite::Tag32);
+    for (number, (seq, wanted)) in answers.iter().enumerate() {
+        let mut buf = bare(1, *seq);
+        if !is_protected(&mut sender, &mut buf, 12, *wanted) {
+            return Some(number);
+        }
     }
-    let mut buf = buffer(
-        b"\x80\x0f\x12\x34\xde\xca\xfb\xad\xca\xfe\xba\xbe\xab\xab\xab\xab\xab\xab\xab\xab\xab\xab\xab\xab\xab\xab\xab\xab",
-    );
-    let sent = protect(&mut sender, &mut buf, 28);
-    assert!(rt; sent == Some(Ok((38, 0x11234))), "{sent:?}");
-    assert!(rt;
-        buf == buffer(
-            b"\x80\x0f\x12\x34\xde\xca\xfb\xad\xca\xfe\xba\xbe\x17\x92\x65\xc8\xbf\x30\x3e\x4c\x24\xe7\x27\x9f\x73\x9b\xb5\xa6\xf8\xb3\x91\x6f\xd6\x70\x05\x7b\xf1\xdc"
-        )
-    );
+    None
 }
 
 #[test]
 fn wrapping_and_late_numbers(rt: HostRuntime) {
-    let table: [(&[u16], &[Result<(usize, u64), ProtectFault>]); 2] = [
-        (
-            &[65_534, 65_535, 0, 65_535],
-            &[
-                Ok((16, 65_534)),
-                Ok((16, 65_535)),
-                Ok((16, 65_536)),
-                Err(ProtectFault::IndexUsed),
-            ],
-        ),
-        (
-            &[0, 65_535, 0],
-            &[
-                Ok((16, 0)),
-                Err(ProtectFault::TooOld),
-                Err(ProtectFault::IndexUsed),
-            ],
-        ),
-    ];
-    for (numbers, wanted) in table {
-        let mut sender = outbound(Suite::Tag32);
-        for (seq, answer) in numbers.iter().zip(wanted) {
-            let mut buf = bare(1, *seq);
-            let sent = protect(&mut sender, &mut buf, 12);
-            assert!(rt; sent == Some(*answer), "{seq}: {sent:?}");
-        }
-    }
+    none_failed(&rt, "WRAPPING", other_answer(WRAPPING));
+    none_failed(&rt, "LATE", other_answer(LATE));
 }
 
 #[test]
@@ -160,68 +166,88 @@ fn refusals_change_nothing(rt: HostRuntime) {
     let mut sender = outbound(Suite::Tag80);
     let mut receiver = InRtp::new(MASTER, Suite::Tag80);
     let mut buf = bare(1, 500);
-    assert!(rt; protect(&mut sender, &mut buf, 12) == Some(Ok((22, 500))));
+    assert!(rt; is_protected(&mut sender, &mut buf, 12, Ok((22, 500))));
     let whole = buf;
-    assert!(rt; unprotect(&mut receiver, &mut buf, 21) == Some(Err(UnprotectFault::Short)));
+    assert!(rt; is_unprotected(&mut receiver, &mut buf, 21, Err(UnprotectFault::Short)));
     // The last byte of the tag counts in the suite of 80 bits.
     buf[21] ^= 1;
     let flipped = buf;
-    assert!(rt; unprotect(&mut receiver, &mut buf, 22) == Some(Err(UnprotectFault::NotAuthentic)));
+    assert!(rt;
+        is_unprotected(
+            &mut receiver,
+            &mut buf,
+            22,
+            Err(UnprotectFault::NotAuthentic)
+        )
+    );
     assert!(rt; buf == flipped);
     buf = whole;
-    assert!(rt; unprotect(&mut receiver, &mut buf, 22) == Some(Ok(12)));
+    assert!(rt; is_unprotected(&mut receiver, &mut buf, 22, Ok(12)));
     buf = whole;
-    assert!(rt; unprotect(&mut receiver, &mut buf, 22) == Some(Err(UnprotectFault::Replayed)));
+    assert!(rt; is_unprotected(&mut receiver, &mut buf, 22, Err(UnprotectFault::Replayed)));
     assert!(rt; buf == whole);
     // A packet exactly 128 behind is too old, one 127 behind is taken.
     let mut other = outbound(Suite::Tag80);
     let mut exactly = bare(1, 372);
     let mut inside = bare(1, 373);
-    assert!(rt; protect(&mut other, &mut exactly, 12) == Some(Ok((22, 372))));
-    assert!(rt; protect(&mut other, &mut inside, 12) == Some(Ok((22, 373))));
-    assert!(rt; unprotect(&mut receiver, &mut exactly, 22) == Some(Err(UnprotectFault::TooOld)));
-    assert!(rt; unprotect(&mut receiver, &mut inside, 22) == Some(Ok(12)));
+    assert!(rt; is_protected(&mut other, &mut exactly, 12, Ok((22, 372))));
+    assert!(rt; is_protected(&mut other, &mut inside, 12, Ok((22, 373))));
+    assert!(rt; is_unprotected(&mut receiver, &mut exactly, 22, Err(UnprotectFault::TooOld)));
+    assert!(rt; is_unprotected(&mut receiver, &mut inside, 22, Ok(12)));
+}
+
+/// Whether a packet of the source goes from the one to the other.
+fn goes_through(sender: &mut OutRtp, receiver: &mut InRtp, ssrc: u8) -> bool {
+    let mut buf = bare(ssrc, 7);
+    is_protected(sender, &mut buf, 12, Ok((22, 7)))
+        && is_unprotected(receiver, &mut buf, 22, Ok(12))
+}
+
+/// The first of 32 sources whose packet doesn't go through.
+fn lost_source(sender: &mut OutRtp, receiver: &mut InRtp) -> Option<usize> {
+    for ssrc in 0..32u8 {
+        if !goes_through(sender, receiver, ssrc) {
+            return Some(ssrc as usize);
+        }
+    }
+    None
 }
 
 #[test]
-fn thirty_two_sources_and_one_more(rt: HostRuntime) -> std::io::Result<()> {
+fn thirty_two_sources_and_one_more(rt: HostRuntime) {
     let mut sender = outbound(Suite::Tag80);
     let mut receiver = InRtp::new(MASTER, Suite::Tag80);
-    for ssrc in 0..32u8 {
-        let mut buf = bare(ssrc, 7);
-        assert!(rt;
-            protect(&mut sender, &mut buf, 12) == Some(Ok((22, 7))),
-            "{ssrc}"
-        );
-        assert!(rt;
-            unprotect(&mut receiver, &mut buf, 22) == Some(Ok(12)),
-            "{ssrc}"
-        );
-    }
+    none_failed(&rt, "the sources", lost_source(&mut sender, &mut receiver));
     let mut buf = bare(32, 7);
-    assert!(rt; protect(&mut sender, &mut buf, 12) == Some(Err(ProtectFault::TooManySources)));
+    assert!(rt; is_protected(&mut sender, &mut buf, 12, Err(ProtectFault::TooManySources)));
     assert!(rt; buf == bare(32, 7));
-    let mut other = outbound(Suite::Tag80);
-    assert!(rt; protect(&mut other, &mut buf, 12) == Some(Ok((22, 7))));
+    assert!(rt; is_protected(&mut outbound(Suite::Tag80), &mut buf, 12, Ok((22, 7))));
     assert!(rt;
-        unprotect(&mut receiver, &mut buf, 22) == Some(Err(UnprotectFault::TooManySources))
+        is_unprotected(
+            &mut receiver,
+            &mut buf,
+            22,
+            Err(UnprotectFault::TooManySources)
+        )
     );
     let mut first = bare(0, 7);
-    assert!(rt; protect(&mut sender, &mut first, 12) == Some(Err(ProtectFault::IndexUsed)));
+    assert!(rt; is_protected(&mut sender, &mut first, 12, Err(ProtectFault::IndexUsed)));
+}
+
+#[test]
+fn memory_of_a_context(rt: HostRuntime) -> std::io::Result<()> {
     let size = std::mem::size_of::<InRtp>();
     println!(rt; "a context of 32 sources takes {size} bytes")?;
     assert!(rt; size <= 34_500);
     Ok(())
 }
 
-fn protect_long(buf: &mut [u8; 2064]) -> Option<Result<(usize, u64), ProtectFault>> {
-    rtp(&buf[..2000])?;
-    Some(outbound(Suite::Tag80).protect(buf, 2000))
+fn is_long_protected(buf: &mut [u8; 2064]) -> bool {
+    rtp(&buf[..2000]).is_some() && outbound(Suite::Tag80).protect(buf, 2000) == Ok((2010, 0x1234))
 }
 
-fn unprotect_long(buf: &mut [u8; 2064]) -> Option<Result<usize, UnprotectFault>> {
-    rtp(&buf[..2010])?;
-    Some(InRtp::new(MASTER, Suite::Tag80).unprotect(buf, 2010))
+fn is_long_unprotected(buf: &mut [u8; 2064]) -> bool {
+    rtp(&buf[..2010]).is_some() && InRtp::new(MASTER, Suite::Tag80).unprotect(buf, 2010) == Ok(2000)
 }
 
 fn fronts_are_alike(one: &[u8; 2064], other: &[u8; 2064]) -> bool {
@@ -237,14 +263,12 @@ fn a_packet_of_2000_bytes(rt: HostRuntime) {
         buf[place] = ((place - 12) * 7 % 256) as u8;
     }
     let plain = buf;
-    let sent = protect_long(&mut buf);
-    assert!(rt; sent == Some(Ok((2010, 0x1234))), "{sent:?}");
+    assert!(rt; is_long_protected(&mut buf));
     assert!(rt;
         &buf[1994..2010]
             == b"\x62\xed\x45\xf3\x30\xeb\x24\x03\x9d\x60\x38\xb1\x5b\x9a\x7c\x95".as_slice()
     );
-    let taken = unprotect_long(&mut buf);
-    assert!(rt; taken == Some(Ok(2000)), "{taken:?}");
+    assert!(rt; is_long_unprotected(&mut buf));
     assert!(rt; fronts_are_alike(&buf, &plain));
 }
 
@@ -273,47 +297,57 @@ fn by_whole_list(noted: &[u64], seq: u64) -> Result<u64, ProtectFault> {
     Ok(nearest)
 }
 
+/// The next of numbers that look drawn.
+fn next_draw(draw: u64) -> u64 {
+    draw.wrapping_mul(6_364_136_223_846_793_005)
+        .wrapping_add(1_442_695_040_888_963_407)
+}
+
+/// A step of up to 899 numbers, or none at each fourth step.
+fn step_length(step: u32, draw: u64) -> u64 {
+    if step % 4 != 1 { (draw >> 33) % 900 } else { 0 }
+}
+
+/// How late the packet of a step is: up to 1,199 numbers at each third step.
+fn lateness(step: u32, draw: u64) -> u64 {
+    if step % 3 == 0 {
+        (draw >> 50) % 1200
+    } else {
+        0
+    }
+}
+
+/// Whether a packet of this number is sent with the index, or refused for the cause, of the whole lists.
+fn is_sent_as(sender: &mut OutRtp, seq: u64, wanted: Result<u64, ProtectFault>) -> bool {
+    let mut buf = bare(1, (seq % 65_536) as u16);
+    match wanted {
+        Ok(index) => is_protected(sender, &mut buf, 12, Ok((16, index))),
+        Err(cause) => is_protected(sender, &mut buf, 12, Err(cause)),
+    }
+}
+
 // Steps of up to 899 numbers, packets up to 1,199 late and some sent twice, over more than three cycles.
 #[test]
-fn three_cycles_against_whole_lists(rt: HostRuntime) -> std::io::Result<()> {
+fn three_cycles_against_whole_lists(rt: HostRuntime) {
     let mut sender = outbound(Suite::Tag32);
     let mut noted = Vec::new(rt.alloc());
     let mut refused = 0u32;
     let mut front = 0u64;
     let mut draw = 1u64;
     for step in 0..640u32 {
-        draw = draw
-            .wrapping_mul(6_364_136_223_846_793_005)
-            .wrapping_add(1_442_695_040_888_963_407);
-        if step % 4 != 1 {
-            front = front.wrapping_add((draw >> 33) % 900);
-        }
-        let late = if step % 3 == 0 {
-            (draw >> 50) % 1200
-        } else {
-            0
-        };
-        let seq = front.saturating_sub(late) % 65_536;
-        let mut buf = bare(1, seq as u16);
+        draw = next_draw(draw);
+        front = front.wrapping_add(step_length(step, draw));
+        let seq = front.saturating_sub(lateness(step, draw)) % 65_536;
         let wanted = by_whole_list(&noted, seq);
-        let sent = protect(&mut sender, &mut buf, 12);
+        assert!(rt; is_sent_as(&mut sender, seq, wanted), "step {step}");
         match wanted {
             Ok(index) => {
-                assert!(rt;
-                    sent == Some(Ok((16, index))),
-                    "step {step}: {sent:?}, not {index}"
-                );
-                noted.push(index)?;
+                let Ok(()) = noted.push(index) else {
+                    panic!(rt; "no memory");
+                };
             }
-            Err(cause) => {
-                assert!(rt;
-                    sent == Some(Err(cause)),
-                    "step {step}: {sent:?}, not {cause:?}"
-                );
-                refused = refused.wrapping_add(1);
-            }
+            Err(_) => refused = refused.wrapping_add(1),
         }
     }
-    assert!(rt; front > 196_608 && refused > 20, "{front} {refused}");
-    Ok(())
+    assert!(rt; front > 196_608 && refused > 20);
 }
