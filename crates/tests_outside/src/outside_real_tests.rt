@@ -3,12 +3,12 @@ use outside_real::{
     addr_of, socket_addr,
 };
 use relay_outside::{
-    Addr, Clock, ControlLink, Failed, InEnd, Ip, KeySource, LineRead, LineSink, LineSource, OutEnd,
+    Addr, Clock, ControlLink, InEnd, Ip, KeySource, LineRead, LineSink, LineSource, OutEnd,
     PortMaker, Taken, Timer,
 };
 use std::io::{self, BufReader, Read, Write};
 use std::net::Net;
-use std::test::Fail;
+use std::process::Abort;
 
 /// An address of the loopback network, with this last byte.
 fn local(host: u8) -> Addr {
@@ -24,27 +24,25 @@ fn a_datagram_goes_over_loopback(rt: HostRuntime) {
     let mut two = UdpLink::new(&rt);
     let mut buf = [0; 16];
     assert!(rt; one.take(&mut buf).is_err(), "not bound yet");
-    assert_eq!(rt; one.bind(local(77)), Ok(()));
-    assert_eq!(rt; two.bind(local(78)), Ok(()));
-    assert_eq!(rt; two.send(local(77), b"ping"), Ok(()));
-    assert_eq!(rt;
-        one.take(&mut buf),
-        Ok(Taken::Datagram {
-            from: local(78),
-            len: 4
-        })
-    );
-    assert_eq!(rt; &buf[..4], b"ping".as_slice());
-    assert_eq!(rt; one.take(&mut buf), Ok(Taken::Nothing));
+    assert!(rt; one.bind(local(77)).is_ok());
+    assert!(rt; two.bind(local(78)).is_ok());
+    assert!(rt; two.send(local(77), b"ping").is_ok());
+    let ping = Taken::Datagram {
+        from: local(78),
+        len: 4,
+    };
+    assert!(rt; one.take(&mut buf) == Ok(ping));
+    assert!(rt; &buf[..4] == b"ping".as_slice());
+    assert!(rt; one.take(&mut buf) == Ok(Taken::Nothing));
 }
 
 #[test]
 fn an_address_in_use_can_not_be_bound(rt: HostRuntime) {
     let mut one = UdpLink::new(&rt);
     let mut two = UdpLink::new(&rt);
-    assert_eq!(rt; one.bind(local(79)), Ok(()));
-    assert_eq!(rt; two.bind(local(79)), Err(Failed));
-    assert_eq!(rt; two.send(local(79), b"ping"), Err(Failed));
+    assert!(rt; one.bind(local(79)).is_ok());
+    assert!(rt; two.bind(local(79)).is_err());
+    assert!(rt; two.send(local(79), b"ping").is_err());
 }
 
 /// What may be moved to another thread.
@@ -53,62 +51,64 @@ fn movable<T: Send>(end: T) -> T {
 }
 
 /// The ends of a port that is opened.
-fn open<R: Net>(maker: &mut UdpMaker<R>, at: Addr) -> Result<(UdpIn, UdpOut), Fail> {
-    let ends = maker.open(at).ok().ok_or("not opened")?;
-    Ok(movable(ends))
+fn open<R: Net>(rt: &impl Abort, maker: &mut UdpMaker<R>, at: Addr) -> (UdpIn, UdpOut) {
+    let Ok(ends) = maker.open(at) else {
+        panic!(rt; "not opened");
+    };
+    movable(ends)
+}
+
+/// Whether a take gives this.
+fn takes(end: &mut UdpIn, buf: &mut [u8; 4], wanted: Option<(Addr, usize)>) -> bool {
+    end.take(buf) == Ok(wanted)
 }
 
 #[test]
-fn a_packet_goes_from_port_to_port(rt: HostRuntime) -> Result<(), Fail> {
+fn a_packet_goes_from_port_to_port(rt: HostRuntime) {
     let mut maker = UdpMaker::new(&rt);
-    let (mut one_in, mut one_out) = open(&mut maker, local(80))?;
-    let (mut two_in, two_out) = open(&mut maker, local(81))?;
+    let (mut one_in, mut one_out) = open(&rt, &mut maker, local(80));
+    let (mut two_in, two_out) = open(&rt, &mut maker, local(81));
     let mut buf = [0; 4];
-    assert_eq!(rt; two_in.take(&mut buf), Ok(None), "a take doesn't wait");
-    assert_eq!(rt; one_out.send(local(81), b"one"), Ok(()));
-    assert_eq!(rt; one_out.send(local(81), b"longer"), Ok(()));
-    assert_eq!(rt; two_in.take(&mut buf), Ok(Some((local(80), 3))));
-    assert_eq!(rt; &buf[..3], b"one".as_slice());
-    assert_eq!(rt;
-        two_in.take(&mut buf),
-        Ok(Some((local(80), 4))),
+    assert!(rt; takes(&mut two_in, &mut buf, None), "a take doesn't wait");
+    assert!(rt; one_out.send(local(81), b"one").is_ok());
+    assert!(rt; one_out.send(local(81), b"longer").is_ok());
+    assert!(rt; takes(&mut two_in, &mut buf, Some((local(80), 3))));
+    assert!(rt; &buf[..3] == b"one".as_slice());
+    assert!(rt;
+        takes(&mut two_in, &mut buf, Some((local(80), 4))),
         "cut at the buffer"
     );
-    assert_eq!(rt; buf, *b"long");
-    assert_eq!(rt; two_in.take(&mut buf), Ok(None));
-    assert_eq!(rt;
-        one_in.take(&mut buf),
-        Ok(None),
+    assert!(rt; buf == *b"long");
+    assert!(rt; takes(&mut two_in, &mut buf, None));
+    assert!(rt;
+        takes(&mut one_in, &mut buf, None),
         "its own sends don't come back"
     );
     maker.close(local(80), one_in, one_out);
     maker.close(local(81), two_in, two_out);
-    Ok(())
 }
 
 #[test]
-fn a_port_is_free_once_it_is_closed(rt: HostRuntime) -> Result<(), Fail> {
+fn a_port_is_free_once_it_is_closed(rt: HostRuntime) {
     let mut maker = UdpMaker::new(&rt);
     let mut other = UdpMaker::new(&rt);
-    let (receiving, sending) = open(&mut maker, local(82))?;
+    let (receiving, sending) = open(&rt, &mut maker, local(82));
     assert!(rt; other.open(local(82)).is_err(), "in use");
     maker.close(local(82), receiving, sending);
-    let (receiving, sending) = open(&mut other, local(82))?;
+    let (receiving, sending) = open(&rt, &mut other, local(82));
     other.close(local(82), receiving, sending);
-    Ok(())
 }
 
 #[test]
-fn an_address_of_the_other_family_can_not_be_sent_to(rt: HostRuntime) -> Result<(), Fail> {
+fn an_address_of_the_other_family_can_not_be_sent_to(rt: HostRuntime) {
     let mut maker = UdpMaker::new(&rt);
-    let (receiving, mut sending) = open(&mut maker, local(83))?;
+    let (receiving, mut sending) = open(&rt, &mut maker, local(83));
     let six = Addr {
         ip: Ip::V6([0, 0, 0, 0, 0, 0, 0, 0, 0, 0, 0, 0, 0, 0, 0, 1]),
         port: 22_391,
     };
-    assert_eq!(rt; sending.send(six, b"lost"), Err(Failed));
+    assert!(rt; sending.send(six, b"lost").is_err());
     maker.close(local(83), receiving, sending);
-    Ok(())
 }
 
 #[test]
@@ -117,9 +117,8 @@ fn addresses_of_both_families_stay_the_same(rt: HostRuntime) {
         ip: Ip::V6([32, 1, 13, 184, 0, 0, 0, 0, 0, 0, 0, 0, 0, 0, 0, 7]),
         port: 30_000,
     };
-    for at in [local(84), six] {
-        assert_eq!(rt; addr_of(socket_addr(at)), at);
-    }
+    assert!(rt; addr_of(socket_addr(local(84))) == local(84));
+    assert!(rt; addr_of(socket_addr(six)) == six);
 }
 
 #[test]
@@ -148,26 +147,35 @@ impl Write for Full {
 #[test]
 fn lines_go_to_the_stream(rt: HostRuntime) {
     let mut bytes = Vec::<u8>::new(rt.alloc());
-    assert_eq!(rt; StdSink::new(&mut bytes).write(b"turns 0\n"), Ok(()));
-    assert_eq!(rt; bytes.as_slice(), b"turns 0\n".as_slice());
-    assert_eq!(rt; StdSink::new(Full).write(b"turns 0\n"), Err(Failed));
+    assert!(rt; StdSink::new(&mut bytes).write(b"turns 0\n").is_ok());
+    assert!(rt; bytes.as_slice() == b"turns 0\n".as_slice());
+    assert!(rt; StdSink::new(Full).write(b"turns 0\n").is_err());
+}
+
+/// Whether a line of so many bytes is read, and the buffer has this text.
+fn is_line(lines: &mut StdLines<&[u8]>, buf: &mut [u8; 4], len: usize, text: &[u8; 4]) -> bool {
+    lines.line(buf) == Ok(LineRead::Text { len }) && *buf == *text
 }
 
 #[test]
 fn lines_are_cut_at_the_buffer(rt: HostRuntime) {
     let mut lines = StdLines::new(b"at 5\n\nlong line\r\nlast".as_slice());
     let mut buf = [0; 4];
-    for (len, text) in [(4, b"at 5"), (0, b"at 5"), (4, b"long"), (4, b"last")] {
-        assert_eq!(rt; lines.line(&mut buf), Ok(LineRead::Text { len }));
-        assert_eq!(rt; buf, *text);
-    }
-    assert_eq!(rt; lines.line(&mut buf), Ok(LineRead::End));
-    assert_eq!(rt; lines.line(&mut buf), Ok(LineRead::End));
+    assert!(rt; is_line(&mut lines, &mut buf, 4, b"at 5"));
+    assert!(rt; is_line(&mut lines, &mut buf, 0, b"at 5"));
+    assert!(rt; is_line(&mut lines, &mut buf, 4, b"long"));
+    assert!(rt; is_line(&mut lines, &mut buf, 4, b"last"));
+    assert!(rt; lines.line(&mut buf) == Ok(LineRead::End));
+    assert!(rt; lines.line(&mut buf) == Ok(LineRead::End));
+}
+
+#[test]
+fn a_line_may_be_passed_over(rt: HostRuntime) {
     let mut lines = StdLines::new(b"one\ntwo".as_slice());
-    assert_eq!(rt; lines.line(&mut []), Ok(LineRead::Text { len: 0 }));
-    assert_eq!(rt; lines.line(&mut buf), Ok(LineRead::Text { len: 3 }));
-    assert_eq!(rt; buf, *b"twot");
-    assert_eq!(rt; lines.line(&mut []), Ok(LineRead::End));
+    let mut buf = *b"last";
+    assert!(rt; lines.line(&mut []) == Ok(LineRead::Text { len: 0 }));
+    assert!(rt; is_line(&mut lines, &mut buf, 3, b"twot"));
+    assert!(rt; lines.line(&mut []) == Ok(LineRead::End));
 }
 
 /// A stream whose second read fails and whose third one is interrupted.
@@ -192,14 +200,16 @@ impl Read for Broken {
 }
 
 #[test]
-fn the_line_of_a_failed_read_is_lost(rt: HostRuntime) -> io::Result<()> {
-    let mut lines = StdLines::new(BufReader::new(rt.alloc(), Broken { reads: 0 })?);
+fn the_line_of_a_failed_read_is_lost(rt: HostRuntime) {
+    let Ok(stream) = BufReader::new(rt.alloc(), Broken { reads: 0 }) else {
+        panic!(rt; "no memory");
+    };
+    let mut lines = StdLines::new(stream);
     let mut buf = [0; 8];
-    assert_eq!(rt; lines.line(&mut buf), Err(Failed));
-    assert_eq!(rt; lines.line(&mut buf), Ok(LineRead::Text { len: 4 }));
-    assert_eq!(rt; &buf[..4], b"next".as_slice());
-    assert_eq!(rt; lines.line(&mut buf), Ok(LineRead::End));
-    Ok(())
+    assert!(rt; lines.line(&mut buf).is_err());
+    assert!(rt; lines.line(&mut buf) == Ok(LineRead::Text { len: 4 }));
+    assert!(rt; &buf[..4] == b"next".as_slice());
+    assert!(rt; lines.line(&mut buf) == Ok(LineRead::End));
 }
 
 // The keystreams of RFC 8439, appendix A.1: numbers 1 and 2, of the key of zeros, and number 4.
@@ -226,14 +236,14 @@ const OF_ONES: [u8; 30] = [
 #[test]
 fn keys_are_the_keystream_of_their_seed(rt: HostRuntime) {
     let mut keys = ChaChaKeys::from_seed([0; 32]);
-    for key in OF_ZEROS {
-        assert_eq!(rt; keys.draw(), Ok(key));
-    }
+    assert!(rt; keys.draw() == Ok(OF_ZEROS[0]));
+    assert!(rt; keys.draw() == Ok(OF_ZEROS[1]));
+    assert!(rt; keys.draw() == Ok(OF_ZEROS[2]));
     let mut seed = [0; 32];
     seed[1] = 0xff;
     let mut keys = ChaChaKeys::from_seed(seed);
     for _ in 0..4 {
         assert!(rt; keys.draw().is_ok());
     }
-    assert_eq!(rt; keys.draw(), Ok(OF_ONES), "from the third block on");
+    assert!(rt; keys.draw() == Ok(OF_ONES), "from the third block on");
 }

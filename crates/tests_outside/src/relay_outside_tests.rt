@@ -1,4 +1,4 @@
-ghost use Rattle.std.specs.Prelude.{◌≡◌, Some, [], IfOk};
+ghost use Rattle.std.specs.Prelude.{◌≡◌, Some, []};
 
 use relay_outside::{
     Addr, Arrivals, Clock, ControlLink, Copied, Failed, Gate, HandClock, HandTimer, InEnd, Ip,
@@ -7,69 +7,75 @@ use relay_outside::{
     PortMaker, SteadyKeys, SteadyLines, SteadyMaker, Taken, Timer,
 };
 use std::alloc::Global;
-use std::test::Fail;
+use std::process::Abort;
 
 const HERE: Addr = Addr {
     ip: Ip::V4([203, 0, 113, 1]),
     port: 30_000,
 };
 
-fn link(alloc: Global, failing: u64) -> Result<MemoryLink, Fail> {
-    let mut gifts = Vec::new(alloc);
-    gifts.push(LinkGift::datagram(alloc, HERE, b"a datagram")?)?;
-    Ok(MemoryLink::new(alloc, gifts, [failing].to_vec(alloc)?))
+/// The number of a call, alone.
+fn call(rt: &impl Abort, alloc: Global, number: u64) -> Vec<u64> {
+    Vec::from_array(alloc, [number]).expect(rt, "memory")
+}
+
+fn link(rt: &impl Abort, alloc: Global, failing: u64) -> MemoryLink {
+    let gift = LinkGift::datagram(alloc, HERE, b"a datagram").expect(rt, "memory");
+    let gifts = Vec::from_array(alloc, [gift]).expect(rt, "memory");
+    MemoryLink::new(alloc, gifts, call(rt, alloc, failing))
 }
 
 #[test]
-fn a_failing_take_uses_nothing_up(rt: HostRuntime) -> Result<(), Fail> {
-    let mut link = link(rt.alloc(), 1)?;
+fn a_failing_take_uses_nothing_up(rt: HostRuntime) {
+    let mut link = link(&rt, rt.alloc(), 1);
     let mut buf = [0; 4];
     assert!(rt; link.take(&mut buf).is_err());
-    assert_eq!(rt;
-        link.take(&mut buf),
-        Ok(Taken::Datagram { from: HERE, len: 4 })
-    );
-    assert_eq!(rt; buf, *b"a da");
-    assert_eq!(rt; link.take(&mut buf), Ok(Taken::End));
-    Ok(())
+    assert!(rt; link.take(&mut buf) == Ok(Taken::Datagram { from: HERE, len: 4 }));
+    assert!(rt; buf == *b"a da");
+    assert!(rt; link.take(&mut buf) == Ok(Taken::End));
 }
 
 #[test]
-fn a_failing_send_is_not_the_last_one_sent(rt: HostRuntime) -> Result<(), Fail> {
-    let mut link = link(rt.alloc(), 3)?;
+fn a_failing_send_is_not_the_last_one_sent(rt: HostRuntime) {
+    let mut link = link(&rt, rt.alloc(), 3);
     assert!(rt; link.bind(HERE).is_ok());
     assert!(rt; link.last_sent().is_none());
     assert!(rt; link.send(HERE, b"reply").is_ok());
     assert!(rt; link.send(HERE, b"lost").is_err());
-    assert!(rt;
-        link.last_sent()
-            .is_some_and(|sent| sent.1 == b"reply".as_slice())
-    );
+    assert!(rt; is_last_sent(&link, b"reply"));
     assert!(rt; link.tells());
-    Ok(())
+}
+
+fn is_last_sent(link: &MemoryLink, bytes: &[u8]) -> bool {
+    match link.last_sent() {
+        Some((_, sent)) => sent == bytes,
+        None => false,
+    }
 }
 
 #[test]
-fn the_second_write_fails(rt: HostRuntime) -> Result<(), Fail> {
-    let alloc = rt.alloc();
-    let mut sink = MemorySink::new(alloc, [2].to_vec(alloc)?);
-    assert_eq!(rt; sink.write(b"one\n"), Ok(()));
-    assert_eq!(rt; sink.write(b"two\n"), Err(Failed));
+fn the_second_write_fails(rt: HostRuntime) {
+    let mut sink = MemorySink::new(rt.alloc(), call(&rt, rt.alloc(), 2));
+    assert!(rt; sink.write(b"one\n").is_ok());
+    assert!(rt; sink.write(b"two\n").is_err());
     assert!(rt; sink.calls().is_some_and(|calls| calls.len() == 2));
-    Ok(())
 }
 
 #[test]
-fn the_last_moment_stays(rt: HostRuntime) -> Result<(), Fail> {
-    let alloc = rt.alloc();
-    let mut timer = HandTimer::new(alloc, [3, 7].to_vec(alloc)?);
-    assert_eq!(rt; (timer.now(), timer.now()), (3, 7));
-    assert_eq!(rt; timer.now(), 7);
-    let mut idle = HandTimer::new(alloc, Vec::new(alloc));
-    assert_eq!(rt; idle.now(), 0);
-    assert_eq!(rt; HandClock::new(9).now(), 9);
+fn the_last_moment_stays(rt: HostRuntime) {
+    let moments = Vec::from_array(rt.alloc(), [3, 7]).expect(&rt, "memory");
+    let mut timer = HandTimer::new(rt.alloc(), moments);
+    assert!(rt; timer.now() == 3);
+    assert!(rt; timer.now() == 7);
+    assert!(rt; timer.now() == 7);
+}
+
+#[test]
+fn a_clock_without_moments_stands_still(rt: HostRuntime) {
+    let mut idle = HandTimer::new(rt.alloc(), Vec::new(rt.alloc()));
+    assert!(rt; idle.now() == 0);
+    assert!(rt; HandClock::new(9).now() == 9);
     OpenGate::new().inside(1);
-    Ok(())
 }
 
 #[test]
@@ -77,149 +83,140 @@ fn keys_are_numbered(rt: HostRuntime) {
     let mut keys = SteadyKeys::new(rt.alloc());
     let mut second = [0; 30];
     second[0] = 1;
-    assert_eq!(rt; keys.draw(), Ok([0; 30]));
-    assert_eq!(rt; keys.draw(), Ok(second));
+    assert!(rt; keys.draw() == Ok([0; 30]));
+    assert!(rt; keys.draw() == Ok(second));
+}
+
+/// One line.
+fn lines(rt: &impl Abort, alloc: Global) -> Vec<Copied> {
+    let line = Copied::of(alloc, b"at 5").expect(rt, "memory");
+    Vec::from_array(alloc, [line]).expect(rt, "memory")
 }
 
 #[test]
-fn a_line_is_cut_at_the_buffer(rt: HostRuntime) -> Result<(), Fail> {
-    let alloc = rt.alloc();
-    let mut lines = Vec::new(alloc);
-    lines.push(Copied::of(alloc, b"at 5").ok_or("memory")?)?;
-    let mut source = SteadyLines::new(alloc, lines);
+fn a_line_is_cut_at_the_buffer(rt: HostRuntime) {
+    let mut source = SteadyLines::new(rt.alloc(), lines(&rt, rt.alloc()));
     let mut buf = [0; 3];
-    assert_eq!(rt; source.line(&mut buf), Ok(LineRead::Text { len: 3 }));
-    assert_eq!(rt; buf, *b"at ");
-    assert_eq!(rt; source.line(&mut buf), Ok(LineRead::End));
-    Ok(())
+    assert!(rt; source.line(&mut buf) == Ok(LineRead::Text { len: 3 }));
+    assert!(rt; buf == *b"at ");
+    assert!(rt; source.line(&mut buf) == Ok(LineRead::End));
 }
 
-fn maker(alloc: Global) -> Result<SteadyMaker, Fail>
-    ensures { IfOk result (λ maker. maker.told ≡ Some []) }
+fn packet(rt: &impl Abort, alloc: Global) -> Packet {
+    Packet::datagram(alloc, HERE, b"packet").expect(rt, "memory")
+}
+
+fn maker(rt: &impl Abort, alloc: Global) -> SteadyMaker
+    ensures { result.told ≡ Some [] }
 {
-    let mut packets = Vec::new(alloc);
-    packets.push(Packet::Nothing)?;
-    packets.push(Packet::datagram(alloc, HERE, b"packet")?)?;
-    let mut arrivals = Vec::new(alloc);
-    arrivals.push(Arrivals::new(HERE, packets))?;
-    Ok(SteadyMaker::new(alloc, arrivals))
+    let packets = [Packet::Nothing, packet(rt, alloc)];
+    let packets = Vec::from_array(alloc, packets).expect(rt, "memory");
+    let arrivals = Vec::from_array(alloc, [Arrivals::new(HERE, packets)]).expect(rt, "memory");
+    SteadyMaker::new(alloc, arrivals)
 }
 
 #[test]
-fn what_an_end_has_not_given_goes_back(rt: HostRuntime) -> Result<(), Fail> {
-    let mut maker = maker(rt.alloc())?;
+fn what_an_end_has_not_given_goes_back(rt: HostRuntime) {
+    let mut maker = maker(&rt, rt.alloc());
     let mut buf = [0; 16];
     let Ok((mut receiving, mut sending)) = maker.open(HERE) else {
-        assert!(rt; false, "not opened");
-        return Ok(());
+        panic!(rt; "not opened");
     };
-    assert_eq!(rt; receiving.take(&mut buf), Ok(None));
-    assert_eq!(rt; sending.send(HERE, b"out"), Ok(()));
+    assert!(rt; receiving.take(&mut buf) == Ok(None));
+    assert!(rt; sending.send(HERE, b"out").is_ok());
     maker.close(HERE, receiving, sending);
     let Ok((mut receiving, sending)) = maker.open(HERE) else {
-        assert!(rt; false, "not opened again");
-        return Ok(());
+        panic!(rt; "not opened again");
     };
-    assert_eq!(rt; receiving.take(&mut buf), Ok(Some((HERE, 6))));
+    assert!(rt; receiving.take(&mut buf) == Ok(Some((HERE, 6))));
     maker.close(HERE, receiving, sending);
-    Ok(())
 }
 
 #[test]
-fn a_failing_draw_keeps_its_key(rt: HostRuntime) -> Result<(), Fail> {
-    let alloc = rt.alloc();
-    let given = [[1; 30], [2; 30]].to_vec(alloc)?;
-    let mut keys = KeyList::new(alloc, given, [2].to_vec(alloc)?);
-    assert_eq!(rt; keys.draw(), Ok([1; 30]));
-    assert_eq!(rt; keys.draw(), Err(Failed));
-    assert_eq!(rt; keys.draw(), Ok([2; 30]));
-    assert_eq!(rt; keys.draw(), Err(Failed));
+fn a_failing_draw_keeps_its_key(rt: HostRuntime) {
+    let given = Vec::from_array(rt.alloc(), [[1; 30], [2; 30]]).expect(&rt, "memory");
+    let mut keys = KeyList::new(rt.alloc(), given, call(&rt, rt.alloc(), 2));
+    assert!(rt; keys.draw() == Ok([1; 30]));
+    assert!(rt; keys.draw().is_err());
+    assert!(rt; keys.draw() == Ok([2; 30]));
+    assert!(rt; keys.draw().is_err());
     assert!(rt; keys.tells());
-    Ok(())
 }
 
 #[test]
-fn a_failing_read_keeps_its_line(rt: HostRuntime) -> Result<(), Fail> {
-    let alloc = rt.alloc();
-    let mut lines = Vec::new(alloc);
-    lines.push(Copied::of(alloc, b"at 5").ok_or("memory")?)?;
-    let mut source = MemoryLines::new(alloc, lines, [1].to_vec(alloc)?);
+fn a_failing_read_keeps_its_line(rt: HostRuntime) {
+    let lines = lines(&rt, rt.alloc());
+    let mut source = MemoryLines::new(rt.alloc(), lines, call(&rt, rt.alloc(), 1));
     let mut buf = [0; 8];
-    assert_eq!(rt; source.line(&mut buf), Err(Failed));
-    assert_eq!(rt; source.line(&mut buf), Ok(LineRead::Text { len: 4 }));
-    assert_eq!(rt; buf, *b"at 5\0\0\0\0");
-    assert_eq!(rt; source.line(&mut buf), Ok(LineRead::End));
+    assert!(rt; source.line(&mut buf).is_err());
+    assert!(rt; source.line(&mut buf) == Ok(LineRead::Text { len: 4 }));
+    assert!(rt; buf == *b"at 5\0\0\0\0");
+    assert!(rt; source.line(&mut buf) == Ok(LineRead::End));
     assert!(rt; source.tells());
-    Ok(())
 }
 
-fn failing_maker(alloc: Global, failing: u64) -> Result<MemoryMaker, Fail>
-    ensures { IfOk result (λ maker. maker.told ≡ Some []) }
+fn failing_maker(rt: &impl Abort, alloc: Global, failing: u64) -> MemoryMaker
+    ensures { result.told ≡ Some [] }
 {
-    let mut packets = Vec::new(alloc);
-    packets.push(Packet::datagram(alloc, HERE, b"packet")?)?;
-    let takes = [1].to_vec(alloc)?;
-    let sends = [2].to_vec(alloc)?;
-    let mut ports = Vec::new(alloc);
-    ports.push(MemoryPort::new(HERE, packets, takes, sends))?;
-    Ok(MemoryMaker::new(alloc, ports, [failing].to_vec(alloc)?))
+    let packets = Vec::from_array(alloc, [packet(rt, alloc)]).expect(rt, "memory");
+    let port = MemoryPort::new(HERE, packets, call(rt, alloc, 1), call(rt, alloc, 2));
+    let ports = Vec::from_array(alloc, [port]).expect(rt, "memory");
+    MemoryMaker::new(alloc, ports, call(rt, alloc, failing))
 }
 
-/// What three takes and two sends answer, in turns.
-fn takes_and_sends(
+/// The first of three takes and two sends, in turns, that goes another way: the first take and the second send are to fail.
+fn other_step(
     receiving: &mut MemoryIn,
     sending: &mut MemoryOut,
-    buf: &mut [u8; 16],
-) -> (
-    [Result<Option<(Addr, usize)>, Failed>; 3],
-    [Result<(), Failed>; 2],
-) {
-    let first = receiving.take(buf);
-    let sent = sending.send(HERE, b"out");
-    let second = receiving.take(buf);
-    let lost = sending.send(HERE, b"lost");
-    ([first, second, receiving.take(buf)], [sent, lost])
+    second: Option<(Addr, usize)>,
+) -> Option<u32> {
+    let mut buf = [0; 16];
+    if receiving.take(&mut buf).is_ok() {
+        return Some(0);
+    }
+    if sending.send(HERE, b"out").is_err() {
+        return Some(1);
+    }
+    if receiving.take(&mut buf) != Ok(second) {
+        return Some(2);
+    }
+    if sending.send(HERE, b"lost").is_ok() {
+        return Some(3);
+    }
+    if receiving.take(&mut buf) != Ok(None) {
+        return Some(4);
+    }
+    None
 }
 
 #[test]
-fn the_second_opening_fails(rt: HostRuntime) -> Result<(), Fail> {
-    let mut maker = failing_maker(rt.alloc(), 2)?;
+fn the_second_opening_fails(rt: HostRuntime) {
+    let mut maker = failing_maker(&rt, rt.alloc(), 2);
     let Ok((receiving, sending)) = maker.open(HERE) else {
-        assert!(rt; false, "not opened");
-        return Ok(());
+        panic!(rt; "not opened");
     };
     maker.close(HERE, receiving, sending);
     assert!(rt; maker.open(HERE).is_err());
     assert!(rt; maker.tells());
     assert!(rt; maker.calls().is_some_and(|calls| calls.len() == 3));
-    Ok(())
 }
 
 #[test]
-fn each_end_counts_its_own_calls_from_its_opening(rt: HostRuntime) -> Result<(), Fail> {
-    let mut maker = failing_maker(rt.alloc(), 3)?;
-    let mut buf = [0; 16];
+fn each_end_counts_its_own_calls_from_its_opening(rt: HostRuntime) {
+    let mut maker = failing_maker(&rt, rt.alloc(), 3);
     let Ok((mut receiving, mut sending)) = maker.open(HERE) else {
-        assert!(rt; false, "not opened");
-        return Ok(());
+        panic!(rt; "not opened");
     };
-    assert_eq!(rt;
-        takes_and_sends(&mut receiving, &mut sending, &mut buf),
-        (
-            [Err(Failed), Ok(Some((HERE, 6))), Ok(None)],
-            [Ok(()), Err(Failed)]
-        )
-    );
+    if let Some(step) = other_step(&mut receiving, &mut sending, Some((HERE, 6))) {
+        panic!(rt; "step {step}");
+    }
     assert!(rt; receiving.tells() && sending.tells());
     maker.close(HERE, receiving, sending);
     let Ok((mut receiving, mut sending)) = maker.open(HERE) else {
-        assert!(rt; false, "not opened again");
-        return Ok(());
+        panic!(rt; "not opened again");
     };
-    assert_eq!(rt;
-        takes_and_sends(&mut receiving, &mut sending, &mut buf),
-        ([Err(Failed), Ok(None), Ok(None)], [Ok(()), Err(Failed)])
-    );
+    if let Some(step) = other_step(&mut receiving, &mut sending, None) {
+        panic!(rt; "step {step} again");
+    }
     maker.close(HERE, receiving, sending);
-    Ok(())
 }
