@@ -1,169 +1,148 @@
-ghost use Rattle.std.specs.Prelude.{◌≡◌, IfOk};
-ghost use Rattle.cookie_cache.specs.Keepings.{IsCookie};
-
 use cookie_cache::{CookieCache, kept_is_latest};
 use ng_bencode::Text;
 use relay_outside::{Addr, Ip};
 use std::alloc::Global;
-use std::test::Fail;
+use std::process::Abort;
 
-/// A source at a documentation address (RFC 5737) and this port.
-fn source(port: u16) -> Addr {
-    Addr {
-        ip: Ip::V4([192, 0, 2, 1]),
-        port,
-    }
-}
+/// A source at a documentation address (RFC 5737).
+const SOURCE: Addr = Addr {
+    ip: Ip::V4([192, 0, 2, 1]),
+    port: 2223,
+};
 
-/// A text of these bytes.
-fn text(alloc: Global, bytes: &[u8]) -> Result<Text, Fail>
-    ensures { IfOk result (λ text. text.list ≡ bytes.now) }
-{
-    let mut text = Text::new(alloc);
-    text.reserve(bytes.len())?;
-    text.extend(bytes);
-    Ok(text)
+/// A source at the same address, and at another port.
+const OTHER_PORT: Addr = Addr {
+    ip: Ip::V4([192, 0, 2, 1]),
+    port: 2224,
+};
+
+const OTHER_HOST: Addr = Addr {
+    ip: Ip::V4([192, 0, 2, 2]),
+    port: 2223,
+};
+
+const LONGER_HOST: Addr = Addr {
+    ip: Ip::V6([192, 0, 2, 1, 0, 0, 0, 0, 0, 0, 0, 0, 0, 0, 0, 0]),
+    port: 2223,
+};
+
+fn new_cache(rt: &impl Abort, alloc: Global) -> CookieCache {
+    CookieCache::new(alloc).expect(rt, "memory")
 }
 
 /// Keeps a reply, with memory for it.
 fn keep(
+    rt: &impl Abort,
     alloc: Global,
     cache: &mut CookieCache,
     source: Addr,
     cookie: &[u8],
     reply: &[u8],
     now: u64,
-) -> Result<(), Fail>
-    requires { IsCookie cookie.now }
-{
-    let cookie = text(alloc, cookie)?;
-    let reply = text(alloc, reply)?;
-    cache.reserve()?;
+) {
+    assert!(rt; !cookie.is_empty() && cookie.len() <= 255);
+    let Ok(()) = cache.reserve() else {
+        panic!(rt; "no memory");
+    };
+    let Ok(cookie) = Text::copy_of(alloc, cookie) else {
+        panic!(rt; "no memory");
+    };
+    let Ok(reply) = Text::copy_of(alloc, reply) else {
+        panic!(rt; "no memory");
+    };
     cache.keep(source, cookie, reply, now);
-    Ok(())
+}
+
+/// Whether the cache finds this reply, or none.
+fn finds(cache: &CookieCache, source: Addr, cookie: &[u8], now: u64, want: Option<&[u8]>) -> bool {
+    !cookie.is_empty() && cookie.len() <= 255 && cache.find(source, cookie, now) == want
 }
 
 #[test]
-fn a_reply_is_found_for_less_than_a_minute(rt: HostRuntime) -> Result<(), Fail> {
-    let alloc = rt.alloc();
+fn a_reply_is_found_for_less_than_a_minute(rt: HostRuntime) {
     kept_is_latest();
-    let mut cache = CookieCache::new(alloc)?;
-    assert!(rt; cache.find(source(2223), b"8_a", 0).is_none());
-    keep(alloc, &mut cache, source(2223), b"8_a", b"pong", 0)?;
-    for (now, found) in [
-        (0, true),
-        (1, true),
-        (59_999, true),
-        (60_000, false),
-        (u64::MAX, false),
-    ] {
-        let reply = cache.find(source(2223), b"8_a", now);
-        assert_eq!(rt; reply.is_some(), found, "at {now}");
-        assert!(rt;
-            reply.is_none() || reply == Some(b"pong".as_slice()),
-            "at {now}"
-        );
+    let mut cache = new_cache(&rt, rt.alloc());
+    assert!(rt; finds(&cache, SOURCE, b"8_a", 0, None));
+    keep(&rt, rt.alloc(), &mut cache, SOURCE, b"8_a", b"pong", 0);
+    assert!(rt; finds(&cache, SOURCE, b"8_a", 0, Some(b"pong")));
+    assert!(rt; finds(&cache, SOURCE, b"8_a", 1, Some(b"pong")));
+    assert!(rt; finds(&cache, SOURCE, b"8_a", 59_999, Some(b"pong")));
+    assert!(rt; finds(&cache, SOURCE, b"8_a", 60_000, None));
+    assert!(rt; finds(&cache, SOURCE, b"8_a", u64::MAX, None));
+}
+
+/// Keeps a reply for each cookie of a number up to this one.
+fn keep_numbers(
+    rt: &impl Abort,
+    alloc: Global,
+    cache: &mut CookieCache,
+    count: u32,
+    reply: &[u8],
+    now: u64,
+) {
+    for number in 0..count {
+        keep(rt, alloc, cache, SOURCE, &number.to_be_bytes(), reply, now);
     }
-    Ok(())
+}
+
+fn finds_number(cache: &CookieCache, number: u32, want: Option<&[u8]>) -> bool {
+    finds(cache, SOURCE, &number.to_be_bytes(), 7, want)
 }
 
 #[test]
-fn the_first_of_4097_replies_is_gone(rt: HostRuntime) -> Result<(), Fail> {
+fn the_first_of_4097_replies_is_gone(rt: HostRuntime) {
     let alloc = rt.alloc();
-    let mut cache = CookieCache::new(alloc)?;
-    for number in 0..4096u32 {
-        keep(
-            alloc,
-            &mut cache,
-            source(2223),
-            &number.to_be_bytes(),
-            b"first",
-            7,
-        )?;
-    }
-    for number in [0u32, 1, 4095] {
-        let reply = cache.find(source(2223), &number.to_be_bytes(), 7);
-        assert!(rt; reply == Some(b"first".as_slice()), "{number} of 4,096");
-    }
-    keep(
-        alloc,
-        &mut cache,
-        source(2223),
-        &4096u32.to_be_bytes(),
-        b"last",
-        7,
-    )?;
-    for (number, found) in [(0u32, false), (1, true), (4096, true), (4097, false)] {
-        let reply = cache.find(source(2223), &number.to_be_bytes(), 7);
-        assert_eq!(rt; reply.is_some(), found, "{number} of 4,097");
-    }
-    Ok(())
+    let mut cache = new_cache(&rt, alloc);
+    keep_numbers(&rt, alloc, &mut cache, 4096, b"first", 7);
+    assert!(rt; finds_number(&cache, 0, Some(b"first")));
+    assert!(rt; finds_number(&cache, 1, Some(b"first")));
+    assert!(rt; finds_number(&cache, 4095, Some(b"first")));
+    let last = 4096u32.to_be_bytes();
+    keep(&rt, alloc, &mut cache, SOURCE, &last, b"last", 7);
+    assert!(rt; finds_number(&cache, 0, None));
+    assert!(rt; finds_number(&cache, 1, Some(b"first")));
+    assert!(rt; finds_number(&cache, 4096, Some(b"last")));
+    assert!(rt; finds_number(&cache, 4097, None));
+}
+
+/// Whether a source finds this reply to the cookie, and none to a shorter one.
+fn finds_alone(cache: &CookieCache, source: Addr, cookie: &[u8; 255], want: Option<&[u8]>) -> bool {
+    finds(cache, source, cookie, 0, want) && finds(cache, source, &cookie[..254], 0, None)
 }
 
 #[test]
-fn each_source_has_its_own_reply_to_one_cookie(rt: HostRuntime) -> Result<(), Fail> {
-    let alloc = rt.alloc();
-    let mut cache = CookieCache::new(alloc)?;
-    let other_host = Addr {
-        ip: Ip::V4([192, 0, 2, 2]),
-        port: 2223,
-    };
-    let longer_host = Addr {
-        ip: Ip::V6([192, 0, 2, 1, 0, 0, 0, 0, 0, 0, 0, 0, 0, 0, 0, 0]),
-        port: 2223,
-    };
+fn each_source_has_its_own_reply_to_one_cookie(rt: HostRuntime) {
+    let mut cache = new_cache(&rt, rt.alloc());
     let longest = [b'c'; 255];
-    keep(alloc, &mut cache, source(2223), &longest, b"one", 0)?;
-    keep(alloc, &mut cache, source(2224), &longest, b"two", 0)?;
-    for (asking, want) in [
-        (source(2223), Some(b"one".as_slice())),
-        (source(2224), Some(b"two".as_slice())),
-        (other_host, None),
-        (longer_host, None),
-    ] {
-        assert!(rt; cache.find(asking, &longest, 0) == want, "{asking:?}");
-        assert!(rt;
-            cache.find(asking, &longest[..254], 0).is_none(),
-            "{asking:?}"
-        );
-    }
-    Ok(())
+    keep(&rt, rt.alloc(), &mut cache, SOURCE, &longest, b"one", 0);
+    keep(&rt, rt.alloc(), &mut cache, OTHER_PORT, &longest, b"two", 0);
+    assert!(rt; finds_alone(&cache, SOURCE, &longest, Some(b"one")));
+    assert!(rt; finds_alone(&cache, OTHER_PORT, &longest, Some(b"two")));
+    assert!(rt; finds_alone(&cache, OTHER_HOST, &longest, None));
+    assert!(rt; finds_alone(&cache, LONGER_HOST, &longest, None));
 }
 
 #[test]
-fn the_latest_reply_to_a_repeated_cookie_counts(rt: HostRuntime) -> Result<(), Fail> {
+fn the_latest_reply_to_a_repeated_cookie_counts(rt: HostRuntime) {
     let alloc = rt.alloc();
-    let mut cache = CookieCache::new(alloc)?;
-    keep(alloc, &mut cache, source(2223), b"8_a", b"first", 0)?;
-    keep(alloc, &mut cache, source(2223), b"8_a", b"second", 60_000)?;
-    for number in 0..4095u32 {
-        keep(
-            alloc,
-            &mut cache,
-            source(2223),
-            &number.to_be_bytes(),
-            b"other",
-            60_000,
-        )?;
-    }
-    let reply = cache.find(source(2223), b"8_a", 60_000);
-    assert!(rt; reply == Some(b"second".as_slice()));
-    keep(alloc, &mut cache, source(2223), b"9_a", b"other", 60_000)?;
-    assert!(rt; cache.find(source(2223), b"8_a", 60_000).is_none());
-    Ok(())
+    let mut cache = new_cache(&rt, alloc);
+    keep(&rt, alloc, &mut cache, SOURCE, b"8_a", b"first", 0);
+    keep(&rt, alloc, &mut cache, SOURCE, b"8_a", b"second", 60_000);
+    keep_numbers(&rt, alloc, &mut cache, 4095, b"other", 60_000);
+    assert!(rt; finds(&cache, SOURCE, b"8_a", 60_000, Some(b"second")));
+    keep(&rt, alloc, &mut cache, SOURCE, b"9_a", b"other", 60_000);
+    assert!(rt; finds(&cache, SOURCE, b"8_a", 60_000, None));
 }
 
 #[test]
-fn a_clock_that_goes_back_stands_still(rt: HostRuntime) -> Result<(), Fail> {
+fn a_clock_that_goes_back_stands_still(rt: HostRuntime) {
     let alloc = rt.alloc();
-    let mut cache = CookieCache::new(alloc)?;
-    keep(alloc, &mut cache, source(2223), b"8_a", b"early", 1_000)?;
-    keep(alloc, &mut cache, source(2223), b"8_b", b"late", 61_000)?;
-    assert!(rt; cache.find(source(2223), b"8_a", 1_000).is_none());
-    keep(alloc, &mut cache, source(2223), b"8_c", b"back", 0)?;
-    for (now, found) in [(0, true), (120_999, true), (121_000, false)] {
-        let reply = cache.find(source(2223), b"8_c", now);
-        assert_eq!(rt; reply.is_some(), found, "at {now}");
-    }
-    Ok(())
+    let mut cache = new_cache(&rt, alloc);
+    keep(&rt, alloc, &mut cache, SOURCE, b"8_a", b"early", 1_000);
+    keep(&rt, alloc, &mut cache, SOURCE, b"8_b", b"late", 61_000);
+    assert!(rt; finds(&cache, SOURCE, b"8_a", 1_000, None));
+    keep(&rt, alloc, &mut cache, SOURCE, b"8_c", b"back", 0);
+    assert!(rt; finds(&cache, SOURCE, b"8_c", 0, Some(b"back")));
+    assert!(rt; finds(&cache, SOURCE, b"8_c", 120_999, Some(b"back")));
+    assert!(rt; finds(&cache, SOURCE, b"8_c", 121_000, None));
 }

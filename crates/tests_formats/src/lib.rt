@@ -3,6 +3,8 @@
 #![tactic(auto)]
 
 #[cfg(test)]
+mod cases;
+#[cfg(test)]
 mod cookie_cache_tests;
 #[cfg(test)]
 mod ng_bencode_tests;

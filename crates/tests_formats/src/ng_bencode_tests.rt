@@ -1,10 +1,11 @@
+use crate::cases::none_failed;
 use ng_bencode::{Bad, Pairs, Text, Value, Values, decode, encode, lookup, one_reading, same_key};
 use std::alloc::Global;
-use std::test::Fail;
+use std::process::Abort;
 
-const SIXTEEN: &str = "lllllllllllllllleeeeeeeeeeeeeeee";
+const SIXTEEN: &[u8] = b"lllllllllllllllleeeeeeeeeeeeeeee";
 
-const SEVENTEEN: &str = "llllllllllllllllleeeeeeeeeeeeeeeee";
+const SEVENTEEN: &[u8] = b"llllllllllllllllleeeeeeeeeeeeeeeee";
 
 /// Whether `text` is taken, and written again byte for byte.
 fn is_taken(alloc: Global, text: &[u8]) -> bool {
@@ -24,136 +25,207 @@ fn is_refused(alloc: Global, text: &[u8]) -> bool {
     }
 }
 
+/// Whether this letter 16,384 times is refused.
+fn is_row_refused(alloc: Global, letter: u8) -> bool {
+    let Ok(letters) = Vec::from_elem(alloc, letter, 16384usize) else {
+        return false;
+    };
+    is_refused(alloc, letters.as_slice())
+}
+
+/// Texts of the grammar.
+const TEXTS: &[&[u8]] = &[
+    b"i0e",
+    b"i-1e",
+    b"i42e",
+    b"i9223372036854775807e",
+    b"i-9223372036854775808e",
+    b"0:",
+    b"3:abc",
+    b"10:0123456789",
+    b"2:::",
+    b"le",
+    b"de",
+    b"l1:eli1eede0:e",
+    b"d1:bi1e1:ai2ee",
+    b"d1:ai1e1:ai2ee",
+    b"d0:0:e",
+    b"d7:command4:pinge",
+    SIXTEEN,
+];
+
+/// Texts that are not of the grammar.
+const OTHER_TEXTS: &[&[u8]] = &[
+    b"",
+    b"e",
+    b"x",
+    b"ie",
+    b"i-e",
+    b"i5",
+    b"i01e",
+    b"i00e",
+    b"i-0e",
+    b"i-01e",
+    b"i+1e",
+    b"i 1e",
+    b"i1.5e",
+    b"i9223372036854775808e",
+    b"i-9223372036854775809e",
+    b"03:abc",
+    b"00:",
+    b"-1:a",
+    b"+1:a",
+    b":a",
+    b"4:abc",
+    b"3abc",
+    b"18446744073709551615:abc",
+    b"18446744073709551616:abc",
+    b"l",
+    b"li1e",
+    b"le4",
+    b"d",
+    b"d1:a",
+    b"d1:ae",
+    b"di1e1:ae",
+    b"d1:a1:be1:",
+    b"i1ei2e",
+    b"3:abcd",
+    SEVENTEEN,
+];
+
+fn not_taken(alloc: Global) -> Option<usize> {
+    for (number, text) in TEXTS.iter().enumerate() {
+        if !is_taken(alloc, text) {
+            return Some(number);
+        }
+    }
+    None
+}
+
+fn not_refused(alloc: Global) -> Option<usize> {
+    for (number, text) in OTHER_TEXTS.iter().enumerate() {
+        if !is_refused(alloc, text) {
+            return Some(number);
+        }
+    }
+    None
+}
+
 #[test]
-fn texts_of_the_grammar_are_taken_and_no_others(rt: HostRuntime) -> Result<(), Fail> {
-    let alloc = rt.alloc();
-    for text in [
-        "i0e",
-        "i-1e",
-        "i42e",
-        "i9223372036854775807e",
-        "i-9223372036854775808e",
-        "0:",
-        "3:abc",
-        "10:0123456789",
-        "2:::",
-        "le",
-        "de",
-        "l1:eli1eede0:e",
-        "d1:bi1e1:ai2ee",
-        "d1:ai1e1:ai2ee",
-        "d0:0:e",
-        "d7:command4:pinge",
-        SIXTEEN,
-    ] {
-        assert!(rt; is_taken(alloc, text.as_bytes()), "{text}");
-    }
-    for text in [
-        "",
-        "e",
-        "x",
-        "ie",
-        "i-e",
-        "i5",
-        "i01e",
-        "i00e",
-        "i-0e",
-        "i-01e",
-        "i+1e",
-        "i 1e",
-        "i1.5e",
-        "i9223372036854775808e",
-        "i-9223372036854775809e",
-        "03:abc",
-        "00:",
-        "-1:a",
-        "+1:a",
-        ":a",
-        "4:abc",
-        "3abc",
-        "18446744073709551615:abc",
-        "18446744073709551616:abc",
-        "l",
-        "li1e",
-        "le4",
-        "d",
-        "d1:a",
-        "d1:ae",
-        "di1e1:ae",
-        "d1:a1:be1:",
-        "i1ei2e",
-        "3:abcd",
-        SEVENTEEN,
-    ] {
-        assert!(rt; is_refused(alloc, text.as_bytes()), "{text}");
-    }
-    let letters = vec![in alloc; b'i'; 16384]?;
-    assert!(rt; is_refused(alloc, letters.as_slice()));
-    let lists = vec![in alloc; b'l'; 16384]?;
-    assert!(rt; is_refused(alloc, lists.as_slice()));
+fn texts_of_the_grammar_are_taken_and_no_others(rt: HostRuntime) {
+    none_failed(&rt, "TEXTS", not_taken(rt.alloc()));
+    none_failed(&rt, "OTHER_TEXTS", not_refused(rt.alloc()));
+    assert!(rt; is_row_refused(rt.alloc(), b'i'));
+    assert!(rt; is_row_refused(rt.alloc(), b'l'));
     one_reading();
-    Ok(())
 }
 
 /// The integer under a key, or -1.
-fn int_at(dict: &Pairs, key: &str) -> i64 {
-    match lookup(dict, key.as_bytes()) {
+fn int_at(dict: &Pairs, key: &[u8]) -> i64 {
+    match lookup(dict, key) {
         Some(value) => value.as_int().unwrap_or(-1),
         None => -1,
     }
 }
 
-#[test]
-fn a_key_finds_its_first_pair(rt: HostRuntime) -> Result<(), Fail> {
-    let text = "d8:from-tagi1e8:from tagi2e8:from_tagi3e7:call-idi4e6:via  bi5ee";
-    let value = decode(rt.alloc(), text.as_bytes())?;
-    let dict = value.as_dict().ok_or("no dictionary")?;
-    for (key, want) in [
-        ("from-tag", 1),
-        ("from tag", 1),
-        ("from_tag", 3),
-        ("call-id", 4),
-        ("call id", 4),
-        ("via--b", 5),
-        ("via- b", 5),
-        ("via -c", -1),
-        ("call-i", -1),
-        ("call-idd", -1),
-        ("", -1),
-    ] {
-        assert_eq!(rt; int_at(dict, key), want, "{key}");
+/// Keys, and the integer under each.
+const KEYS: &[(&[u8], i64)] = &[
+    (b"from-tag", 1),
+    (b"from tag", 1),
+    (b"from_tag", 3),
+    (b"call-id", 4),
+    (b"call id", 4),
+    (b"via--b", 5),
+    (b"via- b", 5),
+    (b"via -c", -1),
+    (b"call-i", -1),
+    (b"call-idd", -1),
+    (b"", -1),
+];
+
+fn other_key(dict: &Pairs) -> Option<usize> {
+    for (number, (key, want)) in KEYS.iter().enumerate() {
+        if int_at(dict, key) != *want {
+            return Some(number);
+        }
     }
-    assert!(rt;
-        same_key(b"SIP source address", b"SIP-source-address") && !same_key(b"fatal", b"Fatal")
-    );
-    Ok(())
+    None
 }
 
 #[test]
-fn a_value_is_put_together_and_taken_apart(rt: HostRuntime) -> Result<(), Fail> {
-    let alloc = rt.alloc();
+fn a_key_finds_its_first_pair(rt: HostRuntime) {
+    let text = b"d8:from-tagi1e8:from tagi2e8:from_tagi3e7:call-idi4e6:via  bi5ee";
+    let Ok(value) = decode(rt.alloc(), text) else {
+        panic!(rt; "not taken");
+    };
+    let Some(dict) = value.as_dict() else {
+        panic!(rt; "no dictionary");
+    };
+    none_failed(&rt, "KEYS", other_key(dict));
+    assert!(rt;
+        same_key(b"SIP source address", b"SIP-source-address") && !same_key(b"fatal", b"Fatal")
+    );
+}
+
+fn key(rt: &impl Abort, alloc: Global) -> Text {
     let mut key = Text::new(alloc);
-    key.reserve(4)?;
+    let Ok(()) = key.reserve(4) else {
+        panic!(rt; "no memory");
+    };
     key.push(b'k');
     key.extend(b"ey");
-    assert_eq!(rt; key.as_slice(), b"key".as_slice());
+    assert!(rt; key.as_slice() == b"key".as_slice());
+    key
+}
+
+/// A list of the integer -7 and of an empty text.
+fn list(rt: &impl Abort, alloc: Global) -> Value {
     let mut values = Values::new(alloc);
-    values.reserve(2)?;
+    let Ok(()) = values.reserve(2) else {
+        panic!(rt; "no memory");
+    };
     values.push(Value::int(-7));
     values.push(Value::bytes(Text::new(alloc)));
-    assert_eq!(rt; values.as_slice().len(), 2);
+    assert!(rt; values.as_slice().len() == 2);
+    Value::list(values)
+}
+
+/// The dictionary of that list under that key.
+fn dict(rt: &impl Abort, alloc: Global) -> Value {
     let mut pairs = Pairs::new(alloc);
-    pairs.reserve(1)?;
-    pairs.push((key, Value::list(values)));
-    let value = Value::dict(pairs);
-    assert!(rt;
-        value.as_int().is_none() && value.as_bytes().is_none() && value.as_list().is_none()
-    );
-    let dict = value.as_dict().ok_or("no dictionary")?;
-    let list = lookup(dict, b"key").ok_or("no such key")?;
-    let items = list.as_list().ok_or("no list")?;
+    let Ok(()) = pairs.reserve(1) else {
+        panic!(rt; "no memory");
+    };
+    pairs.push((key(rt, alloc), list(rt, alloc)));
+    Value::dict(pairs)
+}
+
+fn is_dict_alone(value: &Value) -> bool {
+    value.as_int().is_none() && value.as_bytes().is_none() && value.as_list().is_none()
+}
+
+/// Whether each item of a list is the integer -7 or a text.
+fn has_its_items(list: &Value) -> bool {
+    let Some(items) = list.as_list() else {
+        return false;
+    };
     for item in items.as_slice() {
-        assert!(rt; item.as_int() == Some(-7) || item.as_bytes().is_some());
+        if item.as_int() != Some(-7) && item.as_bytes().is_none() {
+            return false;
+        }
     }
-    Ok(())
+    true
+}
+
+#[test]
+fn a_value_is_put_together_and_taken_apart(rt: HostRuntime) {
+    let value = dict(&rt, rt.alloc());
+    assert!(rt; is_dict_alone(&value));
+    let Some(dict) = value.as_dict() else {
+        panic!(rt; "no dictionary");
+    };
+    let Some(list) = lookup(dict, b"key") else {
+        panic!(rt; "no such key");
+    };
+    assert!(rt; has_its_items(list));
 }

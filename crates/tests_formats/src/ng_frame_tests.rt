@@ -1,36 +1,71 @@
+use crate::cases::none_failed;
 use ng_frame::{join, one_frame, split};
-use std::test::Fail;
+use std::alloc::Global;
 
-#[test]
-fn a_datagram_is_taken_apart_and_put_together(rt: HostRuntime) -> Result<(), Fail> {
-    let alloc = rt.alloc();
-    for (datagram, cookie, body) in [
-        ("5323_1 d7:command4:pinge", "5323_1", "d7:command4:pinge"),
-        ("a  b c", "a", " b c"),
-        ("a ", "a", ""),
-    ] {
-        let (front, rest) = split(datagram.as_bytes()).ok_or("no frame")?;
-        assert!(rt;
-            front == cookie.as_bytes() && rest == body.as_bytes(),
-            "{datagram}"
-        );
-        let joined = join(alloc, front, rest)?;
-        assert!(rt; joined.as_slice() == datagram.as_bytes(), "{datagram}");
+/// Datagrams, their cookies and their bodies.
+const FRAMES: &[(&[u8], &[u8], &[u8])] = &[
+    (b"5323_1 d7:command4:pinge", b"5323_1", b"d7:command4:pinge"),
+    (b"a  b c", b"a", b" b c"),
+    (b"a ", b"a", b""),
+];
+
+/// Whether the datagram is taken apart so, and put together again.
+fn is_frame(alloc: Global, datagram: &[u8], cookie: &[u8], body: &[u8]) -> bool {
+    let Some((front, rest)) = split(datagram) else {
+        return false;
+    };
+    front == cookie && rest == body && is_joined(alloc, front, rest, datagram)
+}
+
+fn is_joined(alloc: Global, front: &[u8], rest: &[u8], datagram: &[u8]) -> bool {
+    match join(alloc, front, rest) {
+        Ok(joined) => joined.as_slice() == datagram,
+        Err(_) => false,
     }
-    for datagram in ["abc", "", " d7:command4:pinge", " "] {
-        assert!(rt; split(datagram.as_bytes()).is_none(), "{datagram}");
+}
+
+fn other_frame(alloc: Global) -> Option<usize> {
+    for (number, (datagram, cookie, body)) in FRAMES.iter().enumerate() {
+        if !is_frame(alloc, datagram, cookie, body) {
+            return Some(number);
+        }
     }
-    one_frame();
-    Ok(())
+    None
+}
+
+const NO_FRAMES: &[&[u8]] = &[b"abc", b"", b" d7:command4:pinge", b" "];
+
+fn frame_of_none() -> Option<usize> {
+    for (number, datagram) in NO_FRAMES.iter().enumerate() {
+        if split(datagram).is_some() {
+            return Some(number);
+        }
+    }
+    None
 }
 
 #[test]
-fn a_cookie_has_at_most_255_bytes(rt: HostRuntime) -> Result<(), Fail> {
-    let alloc = rt.alloc();
-    for (len, framed) in [(1, true), (255, true), (256, false), (16000, false)] {
-        let cookie = vec![in alloc; b'c'; len]?;
-        let datagram = join(alloc, cookie.as_slice(), b"de")?;
-        assert_eq!(rt; split(datagram.as_slice()).is_some(), framed);
+fn a_datagram_is_taken_apart_and_put_together(rt: HostRuntime) {
+    none_failed(&rt, "FRAMES", other_frame(rt.alloc()));
+    none_failed(&rt, "NO_FRAMES", frame_of_none());
+    one_frame();
+}
+
+/// Whether a datagram whose cookie has so many bytes is a frame, or isn't.
+fn is_framed(alloc: Global, len: usize, framed: bool) -> bool {
+    let Ok(cookie) = Vec::from_elem(alloc, b'c', len) else {
+        return false;
+    };
+    match join(alloc, cookie.as_slice(), b"de") {
+        Ok(datagram) => split(datagram.as_slice()).is_some() == framed,
+        Err(_) => false,
     }
-    Ok(())
+}
+
+#[test]
+fn a_cookie_has_at_most_255_bytes(rt: HostRuntime) {
+    assert!(rt; is_framed(rt.alloc(), 1, true));
+    assert!(rt; is_framed(rt.alloc(), 255, true));
+    assert!(rt; is_framed(rt.alloc(), 256, false));
+    assert!(rt; is_framed(rt.alloc(), 16000, false));
 }

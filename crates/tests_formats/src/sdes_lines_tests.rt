@@ -1,7 +1,7 @@
 //! Lines of RFC 4568 and RFC 3711, and of the narrowed grammar's edges.
 
+use crate::cases::none_failed;
 use sdes_lines::*;
-use std::test::Fail;
 
 // RFC 3711 appendix B.3: the master key and the master salt
 const RFC_3711: [u8; 30] =
@@ -17,161 +17,191 @@ const RFC_4568_B: [u8; 30] =
 const RFC_4568_C: [u8; 30] =
     *b"\x77\x44\x66\x76\x67\x26\x54\x2b\x29\x78\x47\x37\x40\x66\x62\x35\x6a\x55\x2c\x52\x61\x41\x7d\x5c\x7c\x70\x30\x25\x2a\x23";
 
-#[test]
-fn usable_lines_are_read(rt: HostRuntime) -> Result<(), Fail> {
-    let lines: [(&[u8], CryptoLine); 6] = [
-        (
-            b"a=crypto:1 AES_CM_128_HMAC_SHA1_80 inline:4fl6DT4Bi+DWT6MsBt5BOQ7Gda1Jiv7rtpYLOqvm",
-            CryptoLine {
-                tag: 1,
-                suite: Suite::Tag80,
-                key: RFC_3711,
-            },
-        ),
-        (
-            b"a=crypto:1 AES_CM_128_HMAC_SHA1_80 inline:d0RmdmcmVCspeEc3QGZiNWpVLFJhQX1cfHAwJSoj|2^20",
-            CryptoLine {
-                tag: 1,
-                suite: Suite::Tag80,
-                key: RFC_4568_C,
-            },
-        ),
-        (
-            b"a=crypto:2 AES_CM_128_HMAC_SHA1_32 inline:NzB4d1BINUAvLEw6UzF3WSJ+PSdFcGdUJShpX1Zj|1048576",
-            CryptoLine {
-                tag: 2,
-                suite: Suite::Tag32,
-                key: RFC_4568_B,
-            },
-        ),
-        (
-            b"a=crypto:0 AES_CM_128_HMAC_SHA1_32 inline:PS1uQCVeeCFCanVmcjkpPywjNWhcYD0mXXtxaVBR  ",
-            CryptoLine {
-                tag: 0,
-                suite: Suite::Tag32,
-                key: RFC_4568_A,
-            },
-        ),
-        (
-            b"a=crypto:999999999 AES_CM_128_HMAC_SHA1_80 inline:4fl6DT4Bi+DWT6MsBt5BOQ7Gda1Jiv7rtpYLOqvm|2^48 ",
-            CryptoLine {
-                tag: 999999999,
-                suite: Suite::Tag80,
-                key: RFC_3711,
-            },
-        ),
-        (
-            b"a=crypto:10 AES_CM_128_HMAC_SHA1_80 inline:4fl6DT4Bi+DWT6MsBt5BOQ7Gda1Jiv7rtpYLOqvm|007",
-            CryptoLine {
-                tag: 10,
-                suite: Suite::Tag80,
-                key: RFC_3711,
-            },
-        ),
-    ];
-    for (text, line) in lines.iter() {
-        assert_eq!(rt; usable(text), Some(*line));
+/// Lines, and what is read of each.
+const USABLE: &[(&[u8], CryptoLine)] = &[
+    (
+        b"a=crypto:1 AES_CM_128_HMAC_SHA1_80 inline:4fl6DT4Bi+DWT6MsBt5BOQ7Gda1Jiv7rtpYLOqvm",
+        CryptoLine {
+            tag: 1,
+            suite: Suite::Tag80,
+            key: RFC_3711,
+        },
+    ),
+    (
+        b"a=crypto:1 AES_CM_128_HMAC_SHA1_80 inline:d0RmdmcmVCspeEc3QGZiNWpVLFJhQX1cfHAwJSoj|2^20",
+        CryptoLine {
+            tag: 1,
+            suite: Suite::Tag80,
+            key: RFC_4568_C,
+        },
+    ),
+    (
+        b"a=crypto:2 AES_CM_128_HMAC_SHA1_32 inline:NzB4d1BINUAvLEw6UzF3WSJ+PSdFcGdUJShpX1Zj|1048576",
+        CryptoLine {
+            tag: 2,
+            suite: Suite::Tag32,
+            key: RFC_4568_B,
+        },
+    ),
+    (
+        b"a=crypto:0 AES_CM_128_HMAC_SHA1_32 inline:PS1uQCVeeCFCanVmcjkpPywjNWhcYD0mXXtxaVBR  ",
+        CryptoLine {
+            tag: 0,
+            suite: Suite::Tag32,
+            key: RFC_4568_A,
+        },
+    ),
+    (
+        b"a=crypto:999999999 AES_CM_128_HMAC_SHA1_80 inline:4fl6DT4Bi+DWT6MsBt5BOQ7Gda1Jiv7rtpYLOqvm|2^48 ",
+        CryptoLine {
+            tag: 999999999,
+            suite: Suite::Tag80,
+            key: RFC_3711,
+        },
+    ),
+    (
+        b"a=crypto:10 AES_CM_128_HMAC_SHA1_80 inline:4fl6DT4Bi+DWT6MsBt5BOQ7Gda1Jiv7rtpYLOqvm|007",
+        CryptoLine {
+            tag: 10,
+            suite: Suite::Tag80,
+            key: RFC_3711,
+        },
+    ),
+];
+
+fn other_usable() -> Option<usize> {
+    for (number, (text, line)) in USABLE.iter().enumerate() {
+        if usable(text) != Some(*line) {
+            return Some(number);
+        }
     }
-    Ok(())
+    None
 }
 
 #[test]
-fn other_lines_are_passed_over(rt: HostRuntime) -> Result<(), Fail> {
-    let lines: [&[u8]; 43] = [
-        b"",
-        b"a=crypto:",
-        b"a=crypto:1 AES_CM_128_HMAC_SHA1_80 inline:",
-        b"a=crypto:1 AES_CM_128_HMAC_SHA1_80 inline:PS1uQCVeeCFCanVmcjkpPywjNWhcYD0mXXtxaVBR|2^20|1:4",
-        b"a=crypto:1 AES_CM_128_HMAC_SHA1_32 inline:NzB4d1BINUAvLEw6UzF3WSJ+PSdFcGdUJShpX1Zj|1:32",
-        b"a=crypto:1 AES_CM_128_HMAC_SHA1_80 inline:4fl6DT4Bi+DWT6MsBt5BOQ7Gda1Jiv7rtpYLOqvm KDR=0",
-        b"a=crypto:1 AES_CM_128_HMAC_SHA1_80 inline:4fl6DT4Bi+DWT6MsBt5BOQ7Gda1Jiv7rtpYLOqvm UNENCRYPTED_SRTP",
-        b"a=crypto:1 AES_CM_128_HMAC_SHA1_80 inline:4fl6DT4Bi+DWT6MsBt5BOQ7Gda1Jiv7rtpYLOqvm FEC_ORDER=FEC_SRTP",
-        b"a=crypto:1 AES_CM_128_HMAC_SHA1_80 inline:4fl6DT4Bi+DWT6MsBt5BOQ7Gda1Jiv7rtpYLOqvm;inline:PS1uQCVeeCFCanVmcjkpPywjNWhcYD0mXXtxaVBR",
-        b"a=crypto:1 F8_128_HMAC_SHA1_80 inline:4fl6DT4Bi+DWT6MsBt5BOQ7Gda1Jiv7rtpYLOqvm",
-        b"a=crypto:1 AES_256_CM_HMAC_SHA1_80 inline:4fl6DT4Bi+DWT6MsBt5BOQ7Gda1Jiv7rtpYLOqvm",
-        b"a=crypto:1 aes_cm_128_hmac_sha1_80 inline:4fl6DT4Bi+DWT6MsBt5BOQ7Gda1Jiv7rtpYLOqvm",
-        b"a=crypto:1 AES_CM_128_HMAC_SHA1_8 inline:4fl6DT4Bi+DWT6MsBt5BOQ7Gda1Jiv7rtpYLOqvm",
-        b"a=crypto:1 AES_CM_128_HMAC_SHA1_80x inline:4fl6DT4Bi+DWT6MsBt5BOQ7Gda1Jiv7rtpYLOqvm",
-        b"a=crypto:01 AES_CM_128_HMAC_SHA1_80 inline:4fl6DT4Bi+DWT6MsBt5BOQ7Gda1Jiv7rtpYLOqvm",
-        b"a=crypto:00 AES_CM_128_HMAC_SHA1_80 inline:4fl6DT4Bi+DWT6MsBt5BOQ7Gda1Jiv7rtpYLOqvm",
-        b"a=crypto:1000000000 AES_CM_128_HMAC_SHA1_80 inline:4fl6DT4Bi+DWT6MsBt5BOQ7Gda1Jiv7rtpYLOqvm",
-        b"a=crypto:+1 AES_CM_128_HMAC_SHA1_80 inline:4fl6DT4Bi+DWT6MsBt5BOQ7Gda1Jiv7rtpYLOqvm",
-        b"a=crypto:1x AES_CM_128_HMAC_SHA1_80 inline:4fl6DT4Bi+DWT6MsBt5BOQ7Gda1Jiv7rtpYLOqvm",
-        b"a=crypto: AES_CM_128_HMAC_SHA1_80 inline:4fl6DT4Bi+DWT6MsBt5BOQ7Gda1Jiv7rtpYLOqvm",
-        b"a=crypto:1  AES_CM_128_HMAC_SHA1_80 inline:4fl6DT4Bi+DWT6MsBt5BOQ7Gda1Jiv7rtpYLOqvm",
-        b"a=crypto:1\tAES_CM_128_HMAC_SHA1_80 inline:4fl6DT4Bi+DWT6MsBt5BOQ7Gda1Jiv7rtpYLOqvm",
-        b"a=crypto:1 AES_CM_128_HMAC_SHA1_80  inline:4fl6DT4Bi+DWT6MsBt5BOQ7Gda1Jiv7rtpYLOqvm",
-        b"a=crypto:1 AES_CM_128_HMAC_SHA1_80 Inline:4fl6DT4Bi+DWT6MsBt5BOQ7Gda1Jiv7rtpYLOqvm",
-        b"a=Crypto:1 AES_CM_128_HMAC_SHA1_80 inline:4fl6DT4Bi+DWT6MsBt5BOQ7Gda1Jiv7rtpYLOqvm",
-        b" a=crypto:1 AES_CM_128_HMAC_SHA1_80 inline:4fl6DT4Bi+DWT6MsBt5BOQ7Gda1Jiv7rtpYLOqvm",
-        b"a=crypto:1 AES_CM_128_HMAC_SHA1_80 inline:4fl6DT4Bi+DWT6MsBt5BOQ7Gda1Jiv7rtpYLOqv",
-        b"a=crypto:1 AES_CM_128_HMAC_SHA1_80 inline:4fl6DT4Bi+DWT6MsBt5BOQ7Gda1Jiv7rtpYLOqvmA",
-        b"a=crypto:1 AES_CM_128_HMAC_SHA1_80 inline:4fl6DT4Bi+DWT6MsBt5BOQ7Gda1Jiv7rtpYLOqv=",
-        b"a=crypto:1 AES_CM_128_HMAC_SHA1_80 inline:4fl6DT4Bi+DWT6MsBt5BOQ7Gda1Jiv7rtpYLOq==",
-        b"a=crypto:1 AES_CM_128_HMAC_SHA1_80 inline:AAAAAAAAAAAAAAAAAAAAAAAAAAAAAAAAAAAAAAA=",
-        b"a=crypto:1 AES_CM_128_HMAC_SHA1_80 inline:AAAAAAAAAAAAAAAAAAAAAAAAAAAAAAAAAAAAAA==",
-        b"a=crypto:1 AES_CM_128_HMAC_SHA1_80 inline:4fl6DT4Bi+DWT6MsBt5B Q7Gda1Jiv7rtpYLOqvm",
-        b"a=crypto:1 AES_CM_128_HMAC_SHA1_80 inline:4fl6DT4Bi-DWT6MsBt5BOQ7Gda1Jiv7rtpYLOqvm",
-        b"a=crypto:1 AES_CM_128_HMAC_SHA1_80 inline:4fl6DT4Bi+DWT6MsBt5BOQ7Gda1Jiv7rtpYLOqvm|",
-        b"a=crypto:1 AES_CM_128_HMAC_SHA1_80 inline:4fl6DT4Bi+DWT6MsBt5BOQ7Gda1Jiv7rtpYLOqvm|2^",
-        b"a=crypto:1 AES_CM_128_HMAC_SHA1_80 inline:4fl6DT4Bi+DWT6MsBt5BOQ7Gda1Jiv7rtpYLOqvm|3^20",
-        b"a=crypto:1 AES_CM_128_HMAC_SHA1_80 inline:4fl6DT4Bi+DWT6MsBt5BOQ7Gda1Jiv7rtpYLOqvm|2^20x",
-        b"a=crypto:1 AES_CM_128_HMAC_SHA1_80 inline:4fl6DT4Bi+DWT6MsBt5BOQ7Gda1Jiv7rtpYLOqvm|-1",
-        b"a=crypto:1 AES_CM_128_HMAC_SHA1_80 inline:4fl6DT4Bi+DWT6MsBt5BOQ7Gda1Jiv7rtpYLOqvm |2^20",
-        b"a=crypto:1 AES_CM_128_HMAC_SHA1_80 inline:4fl6DT4Bi+DWT6MsBt5BOQ7Gda1Jiv7rtpYLOqvm|2^2 0",
-        b"a=crypto:1 AES_CM_128_HMAC_SHA1_80 inline:4fl6DT4Bi+DWT6MsBt5BOQ7Gda1Jiv7rtpYLOqvm\t",
-        b"a=crypto:1 AES_CM_128_HMAC_SHA1_80 inline:4fl6DT4Bi+DWT6MsBt5BOQ7Gda1Jiv7rtpYLOqvm\r",
-    ];
-    for text in lines.iter() {
-        assert_eq!(rt; usable(text), None);
+fn usable_lines_are_read(rt: HostRuntime) {
+    none_failed(&rt, "USABLE", other_usable());
+}
+
+const OTHER_LINES: &[&[u8]] = &[
+    b"",
+    b"a=crypto:",
+    b"a=crypto:1 AES_CM_128_HMAC_SHA1_80 inline:",
+    b"a=crypto:1 AES_CM_128_HMAC_SHA1_80 inline:PS1uQCVeeCFCanVmcjkpPywjNWhcYD0mXXtxaVBR|2^20|1:4",
+    b"a=crypto:1 AES_CM_128_HMAC_SHA1_32 inline:NzB4d1BINUAvLEw6UzF3WSJ+PSdFcGdUJShpX1Zj|1:32",
+    b"a=crypto:1 AES_CM_128_HMAC_SHA1_80 inline:4fl6DT4Bi+DWT6MsBt5BOQ7Gda1Jiv7rtpYLOqvm KDR=0",
+    b"a=crypto:1 AES_CM_128_HMAC_SHA1_80 inline:4fl6DT4Bi+DWT6MsBt5BOQ7Gda1Jiv7rtpYLOqvm UNENCRYPTED_SRTP",
+    b"a=crypto:1 AES_CM_128_HMAC_SHA1_80 inline:4fl6DT4Bi+DWT6MsBt5BOQ7Gda1Jiv7rtpYLOqvm FEC_ORDER=FEC_SRTP",
+    b"a=crypto:1 AES_CM_128_HMAC_SHA1_80 inline:4fl6DT4Bi+DWT6MsBt5BOQ7Gda1Jiv7rtpYLOqvm;inline:PS1uQCVeeCFCanVmcjkpPywjNWhcYD0mXXtxaVBR",
+    b"a=crypto:1 F8_128_HMAC_SHA1_80 inline:4fl6DT4Bi+DWT6MsBt5BOQ7Gda1Jiv7rtpYLOqvm",
+    b"a=crypto:1 AES_256_CM_HMAC_SHA1_80 inline:4fl6DT4Bi+DWT6MsBt5BOQ7Gda1Jiv7rtpYLOqvm",
+    b"a=crypto:1 aes_cm_128_hmac_sha1_80 inline:4fl6DT4Bi+DWT6MsBt5BOQ7Gda1Jiv7rtpYLOqvm",
+    b"a=crypto:1 AES_CM_128_HMAC_SHA1_8 inline:4fl6DT4Bi+DWT6MsBt5BOQ7Gda1Jiv7rtpYLOqvm",
+    b"a=crypto:1 AES_CM_128_HMAC_SHA1_80x inline:4fl6DT4Bi+DWT6MsBt5BOQ7Gda1Jiv7rtpYLOqvm",
+    b"a=crypto:01 AES_CM_128_HMAC_SHA1_80 inline:4fl6DT4Bi+DWT6MsBt5BOQ7Gda1Jiv7rtpYLOqvm",
+    b"a=crypto:00 AES_CM_128_HMAC_SHA1_80 inline:4fl6DT4Bi+DWT6MsBt5BOQ7Gda1Jiv7rtpYLOqvm",
+    b"a=crypto:1000000000 AES_CM_128_HMAC_SHA1_80 inline:4fl6DT4Bi+DWT6MsBt5BOQ7Gda1Jiv7rtpYLOqvm",
+    b"a=crypto:+1 AES_CM_128_HMAC_SHA1_80 inline:4fl6DT4Bi+DWT6MsBt5BOQ7Gda1Jiv7rtpYLOqvm",
+    b"a=crypto:1x AES_CM_128_HMAC_SHA1_80 inline:4fl6DT4Bi+DWT6MsBt5BOQ7Gda1Jiv7rtpYLOqvm",
+    b"a=crypto: AES_CM_128_HMAC_SHA1_80 inline:4fl6DT4Bi+DWT6MsBt5BOQ7Gda1Jiv7rtpYLOqvm",
+    b"a=crypto:1  AES_CM_128_HMAC_SHA1_80 inline:4fl6DT4Bi+DWT6MsBt5BOQ7Gda1Jiv7rtpYLOqvm",
+    b"a=crypto:1\tAES_CM_128_HMAC_SHA1_80 inline:4fl6DT4Bi+DWT6MsBt5BOQ7Gda1Jiv7rtpYLOqvm",
+    b"a=crypto:1 AES_CM_128_HMAC_SHA1_80  inline:4fl6DT4Bi+DWT6MsBt5BOQ7Gda1Jiv7rtpYLOqvm",
+    b"a=crypto:1 AES_CM_128_HMAC_SHA1_80 Inline:4fl6DT4Bi+DWT6MsBt5BOQ7Gda1Jiv7rtpYLOqvm",
+    b"a=Crypto:1 AES_CM_128_HMAC_SHA1_80 inline:4fl6DT4Bi+DWT6MsBt5BOQ7Gda1Jiv7rtpYLOqvm",
+    b" a=crypto:1 AES_CM_128_HMAC_SHA1_80 inline:4fl6DT4Bi+DWT6MsBt5BOQ7Gda1Jiv7rtpYLOqvm",
+    b"a=crypto:1 AES_CM_128_HMAC_SHA1_80 inline:4fl6DT4Bi+DWT6MsBt5BOQ7Gda1Jiv7rtpYLOqv",
+    b"a=crypto:1 AES_CM_128_HMAC_SHA1_80 inline:4fl6DT4Bi+DWT6MsBt5BOQ7Gda1Jiv7rtpYLOqvmA",
+    b"a=crypto:1 AES_CM_128_HMAC_SHA1_80 inline:4fl6DT4Bi+DWT6MsBt5BOQ7Gda1Jiv7rtpYLOqv=",
+    b"a=crypto:1 AES_CM_128_HMAC_SHA1_80 inline:4fl6DT4Bi+DWT6MsBt5BOQ7Gda1Jiv7rtpYLOq==",
+    b"a=crypto:1 AES_CM_128_HMAC_SHA1_80 inline:AAAAAAAAAAAAAAAAAAAAAAAAAAAAAAAAAAAAAAA=",
+    b"a=crypto:1 AES_CM_128_HMAC_SHA1_80 inline:AAAAAAAAAAAAAAAAAAAAAAAAAAAAAAAAAAAAAA==",
+    b"a=crypto:1 AES_CM_128_HMAC_SHA1_80 inline:4fl6DT4Bi+DWT6MsBt5B Q7Gda1Jiv7rtpYLOqvm",
+    b"a=crypto:1 AES_CM_128_HMAC_SHA1_80 inline:4fl6DT4Bi-DWT6MsBt5BOQ7Gda1Jiv7rtpYLOqvm",
+    b"a=crypto:1 AES_CM_128_HMAC_SHA1_80 inline:4fl6DT4Bi+DWT6MsBt5BOQ7Gda1Jiv7rtpYLOqvm|",
+    b"a=crypto:1 AES_CM_128_HMAC_SHA1_80 inline:4fl6DT4Bi+DWT6MsBt5BOQ7Gda1Jiv7rtpYLOqvm|2^",
+    b"a=crypto:1 AES_CM_128_HMAC_SHA1_80 inline:4fl6DT4Bi+DWT6MsBt5BOQ7Gda1Jiv7rtpYLOqvm|3^20",
+    b"a=crypto:1 AES_CM_128_HMAC_SHA1_80 inline:4fl6DT4Bi+DWT6MsBt5BOQ7Gda1Jiv7rtpYLOqvm|2^20x",
+    b"a=crypto:1 AES_CM_128_HMAC_SHA1_80 inline:4fl6DT4Bi+DWT6MsBt5BOQ7Gda1Jiv7rtpYLOqvm|-1",
+    b"a=crypto:1 AES_CM_128_HMAC_SHA1_80 inline:4fl6DT4Bi+DWT6MsBt5BOQ7Gda1Jiv7rtpYLOqvm |2^20",
+    b"a=crypto:1 AES_CM_128_HMAC_SHA1_80 inline:4fl6DT4Bi+DWT6MsBt5BOQ7Gda1Jiv7rtpYLOqvm|2^2 0",
+    b"a=crypto:1 AES_CM_128_HMAC_SHA1_80 inline:4fl6DT4Bi+DWT6MsBt5BOQ7Gda1Jiv7rtpYLOqvm\t",
+    b"a=crypto:1 AES_CM_128_HMAC_SHA1_80 inline:4fl6DT4Bi+DWT6MsBt5BOQ7Gda1Jiv7rtpYLOqvm\r",
+];
+
+fn not_passed_over() -> Option<usize> {
+    for (number, text) in OTHER_LINES.iter().enumerate() {
+        if usable(text).is_some() {
+            return Some(number);
+        }
     }
-    Ok(())
+    None
 }
 
 #[test]
-fn lines_are_written(rt: HostRuntime) -> Result<(), Fail> {
-    let lines: [(CryptoLine, &[u8]); 4] = [
-        (
-            CryptoLine {
-                tag: 1,
-                suite: Suite::Tag80,
-                key: RFC_3711,
-            },
-            b"a=crypto:1 AES_CM_128_HMAC_SHA1_80 inline:4fl6DT4Bi+DWT6MsBt5BOQ7Gda1Jiv7rtpYLOqvm",
-        ),
-        (
-            CryptoLine {
-                tag: 2,
-                suite: Suite::Tag32,
-                key: RFC_4568_B,
-            },
-            b"a=crypto:2 AES_CM_128_HMAC_SHA1_32 inline:NzB4d1BINUAvLEw6UzF3WSJ+PSdFcGdUJShpX1Zj",
-        ),
-        (
-            CryptoLine {
-                tag: 0,
-                suite: Suite::Tag80,
-                key: RFC_4568_A,
-            },
-            b"a=crypto:0 AES_CM_128_HMAC_SHA1_80 inline:PS1uQCVeeCFCanVmcjkpPywjNWhcYD0mXXtxaVBR",
-        ),
-        (
-            CryptoLine {
-                tag: 999999999,
-                suite: Suite::Tag32,
-                key: [1; 30],
-            },
-            b"a=crypto:999999999 AES_CM_128_HMAC_SHA1_32 inline:AQEBAQEBAQEBAQEBAQEBAQEBAQEBAQEBAQEBAQEB",
-        ),
-    ];
-    for (line, text) in lines.iter() {
-        assert!(rt; line.tag <= 999_999_999);
-        let mut out = [b'#'; 96];
-        let length = write_line(line, &mut out);
-        assert_eq!(rt; &out[..length], *text);
-        assert!(rt; out[length..].iter().all(|byte| *byte == b'#'));
-        assert_eq!(rt; usable(&out[..length]), Some(*line));
+fn other_lines_are_passed_over(rt: HostRuntime) {
+    none_failed(&rt, "OTHER_LINES", not_passed_over());
+}
+
+/// Lines, and how each is written.
+const WRITTEN: &[(CryptoLine, &[u8])] = &[
+    (
+        CryptoLine {
+            tag: 1,
+            suite: Suite::Tag80,
+            key: RFC_3711,
+        },
+        b"a=crypto:1 AES_CM_128_HMAC_SHA1_80 inline:4fl6DT4Bi+DWT6MsBt5BOQ7Gda1Jiv7rtpYLOqvm",
+    ),
+    (
+        CryptoLine {
+            tag: 2,
+            suite: Suite::Tag32,
+            key: RFC_4568_B,
+        },
+        b"a=crypto:2 AES_CM_128_HMAC_SHA1_32 inline:NzB4d1BINUAvLEw6UzF3WSJ+PSdFcGdUJShpX1Zj",
+    ),
+    (
+        CryptoLine {
+            tag: 0,
+            suite: Suite::Tag80,
+            key: RFC_4568_A,
+        },
+        b"a=crypto:0 AES_CM_128_HMAC_SHA1_80 inline:PS1uQCVeeCFCanVmcjkpPywjNWhcYD0mXXtxaVBR",
+    ),
+    (
+        CryptoLine {
+            tag: 999999999,
+            suite: Suite::Tag32,
+            key: [1; 30],
+        },
+        b"a=crypto:999999999 AES_CM_128_HMAC_SHA1_32 inline:AQEBAQEBAQEBAQEBAQEBAQEBAQEBAQEBAQEBAQEB",
+    ),
+];
+
+/// Whether the line is written so, nothing behind it, and read again.
+fn is_written(line: &CryptoLine, text: &[u8]) -> bool {
+    let mut out = [b'#'; 96];
+    if line.tag > 999_999_999 {
+        return false;
     }
+    let length = write_line(line, &mut out);
+    &out[..length] == text
+        && out[length..].iter().all(|byte| *byte == b'#')
+        && usable(&out[..length]) == Some(*line)
+}
+
+fn other_written() -> Option<usize> {
+    for (number, (line, text)) in WRITTEN.iter().enumerate() {
+        if !is_written(line, text) {
+            return Some(number);
+        }
+    }
+    None
+}
+
+#[test]
+fn lines_are_written(rt: HostRuntime) {
+    none_failed(&rt, "WRITTEN", other_written());
     written_line_is_usable();
-    Ok(())
 }

@@ -3,4 +3,4 @@ use Rattle.sdp_edit.specs.Editing.{HaveTags}
 use Rattle.tests_formats.proofs.sdp_edit_tests.section_edits.Given as goal
 
 abbrev pub invariant-loop-case : goal.invariant-loop-case
-invariant-loop-case l = HaveTags l.edits.list × (length l.cases ≤ l.edits.spare + l.case-index)
+invariant-loop-case g l = HaveTags l.edits.list × (length l.cases ≤ l.edits.spare + l.case-index)
