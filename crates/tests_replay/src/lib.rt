@@ -3,8 +3,12 @@
 #![tactic(auto)]
 
 #[cfg(test)]
+mod cases;
+#[cfg(test)]
 mod relay_script_tests;
 #[cfg(test)]
 mod replay_devices_tests;
 #[cfg(test)]
 mod replay_lines_tests;
+#[cfg(test)]
+mod table_lines;

@@ -1,203 +1,200 @@
+use crate::cases::expect_case;
+use crate::table_lines::{TableLines, TableSink};
 use ng_bencode::Text;
-use relay_outside::{Addr, Copied, Ip, MemoryLines, MemorySink, WriteCall};
+use relay_outside::{Addr, Ip};
 use relay_script::{Printed, Step};
 use replay_lines::{Ending, Script, WriteFault, read_script, write_event};
 use std::alloc::Global;
 use std::process::Abort;
-use std::test::Fail;
 
 const CALLER: Addr = Addr {
     ip: Ip::V4([192, 0, 2, 10]),
     port: 6000,
 };
 
-fn source_of(alloc: Global, texts: &[&[u8]], failing: &[u64]) -> Result<MemoryLines, Fail> {
-    let mut lines = Vec::new(alloc);
-    for text in texts {
-        lines.push(Copied::of(alloc, text).ok_or("memory")?)?;
-    }
-    Ok(MemoryLines::new(alloc, lines, failing.to_vec(alloc)?))
+/// Reads a script of these lines: with a number above 0, the read with that number fails.
+fn script_of(rt: &impl Abort, alloc: Global, lines: &[&[u8]], failing: u64) -> Script {
+    let Ok(script) = read_script(alloc, &mut TableLines::new(lines, failing)) else {
+        panic!(rt; "no memory");
+    };
+    script
 }
 
-/// Reads a script of these lines, of whose reads those with these numbers fail.
-fn script_of(alloc: Global, texts: &[&[u8]], failing: &[u64]) -> Result<Script, Fail> {
-    let mut source = source_of(alloc, texts, failing)?;
-    let script = read_script(alloc, &mut source).ok().ok_or("memory")?;
-    Ok(script)
+/// A line of each of five kinds.
+const KINDS: &[&[u8]] = &[
+    b"# a comment",
+    b"at 5",
+    b"",
+    b"packet 30000 192.0.2.10:6000 x:80ff",
+    b"relay 7",
+    b"ng 192.0.2.10:6000 t:a\\r\\n",
+];
+
+/// Whether it is a packet of the caller to this port, with these bytes.
+fn is_packet(step: &Step, at: u16, bytes: &[u8]) -> bool {
+    match step {
+        Step::Packet(port, from, packet) => {
+            *port == at && *from == CALLER && packet.as_slice() == bytes
+        }
+        _ => false,
+    }
+}
+
+/// Whether it is a datagram of the caller with these bytes.
+fn is_datagram(step: &Step, bytes: &[u8]) -> bool {
+    match step {
+        Step::Ng(from, datagram) => *from == CALLER && datagram.as_slice() == bytes,
+        _ => false,
+    }
+}
+
+/// The place of the first step that is not that of its line, where there are as many.
+fn first_other(steps: &[Step]) -> Option<usize> {
+    let [first, second, third, fourth, fifth, sixth] = steps else {
+        return Some(steps.len());
+    };
+    let are_so = [
+        matches!(first, Step::Skip),
+        matches!(second, Step::At(5)),
+        matches!(third, Step::Skip),
+        is_packet(fourth, 30_000, b"\x80\xff"),
+        matches!(fifth, Step::Relay(7)),
+        is_datagram(sixth, b"a\r\n"),
+    ];
+    are_so.iter().position(|is_so| !*is_so)
 }
 
 #[test]
-fn each_line_is_one_step(rt: HostRuntime) -> Result<(), Fail> {
-    let lines: [&[u8]; 6] = [
-        b"# a comment",
-        b"at 5",
-        b"",
-        b"packet 30000 192.0.2.10:6000 x:80ff",
-        b"relay 7",
-        b"ng 192.0.2.10:6000 t:a\\r\\n",
-    ];
-    let script = script_of(rt.alloc(), &lines, &[])?;
-    match script.steps() {
-        [
-            Step::Skip,
-            Step::At(5),
-            Step::Skip,
-            Step::Packet(30_000, source, packet),
-            Step::Relay(7),
-            Step::Ng(from, datagram),
-        ] => {
-            assert_eq!(rt; *source, CALLER);
-            assert_eq!(rt; packet.as_slice(), b"\x80\xff".as_slice());
-            assert_eq!(rt; *from, CALLER);
-            assert_eq!(rt; datagram.as_slice(), b"a\r\n".as_slice());
-        }
-        _ => assert!(rt; false, "other steps"),
-    }
-    assert_eq!(rt; script.ending(), Ending::End);
-    Ok(())
+fn each_line_is_one_step(rt: HostRuntime) {
+    let script = script_of(&rt, rt.alloc(), KINDS, 0);
+    let other = first_other(script.steps());
+    assert!(rt; other.is_none(), "step {other:?}");
+    assert!(rt; script.ending() == Ending::End);
 }
 
-/// Whether the steps are `at 1`, `at 2` and so on, so many.
-fn count_up(steps: &[Step], count: usize) -> bool {
+/// How many steps from the first on are `at 1`, `at 2` and so on.
+fn counted_up(steps: &[Step]) -> usize {
     for index in 0..steps.len() {
         if !matches!(&steps[index], Step::At(moment) if *moment == index as u64 + 1) {
-            return false;
+            return index;
         }
     }
-    steps.len() == count
+    steps.len()
 }
 
-/// Reads a script, and compares how many steps it has and how it ends.
-fn assert_script(
+/// Whether the script of these lines has so many steps, `at 1`, `at 2` and so on, and this ending.
+fn counts_up(
     rt: &impl Abort,
     alloc: Global,
     lines: &[&[u8]],
-    failing: &[u64],
+    failing: u64,
     count: usize,
     ending: Ending,
-) -> Result<(), Fail> {
-    let script = script_of(alloc, lines, failing)?;
-    assert!(rt; count_up(script.steps(), count), "{count}");
-    assert_eq!(rt; script.ending(), ending);
-    Ok(())
+) -> bool {
+    let script = script_of(rt, alloc, lines, failing);
+    let steps = script.steps();
+    steps.len() == count && counted_up(steps) == count && script.ending() == ending
 }
 
-#[test]
-fn a_script_is_read_to_its_end_or_its_first_fault(rt: HostRuntime) -> Result<(), Fail> {
-    let alloc = rt.alloc();
-    assert_script(&rt, alloc, &[], &[], 0, Ending::End)?;
-    assert_script(&rt, alloc, &[b"at 1"], &[], 1, Ending::End)?;
-    assert_script(&rt, alloc, &[b"at 1", b"at 2"], &[], 2, Ending::End)?;
-    assert_script(&rt, alloc, &[b"tick"], &[], 0, Ending::Outside)?;
-    assert_script(&rt, alloc, &[b"at 01", b"at 1"], &[], 0, Ending::Outside)?;
-    assert_script(
-        &rt,
-        alloc,
-        &[b"at 1", b"at", b"at 2"],
-        &[],
-        1,
-        Ending::Outside,
-    )?;
-    assert_script(
-        &rt,
-        alloc,
-        &[b"at 1", b"at 2", b"at 3\r"],
-        &[],
-        2,
-        Ending::Outside,
-    )?;
-    assert_script(&rt, alloc, &[], &[1], 0, Ending::Fault)?;
-    assert_script(&rt, alloc, &[b"at 1", b"at 2"], &[1], 0, Ending::Fault)?;
-    assert_script(&rt, alloc, &[b"at 1", b"at 2"], &[2], 1, Ending::Fault)?;
-    assert_script(&rt, alloc, &[b"at 1", b"at 2"], &[3], 2, Ending::Fault)?;
+/// Lines, the number of the read that fails, how many steps the script has and how it ends.
+const READ: &[(&[&[u8]], u64, usize, Ending)] = &[
+    (&[], 0, 0, Ending::End),
+    (&[b"at 1"], 0, 1, Ending::End),
+    (&[b"at 1", b"at 2"], 0, 2, Ending::End),
+    (&[b"tick"], 0, 0, Ending::Outside),
+    (&[b"at 01", b"at 1"], 0, 0, Ending::Outside),
+    (&[b"at 1", b"at", b"at 2"], 0, 1, Ending::Outside),
+    (&[b"at 1", b"at 2", b"at 3\r"], 0, 2, Ending::Outside),
+    (&[], 1, 0, Ending::Fault),
+    (&[b"at 1", b"at 2"], 1, 0, Ending::Fault),
+    (&[b"at 1", b"at 2"], 2, 1, Ending::Fault),
+    (&[b"at 1", b"at 2"], 3, 2, Ending::Fault),
     // the reading doesn't go on behind a line outside the grammar
-    assert_script(&rt, alloc, &[b"at 1", b"relay 0"], &[3], 1, Ending::Outside)
-}
+    (&[b"at 1", b"relay 0"], 3, 1, Ending::Outside),
+];
 
 #[test]
-fn no_line_has_more_than_40000_bytes(rt: HostRuntime) -> Result<(), Fail> {
-    let alloc = rt.alloc();
-    let cases = [
-        (39_999, 2, Ending::End),
-        (40_000, 2, Ending::End),
-        (40_001, 0, Ending::Outside),
-        (40_002, 0, Ending::Outside),
-        (80_001, 0, Ending::Outside),
-    ];
-    for (len, count, ending) in cases {
-        let comment = vec![in alloc; b'#'; len]?;
-        let lines = [comment.as_slice(), b"".as_slice()];
-        let script = script_of(alloc, &lines, &[])?;
-        assert_eq!(rt; script.steps().len(), count);
-        assert_eq!(rt; script.ending(), ending);
-    }
-    Ok(())
-}
-
-/// How many steps a script of so many empty lines has, and how it ends, where the reads with these numbers fail.
-fn empty_lines(alloc: Global, count: usize, failing: &[u64]) -> Result<(usize, Ending), Fail> {
-    let lines = vec![in alloc; b"".as_slice(); count]?;
-    let script = script_of(alloc, lines.as_slice(), failing)?;
-    Ok((script.steps().len(), script.ending()))
-}
-
-#[test]
-fn no_script_has_more_than_50000_lines(rt: HostRuntime) -> Result<(), Fail> {
-    let alloc = rt.alloc();
-    let cases: [(usize, &[u64], usize, Ending); 5] = [
-        (49_999, &[], 49_999, Ending::End),
-        (50_000, &[], 50_000, Ending::End),
-        (50_001, &[], 50_000, Ending::Outside),
-        (50_002, &[50_002], 50_000, Ending::Outside),
-        (50_001, &[50_001], 50_000, Ending::Fault),
-    ];
-    for (count, failing, steps, ending) in cases {
-        assert_eq!(rt; empty_lines(alloc, count, failing)?, (steps, ending));
-    }
-    Ok(())
-}
-
-/// Compares the one line that a sink was given, and whether it wrote it.
-fn assert_written(rt: &impl Abort, sink: &MemorySink, want: &[u8], wrote: bool) {
-    match sink.calls() {
-        Some([WriteCall::Write { line, done }]) => {
-            assert_eq!(rt; line.as_slice(), want);
-            assert_eq!(rt; *done, wrote);
-        }
-        _ => assert!(rt; false, "not one line"),
+fn a_script_is_read_to_its_end_or_its_first_fault(rt: HostRuntime) {
+    for (place, (lines, failing, count, ending)) in READ.iter().enumerate() {
+        let is_so = counts_up(&rt, rt.alloc(), lines, *failing, *count, *ending);
+        expect_case(&rt, place, is_so);
     }
 }
 
+/// How many steps the script of these lines has, and how it ends.
+fn measured(rt: &impl Abort, alloc: Global, lines: &[&[u8]], failing: u64) -> (usize, Ending) {
+    let script = script_of(rt, alloc, lines, failing);
+    (script.steps().len(), script.ending())
+}
+
+/// The same of a comment of so many bytes and an empty line.
+fn measured_comment(rt: &impl Abort, alloc: Global, len: usize) -> (usize, Ending) {
+    let Ok(comment) = vec![in alloc; b'#'; len] else {
+        panic!(rt; "no memory");
+    };
+    measured(rt, alloc, &[comment.as_slice(), b""], 0)
+}
+
+const COMMENTS: &[(usize, usize, Ending)] = &[
+    (39_999, 2, Ending::End),
+    (40_000, 2, Ending::End),
+    (40_001, 0, Ending::Outside),
+    (40_002, 0, Ending::Outside),
+    (80_001, 0, Ending::Outside),
+];
+
 #[test]
-fn an_event_is_written_as_its_line(rt: HostRuntime) -> Result<(), Fail> {
-    let alloc = rt.alloc();
-    let mut bytes = Text::new(alloc);
-    bytes.reserve(2)?;
-    bytes.extend(b"a\n");
-    let cases: [(&Printed, &[u8]); 3] = [
-        (&Printed::Silent, b"silent\n"),
-        (&Printed::Took(64), b"took 64\n"),
-        (
-            &Printed::Reply(CALLER, bytes),
-            b"reply 192.0.2.10:6000 t:a\\x0a\n",
-        ),
-    ];
-    for (event, line) in cases {
-        let mut sink = MemorySink::new(alloc, Vec::new(alloc));
-        assert_eq!(rt; write_event(alloc, &mut sink, event), Ok(()));
-        assert_written(&rt, &sink, line, true);
+fn no_line_has_more_than_40000_bytes(rt: HostRuntime) {
+    for (place, (len, count, ending)) in COMMENTS.iter().enumerate() {
+        let is_so = measured_comment(&rt, rt.alloc(), *len) == (*count, *ending);
+        expect_case(&rt, place, is_so);
     }
-    Ok(())
+}
+
+/// The same of so many empty lines.
+fn measured_empty(rt: &impl Abort, alloc: Global, count: usize, failing: u64) -> (usize, Ending) {
+    let Ok(lines) = vec![in alloc; b"".as_slice(); count] else {
+        panic!(rt; "no memory");
+    };
+    measured(rt, alloc, lines.as_slice(), failing)
+}
+
+const EMPTY: &[(usize, u64, usize, Ending)] = &[
+    (49_999, 0, 49_999, Ending::End),
+    (50_000, 0, 50_000, Ending::End),
+    (50_001, 0, 50_000, Ending::Outside),
+    (50_002, 50_002, 50_000, Ending::Outside),
+    (50_001, 50_001, 50_000, Ending::Fault),
+];
+
+#[test]
+fn no_script_has_more_than_50000_lines(rt: HostRuntime) {
+    for (place, (count, failing, steps, ending)) in EMPTY.iter().enumerate() {
+        let is_so = measured_empty(&rt, rt.alloc(), *count, *failing) == (*steps, *ending);
+        expect_case(&rt, place, is_so);
+    }
+}
+
+/// Whether the event is written as this line and no other.
+fn is_written(alloc: Global, event: Printed, line: &[u8]) -> bool {
+    let mut sink = TableSink::new(line, 0);
+    write_event(alloc, &mut sink, &event) == Ok(()) && sink.is_written()
 }
 
 #[test]
-fn a_sink_that_fails_is_not_called_again(rt: HostRuntime) -> Result<(), Fail> {
-    let alloc = rt.alloc();
-    let mut sink = MemorySink::new(alloc, [1].to_vec(alloc)?);
-    assert_eq!(rt;
-        write_event(alloc, &mut sink, &Printed::Nothing),
-        Err(WriteFault::Failed)
-    );
-    assert_written(&rt, &sink, b"nothing\n", false);
-    Ok(())
+fn an_event_is_written_as_its_line(rt: HostRuntime) {
+    assert!(rt; is_written(rt.alloc(), Printed::Silent, b"silent\n"));
+    assert!(rt; is_written(rt.alloc(), Printed::Took(64), b"took 64\n"));
+    let Ok(bytes) = Text::copy_of(rt.alloc(), b"a\n") else {
+        panic!(rt; "no memory");
+    };
+    let reply = Printed::Reply(CALLER, bytes);
+    assert!(rt; is_written(rt.alloc(), reply, b"reply 192.0.2.10:6000 t:a\\x0a\n"));
+}
+
+#[test]
+fn a_sink_that_fails_is_not_called_again(rt: HostRuntime) {
+    let mut sink = TableSink::new(b"nothing\n", 1);
+    let wrote = write_event(rt.alloc(), &mut sink, &Printed::Nothing);
+    assert!(rt; wrote == Err(WriteFault::Failed) && sink.is_written());
 }

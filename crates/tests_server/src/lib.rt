@@ -5,6 +5,8 @@
 #[cfg(test)]
 mod ng_server_tests;
 #[cfg(test)]
+mod relay_app_packets_tests;
+#[cfg(test)]
 mod relay_app_replay_tests;
 #[cfg(test)]
 mod relay_app_runs;
@@ -12,3 +14,5 @@ mod relay_app_runs;
 mod relay_app_tests;
 #[cfg(test)]
 mod relay_app_words_tests;
+#[cfg(test)]
+mod table_devices;

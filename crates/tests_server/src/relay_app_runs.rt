@@ -1,155 +1,163 @@
-//! How the relay is run over devices in memory, and what is told of it.
+//! Runs of the relay over devices of tables: what each is given, and what is to be seen of it.
 
-use relay_app::{Status, run};
-use relay_outside::{
-    Addr, Arrivals, ControlLink, Copied, HandClock, HandTimer, Ip, LineSink, LineSource, LinkGift,
-    MemoryLines, OpenGate, SteadyKeys, SteadyLines, SteadyLink, SteadyMaker, SteadySink, WriteCall,
+use crate::table_devices::{
+    SameKey, TableLines, TableLink, TablePort, TablePorts, TableSink, TableTimer,
 };
+use relay_app::{Status, run};
+use relay_outside::{Addr, HandClock, Ip, OpenGate};
 use std::alloc::Global;
 use std::process::Abort;
 use std::sync::Wait;
 
-pub(crate) const CALLER: Addr = Addr {
-    ip: Ip::V4([192, 0, 2, 10]),
-    port: 5060,
+/// A run.
+#[derive(Clone, Copy)]
+pub(crate) struct Case {
+    /// The words of the command line.
+    pub(crate) words: &'static [&'static str],
+    /// The datagrams that the control link gives, all from one source.
+    pub(crate) asked: &'static [&'static [u8]],
+    /// How many calls are offered behind them.
+    pub(crate) offers: u16,
+    /// The moments of the timer.
+    pub(crate) moments: &'static [u64],
+    /// The moment at which the clock stands.
+    pub(crate) clock: u64,
+    /// What comes to the ports, in the order in which they are to be opened, and what is to leave from them.
+    pub(crate) ports: &'static [TablePort],
+    /// The lines of the script.
+    pub(crate) script: &'static [&'static [u8]],
+    /// The number, from 1, of the call of the link that fails: with 0 none does.
+    pub(crate) link_fails: u64,
+    /// The same of the reads of the script.
+    pub(crate) read_fails: u64,
+    /// The same of the writes of lines.
+    pub(crate) write_fails: u64,
+    /// How the run is to end.
+    pub(crate) status: Status,
+    /// Where the link is to be bound.
+    pub(crate) bound: Option<Addr>,
+    /// What the last reply is to be.
+    pub(crate) reply: Option<&'static [u8]>,
+    /// What is to be printed: just these lines, or as many lines that begin so.
+    pub(crate) lines: &'static [&'static [u8]],
+    /// Whether the lines are beginnings.
+    pub(crate) are_beginnings: bool,
+}
+
+/// Where the control link listens if no word says another address.
+pub(crate) const LISTEN: Addr = Addr {
+    ip: Ip::V4([127, 0, 0, 1]),
+    port: 2223,
 };
 
-/// The offer and the answer of a call with one audio section.
-pub(crate) const CALL: [&[u8]; 2] = [
-    b"1 d7:call-id2:c17:command5:offer8:from-tag1:a3:sdp89:v=0\r\no=- 1 1 IN IP4 192.0.2.10\r\ns=-\r\nc=IN IP4 192.0.2.10\r\nt=0 0\r\nm=audio 6000 RTP/AVP 0\r\ne",
-    b"2 d7:call-id2:c17:command6:answer8:from-tag1:a3:sdp95:v=0\r\no=- 1 1 IN IP4 198.51.100.20\r\ns=-\r\nc=IN IP4 198.51.100.20\r\nt=0 0\r\nm=audio 7000 RTP/AVP 0\r\n6:to-tag1:be",
-];
+/// A run of `serve` that is asked nothing.
+pub(crate) const SERVING: Case = Case {
+    words: &["serve", "--interface=203.0.113.1"],
+    asked: &[],
+    offers: 0,
+    moments: &[],
+    clock: 0,
+    ports: &[],
+    script: &[],
+    link_fails: 0,
+    read_fails: 0,
+    write_fails: 0,
+    status: Status::Ok,
+    bound: Some(LISTEN),
+    reply: None,
+    lines: &[b"turns 0 datagrams 0 replies 0 sent 0 refused 0 lost 0\n"],
+    are_beginnings: false,
+};
 
-/// Runs the words over this link, timer, script and sink, ports at which these packets arrive, and devices in memory beside them.
-pub(crate) fn run_with<R: Wait, N: ControlLink, S: LineSource, O: LineSink>(
+/// A run of `replay` whose script is empty.
+pub(crate) const REPLAYING: Case = Case {
+    words: &["replay"],
+    bound: None,
+    lines: &[],
+    ..SERVING
+};
+
+/// A run whose words are refused.
+pub(crate) const REFUSED: Case = Case {
+    words: &[],
+    status: Status::Usage,
+    bound: None,
+    lines: &[b"usage: rtpengine"],
+    are_beginnings: true,
+    ..SERVING
+};
+
+/// The offer of a call with one audio section.
+pub(crate) const OFFER: &[u8] =
+    b"1 d7:call-id2:c17:command5:offer8:from-tag1:a3:sdp89:v=0\r\no=- 1 1 IN IP4 192.0.2.10\r\ns=-\r\nc=IN IP4 192.0.2.10\r\nt=0 0\r\nm=audio 6000 RTP/AVP 0\r\ne";
+
+/// The answer.
+pub(crate) const ANSWER: &[u8] =
+    b"2 d7:call-id2:c17:command6:answer8:from-tag1:a3:sdp95:v=0\r\no=- 1 1 IN IP4 198.51.100.20\r\ns=-\r\nc=IN IP4 198.51.100.20\r\nt=0 0\r\nm=audio 7000 RTP/AVP 0\r\n6:to-tag1:be";
+
+/// Runs the words over these devices.
+fn run_with<R: Wait>(
     rt: &R,
     alloc: Global,
-    words: &[&str],
-    link: &mut N,
-    arrivals: Vec<Arrivals>,
-    timer: &mut HandTimer,
-    script: &mut S,
-    sink: &mut O,
+    case: &Case,
+    link: &mut TableLink,
+    ports: &mut TablePorts,
+    script: &mut TableLines,
+    sink: &mut TableSink,
 ) -> Status {
-    let mut ports = SteadyMaker::new(alloc, arrivals);
     run(
         rt,
         alloc,
-        words,
+        case.words,
         link,
-        &mut ports,
-        &mut SteadyKeys::new(alloc),
-        timer,
-        &HandClock::new(0),
+        ports,
+        &mut SameKey,
+        &mut TableTimer::new(case.moments),
+        &HandClock::new(case.clock),
         &OpenGate::new(),
         script,
         sink,
     )
 }
 
-/// Runs the words over this link and sink, an empty script, and a timer that stands still.
-pub(crate) fn run_over<R: Wait, N: ControlLink, O: LineSink>(
-    rt: &R,
-    alloc: Global,
-    words: &[&str],
-    link: &mut N,
-    sink: &mut O,
-) -> Status {
-    let mut timer = HandTimer::new(alloc, Vec::new(alloc));
-    let mut script = SteadyLines::new(alloc, Vec::new(alloc));
-    run_with(
+/// Whether the ports of the table were opened, and each port was closed as it should.
+fn are_closed(ports: &TablePorts) -> bool {
+    match ports.counts() {
+        Some((opened, closed)) => opened == closed,
+        None => false,
+    }
+}
+
+/// Whether a run is as it should be.
+fn is_so<R: Wait>(rt: &R, alloc: Global, case: &Case) -> bool {
+    let mut link = TableLink::new(case.asked, case.offers, case.reply, case.link_fails);
+    let mut ports = TablePorts::new(case.ports);
+    let mut script = TableLines::new(case.script, case.read_fails);
+    let mut sink = TableSink::new(case.lines, case.are_beginnings, case.write_fails);
+    let status = run_with(
         rt,
         alloc,
-        words,
-        link,
-        Vec::new(alloc),
-        &mut timer,
-        &mut script,
-        sink,
-    )
-}
-
-/// A link that gives these datagrams, all from one source.
-pub(crate) fn link_of(rt: &impl Abort, alloc: Global, datagrams: &[&[u8]]) -> SteadyLink {
-    let mut gifts = Vec::new(alloc);
-    for datagram in datagrams {
-        let gift = LinkGift::datagram(alloc, CALLER, datagram).expect(rt, "memory");
-        gifts.push(gift).expect(rt, "memory");
-    }
-    SteadyLink::new(alloc, gifts)
-}
-
-/// A script of these lines, of whose reads those with these numbers fail.
-fn script_of(rt: &impl Abort, alloc: Global, lines: &[&[u8]], failing: &[u64]) -> MemoryLines {
-    let mut list = Vec::new(alloc);
-    for line in lines {
-        let line = Copied::of(alloc, line).expect(rt, "memory");
-        list.push(line).expect(rt, "memory");
-    }
-    let failing = failing.to_vec(alloc).expect(rt, "memory");
-    MemoryLines::new(alloc, list, failing)
-}
-
-/// Whether these are the lines that a sink was given.
-pub(crate) fn are_lines(calls: Option<&[WriteCall]>, want: &[&[u8]]) -> bool {
-    let Some(calls) = calls else {
-        return false;
-    };
-    if calls.len() != want.len() {
-        return false;
-    }
-    for (call, want) in calls.iter().zip(want) {
-        let WriteCall::Write { line, .. } = call;
-        if line.as_slice() != *want {
-            return false;
-        }
-    }
-    true
-}
-
-/// Whether the words, asked these datagrams, end so, with this last reply, and print just this line.
-pub(crate) fn is_served<R: Wait + Abort>(
-    rt: &R,
-    alloc: Global,
-    words: &[&str],
-    asked: &[&[u8]],
-    status: Status,
-    reply: Option<&[u8]>,
-    line: &[u8],
-) -> bool {
-    let mut link = link_of(rt, alloc, asked);
-    let mut sink = SteadySink::new(alloc);
-    let ended = run_over(rt, alloc, words, &mut link, &mut sink);
-    let is_replied = match (link.last_sent(), reply) {
-        (Some((to, sent)), Some(reply)) => to == CALLER && sent == reply,
-        (sent, reply) => link.tells() && sent.is_none() && reply.is_none(),
-    };
-    ended == status && is_replied && are_lines(sink.calls(), &[line])
-}
-
-/// Whether the words, over a script of which these reads fail, end so and print just these lines.
-pub(crate) fn is_replayed<R: Wait + Abort>(
-    rt: &R,
-    alloc: Global,
-    words: &[&str],
-    script: &[&[u8]],
-    failing: &[u64],
-    status: Status,
-    lines: &[&[u8]],
-) -> bool {
-    let mut script = script_of(rt, alloc, script, failing);
-    let mut link = SteadyLink::new(alloc, Vec::new(alloc));
-    let mut timer = HandTimer::new(alloc, Vec::new(alloc));
-    let mut sink = SteadySink::new(alloc);
-    let ended = run_with(
-        rt,
-        alloc,
-        words,
+        case,
         &mut link,
-        Vec::new(alloc),
-        &mut timer,
+        &mut ports,
         &mut script,
         &mut sink,
     );
-    ended == status && are_lines(sink.calls(), lines)
+    status == case.status
+        && link.bound() == case.bound
+        && link.is_answered()
+        && are_closed(&ports)
+        && sink.is_printed()
+}
+
+/// Compares a run with what it should be: a message names it by its place, from 0, in its table.
+pub(crate) fn check_case<R: Wait + Abort>(rt: &R, alloc: Global, place: usize, case: &Case) {
+    assert!(rt; is_so(rt, alloc, case), "case {place}");
+}
+
+/// The same of all runs of a table.
+pub(crate) fn check_cases<R: Wait + Abort>(rt: &R, alloc: Global, cases: &[Case]) {
+    for (place, case) in cases.iter().enumerate() {
+        check_case(rt, alloc, place, case);
+    }
 }

@@ -1,20 +1,14 @@
 //! Which words are accepted, and what a run makes of them.
-ghost use Rattle.std.specs.Prelude.{None};
 
-use crate::relay_app_runs::{CALL, CALLER, is_replayed, is_served, run_over};
-use relay_app::Status;
-use relay_outside::{
-    Addr, ControlLink, Failed, Ip, LinkGift, SteadyLink, SteadySink, Taken, WriteCall,
-};
-use std::alloc::Global;
-use std::process::Abort;
+use crate::relay_app_runs::{Case, OFFER, REFUSED, REPLAYING, SERVING, check_case, check_cases};
+use relay_outside::{Addr, Ip};
 
 const INTERFACE: &str = "--interface=203.0.113.1";
 
 const LOCAL: [u8; 4] = [127, 0, 0, 1];
 
 /// Words of `serve` that are accepted, and the address and the port to which they bind the link.
-const SERVED: [(&[&str], [u8; 4], u16); 13] = [
+const SERVED: &[(&[&str], [u8; 4], u16)] = &[
     // what is left out has its default
     (&["serve", INTERFACE], LOCAL, 2223),
     // each option may be given
@@ -71,7 +65,7 @@ const SERVED: [(&[&str], [u8; 4], u16); 13] = [
 ];
 
 /// Words of `replay` that are accepted.
-const REPLAYED: [&[&str]; 8] = [
+const REPLAYED: &[&[&str]] = &[
     &["replay"],
     &["replay", INTERFACE],
     &[
@@ -90,7 +84,7 @@ const REPLAYED: [&[&str]; 8] = [
 ];
 
 /// Words that are refused.
-const REFUSED: [&[&str]; 72] = [
+const OTHERS: &[&[&str]] = &[
     // no command, or another
     &[],
     &[""],
@@ -183,187 +177,172 @@ const REFUSED: [&[&str]; 72] = [
     &["serve", INTERFACE, "--port-min=40001"],
 ];
 
-// A control link at which nothing is: it keeps the address to which it was bound.
-#[derive(Drop)]
-struct BoundLink {
-    at: Option<Addr>,
-}
-
-impl ControlLink for BoundLink {
-    ghost told = { λ link. None };
-
-    ghost faults = { λ link. 0 };
-
-    fn bind(&mut self, at: Addr) -> Result<(), Failed> {
-        self.at = Some(at);
-        Ok(())
-    }
-
-    fn take(&mut self, _buf: &mut [u8]) -> Result<Taken, Failed> {
-        Ok(Taken::End)
-    }
-
-    fn send(&mut self, _to: Addr, _bytes: &[u8]) -> Result<(), Failed> {
-        Ok(())
+#[test]
+fn accepted_words_of_serve_bind_the_link(rt: HostRuntime) {
+    for (place, (words, ip, port)) in SERVED.iter().enumerate() {
+        let at = Addr {
+            ip: Ip::V4(*ip),
+            port: *port,
+        };
+        let case = Case {
+            words: *words,
+            bound: Some(at),
+            ..SERVING
+        };
+        check_case(&rt, rt.alloc(), place, &case);
     }
 }
 
 #[test]
-fn accepted_words_bind_the_link_or_read_the_script(rt: HostRuntime) {
-    let alloc = rt.alloc();
-    for (words, ip, port) in SERVED {
-        let ip = Ip::V4(ip);
-        let mut link = BoundLink { at: None };
-        let status = run_over(&rt, alloc, words, &mut link, &mut SteadySink::new(alloc));
-        assert!(rt; status == Status::Ok, "{words:?}");
-        assert!(rt; link.at == Some(Addr { ip, port }), "{words:?}");
-    }
-    for words in REPLAYED {
-        let mut link = BoundLink { at: None };
-        let mut sink = SteadySink::new(alloc);
-        let status = run_over(&rt, alloc, words, &mut link, &mut sink);
-        assert!(rt; status == Status::Ok, "{words:?}");
-        assert!(rt;
-            link.at.is_none() && matches!(sink.calls(), Some([])),
-            "{words:?}"
-        );
+fn accepted_words_of_replay_read_the_script(rt: HostRuntime) {
+    for (place, words) in REPLAYED.iter().enumerate() {
+        let case = Case {
+            words: *words,
+            ..REPLAYING
+        };
+        check_case(&rt, rt.alloc(), place, &case);
     }
 }
 
 #[test]
 fn other_words_print_the_usage(rt: HostRuntime) {
-    let alloc = rt.alloc();
-    for words in REFUSED {
-        let mut link = BoundLink { at: None };
-        let mut sink = SteadySink::new(alloc);
-        let status = run_over(&rt, alloc, words, &mut link, &mut sink);
-        assert!(rt; status == Status::Usage && link.at.is_none(), "{words:?}");
-        let Some([WriteCall::Write { line, done: true }]) = sink.calls() else {
-            panic!(rt; "not one line of {words:?}");
+    for (place, words) in OTHERS.iter().enumerate() {
+        let case = Case {
+            words: *words,
+            ..REFUSED
         };
-        assert!(rt; line.as_slice().starts_with(b"usage: rtpengine"));
+        check_case(&rt, rt.alloc(), place, &case);
     }
 }
 
-/// The offer of a second call.
-const OTHER: &[u8] =
-    b"3 d7:call-id2:c27:command5:offer8:from-tag1:a3:sdp89:v=0\r\no=- 1 1 IN IP4 192.0.2.10\r\ns=-\r\nc=IN IP4 192.0.2.10\r\nt=0 0\r\nm=audio 6000 RTP/AVP 0\r\ne";
-
-const NO_PAIR: &[u8] = b"1 d12:error-reason17:no free port pair6:result5:errore";
-
-#[test]
-fn offers_get_the_ports_and_the_calls_of_the_words(rt: HostRuntime) {
-    // the words, and the reply to an offer
-    let cases: [(&[&str], &[u8]); 10] = [
-        (
-            &["serve", INTERFACE],
+/// The reply to an offer of one section, which needs two pairs of ports.
+const OFFERED: &[Case] = &[
+    Case {
+        words: &["serve", INTERFACE],
+        reply: Some(
             b"1 d6:result2:ok3:sdp112:v=0\r\no=- 1 1 IN IP4 192.0.2.10\r\ns=-\r\nc=IN IP4 192.0.2.10\r\nt=0 0\r\nm=audio 30000 RTP/AVP 0\r\nc=IN IP4 203.0.113.1\r\ne",
         ),
-        (
-            &[
-                "serve",
-                "--interface=0.0.0.0",
-                "--port-min=5000",
-                "--port-max=5101",
-            ],
+        ..ONE_OFFER
+    },
+    Case {
+        words: &[
+            "serve",
+            "--interface=0.0.0.0",
+            "--port-min=5000",
+            "--port-max=5101",
+        ],
+        reply: Some(
             b"1 d6:result2:ok3:sdp107:v=0\r\no=- 1 1 IN IP4 192.0.2.10\r\ns=-\r\nc=IN IP4 192.0.2.10\r\nt=0 0\r\nm=audio 5000 RTP/AVP 0\r\nc=IN IP4 0.0.0.0\r\ne",
         ),
-        // the edges of the range: an offer needs two pairs of ports
-        (
-            &["serve", INTERFACE, "--port-min=1024", "--port-max=65535"],
+        ..ONE_OFFER
+    },
+    // the edges of the range
+    Case {
+        words: &["serve", INTERFACE, "--port-min=1024", "--port-max=65535"],
+        reply: Some(
             b"1 d6:result2:ok3:sdp111:v=0\r\no=- 1 1 IN IP4 192.0.2.10\r\ns=-\r\nc=IN IP4 192.0.2.10\r\nt=0 0\r\nm=audio 1024 RTP/AVP 0\r\nc=IN IP4 203.0.113.1\r\ne",
         ),
-        (
-            &["serve", INTERFACE, "--port-min=1024", "--port-max=1025"],
-            NO_PAIR,
-        ),
-        (
-            &["serve", INTERFACE, "--port-min=65534", "--port-max=65535"],
-            NO_PAIR,
-        ),
-        (
-            &["serve", INTERFACE, "--port-min=30001", "--port-max=30003"],
-            NO_PAIR,
-        ),
-        (
-            &["serve", INTERFACE, "--port-min=30001", "--port-max=30005"],
+        ..ONE_OFFER
+    },
+    Case {
+        words: &["serve", INTERFACE, "--port-min=1024", "--port-max=1025"],
+        ..NO_PAIR
+    },
+    Case {
+        words: &["serve", INTERFACE, "--port-min=65534", "--port-max=65535"],
+        ..NO_PAIR
+    },
+    Case {
+        words: &["serve", INTERFACE, "--port-min=30001", "--port-max=30003"],
+        ..NO_PAIR
+    },
+    Case {
+        words: &["serve", INTERFACE, "--port-min=30001", "--port-max=30005"],
+        reply: Some(
             b"1 d6:result2:ok3:sdp112:v=0\r\no=- 1 1 IN IP4 192.0.2.10\r\ns=-\r\nc=IN IP4 192.0.2.10\r\nt=0 0\r\nm=audio 30002 RTP/AVP 0\r\nc=IN IP4 203.0.113.1\r\ne",
         ),
-        (&["serve", INTERFACE, "--port-min=39998"], NO_PAIR),
-        (
-            &["serve", INTERFACE, "--port-min=39996"],
+        ..ONE_OFFER
+    },
+    Case {
+        words: &["serve", INTERFACE, "--port-min=39998"],
+        ..NO_PAIR
+    },
+    Case {
+        words: &["serve", INTERFACE, "--port-min=39996"],
+        reply: Some(
             b"1 d6:result2:ok3:sdp112:v=0\r\no=- 1 1 IN IP4 192.0.2.10\r\ns=-\r\nc=IN IP4 192.0.2.10\r\nt=0 0\r\nm=audio 39996 RTP/AVP 0\r\nc=IN IP4 203.0.113.1\r\ne",
         ),
-        (&["serve", INTERFACE, "--port-max=30001"], NO_PAIR),
-    ];
-    let line = b"turns 1 datagrams 1 replies 1 sent 0 refused 0 lost 0\n";
-    for (words, want) in cases {
-        let asked = [CALL[0]];
-        let is_so = is_served(&rt, rt.alloc(), words, &asked, Status::Ok, Some(want), line);
-        assert!(rt; is_so, "{words:?}");
-    }
-    let is_so = is_served(
-        &rt,
-        rt.alloc(),
-        &["serve", INTERFACE, "--max-sessions=1"],
-        &[CALL[0], OTHER],
-        Status::Ok,
-        Some(b"3 d12:error-reason21:session limit reached6:result5:errore"),
-        b"turns 2 datagrams 2 replies 2 sent 0 refused 0 lost 0\n",
-    );
-    assert!(rt; is_so, "one call may be live");
+        ..ONE_OFFER
+    },
+    Case {
+        words: &["serve", INTERFACE, "--port-max=30001"],
+        ..NO_PAIR
+    },
+];
+
+const ONE_OFFER: Case = Case {
+    asked: &[OFFER],
+    lines: &[b"turns 1 datagrams 1 replies 1 sent 0 refused 0 lost 0\n"],
+    ..SERVING
+};
+
+const NO_PAIR: Case = Case {
+    reply: Some(b"1 d12:error-reason17:no free port pair6:result5:errore"),
+    ..ONE_OFFER
+};
+
+#[test]
+fn offers_get_the_ports_of_the_words(rt: HostRuntime) {
+    check_cases(&rt, rt.alloc(), OFFERED);
 }
 
-/// A link that gives the offers of so many calls.
-fn link_of_calls(rt: &impl Abort, alloc: Global, count: u16) -> SteadyLink {
-    let mut gifts = Vec::new(alloc);
-    for call in 0..count {
-        let offer = format!(in alloc;
-            "1_{call:04} d7:call-id4:{call:04}7:command5:offer8:from-tag1:a3:sdp89:v=0\r\no=- 1 1 IN IP4 192.0.2.10\r\ns=-\r\nc=IN IP4 192.0.2.10\r\nt=0 0\r\nm=audio 6000 RTP/AVP 0\r\ne"
-        );
-        let offer = offer.expect(rt, "memory");
-        let gift = LinkGift::datagram(alloc, CALLER, offer.as_bytes()).expect(rt, "memory");
-        gifts.push(gift).expect(rt, "memory");
-    }
-    SteadyLink::new(alloc, gifts)
-}
+/// Offers of more calls than one, and the reply to the last.
+const LIVE: &[Case] = &[
+    Case {
+        words: &["serve", INTERFACE, "--max-sessions=1"],
+        asked: &[
+            OFFER,
+            b"3 d7:call-id2:c27:command5:offer8:from-tag1:a3:sdp89:v=0\r\no=- 1 1 IN IP4 192.0.2.10\r\ns=-\r\nc=IN IP4 192.0.2.10\r\nt=0 0\r\nm=audio 6000 RTP/AVP 0\r\ne",
+        ],
+        reply: Some(b"3 d12:error-reason21:session limit reached6:result5:errore"),
+        lines: &[b"turns 2 datagrams 2 replies 2 sent 0 refused 0 lost 0\n"],
+        ..SERVING
+    },
+    Case {
+        words: &["serve", INTERFACE, "--max-sessions=77"],
+        offers: 77,
+        reply: Some(
+            b"1_0076 d6:result2:ok3:sdp112:v=0\r\no=- 1 1 IN IP4 192.0.2.10\r\ns=-\r\nc=IN IP4 192.0.2.10\r\nt=0 0\r\nm=audio 30304 RTP/AVP 0\r\nc=IN IP4 203.0.113.1\r\ne",
+        ),
+        lines: &[b"turns 77 datagrams 77 replies 77 sent 0 refused 0 lost 0\n"],
+        ..SERVING
+    },
+    Case {
+        words: &["serve", INTERFACE, "--max-sessions=77"],
+        offers: 78,
+        reply: Some(b"1_0077 d12:error-reason21:session limit reached6:result5:errore"),
+        lines: &[b"turns 78 datagrams 78 replies 78 sent 0 refused 0 lost 0\n"],
+        ..SERVING
+    },
+];
 
 #[test]
 fn as_many_calls_are_live_as_the_words_say(rt: HostRuntime) {
-    let alloc = rt.alloc();
-    let cases: [(&[&str], u16, &[u8]); 2] = [
-        (
-            &["serve", INTERFACE, "--max-sessions=77"],
-            77,
-            b"1_0076 d6:result2:ok3:sdp112:v=0\r\no=- 1 1 IN IP4 192.0.2.10\r\ns=-\r\nc=IN IP4 192.0.2.10\r\nt=0 0\r\nm=audio 30304 RTP/AVP 0\r\nc=IN IP4 203.0.113.1\r\ne",
-        ),
-        (
-            &["serve", INTERFACE, "--max-sessions=77"],
-            78,
-            b"1_0077 d12:error-reason21:session limit reached6:result5:errore",
-        ),
-    ];
-    for (words, count, want) in cases {
-        let mut link = link_of_calls(&rt, alloc, count);
-        run_over(&rt, alloc, words, &mut link, &mut SteadySink::new(alloc));
-        assert!(rt;
-            link.last_sent() == Some((CALLER, want)),
-            "{words:?} {count}"
-        );
-    }
+    check_cases(&rt, rt.alloc(), LIVE);
 }
 
-/// The words of a replay, and what they say: the interface, the first port, and the first two keys of the seed's ChaCha20 stream.
-const REPLAYS: [(&[&str], &str, u16, &str, &str); 7] = [
-    (
-        &["replay"],
-        "203.0.113.1",
-        30_000,
-        "xdMKfOHsEZN4yE9IfXdahULxPs4jipRV6CKeiI3o",
-        "Ketj0KF6W5mbUtoivkAj6wdiClT2+mrYc3tx6wRk",
-    ),
-    (
-        &[
+/// What the words of a replay say: the interface, the first port, and the first two keys of the seed's ChaCha20 stream stand in the reply to an
+/// offer; and how many calls may be live.
+const REPLIES: &[Case] = &[
+    Case {
+        words: &["replay"],
+        lines: &[
+            b"reply 192.0.2.9:5060 t:1 d6:result2:ok3:sdp281:v=0\\x0d\\x0ao=- 1 1 IN IP4 192.0.2.10\\x0d\\x0as=-\\x0d\\x0ac=IN IP4 192.0.2.10\\x0d\\x0at=0 0\\x0d\\x0am=audio 30000 RTP/SAVP 0\\x0d\\x0ac=IN IP4 203.0.113.1\\x0d\\x0aa=crypto:1 AES_CM_128_HMAC_SHA1_80 inline:xdMKfOHsEZN4yE9IfXdahULxPs4jipRV6CKeiI3o\\x0d\\x0aa=crypto:2 AES_CM_128_HMAC_SHA1_32 inline:Ketj0KF6W5mbUtoivkAj6wdiClT2+mrYc3tx6wRk\\x0d\\x0ae\n",
+        ],
+        ..ONE_REPLY
+    },
+    Case {
+        words: &[
             "replay",
             "--port-max=5101",
             "--seed=18446744073709551615",
@@ -371,75 +350,70 @@ const REPLAYS: [(&[&str], &str, u16, &str, &str); 7] = [
             "--port-min=5000",
             "--max-sessions=77",
         ],
-        "198.51.100.7",
-        5000,
-        "P6Lua9pTQeskQor8KuU2OAmSI/M7tE5D89X+nEpN",
-        "+30H0vlfNDquUVaWfdgb1DX9WCY+j6Q8NFysBagu",
-    ),
-    (
-        &["replay", "--seed=0"],
-        "203.0.113.1",
-        30_000,
-        "drjgraDxPZBAXWrlU4a9KL3SGbigje0aqDbvzIt3",
-        "2kFZfFFXSI13JOA/uNhKN2pDuPQVGKEcw4e2abLu",
-    ),
-    (
-        &["replay", "--seed=1"],
-        "203.0.113.1",
-        30_000,
-        "xdMKfOHsEZN4yE9IfXdahULxPs4jipRV6CKeiI3o",
-        "Ketj0KF6W5mbUtoivkAj6wdiClT2+mrYc3tx6wRk",
-    ),
-    (
-        &["replay", "--seed=10"],
-        "203.0.113.1",
-        30_000,
-        "+tFFgyV6t7SP0VnhKo6LzOUqx9AP8r196j3PSMBe",
-        "fRVIEDjV8rPowOS2sRMXGk1qFBZAWz83ebW/o7f0",
-    ),
-    (
-        &["replay", "--seed=4294967296"],
-        "203.0.113.1",
-        30_000,
-        "zvO4teocn1oa/KdrVjfLP6T3hIjZ9AGhwbI7lahi",
-        "FPwbm6w/N/SHIdOmCydNPYKfMMlxTKRpvdVkyON4",
-    ),
-    (
-        &["replay", "--seed=18446744073709551615"],
-        "203.0.113.1",
-        30_000,
-        "P6Lua9pTQeskQor8KuU2OAmSI/M7tE5D89X+nEpN",
-        "+30H0vlfNDquUVaWfdgb1DX9WCY+j6Q8NFysBagu",
-    ),
-];
-
-#[test]
-fn a_replay_has_the_settings_of_its_words(rt: HostRuntime) {
-    let alloc = rt.alloc();
-    let offer =
-        b"ng 192.0.2.9:5060 t:1 d7:call-id2:c17:command5:offer8:from-tag1:a3:sdp89:v=0\\r\\no=- 1 1 IN IP4 192.0.2.10\\r\\ns=-\\r\\nc=IN IP4 192.0.2.10\\r\\nt=0 0\\r\\nm=audio 6000 RTP/AVP 0\\r\\n18:transport protocol8:RTP/SAVPe".as_slice();
-    for (words, interface, port, first, second) in REPLAYS {
-        let want = format!(in alloc;
-            "reply 192.0.2.9:5060 t:1 d6:result2:ok3:sdp281:v=0\\x0d\\x0ao=- 1 1 IN IP4 192.0.2.10\\x0d\\x0as=-\\x0d\\x0ac=IN IP4 192.0.2.10\\x0d\\x0at=0 0\\x0d\\x0am=audio {port} RTP/SAVP 0\\x0d\\x0ac=IN IP4 {interface}\\x0d\\x0aa=crypto:1 AES_CM_128_HMAC_SHA1_80 inline:{first}\\x0d\\x0aa=crypto:2 AES_CM_128_HMAC_SHA1_32 inline:{second}\\x0d\\x0ae\n"
-        );
-        let want = want.expect(&rt, "memory");
-        let lines = [want.as_bytes()];
-        let is_so = is_replayed(&rt, alloc, words, &[offer], &[], Status::Ok, &lines);
-        assert!(rt; is_so, "{words:?}");
-    }
-    let plain =
-        b"ng 192.0.2.9:5060 t:3 d7:call-id2:c27:command5:offer8:from-tag1:a3:sdp89:v=0\\r\\no=- 1 1 IN IP4 192.0.2.10\\r\\ns=-\\r\\nc=IN IP4 192.0.2.10\\r\\nt=0 0\\r\\nm=audio 6000 RTP/AVP 0\\r\\ne".as_slice();
-    let is_so = is_replayed(
-        &rt,
-        alloc,
-        &["replay", "--max-sessions=1"],
-        &[plain, offer],
-        &[],
-        Status::Ok,
-        &[
+        lines: &[
+            b"reply 192.0.2.9:5060 t:1 d6:result2:ok3:sdp281:v=0\\x0d\\x0ao=- 1 1 IN IP4 192.0.2.10\\x0d\\x0as=-\\x0d\\x0ac=IN IP4 192.0.2.10\\x0d\\x0at=0 0\\x0d\\x0am=audio 5000 RTP/SAVP 0\\x0d\\x0ac=IN IP4 198.51.100.7\\x0d\\x0aa=crypto:1 AES_CM_128_HMAC_SHA1_80 inline:P6Lua9pTQeskQor8KuU2OAmSI/M7tE5D89X+nEpN\\x0d\\x0aa=crypto:2 AES_CM_128_HMAC_SHA1_32 inline:+30H0vlfNDquUVaWfdgb1DX9WCY+j6Q8NFysBagu\\x0d\\x0ae\n",
+        ],
+        ..ONE_REPLY
+    },
+    Case {
+        words: &["replay", "--seed=0"],
+        lines: &[
+            b"reply 192.0.2.9:5060 t:1 d6:result2:ok3:sdp281:v=0\\x0d\\x0ao=- 1 1 IN IP4 192.0.2.10\\x0d\\x0as=-\\x0d\\x0ac=IN IP4 192.0.2.10\\x0d\\x0at=0 0\\x0d\\x0am=audio 30000 RTP/SAVP 0\\x0d\\x0ac=IN IP4 203.0.113.1\\x0d\\x0aa=crypto:1 AES_CM_128_HMAC_SHA1_80 inline:drjgraDxPZBAXWrlU4a9KL3SGbigje0aqDbvzIt3\\x0d\\x0aa=crypto:2 AES_CM_128_HMAC_SHA1_32 inline:2kFZfFFXSI13JOA/uNhKN2pDuPQVGKEcw4e2abLu\\x0d\\x0ae\n",
+        ],
+        ..ONE_REPLY
+    },
+    Case {
+        words: &["replay", "--seed=1"],
+        lines: &[
+            b"reply 192.0.2.9:5060 t:1 d6:result2:ok3:sdp281:v=0\\x0d\\x0ao=- 1 1 IN IP4 192.0.2.10\\x0d\\x0as=-\\x0d\\x0ac=IN IP4 192.0.2.10\\x0d\\x0at=0 0\\x0d\\x0am=audio 30000 RTP/SAVP 0\\x0d\\x0ac=IN IP4 203.0.113.1\\x0d\\x0aa=crypto:1 AES_CM_128_HMAC_SHA1_80 inline:xdMKfOHsEZN4yE9IfXdahULxPs4jipRV6CKeiI3o\\x0d\\x0aa=crypto:2 AES_CM_128_HMAC_SHA1_32 inline:Ketj0KF6W5mbUtoivkAj6wdiClT2+mrYc3tx6wRk\\x0d\\x0ae\n",
+        ],
+        ..ONE_REPLY
+    },
+    Case {
+        words: &["replay", "--seed=10"],
+        lines: &[
+            b"reply 192.0.2.9:5060 t:1 d6:result2:ok3:sdp281:v=0\\x0d\\x0ao=- 1 1 IN IP4 192.0.2.10\\x0d\\x0as=-\\x0d\\x0ac=IN IP4 192.0.2.10\\x0d\\x0at=0 0\\x0d\\x0am=audio 30000 RTP/SAVP 0\\x0d\\x0ac=IN IP4 203.0.113.1\\x0d\\x0aa=crypto:1 AES_CM_128_HMAC_SHA1_80 inline:+tFFgyV6t7SP0VnhKo6LzOUqx9AP8r196j3PSMBe\\x0d\\x0aa=crypto:2 AES_CM_128_HMAC_SHA1_32 inline:fRVIEDjV8rPowOS2sRMXGk1qFBZAWz83ebW/o7f0\\x0d\\x0ae\n",
+        ],
+        ..ONE_REPLY
+    },
+    Case {
+        words: &["replay", "--seed=4294967296"],
+        lines: &[
+            b"reply 192.0.2.9:5060 t:1 d6:result2:ok3:sdp281:v=0\\x0d\\x0ao=- 1 1 IN IP4 192.0.2.10\\x0d\\x0as=-\\x0d\\x0ac=IN IP4 192.0.2.10\\x0d\\x0at=0 0\\x0d\\x0am=audio 30000 RTP/SAVP 0\\x0d\\x0ac=IN IP4 203.0.113.1\\x0d\\x0aa=crypto:1 AES_CM_128_HMAC_SHA1_80 inline:zvO4teocn1oa/KdrVjfLP6T3hIjZ9AGhwbI7lahi\\x0d\\x0aa=crypto:2 AES_CM_128_HMAC_SHA1_32 inline:FPwbm6w/N/SHIdOmCydNPYKfMMlxTKRpvdVkyON4\\x0d\\x0ae\n",
+        ],
+        ..ONE_REPLY
+    },
+    Case {
+        words: &["replay", "--seed=18446744073709551615"],
+        lines: &[
+            b"reply 192.0.2.9:5060 t:1 d6:result2:ok3:sdp281:v=0\\x0d\\x0ao=- 1 1 IN IP4 192.0.2.10\\x0d\\x0as=-\\x0d\\x0ac=IN IP4 192.0.2.10\\x0d\\x0at=0 0\\x0d\\x0am=audio 30000 RTP/SAVP 0\\x0d\\x0ac=IN IP4 203.0.113.1\\x0d\\x0aa=crypto:1 AES_CM_128_HMAC_SHA1_80 inline:P6Lua9pTQeskQor8KuU2OAmSI/M7tE5D89X+nEpN\\x0d\\x0aa=crypto:2 AES_CM_128_HMAC_SHA1_32 inline:+30H0vlfNDquUVaWfdgb1DX9WCY+j6Q8NFysBagu\\x0d\\x0ae\n",
+        ],
+        ..ONE_REPLY
+    },
+    Case {
+        words: &["replay", "--max-sessions=1"],
+        script: &[
+            b"ng 192.0.2.9:5060 t:3 d7:call-id2:c27:command5:offer8:from-tag1:a3:sdp89:v=0\\r\\no=- 1 1 IN IP4 192.0.2.10\\r\\ns=-\\r\\nc=IN IP4 192.0.2.10\\r\\nt=0 0\\r\\nm=audio 6000 RTP/AVP 0\\r\\ne",
+            SECURED,
+        ],
+        lines: &[
             b"reply 192.0.2.9:5060 t:3 d6:result2:ok3:sdp112:v=0\\x0d\\x0ao=- 1 1 IN IP4 192.0.2.10\\x0d\\x0as=-\\x0d\\x0ac=IN IP4 192.0.2.10\\x0d\\x0at=0 0\\x0d\\x0am=audio 30000 RTP/AVP 0\\x0d\\x0ac=IN IP4 203.0.113.1\\x0d\\x0ae\n",
             b"reply 192.0.2.9:5060 t:1 d12:error-reason21:session limit reached6:result5:errore\n",
         ],
-    );
-    assert!(rt; is_so, "one call may be live");
+        ..REPLAYING
+    },
+];
+
+const ONE_REPLY: Case = Case {
+    script: &[SECURED],
+    ..REPLAYING
+};
+
+/// An offer for whose other side SRTP is written.
+const SECURED: &[u8] =
+    b"ng 192.0.2.9:5060 t:1 d7:call-id2:c17:command5:offer8:from-tag1:a3:sdp89:v=0\\r\\no=- 1 1 IN IP4 192.0.2.10\\r\\ns=-\\r\\nc=IN IP4 192.0.2.10\\r\\nt=0 0\\r\\nm=audio 6000 RTP/AVP 0\\r\\n18:transport protocol8:RTP/SAVPe";
+
+#[test]
+fn a_replay_has_the_settings_of_its_words(rt: HostRuntime) {
+    check_cases(&rt, rt.alloc(), REPLIES);
 }

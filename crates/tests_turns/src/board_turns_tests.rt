@@ -1,8 +1,8 @@
 use crate::first_relay::{CONFIG, begin};
+use crate::quiet_devices::QuietPorts;
 use board_turns::stop_turn;
 use call_cell::Gone;
 use relay_core::close_relay;
-use relay_outside::MemoryMaker;
 
 #[test]
 fn a_stop_without_a_call_ends_none(rt: HostRuntime) {
@@ -12,8 +12,7 @@ fn a_stop_without_a_call_ends_none(rt: HostRuntime) {
     let Some((turns, mut hand)) = begin(rt.alloc()) else {
         panic!(rt; "no memory");
     };
-    let mut maker = MemoryMaker::new(rt.alloc(), Vec::new(rt.alloc()), Vec::new(rt.alloc()));
-    let count = stop_turn(&rt, &turns, &mut hand, &CONFIG, &mut maker, &mut gone);
+    let count = stop_turn(&rt, &turns, &mut hand, &CONFIG, &mut QuietPorts, &mut gone);
     assert!(rt; count == 0 && gone.pop().is_none());
     let places = close_relay(turns, hand);
     assert!(rt; places.len() == 5);

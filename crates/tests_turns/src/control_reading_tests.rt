@@ -24,24 +24,43 @@ const V4: &[u8] =
 const V6: &[u8] =
     b"v=0\r\no=- 1 1 IN IP4 192.0.2.10\r\ns=-\r\nc=IN IP6 2001:db8::1\r\nt=0 0\r\nm=audio 4000 RTP/AVP 0\r\n";
 
-/// What is said of a body: whether it is a dictionary, and the error that comes in place of a command.
-fn said(alloc: Global, text: &[u8]) -> Option<(bool, Option<ErrorCode>)> {
-    let body = read_body(alloc, text).ok()?;
-    Some((body.dictionary.is_some(), body.command.err()))
+fn error_of(command: &Result<Command, ErrorCode>) -> Option<ErrorCode> {
+    match command {
+        Ok(_) => None,
+        Err(code) => Some(*code),
+    }
 }
+
+/// What a body says: whether it is a dictionary, and the error that comes in place of a command. `None`: there was no memory.
+fn said(alloc: Global, text: &[u8]) -> Option<(bool, Option<ErrorCode>)> {
+    match read_body(alloc, text) {
+        Ok(body) => Some((body.dictionary.is_some(), error_of(&body.command))),
+        Err(_) => None,
+    }
+}
+
+/// Whether a body is a dictionary that asks for a ping.
+fn is_ping(alloc: Global, text: &[u8]) -> bool {
+    match read_body(alloc, text) {
+        Ok(body) => body.dictionary.is_some() && matches!(&body.command, Ok(Command::Ping)),
+        Err(_) => false,
+    }
+}
+
+/// Bodies, whether each is a dictionary, and the error that comes in place of its command.
+const BODIES: &[(&[u8], bool, ErrorCode)] = &[
+    (b"ping", false, ErrorCode::E1),
+    (b"le", false, ErrorCode::E1),
+    (b"d7:command4:pongE", false, ErrorCode::E1),
+    (b"d7:command5:querye", true, ErrorCode::E4(KeyName::CallId)),
+];
 
 #[test]
 fn a_body_is_read_once(rt: HostRuntime) {
-    let ping = read_body(rt.alloc(), b"d7:command4:pinge").expect(&rt, "memory");
-    assert!(rt; ping.dictionary.is_some() && matches!(ping.command, Ok(Command::Ping)));
-    let cases: [(&[u8], bool, ErrorCode); 4] = [
-        (b"ping", false, ErrorCode::E1),
-        (b"le", false, ErrorCode::E1),
-        (b"d7:command4:pongE", false, ErrorCode::E1),
-        (b"d7:command5:querye", true, ErrorCode::E4(KeyName::CallId)),
-    ];
-    for (text, is_dictionary, code) in cases {
-        assert!(rt; said(rt.alloc(), text) == Some((is_dictionary, Some(code))));
+    assert!(rt; is_ping(rt.alloc(), b"d7:command4:pinge"));
+    for (place, (text, is_dictionary, code)) in BODIES.iter().enumerate() {
+        let is_so = said(rt.alloc(), *text) == Some((*is_dictionary, Some(*code)));
+        assert!(rt; is_so, "body {place}");
     }
 }
 

@@ -1,29 +1,20 @@
 //! A call from its offer to its delete, over devices in memory.
 ghost use Rattle.std.specs.Prelude.{◌≡◌, []};
 ghost use Rattle.turn_table.specs.Hands.{parts};
-ghost use Rattle.call_board.specs.Pairs.{held};
-ghost use Rattle.relay_core.specs.Turning.{made_by};
-ghost use Rattle.media_ports.specs.Held.{TellsHeld};
-ghost use Rattle.board_turns.specs.Between.{IsBetween, board_of};
-ghost use Rattle.board_turns.specs.Ending.{leg_pairs};
+ghost use Rattle.board_turns.specs.Between.{IsBetween};
 
-use crate::first_relay::{CONFIG, InMemory, begin};
+use crate::first_relay::{CONFIG, QuietRelay, begin};
+use crate::quiet_devices::{Mute, OneAsked, QuietPorts, SameKey};
 use call_cell::Gone;
 use control_turns::{ControlTurn, control_turn};
 use relay_core::close_relay;
-use relay_outside::{Addr, Ip, KeyList, LinkGift, MemoryLink, MemoryMaker, MemoryOut};
 use std::alloc::Global;
+use std::process::Abort;
 use std::sync::Wait;
-use std::test::Fail;
 use turn_table::{Hand, Turns};
 
-const PROXY: Addr = Addr {
-    ip: Ip::V4([192, 0, 2, 9]),
-    port: 5060,
-};
-
 /// What the proxy asks in turn, and what it is answered.
-const ASKED: [(&[u8], &[u8]); 7] = [
+const ASKED: &[(&[u8], &[u8])] = &[
     (OFFER, OFFERED),
     // again, with the same cookie
     (OFFER, OFFERED),
@@ -59,37 +50,26 @@ const ANSWER: &[u8] =
 const ANSWERED: &[u8] =
     b"2_1 d6:result2:ok3:sdp116:v=0\r\no=bob 2 2 IN IP4 203.0.113.1\r\ns=-\r\nc=IN IP4 203.0.113.1\r\nt=0 0\r\nm=audio 30002 RTP/AVP 0\r\nc=IN IP4 203.0.113.1\r\ne";
 
-// Whether a datagram of the proxy gets just this reply, where memory suffices.
-fn is_answered<R: Wait>(
+/// Whether a datagram of the proxy gets just this reply.
+fn is_answered<R: Wait + Abort>(
     rt: &R,
     alloc: Global,
-    turns: &Turns<InMemory>,
-    hand: &mut Hand<InMemory>,
-    gone: &mut Gone<MemoryOut>,
-    maker: &mut MemoryMaker,
-    keys: &mut KeyList,
+    turns: &Turns<QuietRelay>,
+    hand: &mut Hand<QuietRelay>,
+    gone: &mut Gone<Mute>,
     datagram: &[u8],
     want: &[u8],
 ) -> bool
     requires between { IsBetween CONFIG turns.now hand.old }
-    requires open { TellsHeld CONFIG maker.old.told (leg_pairs (held (board_of (made_by hand.old)))) }
     requires empty { gone.old ≡ [] }
     ensures parts { parts hand.new ≡ parts hand.old }
     ensures between { IsBetween CONFIG turns.now hand.new }
-    ensures open { TellsHeld CONFIG maker.new.told (leg_pairs (held (board_of (made_by hand.new)))) }
     ensures empty { gone.new ≡ [] }
 {
-    let Ok(gift) = LinkGift::datagram(alloc, PROXY, datagram) else {
-        return false;
-    };
-    let mut gifts = Vec::new(alloc);
-    if gifts.push(gift).is_err() {
-        return false;
-    }
-    let mut link = MemoryLink::new(alloc, gifts, Vec::new(alloc));
     let Ok(mut room) = vec![in alloc; 0; 16_385] else {
-        return false;
+        panic!(rt; "no memory");
     };
+    let mut link = OneAsked::new(datagram, want);
     let turn = control_turn(
         rt,
         alloc,
@@ -99,28 +79,24 @@ fn is_answered<R: Wait>(
         room.as_mut_slice(),
         gone,
         &mut link,
-        maker,
-        keys,
+        &mut QuietPorts,
+        &mut SameKey,
         0,
     );
-    turn == ControlTurn::Replied && link.last_sent() == Some((PROXY, want))
+    turn == ControlTurn::Replied && link.is_replied()
 }
 
 #[test]
-fn a_call_is_offered_answered_and_deleted(rt: HostRuntime) -> Result<(), Fail> {
-    let alloc = rt.alloc();
-    let mut gone = Gone::new(alloc)?;
-    let mut maker = MemoryMaker::new(alloc, Vec::new(alloc), Vec::new(alloc));
-    let mut keys = KeyList::new(alloc, Vec::new(alloc), Vec::new(alloc));
-    let Some((turns, mut hand)) = begin(alloc) else {
+fn a_call_is_offered_answered_and_deleted(rt: HostRuntime) {
+    let Ok(mut gone) = Gone::new(rt.alloc()) else {
         panic!(rt; "no memory");
     };
-    for (ask, want) in ASKED {
-        let is_so = is_answered(
-            &rt, alloc, &turns, &mut hand, &mut gone, &mut maker, &mut keys, ask, want,
-        );
-        assert!(rt; is_so, "{ask:?}");
+    let Some((turns, mut hand)) = begin(rt.alloc()) else {
+        panic!(rt; "no memory");
+    };
+    for (place, (ask, want)) in ASKED.iter().enumerate() {
+        let is_so = is_answered(&rt, rt.alloc(), &turns, &mut hand, &mut gone, *ask, *want);
+        assert!(rt; is_so, "datagram {place}");
     }
     drop(close_relay(turns, hand));
-    Ok(())
 }

@@ -1,11 +1,13 @@
-//! A relay before its first step, whose devices are in memory.
+//! A relay before its first step, to whose ports nothing comes.
 ghost use Rattle.std.specs.Prelude.{◌≡◌, [], IfSome};
-ghost use Rattle.turn_table.specs.Hands.{parts};
+ghost use Rattle.turn_table.specs.Hands.{HasNoTurn, parts};
 ghost use Rattle.relay_core.specs.Turning.{made_by};
+ghost use Rattle.nested_steps.specs.Nesting.{MayNest};
 ghost use Rattle.board_turns.specs.Between.{IsBetween};
 
+use crate::quiet_devices::{Mute, Quiet};
 use relay_core::Relay;
-use relay_outside::{Config, Ip, MemoryIn, MemoryOut};
+use relay_outside::{Config, Ip};
 use std::alloc::Global;
 use turn_table::{Hand, Turns};
 
@@ -21,12 +23,13 @@ pub(crate) const CONFIG: Config = Config {
 };
 
 /// Its places.
-pub(crate) type InMemory = Relay<MemoryIn, MemoryOut>;
+pub(crate) type QuietRelay = Relay<Quiet, Mute>;
 
 /// Its table, and the main hand.
-pub(crate) fn begin(alloc: Global) -> Option<(Turns<InMemory>, Hand<InMemory>)>
+pub(crate) fn begin(alloc: Global) -> Option<(Turns<QuietRelay>, Hand<QuietRelay>)>
     ensures between { IfSome result (λ r. IsBetween CONFIG r.0 r.1) }
-    ensures hand { IfSome result (λ r. (made_by r.1 ≡ []) × (parts r.1 ≡ 1024)) }
+    ensures may { IfSome result (λ r. MayNest CONFIG r.0 r.1) }
+    ensures hand { IfSome result (λ r. (made_by r.1 ≡ []) × (parts r.1 ≡ 1024) × HasNoTurn r.1) }
 {
     let Ok(states) = relay_core::parts(alloc, &CONFIG) else {
         return None;

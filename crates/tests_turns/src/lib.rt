@@ -21,6 +21,8 @@ mod nested_steps_tests;
 #[cfg(test)]
 mod offer_turns_tests;
 #[cfg(test)]
+mod quiet_devices;
+#[cfg(test)]
 mod turn_example_tests;
 #[cfg(test)]
 mod turn_table_tests;

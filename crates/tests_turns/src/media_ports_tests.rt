@@ -1,18 +1,13 @@
-ghost use Rattle.std.specs.Prelude.{◌≡◌, ◌<◌, ◌≤◌, ◌∷◌, [], length, OnOk, Some};
+ghost use Rattle.std.specs.Prelude.{◌≡◌, ◌∷◌, [], length, OnOk, None};
 ghost use Rattle.port_pool.specs.Pools.{Pairs};
-ghost use Rattle.relay_outside.specs.Told.{WhereTold};
-ghost use Rattle.media_ports.specs.Addresses.{ports_of, addresses_of};
-ghost use Rattle.media_ports.specs.Calls.{AllOpen};
+ghost use Rattle.media_ports.specs.Addresses.{ports_of};
 
 use media_ports::{
     DrawnList, KeyFault, OpenedPairs, PairEnds, PortFault, address_of, close_pair, draw_keys,
     open_pairs,
 };
 use port_pool::{Leases, Pool};
-use relay_outside::{
-    Addr, InEnd, Ip, KeyList, MemoryIn, MemoryMaker, MemoryOut, MemoryPort, OutEnd, Packet,
-    PortCall,
-};
+use relay_outside::{Addr, Failed, InEnd, Ip, KeySource, OutEnd, PortMaker};
 use std::alloc::Global;
 use std::process::Abort;
 
@@ -22,6 +17,145 @@ const PHONE: Addr = Addr {
     ip: Ip::V4([198, 51, 100, 7]),
     port: 40_000,
 };
+
+/// The in end of a port: that of the port 30003 receives `hello` from a phone.
+#[derive(Drop)]
+struct In {
+    at: Addr,
+    takes: u64,
+}
+
+impl InEnd for In {
+    ghost told = { λ end. None };
+
+    ghost faults = { λ end. 0 };
+
+    fn take(&mut self, buf: &mut [u8]) -> Result<Option<(Addr, usize)>, Failed> {
+        self.takes = self.takes.saturating_add(1);
+        if self.at.port != 30_003 || self.takes > 1 || buf.len() < 5 {
+            return Ok(None);
+        }
+        buf[..5].copy_from_slice(b"hello");
+        Ok(Some((PHONE, 5)))
+    }
+}
+
+/// The out end of a port.
+#[derive(Drop)]
+struct Out {
+    at: Addr,
+    sends: u64,
+}
+
+impl OutEnd for Out {
+    ghost told = { λ end. None };
+
+    ghost faults = { λ end. 0 };
+
+    fn send(&mut self, _to: Addr, _bytes: &[u8]) -> Result<(), Failed> {
+        self.sends = self.sends.saturating_add(1);
+        Ok(())
+    }
+}
+
+/// A call of a port maker, with its port.
+#[derive(Clone, Copy)]
+enum Due {
+    /// An opening, which makes ends.
+    Opens(u16),
+    /// An opening that fails.
+    Fails(u16),
+    /// A closing, and how many takes and sends its ends were called for.
+    Closes(u16, u64, u64),
+}
+
+/// A port maker, and the calls that are due: it keeps whether each was the next.
+#[derive(Drop)]
+struct Maker {
+    due: &'static [Due],
+    is_due: bool,
+    faults: u64,
+}
+
+impl Maker {
+    /// A maker that was not called yet.
+    fn new(due: &'static [Due]) -> Maker {
+        Maker {
+            due,
+            is_due: true,
+            faults: 0,
+        }
+    }
+
+    /// Whether all calls were made that were due, and no other.
+    fn is_done(&self) -> bool {
+        self.is_due && self.due.is_empty()
+    }
+
+    /// The call that is due, which is then no more.
+    fn next(&mut self) -> Option<Due>
+        ensures { self.new.faults ≡ self.old.faults }
+    {
+        let (first, rest) = self.due.split_first()?;
+        self.due = rest;
+        Some(*first)
+    }
+}
+
+/// Whether an opening of this address is due, and fails.
+fn fails(due: Option<Due>, at: Addr) -> bool {
+    match due {
+        Some(Due::Fails(port)) => at == address_of(INTERFACE, port),
+        _ => false,
+    }
+}
+
+/// Whether an opening of this address is due, and makes ends.
+fn opens(due: Option<Due>, at: Addr) -> bool {
+    match due {
+        Some(Due::Opens(port)) => at == address_of(INTERFACE, port),
+        _ => false,
+    }
+}
+
+/// Whether a closing of this address is due, with its own ends and so many calls of theirs.
+fn closes(due: Option<Due>, at: Addr, receiving: &In, sending: &Out) -> bool {
+    match due {
+        Some(Due::Closes(port, takes, sends)) => {
+            at == address_of(INTERFACE, port)
+                && receiving.at == at
+                && sending.at == at
+                && receiving.takes == takes
+                && sending.sends == sends
+        }
+        _ => false,
+    }
+}
+
+impl PortMaker for Maker {
+    type In = In;
+
+    type Out = Out;
+
+    ghost told = { λ maker. None };
+
+    ghost faults = { λ maker. maker.faults };
+
+    fn open(&mut self, at: Addr) -> Result<(In, Out), Failed> {
+        let due = self.next();
+        if fails(due, at) {
+            self.faults = self.faults.saturating_add(1);
+            return Err(Failed);
+        }
+        self.is_due = self.is_due && opens(due, at);
+        Ok((In { at, takes: 0 }, Out { at, sends: 0 }))
+    }
+
+    fn close(&mut self, at: Addr, receiving: In, sending: Out) {
+        let due = self.next();
+        self.is_due = self.is_due && closes(due, at, &receiving, &sending);
+    }
+}
 
 /// A pool of the two pairs that begin at the ports 30000 and 30002.
 fn two_pairs(rt: &impl Abort, alloc: Global) -> Pool
@@ -46,88 +180,35 @@ fn two_leases(rt: &impl Abort, alloc: Global) -> Leases
     leases
 }
 
-/// Whether the call is that at this place, from 0, where so many ports are opened, the last of them fails and the others are
-/// closed again.
-fn is_due(call: &PortCall, place: u16, failing: u16) -> bool
-    requires few { failing ≤ 4 }
-    requires some { 0 < failing }
-    requires within { place < 8 }
-{
-    let port = 30_000 + place % failing;
-    match call {
-        PortCall::Open { at, done } => {
-            place < failing && at.port == port && *done == (place + 1 < failing)
-        }
-        PortCall::Close {
-            at,
-            taken: _,
-            sent: _,
-        } => place >= failing && at.port == port,
-    }
-}
-
-/// Whether the calls are those.
-fn are_due(calls: &[PortCall], failing: u16) -> bool
-    requires few { failing ≤ 4 }
-    requires some { 0 < failing }
-{
-    if calls.len() != 2 * failing as usize - 1 {
-        return false;
-    }
-    for place in 0..calls.len() {
-        if !is_due(&calls[place], place as u16, failing) {
-            return false;
-        }
-    }
-    true
-}
-
-/// Opens the ports of both, of a maker that was not called yet.
+/// Opens the ports of both.
 fn open_two(
-    maker: &mut MemoryMaker,
+    maker: &mut Maker,
     leases: &Leases,
-    opened: &mut OpenedPairs<MemoryIn, MemoryOut>,
+    opened: &mut OpenedPairs<In, Out>,
 ) -> Result<(), PortFault>
-    requires first { maker.old.told ≡ Some [] }
     requires two { ports_of leases.now.list ≡ 30000 ∷ 30001 ∷ 30002 ∷ 30003 ∷ [] }
     requires none { opened.old.list ≡ [] }
     requires room { opened.old.room ≡ 2 }
-    ensures pairs { OnOk result (length opened.new.list ≡ 2) }
-    ensures open { OnOk result (WhereTold maker.new.told (AllOpen (addresses_of INTERFACE leases.now.list))) }
+    ensures { OnOk result (length opened.new.list ≡ 2) }
 {
     open_pairs(maker, INTERFACE, leases, opened)
 }
 
 /// Closes the ports of both.
 fn close_two(
-    maker: &mut MemoryMaker,
+    maker: &mut Maker,
     leases: &Leases,
-    first: PairEnds<MemoryIn, MemoryOut>,
-    second: PairEnds<MemoryIn, MemoryOut>,
+    first: PairEnds<In, Out>,
+    second: PairEnds<In, Out>,
 )
     requires two { ports_of leases.now.list ≡ 30000 ∷ 30001 ∷ 30002 ∷ 30003 ∷ [] }
-    requires open { WhereTold maker.old.told (AllOpen (addresses_of INTERFACE leases.now.list)) }
 {
     close_pair(maker, INTERFACE, leases.get(0), first);
     close_pair(maker, INTERFACE, leases.get(1), second);
 }
 
-/// A maker whose port 30003 receives `hello` from a phone.
-fn hearing(rt: &impl Abort, alloc: Global) -> MemoryMaker
-    ensures { result.told ≡ Some [] }
-{
-    let hello = Packet::datagram(alloc, PHONE, b"hello").expect(rt, "memory");
-    let packets = Vec::from_array(alloc, [hello]).expect(rt, "memory");
-    let at = address_of(INTERFACE, 30_003);
-    let port = MemoryPort::new(at, packets, Vec::new(alloc), Vec::new(alloc));
-    let heard = Vec::from_array(alloc, [port]).expect(rt, "memory");
-    MemoryMaker::new(alloc, heard, Vec::new(alloc))
-}
-
 /// The ends of two opened pairs.
-fn two_ends(
-    opened: OpenedPairs<MemoryIn, MemoryOut>,
-) -> (PairEnds<MemoryIn, MemoryOut>, PairEnds<MemoryIn, MemoryOut>)
+fn two_ends(opened: OpenedPairs<In, Out>) -> (PairEnds<In, Out>, PairEnds<In, Out>)
     requires { length opened.list ≡ 2 }
 {
     let mut opened = opened;
@@ -138,38 +219,29 @@ fn two_ends(
 }
 
 /// Whether the pair's port for RTCP hears the phone, and that for RTP does not; that for RTP sends to it.
-fn hears_and_sends(ends: &mut PairEnds<MemoryIn, MemoryOut>) -> bool {
+fn hears_and_sends(ends: &mut PairEnds<In, Out>) -> bool {
     let mut buf = [0; 8];
     ends.rtp_in.take(&mut buf) == Ok(None)
         && ends.rtcp_in.take(&mut buf) == Ok(Some((PHONE, 5)))
         && ends.rtp_out.send(PHONE, b"media").is_ok()
 }
 
-/// Whether the call closes this port, and so many calls are told of its ends.
-fn closes(call: &PortCall, port: u16, takes: usize, sends: usize) -> bool {
-    match call {
-        PortCall::Open { at: _, done: _ } => false,
-        PortCall::Close { at, taken, sent } => {
-            at.port == port
-                && taken.get().unwrap_or(&[]).len() == takes
-                && sent.get().unwrap_or(&[]).len() == sends
-        }
-    }
-}
-
-/// Whether after four openings the ports are closed, those of the first pair first.
-fn are_closed(calls: &[PortCall]) -> bool {
-    calls.len() == 8
-        && closes(&calls[4], 30_000, 0, 0)
-        && closes(&calls[5], 30_001, 0, 0)
-        && closes(&calls[6], 30_002, 1, 1)
-        && closes(&calls[7], 30_003, 1, 0)
-}
+/// Four openings, and the closings, those of the first pair first.
+const BOTH: &[Due] = &[
+    Due::Opens(30_000),
+    Due::Opens(30_001),
+    Due::Opens(30_002),
+    Due::Opens(30_003),
+    Due::Closes(30_000, 0, 0),
+    Due::Closes(30_001, 0, 0),
+    Due::Closes(30_002, 1, 1),
+    Due::Closes(30_003, 1, 0),
+];
 
 #[test]
 fn each_end_is_that_of_its_port(rt: HostRuntime) {
     let leases = two_leases(&rt, rt.alloc());
-    let mut maker = hearing(&rt, rt.alloc());
+    let mut maker = Maker::new(BOTH);
     let Ok(mut opened) = OpenedPairs::with_room(rt.alloc(), 2) else {
         panic!(rt; "no memory");
     };
@@ -179,47 +251,88 @@ fn each_end_is_that_of_its_port(rt: HostRuntime) {
     let (first, mut second) = two_ends(opened);
     assert!(rt; hears_and_sends(&mut second));
     close_two(&mut maker, &leases, first, second);
-    assert!(rt; are_closed(maker.calls().unwrap_or(&[])));
+    assert!(rt; maker.is_done());
 }
 
-/// Whether all is undone where this opening fails.
-fn is_undone(rt: &impl Abort, alloc: Global, failing: u16) -> bool
-    requires few { failing ≤ 4 }
-    requires some { 0 < failing }
-{
+/// For each opening in turn the calls where it fails: what was opened is closed again.
+const FAILING: &[&[Due]] = &[
+    &[Due::Fails(30_000)],
+    &[
+        Due::Opens(30_000),
+        Due::Fails(30_001),
+        Due::Closes(30_000, 0, 0),
+    ],
+    &[
+        Due::Opens(30_000),
+        Due::Opens(30_001),
+        Due::Fails(30_002),
+        Due::Closes(30_000, 0, 0),
+        Due::Closes(30_001, 0, 0),
+    ],
+    &[
+        Due::Opens(30_000),
+        Due::Opens(30_001),
+        Due::Opens(30_002),
+        Due::Fails(30_003),
+        Due::Closes(30_000, 0, 0),
+        Due::Closes(30_001, 0, 0),
+        Due::Closes(30_002, 0, 0),
+    ],
+];
+
+/// Whether all is undone by these calls after so many openings.
+fn is_undone(rt: &impl Abort, alloc: Global, opened: usize, due: &'static [Due]) -> bool {
     let leases = two_leases(rt, alloc);
-    let numbers = Vec::from_array(alloc, [failing as u64]).expect(rt, "memory");
-    let mut maker = MemoryMaker::new(alloc, Vec::new(alloc), numbers);
-    let Ok(mut opened) = OpenedPairs::with_room(alloc, 2) else {
+    let mut maker = Maker::new(due);
+    let Ok(mut ends) = OpenedPairs::with_room(alloc, 2) else {
         panic!(rt; "no memory");
     };
-    let answer = open_two(&mut maker, &leases, &mut opened);
-    let fault = PortFault {
-        opened: failing as usize - 1,
-    };
-    let calls = maker.calls().unwrap_or(&[]);
-    answer == Err(fault) && opened.len() == 0 && are_due(calls, failing)
+    let answer = open_two(&mut maker, &leases, &mut ends);
+    answer == Err(PortFault { opened }) && ends.len() == 0 && maker.is_done()
 }
 
 #[test]
 fn each_opening_fails_in_turn(rt: HostRuntime) {
-    for failing in 1..5 {
-        assert!(rt; is_undone(&rt, rt.alloc(), failing), "opening {failing}");
+    for (opened, due) in FAILING.iter().enumerate() {
+        assert!(rt;
+            is_undone(&rt, rt.alloc(), opened, *due),
+            "after {opened} openings"
+        );
     }
 }
 
-/// Two keys, of which the second draw fails.
-fn two_keys(rt: &impl Abort, alloc: Global) -> KeyList {
-    let keys = Vec::from_array(alloc, [[1; 30], [2; 30]]).expect(rt, "memory");
-    let failing = Vec::from_array(alloc, [2]).expect(rt, "memory");
-    KeyList::new(alloc, keys, failing)
+/// A key source, and its draws: where one has no key it fails.
+#[derive(Drop)]
+struct Draws {
+    keys: &'static [Option<[u8; 30]>],
+    faults: u64,
 }
+
+impl KeySource for Draws {
+    ghost told = { λ draws. None };
+
+    ghost faults = { λ draws. draws.faults };
+
+    fn draw(&mut self) -> Result<[u8; 30], Failed> {
+        if let Some((first, rest)) = self.keys.split_first() {
+            self.keys = rest;
+            if let Some(key) = first {
+                return Ok(*key);
+            }
+        }
+        self.faults = self.faults.saturating_add(1);
+        Err(Failed)
+    }
+}
+
+/// Two keys, and a draw between them that fails.
+const DRAWN: &[Option<[u8; 30]>] = &[Some([1; 30]), None, Some([2; 30])];
 
 /// Whether all of so many keys are drawn, and these are drawn.
 fn is_drawn(
     rt: &impl Abort,
     alloc: Global,
-    keys: &mut KeyList,
+    keys: &mut Draws,
     count: usize,
     all: bool,
     want: &[[u8; 30]],
@@ -233,7 +346,10 @@ fn is_drawn(
 
 #[test]
 fn keys_are_drawn_up_to_a_draw_that_fails(rt: HostRuntime) {
-    let mut keys = two_keys(&rt, rt.alloc());
+    let mut keys = Draws {
+        keys: DRAWN,
+        faults: 0,
+    };
     assert!(rt; is_drawn(&rt, rt.alloc(), &mut keys, 3, false, &[[1; 30]]));
     assert!(rt; is_drawn(&rt, rt.alloc(), &mut keys, 1, true, &[[2; 30]]));
 }

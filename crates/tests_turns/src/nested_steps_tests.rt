@@ -1,25 +1,11 @@
-ghost use Rattle.std.specs.Prelude.{◌≡◌, ℕ, None, [], ◌∷◌, IfSome, IfOk};
-ghost use Rattle.turn_table.specs.Hands.{HasNoTurn, parts};
-ghost use Rattle.relay_core.specs.Turning.{made_by};
-ghost use Rattle.nested_steps.specs.Nesting.{MayNest};
-
+use crate::first_relay::{CONFIG, begin};
+use crate::quiet_devices::{Mute, Quiet};
 use nested_steps::{Nest, open_box, shut_box};
 use port_pool::{BoxTake, Holder, Side};
-use relay_core::{Part, Relay};
-use relay_outside::{Addr, Config, Failed, InEnd, Ip, OutEnd};
+use relay_core::Part;
 use rtp_packet::Half;
-use std::alloc::Global;
-use turn_table::{Hand, Turns};
 
-const CONFIG: Config = Config {
-    interface: Ip::V4([192, 0, 2, 1]),
-    interface6: None,
-    port_min: 30_000,
-    port_max: 30_003,
-    timeout_ms: 60_000,
-    offer_timeout_ms: 120_000,
-    max_sessions: 2,
-};
+mod cells;
 
 const HOLDER: Holder = Holder {
     cell: 1,
@@ -29,41 +15,6 @@ const HOLDER: Holder = Holder {
     pair: 1,
     generation: 1,
 };
-
-// An in end at which nothing is.
-#[derive(Drop)]
-struct Quiet {
-    port: u16,
-}
-
-impl InEnd for Quiet {
-    ghost told = { λ end. None };
-
-    ghost faults = { λ end. 0 };
-
-    fn take(&mut self, _buf: &mut [u8]) -> Result<Option<(Addr, usize)>, Failed> {
-        Ok(None)
-    }
-}
-
-// An out end that no packet leaves.
-#[derive(Drop)]
-struct Mute;
-
-impl OutEnd for Mute {
-    ghost told = { λ end. None };
-
-    ghost faults = { λ end. 0 };
-
-    fn send(&mut self, _to: Addr, _bytes: &[u8]) -> Result<(), Failed> {
-        Ok(())
-    }
-}
-
-mod cells;
-mod table;
-
-use table::begin;
 
 // What the box of a place answers to a take.
 fn taken(places: &mut [Part<Quiet, Mute>], place: usize) -> Option<BoxTake> {

@@ -1,10 +1,11 @@
 //! The memory of the first offer of a board with two pairs.
 
+use crate::quiet_devices::{Mute, Quiet};
 use call_board::{Board, BoardPlan};
 use ng_bencode::Text;
 use ng_command::{OfferIn, Options};
 use offer_turns::OfferRoom;
-use relay_outside::{Config, Flags, Ip, MemoryIn, MemoryOut};
+use relay_outside::{Config, Flags, Ip};
 use sdp_text::{Proto, read};
 use std::alloc::Global;
 use std::process::Abort;
@@ -63,6 +64,6 @@ fn an_offer_has_room_for_two_pairs_and_two_keys(rt: HostRuntime) {
     let plan = first_plan(&rt, rt.alloc());
     let planned = plan.planned();
     assert!(rt; planned.pairs() == 2 && planned.keys() == 2);
-    let room = OfferRoom::<MemoryIn, MemoryOut>::reserve(rt.alloc(), planned);
+    let room = OfferRoom::<Quiet, Mute>::reserve(rt.alloc(), planned);
     assert!(rt; room.is_ok());
 }

@@ -1,8 +1,10 @@
-ghost use Rattle.std.specs.Prelude.{◌≡◌, ◌+◌, ◌^◌, ◌%◌};
+ghost use Rattle.std.specs.Prelude.{◌≡◌, ◌+◌, ◌<◌, ◌^◌, ◌%◌, length};
+ghost use Rattle.turn_table.specs.Hands.{IsHandOf, HasNoTurn, IsMain, starts, parts};
 
-use std::test::Fail;
+use std::alloc::Global;
+use std::process::Abort;
 use std::thread::join_mut;
-use turn_table::{Machine, Said, Turns};
+use turn_table::{Hand, Machine, Said, Turns};
 
 // The state is a number, and each event adds one.
 struct Counter;
@@ -31,12 +33,25 @@ mod counts;
 
 use counts::{add, add_beside, add_one, add_times, add_with_another};
 
-#[test]
-fn two_threads_count_to_the_sum(rt: HostRuntime) -> Result<(), Fail> {
-    let states = Vec::from_array(rt.alloc(), [0, 0, 0])?;
-    let Ok((turns, mut main)) = Turns::<Counter>::start(rt.alloc(), states) else {
+// A table with these states, and its main hand.
+fn begin(rt: &impl Abort, alloc: Global, states: &[u64]) -> (Turns<Counter>, Hand<Counter>)
+    requires { 0 < length states.now }
+    ensures table { IsHandOf result.0 result.1 }
+    ensures hand { IsMain result.1 × HasNoTurn result.1 × (parts result.1 ≡ 1024) }
+    ensures starts { starts result.1 ≡ states.now }
+{
+    let Ok(states) = states.to_vec(alloc) else {
         panic!(rt; "no memory");
     };
+    let Ok((turns, hand)) = Turns::start(alloc, states) else {
+        panic!(rt; "no memory");
+    };
+    (turns, hand)
+}
+
+#[test]
+fn two_threads_count_to_the_sum(rt: HostRuntime) {
+    let (turns, mut main) = begin(&rt, rt.alloc(), &[0, 0, 0]);
     let mut other = turns.split_hand(&mut main);
     join_mut(
         &rt,
@@ -46,15 +61,11 @@ fn two_threads_count_to_the_sum(rt: HostRuntime) -> Result<(), Fail> {
     turns.join_hand(&mut main, other);
     let states = turns.close(main);
     assert!(rt; states.as_slice() == [0, 2000, 0].as_slice());
-    Ok(())
 }
 
 #[test]
-fn four_threads_count_on_one_place_and_on_four(rt: HostRuntime) -> Result<(), Fail> {
-    let states = Vec::from_array(rt.alloc(), [0, 0, 0, 0, 0])?;
-    let Ok((turns, mut main)) = Turns::<Counter>::start(rt.alloc(), states) else {
-        panic!(rt; "no memory");
-    };
+fn four_threads_count_on_one_place_and_on_four(rt: HostRuntime) {
+    let (turns, mut main) = begin(&rt, rt.alloc(), &[0, 0, 0, 0, 0]);
     let mut two = turns.split_hand(&mut main);
     let mut three = turns.split_hand(&mut main);
     let mut four = turns.split_hand(&mut main);
@@ -68,28 +79,20 @@ fn four_threads_count_on_one_place_and_on_four(rt: HostRuntime) -> Result<(), Fa
     turns.join_hand(&mut main, three);
     let states = turns.close(main);
     assert!(rt; states.as_slice() == [2000, 500, 500, 500, 500].as_slice());
-    Ok(())
 }
 
 #[test]
-fn a_joined_list_has_the_entries_of_both(rt: HostRuntime) -> Result<(), Fail> {
-    let states = Vec::from_array(rt.alloc(), [7, 0])?;
-    let Ok((turns, mut main)) = Turns::<Counter>::start(rt.alloc(), states) else {
-        panic!(rt; "no memory");
-    };
+fn a_joined_list_has_the_entries_of_both(rt: HostRuntime) {
+    let (turns, mut main) = begin(&rt, rt.alloc(), &[7, 0]);
     let numbers = add_with_another(&rt, &turns, &mut main, 0);
     let states = turns.close(main);
     assert!(rt; numbers == (0, 1, 2));
     assert!(rt; states.as_slice() == [10, 0].as_slice());
-    Ok(())
 }
 
 #[test]
-fn a_held_turn_makes_its_own_place_busy(rt: HostRuntime) -> Result<(), Fail> {
-    let states = Vec::from_array(rt.alloc(), [0, 0, 0])?;
-    let Ok((turns, mut main)) = Turns::<Counter>::start(rt.alloc(), states) else {
-        panic!(rt; "no memory");
-    };
+fn a_held_turn_makes_its_own_place_busy(rt: HostRuntime) {
+    let (turns, mut main) = begin(&rt, rt.alloc(), &[0, 0, 0]);
     let mut second = turns.split_hand(&mut main);
     let held = turns.turn(&rt, &mut main, 1);
     let busy = match turns.try_turn(&mut second, 1) {
@@ -113,5 +116,4 @@ fn a_held_turn_makes_its_own_place_busy(rt: HostRuntime) -> Result<(), Fail> {
     assert!(rt; busy == Some(0) && other == Some((2, 0)) && number == 0);
     assert!(rt; next == Some((1, 1, 1)));
     assert!(rt; states.as_slice() == [0, 2, 1].as_slice());
-    Ok(())
 }

@@ -3,7 +3,8 @@ ghost use Rattle.port_pool.specs.Signals.{NewKey};
 ghost use Rattle.call_cell.specs.Preparing.{IsReady, PrepareFor, added};
 ghost use Rattle.nested_steps.specs.Bringing.{brought_keys, brought_dropped};
 
-use super::{CONFIG, Mute, begin};
+use crate::first_relay::{CONFIG, begin};
+use crate::quiet_devices::Mute;
 use call_cell::{Gone, InContexts, Prepare};
 use nested_steps::{Brought, Nest, commit_cell, end_cell, expire_cell, prepare_cell};
 use port_pool::{Side, Signal};
@@ -11,7 +12,6 @@ use relay_outside::OutOfMemory;
 use sdes_lines::Suite;
 use srtp_keys::DrawnKey;
 use std::alloc::Global;
-use std::test::Fail;
 
 // An offer without a leg: a key, and a section that is dropped.
 fn offer(alloc: Global) -> Result<(Prepare<Mute>, Brought), OutOfMemory>
@@ -34,9 +34,11 @@ fn at(number: u64, moment: u64) -> Nest {
 }
 
 #[test]
-fn a_call_is_prepared_asked_and_ended(rt: HostRuntime) -> Result<(), Fail> {
+fn a_call_is_prepared_asked_and_ended(rt: HostRuntime) {
     let alloc = rt.alloc();
-    let (signal, brought) = offer(alloc)?;
+    let Ok((signal, brought)) = offer(alloc) else {
+        panic!(rt; "no memory");
+    };
     let Ok(mut dropped) = Gone::new(alloc) else {
         panic!(rt; "no memory");
     };
@@ -80,13 +82,14 @@ fn a_call_is_prepared_asked_and_ended(rt: HostRuntime) -> Result<(), Fail> {
         dropped.pop().is_none() && ended.pop().is_none(),
         "it had no leg"
     );
-    Ok(())
 }
 
 #[test]
-fn a_committed_call_is_due_by_its_last_answer(rt: HostRuntime) -> Result<(), Fail> {
+fn a_committed_call_is_due_by_its_last_answer(rt: HostRuntime) {
     let alloc = rt.alloc();
-    let signal = Signal::new(alloc)?;
+    let Ok(signal) = Signal::new(alloc) else {
+        panic!(rt; "no memory");
+    };
     let Ok(contexts) = InContexts::reserve(alloc, 0) else {
         panic!(rt; "no memory");
     };
@@ -111,5 +114,4 @@ fn a_committed_call_is_due_by_its_last_answer(rt: HostRuntime) -> Result<(), Fai
     let old = expire_cell(&rt, &turns, &mut hand, &CONFIG, at(2, 260_000), 2);
     drop(turns.close(hand));
     assert!(rt; !young && old && rejected.pop().is_none());
-    Ok(())
 }

@@ -2,7 +2,7 @@ use Rattle.replay_devices.proofs.Opened.{first_open, closed}
 use Rattle.tests_replay.proofs.replay_devices_tests.sends_fail_by_the_lines_since_the_last_open.Goals as goal
 
 pub open-requires : goal.open-requires
-open-requires g c = first_open _ _ c.in_ok-maker.ensures
+open-requires g c = first_open _ _ c.maker_at_the_third-maker.ensures
 
 pub open-requires-2 : goal.open-requires-2
 open-requires-2 g c = rw c.begin.ensures.told (closed _ _ _ _ _ c.close.ensures.told)

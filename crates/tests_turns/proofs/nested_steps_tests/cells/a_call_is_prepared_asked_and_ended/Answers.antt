@@ -8,7 +8,7 @@ prepare_cell-requires-clause-keys g c = first_new _ 1 c.in-Some.ensures.hand.0
 
 pub prepare_cell-requires-clause-comes : goal.prepare_cell-requires-clause-comes
 prepare_cell-requires-clause-comes g c =
-    first_comes _ _ 1 c.in_ok-signal.signal 0 c.in_ok-signal.ensures.keys.0 _ _ c.in-Some.ensures.hand.0 c.in_ok-signal.ensures.ready.1 c.in_ok-signal.ensures.keys.1
+    first_comes _ _ 1 c.in-Ok.signal 0 c.in-Ok.ensures.keys.0 _ _ c.in-Some.ensures.hand.0 c.in-Ok.ensures.ready.1 c.in-Ok.ensures.keys.1
 
 pub expire_cell-young-requires-clause-keys : goal.expire_cell-young-requires-clause-keys
 expire_cell-young-requires-clause-keys g c =
