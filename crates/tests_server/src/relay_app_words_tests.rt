@@ -62,6 +62,7 @@ const SERVED: &[(&[&str], [u8; 4], u16)] = &[
     (&["serve", INTERFACE, "--port-max=30001"], LOCAL, 2223),
     (&["serve", INTERFACE, "--max-sessions=1"], LOCAL, 2223),
     (&["serve", INTERFACE, "--max-sessions=2048"], LOCAL, 2223),
+    (&["serve", INTERFACE, "--num-threads=0"], LOCAL, 2223),
 ];
 
 /// Words of `replay` that are accepted.
@@ -114,6 +115,14 @@ const OTHERS: &[&[&str]] = &[
     &["replay", "--turns=9", "--port-min=30000"],
     &["replay", "--listen-ng=127.0.0.1:2223", "--port-min=30000"],
     // out of limits
+    &["serve", INTERFACE, "--num-threads"],
+    &["serve", INTERFACE, "--num-threads="],
+    &["serve", INTERFACE, "--num-threads=00"],
+    &["serve", INTERFACE, "--num-threads=1"],
+    &["serve", INTERFACE, "--num-threads=4"],
+    &["serve", INTERFACE, "--num-threads=16"],
+    &["serve", INTERFACE, "--num-threads=0", "--num-threads=0"],
+    &["replay", "--num-threads=0"],
     &["serve", INTERFACE, "--turns=0"],
     &["serve", INTERFACE, "--turns=1000000000000001"],
     &["serve", INTERFACE, "--port-min=1023"],
