@@ -15,7 +15,7 @@ pub(crate) enum Words {
 
 /// Reads the words behind the program's name.
 pub(crate) fn read_words(rt: &HostRuntime, alloc: Global) -> Words {
-    let args = match env::args(rt) {
+    let mut args = match env::args(rt) {
         Ok(args) => args,
         Err(error) => {
             return match error.kind() {
@@ -24,7 +24,8 @@ pub(crate) fn read_words(rt: &HostRuntime, alloc: Global) -> Words {
             };
         }
     };
-    match args.skip(1).collect(alloc) {
+    let _name = args.next();
+    match args.collect(alloc) {
         Ok(words) => Words::Read(words),
         Err(_) => Words::OutOfMemory,
     }
