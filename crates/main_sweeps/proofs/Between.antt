@@ -35,6 +35,18 @@ below_top [] e i = elim i [ ]
 below_top (x ∷ l) e (here q) = let same = ap (λ (y : Entry). y.number) q in omega (arith, same)
 below_top (x ∷ l) e (there i) = let low = below_top l e i in omega (arith, low)
 
+-- the board's whole history is the same with rows behind it that are none of its own
+pub lanes_board : {T : Type 0} (rows others : List (table.Entry Made T)) → ((row : table.Entry Made T) → table_lists.In row others → is_boards row.event.event ≡ false)
+    → board_of (list_of (rows ++ others)) ≡ board_of (list_of rows)
+lanes_board {T} rows others none =
+    let all = list_of (rows ++ others) in
+    let n = top all in
+    let longer : (e : Entry) → In e (list_of rows) → In e all =
+    λ e i. subst (λ (l : List Entry). In e l) (sym (map-append entry_of rows others)) (in_left (list_of rows) (list_of others) i) in
+    let after : IsAbove all 0 n = λ e i p. below_top all e i in
+    let before : IsAbove (list_of rows) 0 n = λ e i p. below_top all e (longer e i) in
+    sym (whole_board all n after) ∙ unseen_rows rows others none n ∙ whole_board (list_of rows) n before
+
 module _ {M I O T : Type 0} {g : _} where
   -- these rows were added by a lane
   pub record StepsBy (config : Config) (old new : Hand M (Part I O) Made T g) (rows : List (table.Entry Made T)) : Type 0 where
@@ -76,14 +88,7 @@ module _ {M I O T : Type 0} {g : _} where
 
     -- and the board's whole history
     pub stepped_board : board_of (made_by new) ≡ board_of (made_by old)
-    stepped_board =
-        let n = top (made_by new) in
-        let after : IsAbove (made_by new) 0 n = λ e i p. below_top (made_by new) e i in
-        let before : IsAbove (made_by old) 0 n = λ e i p. below_top (made_by new) e (in_longer e i) in
-        sym (whole_board (made_by new) n after)
-        ∙ ap (λ (xs : List (table.Entry Made T)). board_history (list_of xs) n) s.rows_are
-        ∙ unseen_rows (entries old) rows no_boards n
-        ∙ whole_board (made_by old) n before
+    stepped_board = ap (λ (xs : List (table.Entry Made T)). board_of (list_of xs)) s.rows_are ∙ lanes_board (entries old) rows no_boards
 
 -- A lane on the main hand.
 

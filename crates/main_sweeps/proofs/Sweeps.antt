@@ -1,5 +1,5 @@
 -- What a sweep by the main hand keeps, and what it adds to the totals.
-use Rattle.std.proofs.Common.{◌≡◌, ◌∙◌, refl, sym, ap, subst, ℕ, ◌+◌, ◌-◌, ◌^◌, inl, inr, Bool, true, false, cond, min, List, [], ◌∷◌, Option, Some, None, filter, length, arith}
+use Rattle.std.proofs.Common.{◌≡◌, ◌∙◌, refl, sym, ap, subst, ℕ, ◌+◌, ◌-◌, ◌^◌, inl, inr, Bool, true, false, cond, min, List, [], ◌∷◌, ◌++◌, Option, Some, None, filter, length, arith}
 use Rattle.std.proofs.lemmas.List.{map-append}
 use Rattle.relay_outside.specs.declared.settings.Config.{Config}
 use Rattle.rtp_packet.specs.declared.head.Half.{Half}
@@ -12,7 +12,7 @@ use Rattle.port_pool.specs.Boxes.{Taken}
 use Rattle.call_cell.specs.declared.outcome.Outcome.{Outcome}
 use Rattle.call_cell.specs.Cells as cells
 use Rattle.relay_core.specs.declared.part.Part.{Part}
-use Rattle.relay_core.specs.Entries.{Event, box_of}
+use Rattle.relay_core.specs.Entries.{Event, Entry, box_of}
 use Rattle.relay_core.specs.Made.{Made, entry_of, list_of}
 use Rattle.relay_core.specs.Turning.{IsOfLane, made_by}
 use Rattle.relay_core.proofs.Joins.{row_append}
@@ -21,8 +21,9 @@ use Rattle.media_lane.specs.Receipts.{KeepsList}
 use Rattle.media_lane.specs.Sweeping.{Sweeps}
 use Rattle.media_lane.specs.Taking.{take_made}
 use Rattle.media_lane.specs.Visits as visits
-use Rattle.media_lane.specs.Visits.{Row, Passing, Visit, packet_by, packet_at, relay_rows, rows_of, all_rows, IsPassed, ArePassed, one_if, is_there, has_packet, ends_so, ends_with, is_sent, is_refused, is_lost}
-use Rattle.main_sweeps.specs.Totals.{is_datagram, gave, relayed, capped, counted, HasTotals, AddsTotals}
+use Rattle.media_lane.specs.Visits.{Row, Passing, Visit, packet_by, packet_at, relay_rows, rows_of, all_rows, IsPassed, ArePassed, one_if, is_there, has_packet, ends_so, ends_with, is_sent, is_refused, is_lost, AreTotals}
+use Rattle.media_lane.specs.Looping.{AddsTotals}
+use Rattle.main_sweeps.specs.Totals.{is_datagram, gave, relayed, capped, counted, HasTotals}
 use Rattle.main_sweeps.proofs.Between.{StepsBy}
 use Rattle.main_sweeps.proofs.Counts.{counted_append, counted_cons}
 
@@ -38,7 +39,7 @@ visit_in : (config : Config) (v : Visit) (row : Row) → table_lists.In row (row
 visit_in config v row (table_lists.here q) = subst (λ (x : Row). IsOfLane x.event.event) (sym q) tt
 visit_in config v row (table_lists.there i) = relay_in row (packet_at v) v.passing i
 
-rows_in : (config : Config) (vs : List Visit) (row : Row) → table_lists.In row (all_rows config vs) → IsOfLane row.event.event
+pub rows_in : (config : Config) (vs : List Visit) (row : Row) → table_lists.In row (all_rows config vs) → IsOfLane row.event.event
 rows_in config [] row i = elim i [ ]
 rows_in config (v ∷ vs) row i =
     elim (row_append (rows_of config v) (all_rows config vs) i) [ inl j ↦ visit_in config v row j | inr j ↦ rows_in config vs row j ]
@@ -126,31 +127,35 @@ relayed_visit p config range v passed =
 capped_sum : (m a b c old more new : ℕ) → old ≡ min a m → more ≡ min b m → new ≡ min (old + more) m → c ≡ a + b → new ≡ min c m
 capped_sum m a b c old more new was came is both = omega arith
 
-module _ {M I O : Type 0} {g : _} (config : Config) (range : Option (ℕ × ℕ)) (old new : Hand M (Part I O) Made (Unit {0}) g) (swept : Totals)
-    (s : SweptBy config range old new swept) where
-  -- a count over the longer list
-  longer : (q : Event → Bool) → counted q (made_by new) ≡ counted q (made_by old) + counted q (list_of (all_rows config s.sweeps.visits))
-  longer q =
-      ap (λ (xs : List Row). counted q (list_of xs)) s.sweeps.list_is
-      ∙ ap (counted q) (map-append entry_of (entries old) (all_rows config s.sweeps.visits))
-      ∙ counted_append q (made_by old) (list_of (all_rows config s.sweeps.visits))
+-- the rows of these visits stand behind a list
+module _ (config : Config) (range : Option (ℕ × ℕ)) (l : List Entry) (vs : List Visit) (passed : ArePassed range vs) where
+  longer : (q : Event → Bool) → counted q (l ++ list_of (all_rows config vs)) ≡ counted q l + counted q (list_of (all_rows config vs))
+  longer q = counted_append q l (list_of (all_rows config vs))
 
   added : (q : Event → Bool) (f : Visit → Bool) (was more is : ℕ)
       → ((v : Visit) → IsPassed range (packet_at v) v.passing → counted q (list_of (rows_of config v)) ≡ one_if (f v))
-      → was ≡ capped (counted q (made_by old)) → more ≡ visits.count f s.sweeps.visits → is ≡ capped (was + more) → is ≡ capped (counted q (made_by new))
+      → was ≡ capped (counted q l) → more ≡ visits.count f vs → is ≡ capped (was + more) → is ≡ capped (counted q (l ++ list_of (all_rows config vs)))
   added q f was more is each before came sum =
-      capped_sum (2 ^ 64 - 1) (counted q (made_by old)) (length (filter f s.sweeps.visits)) (counted q (made_by new)) was more is before came sum
-      (longer q ∙ ap (λ (n : ℕ). counted q (made_by old) + n) (all_counted q f config range each s.sweeps.visits s.sweeps.passed))
+      capped_sum (2 ^ 64 - 1) (counted q l) (length (filter f vs)) (counted q (l ++ list_of (all_rows config vs))) was more is before came sum
+      (longer q ∙ ap (λ (n : ℕ). counted q l + n) (all_counted q f config range each vs passed))
 
-  -- the totals, when what came of the sweep is added
+  -- the totals, when what came of the visits is added
+  pub visits_totals : (was swept is : Totals) → AreTotals vs swept → AddsTotals was swept is → HasTotals l was → HasTotals (l ++ list_of (all_rows config vs)) is
+  visits_totals was swept is came adds h = record {
+    taken = added gave has_packet was.taken swept.taken is.taken (λ v passed. gave_visit config v) h.taken came.taken adds.taken;
+    sent = added (relayed is_sent) (ends_with is_sent) was.sent swept.sent is.sent (relayed_visit is_sent config range) h.sent came.sent adds.sent;
+    refused = added (relayed is_refused) (ends_with is_refused) was.refused swept.refused is.refused (relayed_visit is_refused config range) h.refused came.refused adds.refused;
+    lost = added (relayed is_lost) (ends_with is_lost) was.lost swept.lost is.lost (relayed_visit is_lost config range) h.lost came.lost adds.lost;
+  }
+
+module _ {M I O : Type 0} {g : _} (config : Config) (range : Option (ℕ × ℕ)) (old new : Hand M (Part I O) Made (Unit {0}) g) (swept : Totals)
+    (s : SweptBy config range old new swept) where
+  -- those of a sweep
   pub swept_totals : (was is : Totals) → AddsTotals was swept is → HasTotals (made_by old) was → HasTotals (made_by new) is
   swept_totals was is adds h =
-      let came = s.sweeps.totals_are in record {
-        taken = added gave has_packet was.taken swept.taken is.taken (λ v passed. gave_visit config v) h.taken came.taken adds.taken;
-        sent = added (relayed is_sent) (ends_with is_sent) was.sent swept.sent is.sent (relayed_visit is_sent config range) h.sent came.sent adds.sent;
-        refused = added (relayed is_refused) (ends_with is_refused) was.refused swept.refused is.refused (relayed_visit is_refused config range) h.refused came.refused adds.refused;
-        lost = added (relayed is_lost) (ends_with is_lost) was.lost swept.lost is.lost (relayed_visit is_lost config range) h.lost came.lost adds.lost;
-      }
+      subst (λ (l : List Entry). HasTotals l is)
+      (sym (ap (λ (xs : List Row). list_of xs) s.sweeps.list_is ∙ map-append entry_of (entries old) (all_rows config s.sweeps.visits)))
+      (visits_totals config range (made_by old) s.sweeps.visits s.sweeps.passed was swept is s.sweeps.totals_are adds h)
 
 -- A lane on the main hand.
 

@@ -1,5 +1,5 @@
 -- What came of the datagrams that were taken, by a list of entries.
-use Rattle.std.specs.Prelude.{◌≡◌, ◌+◌, ◌-◌, ◌^◌, ℕ, Bool, true, false, min, List, count_by}
+use Rattle.std.specs.Prelude.{◌≡◌, ◌-◌, ◌^◌, ℕ, Bool, true, false, min, List, count_by}
 use Rattle.port_pool.specs.Boxes as box
 use Rattle.port_pool.specs.Boxes.{Taken, BoxEvent, Take}
 use Rattle.call_cell.specs.declared.outcome.Outcome.{Outcome}
@@ -45,10 +45,3 @@ pub record HasTotals (l : List Entry) (totals : Totals) : Type 0 where
   pub sent : totals.sent ≡ capped (counted (relayed is_sent) l)
   pub refused : totals.refused ≡ capped (counted (relayed is_refused) l)
   pub lost : totals.lost ≡ capped (counted (relayed is_lost) l)
-
--- the counts of both, each up to the end of its type
-pub record AddsTotals (old more new : Totals) : Type 0 where
-  pub taken : new.taken ≡ capped (old.taken + more.taken)
-  pub sent : new.sent ≡ capped (old.sent + more.sent)
-  pub refused : new.refused ≡ capped (old.refused + more.refused)
-  pub lost : new.lost ≡ capped (old.lost + more.lost)

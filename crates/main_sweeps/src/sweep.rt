@@ -5,23 +5,13 @@ ghost use Rattle.relay_core.specs.Turning.{made_by};
 ghost use Rattle.media_lane.specs.declared.answers.Totals.{Totals};
 ghost use Rattle.media_lane.specs.Sweeping.{Sweeps};
 ghost use Rattle.board_turns.specs.Between.{board_of, IsBetween};
-ghost use Rattle.main_sweeps.specs.Totals.{HasTotals, AddsTotals};
+ghost use Rattle.main_sweeps.specs.Totals.{HasTotals};
 
 use media_lane::{Lane, Totals};
 use relay_core::Relay;
 use relay_outside::{Clock, Config, Gate, InEnd, OutEnd};
 use std::sync::Wait;
 use turn_table::{Hand, Turns};
-
-/// Adds what came of a sweep. A count that has reached 2^64 - 1 stays there.
-fn add_totals(totals: &mut Totals, more: Totals)
-    ensures { AddsTotals totals.old more totals.new }
-{
-    totals.taken = totals.taken.saturating_add(more.taken);
-    totals.sent = totals.sent.saturating_add(more.sent);
-    totals.refused = totals.refused.saturating_add(more.refused);
-    totals.lost = totals.lost.saturating_add(more.lost);
-}
 
 /// Sweeps once over all pairs by the main hand, which holds no turn: takes once of each half of each pair, and relays each
 /// datagram directly, handed a moment of the clock. The totals go up by what came of it. It may wait, where a lane has a turn;
@@ -44,6 +34,6 @@ pub fn sweep_between<I: InEnd, O: OutEnd, R: Wait, G: Gate, C: Clock>(
 {
     let mut lane = Lane::new(hand, 0, 1, config);
     let swept = lane.sweep(rt, turns, gate, clock);
-    add_totals(totals, swept);
+    totals.add(swept);
     lane.into_hand()
 }

@@ -35,7 +35,7 @@ keeps_both config a b c more is first second = record {
   receiving = λ own r. second.receiving own (first.receiving (own_pairs_in config b more (subst (TakesOwnPairs config) is own)) r);
 }
 
-list_append : {T : Type 0} (xs ys : List (table.Entry Made T)) → list_of (xs ++ ys) ≡ list_of xs ++ list_of ys
+pub list_append : {T : Type 0} (xs ys : List (table.Entry Made T)) → list_of (xs ++ ys) ≡ list_of xs ++ list_of ys
 list_append [] ys = refl
 list_append (x ∷ xs) ys = ap (λ (l : List Entry). entry_of x ∷ l) (list_append xs ys)
 

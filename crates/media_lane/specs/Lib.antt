@@ -6,3 +6,4 @@ pub mod Taking
 pub mod Relaying
 pub mod Visits
 pub mod Sweeping
+pub mod Looping

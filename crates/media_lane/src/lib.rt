@@ -5,18 +5,20 @@
 //! `receive` and `relay` do the same by a hand that may wait, and try the place's mark until it is free.
 //!
 //! Module `receipt` has what a take gave, `answers` what the calls answer, `lane` the lane, `receiving` and `relaying` its two
-//! steps, `sweeping` a round over its pairs, which may wait and keeps each datagram in the lane's room, `puts` the way to put each
+//! steps, `sweeping` a round over its pairs, which may wait and keeps each datagram in the lane's room, `looping` sweeps until the lane
+//! is told to end, `puts` the way to put each
 //! kind of turn, `laws` what callers know.
 //!
 //! `specs/Starts.antt` says what the places of a lane's table begin as, `specs/Lanes.antt` what contracts see in a lane,
 //! `specs/Receipts.antt` what a receipt of a hand's list is, `specs/Busy.antt` what a busy call does, `specs/Taking.antt` and
 //! `specs/Relaying.antt` what a take and a relay add to the list of its hand, `specs/Visits.antt` and `specs/Sweeping.antt` what a
-//! sweep adds.
+//! sweep adds, `specs/Looping.antt` what sweep after sweep adds.
 #![tactic(auto)]
 
 mod answers;
 mod lane;
 mod laws;
+mod looping;
 mod puts;
 mod receipt;
 mod receiving;
@@ -26,4 +28,5 @@ mod sweeping;
 pub use answers::{Received, Relayed, Totals};
 pub use lane::Lane;
 pub use laws::parts_begin_lanes;
+pub use looping::lane_loop;
 pub use receipt::Receipt;

@@ -29,7 +29,7 @@ fn count_pairs(config: &Config) -> u32
 
 impl Totals {
     /// Nothing was taken.
-    fn none() -> Totals
+    pub(crate) fn none() -> Totals
         ensures { AreTotals [] result }
     {
         Totals {

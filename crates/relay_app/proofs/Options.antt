@@ -19,8 +19,8 @@ pub taken : (words : List (Bor (List ℕ))) (config : Config) (listen : Addr) (t
     Some config ≡ configuration None (texts words) →
     Some listen ≡ one_value listen_address (Some default_listen) (values_of (codes "--listen-ng=") (texts words)) →
     Some turns ≡ one_value turn_count (Some 1000000000000000) (values_of (codes "--turns=") (texts words)) →
-    Some threads ≡ one_value thread_count (Some 0) (values_of (codes "--num-threads=") (texts words)) →
-    Some (record { config = config; listen = listen; turns = turns }) ≡ option_settings (texts words)
+    Some threads ≡ one_value thread_count (Some 4) (values_of (codes "--num-threads=") (texts words)) →
+    Some (record { config = config; listen = listen; turns = turns; threads = threads }) ≡ option_settings (texts words)
 taken words config listen turns threads all c l t n = rw (all_by is_option words true all, ← c, ← l, ← t, ← n) refl
 
 pub replay_refused : (words : List (Bor (List ℕ))) → false ≡ list_all (λ (word : Bor (List ℕ)). is_replay_option word.now) words → None ≡ replay_options (texts words)

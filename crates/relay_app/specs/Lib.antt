@@ -4,5 +4,6 @@ pub mod Numbers
 pub mod Rounds
 pub mod Run
 pub mod Served
+pub mod Threads
 pub mod Turned
 pub mod Words

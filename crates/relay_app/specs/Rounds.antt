@@ -1,10 +1,8 @@
--- The steps of a run on one thread, in the order in which they were made: rounds, each a control turn with a sweep of media behind it, then
--- one more sweep, then the stop.
-use Rattle.std.specs.Prelude.{◌≡◌, ℕ, List, [], ◌∷◌, ◌++◌, Option, None, Some, map, nat_lt}
+-- The steps of a run. Those of the main hand, in the order in which they were made: rounds, each a control turn, and the stop. Where no thread
+-- relays media, a sweep of media stands behind each control turn and before the stop; else each thread made sweeps beside them.
+use Rattle.std.specs.Prelude.{◌≡◌, ◌+◌, ◌<◌, ℕ, suc, List, [], ◌∷◌, ◌++◌, Option, None, Some, map, length}
 use Rattle.std.specs.Option.{option_map}
 use Rattle.relay_outside.specs.declared.settings.Config.{Config}
-use Rattle.rtp_packet.specs.declared.head.Half.{Half}
-use Rattle.port_pool.specs.Ports.{pair_count}
 use Rattle.call_board.specs.Acts.{BoardEntry}
 use Rattle.relay_core.specs.Entries.{Entry, board_entry}
 use Rattle.relay_core.specs.Legal.{Legal}
@@ -13,7 +11,8 @@ use Rattle.relay_core.specs.Made.{entry_of, list_of, told}
 use Rattle.relay_core.specs.Timed.{AreTimed}
 use Rattle.relay_core.specs.Turning.{IsTurn}
 use Rattle.media_lane.specs.declared.answers.Totals.{Totals}
-use Rattle.media_lane.specs.Visits.{Row, Visit, all_rows, ArePassed, times, one_if}
+use Rattle.media_lane.specs.Visits.{Row, Visit, all_rows}
+use Rattle.media_lane.specs.Looping.{IsSweep, AreSweeps, visits_of}
 use Rattle.board_turns.specs.Between.{board_of}
 use Rattle.board_turns.specs.Stopping.{stop_entry}
 use Rattle.control_entries.specs.Controls.{Hearing, entry_at, moment_at}
@@ -70,36 +69,60 @@ abbrev pub MakesEntry : Config → List Row → Option BoardEntry → List Row �
 MakesEntry config before None rows = rows ≡ []
 MakesEntry config before (Some e) rows = IsBoardTurn config before e rows
 
--- One sweep: one take of each half of each pair, in any order. Directly behind a take that gave a datagram stands the one relay of it, which
--- was handed a moment of the clock's range
-pub record IsSweep (config : Config) (range : Option (ℕ × ℕ)) (rows : List Row) : Type 0 where
+-- The rows of one sweep by the hand of a lane: one take of each half of each of its own pairs, in any order. Directly behind a take that gave
+-- a datagram stands the one relay of it, which was handed a moment of the clock's range
+pub record HasSwept (config : Config) (index lanes : ℕ) (range : Option (ℕ × ℕ)) (rows : List Row) : Type 0 where
   pub visits : List Visit
   pub rows_are : rows ≡ all_rows config visits
-  pub passed : ArePassed range visits
-  pub each_once : (pair : ℕ) (half : Half) → times pair half visits ≡ one_if (nat_lt pair (pair_count config))
+  pub is_sweep : IsSweep config index lanes range visits
+
+-- What the main hand sweeps, by how many threads relay media: all pairs, where there is none, and else nothing
+abbrev pub SweepsAlone : Config → (threads : ℕ) → Option (ℕ × ℕ) → List Row → Type 0
+SweepsAlone config 0 range rows = HasSwept config 0 1 range rows
+SweepsAlone config (suc more) range rows = rows ≡ []
 
 -- the rows of these rounds
-abbrev pub AreRounds : Config → Option (ℕ × ℕ) → List Round → List Row → Type 0
-AreRounds config range [] rows = rows ≡ []
-AreRounds config range (r ∷ rounds) rows =
+abbrev pub AreRounds : Config → (threads : ℕ) → Option (ℕ × ℕ) → List Round → List Row → Type 0
+AreRounds config threads range [] rows = rows ≡ []
+AreRounds config threads range (r ∷ rounds) rows =
     (before : List Row) × (turn : List Row) × (sweep : List Row) × (rows ≡ (before ++ turn) ++ sweep) × (status_after r.answer ≡ None)
-    × AreRounds config range rounds before
+    × AreRounds config threads range rounds before
     × MakesEntry config before (entry_due config (history_after config rounds) r.handed r.heard) turn
-    × IsSweep config range sweep
+    × SweepsAlone config threads range sweep
 
--- All steps of a run: those of its rounds, of one more sweep and of the stop, each at the moment that its event makes of the one that it was
--- handed. With what each relay noted, protected and sent told beside its outcome they are a list that is legal, and so safe; the board's
--- entries in it are the history and the stop, and these are the counts of its takes and relays
-pub record IsWhole (config : Config) (range : Option (ℕ × ℕ)) (rounds : List Round) (totals : Totals) : Type 0 where
+-- The rows of one thread of media: those of one sweep or of more, one behind the other, of the pairs whose number is the thread's modulo
+-- the number of threads
+pub record IsThread (config : Config) (index threads : ℕ) (range : Option (ℕ × ℕ)) (rows : List Row) : Type 0 where
+  pub sweeps : List (List Visit)
+  pub some : 0 < length sweeps
+  pub are_sweeps : AreSweeps config index threads range sweeps
+  pub rows_are : rows ≡ all_rows config (visits_of sweeps)
+
+-- the rows of each of the threads, from that with this number on
+abbrev pub AreThreads : Config → (index threads : ℕ) → Option (ℕ × ℕ) → List (List Row) → Type 0
+AreThreads config index threads range [] = Unit {0}
+AreThreads config index threads range (rows ∷ more) = IsThread config index threads range rows × AreThreads config (index + 1) threads range more
+
+abbrev pub all_of : List (List Row) → List Row
+all_of [] = []
+all_of (rows ∷ more) = rows ++ all_of more
+
+-- All steps of a run: those of its rounds, of one more sweep where no thread relays media, and of the stop, and those of each thread, each step
+-- at the moment that its event makes of the one that it was handed. With what each relay noted, protected and sent told beside its outcome they
+-- are a list that is legal, and so safe; the board's entries in it are the history and the stop, and these are the counts of its takes and relays
+pub record IsWhole (config : Config) (threads : ℕ) (range : Option (ℕ × ℕ)) (rounds : List Round) (totals : Totals) : Type 0 where
   pub in_rounds : List Row
   pub last_sweep : List Row
   pub stop : List Row
-  pub are_rounds : AreRounds config range rounds in_rounds
-  pub is_sweep : IsSweep config range last_sweep
+  pub beside : List (List Row)
+  pub are_rounds : AreRounds config threads range rounds in_rounds
+  pub is_sweep : SweepsAlone config threads range last_sweep
   pub is_stop : IsBoardTurn config (in_rounds ++ last_sweep) (stop_entry (history_after config rounds)) stop
-  pub timed : AreTimed ((in_rounds ++ last_sweep) ++ stop)
+  pub as_many : length beside ≡ threads
+  pub are_threads : AreThreads config 0 threads range beside
+  pub timed : AreTimed (((in_rounds ++ last_sweep) ++ stop) ++ all_of beside)
   pub list : List Entry
-  pub told_is : map told list ≡ list_of ((in_rounds ++ last_sweep) ++ stop)
+  pub told_is : map told list ≡ list_of (((in_rounds ++ last_sweep) ++ stop) ++ all_of beside)
   pub legal : Legal config list
   pub safe : Safe config list
   pub board_is : board_of list ≡ stop_entry (history_after config rounds) ∷ history_after config rounds

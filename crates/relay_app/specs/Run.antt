@@ -43,13 +43,14 @@ pub record IsCalled (outside : Outside) (calls : List LinkCall) : Type 0 where
   pub no_port : Gave outside.opened outside.opened_now []
   pub no_draw : Gave outside.drew outside.drew_now []
 
--- The link was bound to its address, the control turns were made, and one line was printed, of totals. This is the status at their end,
+-- The link was bound to its address, the control turns were made, with as many threads of media beside them as the words say, and one line was
+-- printed, of totals. This is the status at their end,
 -- unless a fault of the sink took its place
 pub record DidRun (settings : Settings) (range : Option (ℕ × ℕ)) (outside : Outside) (wrote wrote_now : Option (List WriteCall)) (answer : Status) : Type 0 where
   pub ended : Status
   pub counts : Counts
   pub totals : Totals
-  pub did : DidServe (call.Bind settings.listen true ∷ []) settings.turns settings.config range outside ended counts totals
+  pub did : DidServe (call.Bind settings.listen true ∷ []) settings.turns settings.config settings.threads range outside ended counts totals
   pub answer_is : (answer ≡ ended) ⊎ (answer ≡ status.PrintFault)
   pub line : Gave wrote wrote_now (put.Write (totals_line counts totals) (is_printed answer) ∷ [])
 

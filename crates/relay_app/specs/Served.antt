@@ -158,11 +158,11 @@ pub record AreTold (config : Config) (first : List LinkCall) (rounds : List Roun
 
 -- A run whose control turns ended with this status, and in which the link was called so before them: its rounds, with all its steps, and what
 -- the devices told of them
-pub record DidServe (first : List LinkCall) (limit : ℕ) (config : Config) (range : Option (ℕ × ℕ)) (outside : Outside) (ended : Status) (counts : Counts) (totals : Totals) : Type 0 where
+pub record DidServe (first : List LinkCall) (limit : ℕ) (config : Config) (threads : ℕ) (range : Option (ℕ × ℕ)) (outside : Outside) (ended : Status) (counts : Counts) (totals : Totals) : Type 0 where
   pub rounds : List Round
   -- the moment of the take that ended them
   pub last : List ℕ
-  pub whole : IsWhole config range rounds totals
+  pub whole : IsWhole config threads range rounds totals
   pub counts_are : counts ≡ counts_in rounds
   pub has_ended : HasEnded ended limit counts.turns
   pub last_is : length last ≡ length (last_take ended)

@@ -44,9 +44,9 @@ session_count text = number_within 1 2048 text
 abbrev pub turn_count : List ℕ → Option ℕ
 turn_count text = number_within 1 1000000000000000 text
 
--- how many threads relay media beside the one that answers commands: none is what is built
+-- how many threads relay media beside the one that answers commands; where there is none, that one relays it too
 abbrev pub thread_count : List ℕ → Option ℕ
-thread_count text = number_within 0 0 text
+thread_count text = number_within 0 16 text
 
 -- a seed: a number that fits 64 bits
 abbrev pub seed_number : List ℕ → Option ℕ
@@ -136,11 +136,11 @@ configuration interface words =
 
 -- what the options say, where each says something
 abbrev pub settings_from : Option Config → Option Addr → Option ℕ → Option ℕ → Option Settings
-settings_from (Some config) (Some listen) (Some turns) (Some threads) = Some (record { config = config; listen = listen; turns = turns })
+settings_from (Some config) (Some listen) (Some turns) (Some threads) = Some (record { config = config; listen = listen; turns = turns; threads = threads })
 settings_from config listen turns threads = None
 
--- what the words behind `serve` say: those of the configuration, `--listen-ng=` with an IPv4 address and a port, `--turns=` with a number, and
--- `--num-threads=` with one that is built
+-- what the words behind `serve` say: those of the configuration, `--listen-ng=` with an IPv4 address and a port, `--turns=` and
+-- `--num-threads=` with a number each
 abbrev pub option_settings : List (List ℕ) → Option Settings
 option_settings words =
     if list_all is_option words
@@ -148,7 +148,7 @@ option_settings words =
     (configuration None words)
     (one_value listen_address (Some default_listen) (values_of (codes "--listen-ng=") words))
     (one_value turn_count (Some 1000000000000000) (values_of (codes "--turns=") words))
-    (one_value thread_count (Some 0) (values_of (codes "--num-threads=") words))
+    (one_value thread_count (Some 4) (values_of (codes "--num-threads=") words))
     else None
 
 -- what a command line says, where its first word is `serve` and the others are as they have to be

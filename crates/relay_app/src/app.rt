@@ -1,4 +1,4 @@
-ghost use Rattle.std.specs.Prelude.{◌≡◌, ◌≤◌, ◌<◌, ◌^◌, [], None, Some, IfOk, map};
+ghost use Rattle.std.specs.Prelude.{◌≡◌, ◌≤◌, ◌<◌, ◌^◌, [], vec_capacity, None, Some, IfOk, map};
 ghost use Rattle.relay_outside.specs.Told.{Gained, Rose};
 ghost use Rattle.media_ports.specs.Held.{TellsHeld};
 ghost use Rattle.relay_app.specs.Words.{settings, replay_settings};
@@ -6,16 +6,19 @@ ghost use Rattle.relay_app.specs.Run.{Serves, PrintsUsage, IsServed, StatusByWor
 
 use crate::replaying::replay_else;
 use crate::serve::{close_table, serve_turns};
+use crate::threads::MediaThread;
 use crate::status::Status;
 use crate::totals::put_totals;
 use crate::words::{Settings, read_settings};
 use ng_bencode::Text;
 use ng_server::{Desk, Server};
 use relay_outside::{
-    Clock, ControlLink, Gate, KeySource, LineSink, LineSource, OutOfMemory, PortMaker, Timer,
+    Clock, ControlLink, Gate, InEnd, KeySource, LineSink, LineSource, OutEnd, OutOfMemory,
+    PortMaker, Timer,
 };
 use std::alloc::Global;
 use std::sync::Wait;
+use std::thread::Threads;
 
 /// How many bytes the line of totals has at the most.
 const LINE: usize = 512;
@@ -31,17 +34,21 @@ fn line_room(alloc: Global) -> Result<Text, OutOfMemory>
     }
 }
 
+/// An empty list with room for so many threads of media.
+fn thread_room<I: InEnd, O: OutEnd>(
+    alloc: Global,
+    count: u32,
+) -> Result<Vec<MediaThread<I, O>>, OutOfMemory>
+    ensures { IfOk result (λ room. (room.items ≡ []) × (count ≤ vec_capacity room)) }
+{
+    match Vec::with_capacity(alloc, count as usize) {
+        Ok(room) => Ok(room),
+        Err(_) => Err(OutOfMemory),
+    }
+}
+
 /// Serves the ng control protocol.
-fn serve<
-    N: ControlLink,
-    P: PortMaker,
-    K: KeySource,
-    T: Timer,
-    C: Clock,
-    G: Gate,
-    O: LineSink,
-    R: Wait,
->(
+fn serve<N, P, K, T, C, G, O, R>(
     rt: &R,
     alloc: Global,
     settings: &Settings,
@@ -54,9 +61,18 @@ fn serve<
     out: &mut O,
 ) -> Status
 where
-    P::In: Drop,
-    P::Out: Drop,
+    N: ControlLink,
+    P: PortMaker,
+    P::In: Send + Drop,
+    P::Out: Send + Drop,
+    K: KeySource,
+    T: Timer,
+    C: Clock + Sync,
+    G: Gate + Sync,
+    O: LineSink,
+    R: Threads + Wait + Sync,
     requires turns { settings.now.turns < 2 ^ 63 }
+    requires threads { settings.now.threads ≤ 16 }
     requires open { TellsHeld settings.now.config (P.told ports.old) [] }
     ensures served { Serves (Some settings.now) (C.range clock.now)
         (record {
@@ -87,6 +103,9 @@ where
     let Ok(desk) = Desk::new(alloc) else {
         return Status::OutOfMemory;
     };
+    let Ok(room) = thread_room(alloc, settings.threads) else {
+        return Status::OutOfMemory;
+    };
     let Ok((server, hand)) = Server::start(alloc, settings.config) else {
         return Status::OutOfMemory;
     };
@@ -95,19 +114,7 @@ where
         return Status::ControlFault;
     };
     let looped = serve_turns(
-        rt,
-        alloc,
-        settings.turns,
-        &settings.config,
-        server,
-        hand,
-        desk,
-        control,
-        ports,
-        keys,
-        timer,
-        clock,
-        gate,
+        rt, alloc, settings, server, hand, desk, room, control, ports, keys, timer, clock, gate,
     );
     put_totals(&mut line, looped.counts, looped.totals);
     match out.write(line.as_slice()) {
@@ -119,12 +126,13 @@ where
 /// Runs the relay as the words of a command line say, over the devices that it is handed, and answers how
 /// it ended.
 ///
-/// `serve --interface=ADDRESS [--listen-ng=ADDRESS:PORT] [--port-min=PORT] [--port-max=PORT] [--max-sessions=NUMBER] [--turns=NUMBER] [--num-threads=0]`
+/// `serve --interface=ADDRESS [--listen-ng=ADDRESS:PORT] [--port-min=PORT] [--port-max=PORT] [--max-sessions=NUMBER] [--turns=NUMBER] [--num-threads=NUMBER]`
 /// binds the control link and answers the datagrams that it takes until the link gives no more, a take
 /// fails, or `--turns` takes gave a datagram or nothing. Calls begin, are answered and end as the datagrams ask: their ports are
-/// opened and closed by the port maker, their keys drawn from the key source. After each take at most one packet of each port is
-/// relayed, handed a moment of the clock. At the end all calls are ended, and a line of totals is printed. The timer, in
-/// milliseconds, is asked once for each take of the link.
+/// opened and closed by the port maker, their keys drawn from the key source. Beside that `--num-threads` threads relay media, each the
+/// packets of its own pairs of ports, handed moments of the clock; with 0, at most one packet of each port is relayed after each take.
+/// At the end the threads end, then all calls, and a line of totals is printed. The timer, in milliseconds, is asked once for each take
+/// of the link. Where no thread can be started, each thread's work is done after the last take.
 ///
 /// `replay [--interface=ADDRESS] [--seed=NUMBER] [--port-min=PORT] [--port-max=PORT] [--max-sessions=NUMBER]` reads the script, makes its
 /// steps over devices in memory, and prints a line for each event. It leaves the control link, the ports, the keys, the timer, the
@@ -145,11 +153,11 @@ pub fn run<R, N, P, K, T, C, G, S, O>(
     out: &mut O,
 ) -> Status
 where
-    R: Wait,
+    R: Threads + Wait + Sync,
     N: ControlLink,
     P: PortMaker,
-    P::In: Drop,
-    P::Out: Drop,
+    P::In: Send + Drop,
+    P::Out: Send + Drop,
     K: KeySource,
     T: Timer,
     C: Clock + Sync,

@@ -4,10 +4,12 @@
 #![tactic(auto)]
 
 mod app;
+mod beside;
 mod numbers;
 mod replaying;
 mod serve;
 mod status;
+mod threads;
 mod totals;
 mod usage;
 mod words;

@@ -1,33 +1,37 @@
-//! The control turns of a run and their sweeps, one after another, and its end: the stop of all calls and the close of the table.
-ghost use Rattle.std.specs.Prelude.{◌≡◌, ◌≤◌, ◌<◌, ◌^◌, List, [], map, IfSome};
+//! The control turns of a run, with its sweeps where no thread relays media, and its end: the stop of all calls and the close of the table.
+ghost use Rattle.std.specs.Prelude.{◌≡◌, ◌≤◌, ◌<◌, ◌^◌, ℕ, List, [], map, Option, None, Some, IfSome, length, vec_capacity, slice_index_or};
 ghost use Rattle.relay_outside.specs.Told.{Rose};
-ghost use Rattle.turn_table.specs.Hands.{IsSameHand, parts, entries};
+ghost use Rattle.turn_table.specs.Hands.{IsHandOf, HasNoTurn, IsSameHand, parts, starts, entries};
 ghost use Rattle.relay_core.specs.Entries.{Entry};
 ghost use Rattle.relay_core.specs.Legal.{Legal};
 ghost use Rattle.relay_core.specs.Safe.{Safe};
+ghost use Rattle.relay_core.specs.Beginning.{AreParts};
+ghost use Rattle.relay_core.specs.Joining.{IsSound};
 ghost use Rattle.relay_core.specs.Made.{told};
 ghost use Rattle.relay_core.specs.Timed.{AreTimed};
 ghost use Rattle.relay_core.specs.Turning.{made_by};
-ghost use Rattle.media_lane.specs.declared.answers.Totals.{Totals};
-ghost use Rattle.media_lane.specs.Sweeping.{Sweeps};
 ghost use Rattle.media_ports.specs.Held.{TellsHeld};
 ghost use Rattle.board_turns.specs.Between.{IsBetween};
 ghost use Rattle.main_sweeps.specs.Totals.{HasTotals};
 ghost use Rattle.ng_server.specs.Servers.{OpensJust, history_of};
 ghost use Rattle.relay_app.specs.Rounds.{status_after};
 ghost use Rattle.relay_app.specs.Served.{DidServe};
-ghost use Rattle.relay_app.specs.Turned.{DidTurns, IsLoopEnd};
+ghost use Rattle.relay_app.specs.Turned.{AddsSweep, DidTurns, CanWork, DidWork, IsLoopEnd};
 
+use crate::beside::{ControlWork, run_beside};
 use crate::status::Status;
+use crate::threads::{MediaThread, join_threads, make_threads};
 use crate::totals::Counts;
+use crate::words::Settings;
 use main_sweeps::sweep_between;
 use media_lane::Totals;
 use ng_server::{ControlTurn, Desk, Server};
-use relay_core::Relay;
-use relay_outside::{Clock, Config, ControlLink, Gate, KeySource, PortMaker, Timer};
+use relay_core::{Happening, Part, Relay};
+use relay_outside::{Clock, ControlLink, Gate, InEnd, KeySource, OutEnd, PortMaker, Timer};
 use std::alloc::Global;
 use std::sync::Wait;
-use turn_table::Hand;
+use std::thread::Threads;
+use turn_table::{Hand, Machine};
 
 /// How the control turns of a run ended, and what was counted.
 #[derive(Clone, Copy)]
@@ -38,6 +42,28 @@ pub(crate) struct Looped {
     pub(crate) counts: Counts,
     /// What came of the packets that were taken.
     pub(crate) totals: Totals,
+}
+
+impl Looped {
+    /// Nothing was done yet; a run that makes no control turn has spent its turns.
+    fn not_begun() -> Looped
+        ensures { result ≡ record { status = Status.TurnsSpent; counts = record { turns = 0; datagrams = 0; replies = 0 }; totals = record { taken = 0; sent = 0; refused = 0; lost = 0 } } }
+    {
+        Looped {
+            status: Status::TurnsSpent,
+            counts: Counts {
+                turns: 0,
+                datagrams: 0,
+                replies: 0,
+            },
+            totals: Totals {
+                taken: 0,
+                sent: 0,
+                refused: 0,
+                lost: 0,
+            },
+        }
+    }
 }
 
 /// The status with which a run ends after this control turn; `None` where it goes on.
@@ -56,34 +82,44 @@ fn find_status(turn: ControlTurn) -> Option<Status>
     }
 }
 
-/// Sweeps once by the main hand of a server with this configuration.
-fn sweep<P: PortMaker, C: Clock, G: Gate, R: Wait>(
+/// Sweeps once by the main hand of a server with these settings, where no thread relays media.
+fn sweep_alone<P: PortMaker, C: Clock, G: Gate, R: Wait>(
     rt: &R,
+    settings: &Settings,
     server: &Server<P>,
-    config: &Config,
     hand: Hand<Relay<P::In, P::Out>>,
     clock: &C,
     gate: &G,
     totals: &mut Totals,
 ) -> Hand<Relay<P::In, P::Out>>
-    requires config { server.now.config ≡ config.now }
+    requires config { server.now.config ≡ settings.now.config }
     requires between { IsBetween server.now.config server.now.turns hand }
     ensures same { IsSameHand hand result }
     ensures between { IsBetween server.now.config server.now.turns result }
     ensures history { history_of result ≡ history_of hand }
-    ensures swept { (swept : Totals) × Sweeps server.now.config 0 1 (C.range clock.now) hand result swept }
+    ensures swept { AddsSweep server.now.config settings.now.threads (C.range clock.now) (entries hand) (entries result) }
     ensures totals { HasTotals (made_by hand) totals.old → HasTotals (made_by result) totals.new }
 {
-    sweep_between(rt, server.turns(), hand, config, gate, clock, totals)
+    if settings.threads > 0 {
+        return hand;
+    }
+    sweep_between(
+        rt,
+        server.turns(),
+        hand,
+        &settings.config,
+        gate,
+        clock,
+        totals,
+    )
 }
 
-/// Makes control turns until the link gives no more, a take fails, or `limit` takes gave a datagram or nothing. The timer
-/// is asked once before each. A sweep of media follows each turn after which the run goes on.
+/// Makes control turns until the link gives no more, a take fails, or as many takes as the settings say gave a datagram or nothing. The
+/// timer is asked once before each. Where no thread relays media, a sweep of it follows each turn after which the run goes on.
 fn make_turns<N: ControlLink, P: PortMaker, K: KeySource, T: Timer, C: Clock, G: Gate, R: Wait>(
     rt: &R,
     alloc: Global,
-    limit: u64,
-    config: &Config,
+    settings: &Settings,
     server: &Server<P>,
     hand: Hand<Relay<P::In, P::Out>>,
     desk: &mut Desk<P::Out>,
@@ -94,15 +130,15 @@ fn make_turns<N: ControlLink, P: PortMaker, K: KeySource, T: Timer, C: Clock, G:
     clock: &C,
     gate: &G,
 ) -> (Looped, Hand<Relay<P::In, P::Out>>)
-    requires limit { limit < 2 ^ 63 }
-    requires config { server.now.config ≡ config.now }
+    requires limit { settings.now.turns < 2 ^ 63 }
+    requires config { server.now.config ≡ settings.now.config }
     requires between { IsBetween server.now.config server.now.turns hand }
     requires nothing { made_by hand ≡ [] }
     requires open { OpensJust server.now.config (history_of hand) (P.told ports.old) }
     ensures same { IsSameHand hand result.1 }
     ensures between { IsBetween server.now.config server.now.turns result.1 }
     ensures open { OpensJust server.now.config (history_of result.1) (P.told ports.new) }
-    ensures did { DidTurns limit server.now.config (C.range clock.now)
+    ensures did { DidTurns settings.now.turns server.now.config settings.now.threads (C.range clock.now)
         (record {
           link = N.told link.old;
           link_now = N.told link.new;
@@ -124,18 +160,13 @@ fn make_turns<N: ControlLink, P: PortMaker, K: KeySource, T: Timer, C: Clock, G:
     ensures ends { IsLoopEnd result.0.status }
 {
     let mut hand = hand;
-    let mut totals = Totals {
-        taken: 0,
-        sent: 0,
-        refused: 0,
-        lost: 0,
-    };
+    let mut totals = Totals::none();
     let mut counts = Counts {
         turns: 0,
         datagrams: 0,
         replies: 0,
     };
-    'turns: while counts.turns < limit {
+    'turns: while counts.turns < settings.turns {
         let now = timer.now();
         let turn = server.control_turn(rt, alloc, &mut hand, desk, link, ports, keys, now);
         counts = counts.with(turn);
@@ -147,7 +178,7 @@ fn make_turns<N: ControlLink, P: PortMaker, K: KeySource, T: Timer, C: Clock, G:
             };
             return (looped, hand);
         }
-        hand = sweep(rt, server, config, hand, clock, gate, &mut totals);
+        hand = sweep_alone(rt, settings, server, hand, clock, gate, &mut totals);
     }
     let looped = Looped {
         status: Status::TurnsSpent,
@@ -157,37 +188,110 @@ fn make_turns<N: ControlLink, P: PortMaker, K: KeySource, T: Timer, C: Clock, G:
     (looped, hand)
 }
 
-/// Closes the table of a server whose hand has all parts, and lets go what its places hold.
+/// The control loop of a run: what it is told, the main hand, the memory of a control turn, and how it ended.
+pub(crate) struct ControlLoop<I: InEnd, O: OutEnd>
+where
+    Relay<I, O>: Machine<State = Part<I, O>, Event = Happening, Outcome = ()>,
+{
+    alloc: Global,
+    settings: Settings,
+    /// It stands here before and after the loop.
+    hand: Option<Hand<Relay<I, O>>>,
+    desk: Desk<O>,
+    looped: Looped,
+}
+
+impl<N, P, K, T, C, G, I, O> ControlWork<Server<P>, C, G, N, P, K, T> for ControlLoop<I, O>
+where
+    N: ControlLink,
+    P: PortMaker<In = I, Out = O>,
+    K: KeySource,
+    T: Timer,
+    C: Clock,
+    G: Gate,
+    I: InEnd,
+    O: OutEnd,
+{
+    ghost can_work = { λ control server ports. CanWork control.settings server.config server.turns (P.told ports) control.hand };
+
+    ghost did = { λ server clock old link ports keys timer new link_now ports_now keys_now timer_now.
+        DidWork old.settings server.config server.turns (C.range clock)
+        (record {
+          link = N.told link;
+          link_now = N.told link_now;
+          timer = T.told timer;
+          timer_now = T.told timer_now;
+          opened = P.told ports;
+          opened_now = P.told ports_now;
+          drew = K.told keys;
+          drew_now = K.told keys_now;
+          port_faults = P.faults ports;
+          port_faults_now = P.faults ports_now;
+          key_faults = K.faults keys;
+          key_faults_now = K.faults keys_now;
+        })
+        (N.faults link) (N.faults link_now) old.hand new.hand new.looped };
+
+    fn work<W: Wait>(
+        &mut self,
+        rt: &W,
+        server: &Server<P>,
+        clock: &C,
+        gate: &G,
+        link: &mut N,
+        ports: &mut P,
+        keys: &mut K,
+        timer: &mut T,
+    ) {
+        let Some(hand) = self.hand.take() else {
+            unreachable!()
+        };
+        let (looped, hand) = make_turns(
+            rt,
+            self.alloc,
+            &self.settings,
+            server,
+            hand,
+            &mut self.desk,
+            link,
+            ports,
+            keys,
+            timer,
+            clock,
+            gate,
+        );
+        self.looped = looped;
+        self.hand = Some(hand);
+    }
+}
+
+/// Closes the table of a server by a hand that has all parts, and lets go what its places hold.
 pub(crate) fn close_table<P: PortMaker>(server: Server<P>, hand: Hand<Relay<P::In, P::Out>>)
 where
     P::In: Drop,
     P::Out: Drop,
-    requires between { IsBetween server.config server.turns hand }
+    requires table { IsHandOf server.turns hand }
     requires all { parts hand ≡ 1024 }
+    requires idle { HasNoTurn hand }
+    requires starts { AreParts server.config (starts hand) }
+    requires sound { IsSound server.config (entries hand) }
     ensures legal { (l : List Entry) × (map told l ≡ made_by hand) × Legal server.config l × Safe server.config l }
     ensures timed { AreTimed (entries hand) }
 {
     drop(server.close(hand));
 }
 
-/// Serves with a server that answered nothing yet: its control turns, each with a sweep behind it, then one more sweep, the stop, which
-/// ends all calls, and the close of its table.
-pub(crate) fn serve_turns<
-    N: ControlLink,
-    P: PortMaker,
-    K: KeySource,
-    T: Timer,
-    C: Clock,
-    G: Gate,
-    R: Wait,
->(
+/// Serves with a server that answered nothing yet: its control turns, with as many threads of media beside them as the settings say, then the
+/// stop, which ends all calls, and the close of its table. Where no thread relays media, a sweep stands behind each control turn and before
+/// the stop. The list of threads is empty, and has room for them.
+pub(crate) fn serve_turns<N, P, K, T, C, G, R>(
     rt: &R,
     alloc: Global,
-    limit: u64,
-    config: &Config,
+    settings: &Settings,
     server: Server<P>,
     hand: Hand<Relay<P::In, P::Out>>,
     desk: Desk<P::Out>,
+    room: Vec<MediaThread<P::In, P::Out>>,
     link: &mut N,
     ports: &mut P,
     keys: &mut K,
@@ -196,15 +300,25 @@ pub(crate) fn serve_turns<
     gate: &G,
 ) -> Looped
 where
-    P::In: Drop,
-    P::Out: Drop,
-    requires limit { limit < 2 ^ 63 }
-    requires config { server.config ≡ config.now }
+    N: ControlLink,
+    P: PortMaker,
+    P::In: Send + Drop,
+    P::Out: Send + Drop,
+    K: KeySource,
+    T: Timer,
+    C: Clock + Sync,
+    G: Gate + Sync,
+    R: Threads + Wait + Sync,
+    requires limit { settings.now.turns < 2 ^ 63 }
+    requires threads { settings.now.threads ≤ 16 }
+    requires config { server.config ≡ settings.now.config }
     requires between { IsBetween server.config server.turns hand }
     requires nothing { made_by hand ≡ [] }
     requires all { parts hand ≡ 1024 }
+    requires empty { room.items ≡ [] }
+    requires room { settings.now.threads ≤ vec_capacity room }
     requires open { TellsHeld server.config (P.told ports.old) [] }
-    ensures did { DidServe [] limit server.config (C.range clock.now)
+    ensures did { DidServe [] settings.now.turns server.config settings.now.threads (C.range clock.now)
         (record {
           link = N.told link.old;
           link_now = N.told link.new;
@@ -225,17 +339,46 @@ where
     ensures cause { result.status ≡ Status.ControlFault → Rose (N.faults link.old) (N.faults link.new) }
     ensures ends { IsLoopEnd result.status }
 {
-    let mut desk = desk;
-    let (looped, hand) = make_turns(
-        rt, alloc, limit, config, &server, hand, &mut desk, link, ports, keys, timer, clock, gate,
+    let mut hand = hand;
+    let count = settings.threads;
+    let mut threads = make_threads(server.turns(), &mut hand, room, count, &settings.config);
+    let mut control = ControlLoop {
+        alloc,
+        settings: *settings,
+        hand: Some(hand),
+        desk,
+        looped: Looped::not_begun(),
+    };
+    run_beside(
+        rt,
+        &server,
+        server.turns(),
+        clock,
+        gate,
+        link,
+        ports,
+        keys,
+        timer,
+        &mut control,
+        &mut threads,
     );
+    let ControlLoop {
+        hand,
+        mut desk,
+        looped,
+        ..
+    } = control;
+    let Some(hand) = hand else {
+        unreachable!()
+    };
     let Looped {
         status,
         counts,
         mut totals,
     } = looped;
-    let mut hand = sweep(rt, &server, config, hand, clock, gate, &mut totals);
+    let mut hand = sweep_alone(rt, settings, &server, hand, clock, gate, &mut totals);
     server.stop(rt, &mut hand, &mut desk, ports);
+    join_threads(server.turns(), &mut hand, threads, &mut totals);
     close_table(server, hand);
     Looped {
         status,

@@ -17,6 +17,8 @@ pub(crate) struct Settings {
     pub(crate) listen: Addr,
     /// After how many takes that gave a datagram or nothing the run ends.
     pub(crate) turns: u64,
+    /// How many threads relay media, at most 16; 0: the one that answers commands does.
+    pub(crate) threads: u32,
 }
 
 /// What the words of `replay` say.
@@ -254,12 +256,16 @@ fn find_turns(words: &[&str]) -> Option<u64>
     find_number(words, TURNS, limits, MOST_TURNS)
 }
 
-/// How many threads relay media beside the one that answers commands: none is what is built.
-fn find_threads(words: &[&str]) -> Option<u64>
-    ensures { result ≡ one_value thread_count (Some 0) (values_of (codes "--num-threads=") (map (λ word. word.now) words.now)) }
+/// How many threads relay media beside the one that answers commands: 0 to 16.
+fn find_threads(words: &[&str]) -> Option<u32>
+    ensures value { result ≡ one_value thread_count (Some 4) (values_of (codes "--num-threads=") (map (λ word. word.now) words.now)) }
+    ensures within { IfSome result (λ threads. threads ≤ 16) }
 {
-    let limits = Limits { least: 0, most: 0 };
-    find_number(words, NUM_THREADS, limits, 0)
+    let limits = Limits { least: 0, most: 16 };
+    match find_number(words, NUM_THREADS, limits, 4) {
+        Some(threads) => Some(threads as u32),
+        None => None,
+    }
 }
 
 /// From which number keys are drawn: any that fits 64 bits.
@@ -312,7 +318,7 @@ fn find_config(words: &[&str], interface: Option<Ip>) -> Option<Config>
 fn option_settings(words: &[&str]) -> Option<Settings>
     ensures value { result ≡ option_settings (map (λ word. word.now) words.now) }
     ensures config { IfSome result (λ settings. IsInLimits settings.config) }
-    ensures within { IfSome result (λ settings. settings.turns ≤ MOST_TURNS) }
+    ensures within { IfSome result (λ settings. settings.turns ≤ MOST_TURNS × settings.threads ≤ 16) }
 {
     if !are_options(words) {
         return None;
@@ -320,11 +326,12 @@ fn option_settings(words: &[&str]) -> Option<Settings>
     let config = find_config(words, None)?;
     let listen = find_listen(words)?;
     let turns = find_turns(words)?;
-    let _threads = find_threads(words)?;
+    let threads = find_threads(words)?;
     Some(Settings {
         config,
         listen,
         turns,
+        threads,
     })
 }
 
@@ -332,7 +339,7 @@ fn option_settings(words: &[&str]) -> Option<Settings>
 pub(crate) fn read_settings(words: &[&str]) -> Option<Settings>
     ensures value { result ≡ settings (map (λ word. word.now) words.now) }
     ensures config { IfSome result (λ settings. IsInLimits settings.config) }
-    ensures within { IfSome result (λ settings. settings.turns ≤ MOST_TURNS) }
+    ensures within { IfSome result (λ settings. settings.turns ≤ MOST_TURNS × settings.threads ≤ 16) }
 {
     let (command, options) = words.split_first()?;
     if *command != "serve" {

@@ -31,4 +31,4 @@ returns-clause-board g c =
 
 pub returns-clause-totals : goal.returns-clause-totals
 returns-clause-totals g c =
-    swept_totals c.args.config.now (g.C.Clock.range c.args.clock.now) c.args.hand c.into_hand.result c.sweep-swept.result (swept g c) c.args.totals.now c.add_totals.new.totals c.add_totals.ensures
+    swept_totals c.args.config.now (g.C.Clock.range c.args.clock.now) c.args.hand c.into_hand.result c.sweep-swept.result (swept g c) c.args.totals.now c.add.new.self c.add.ensures

@@ -5,4 +5,4 @@ pub returns-then-not-are_options-clause-value : goal.returns-then-not-are_option
 returns-then-not-are_options-clause-value c = refused c.args.words.now c.if-not-are_options.ensures
 
 pub returns-clause-value : goal.returns-clause-value
-returns-clause-value c = taken c.args.words.now _ _ _ _ c.if-not-are_options.ensures c.in_ok-config.ensures.value c.in_ok-listen.ensures c.in_ok-turns.ensures.value c.in_ok-_threads.ensures
+returns-clause-value c = taken c.args.words.now _ _ _ _ c.if-not-are_options.ensures c.in_ok-config.ensures.value c.in_ok-listen.ensures c.in_ok-turns.ensures.value c.in_ok-threads.ensures.value

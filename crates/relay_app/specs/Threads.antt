@@ -1,0 +1,46 @@
+-- What is known of a thread of media: before its work, of its work, and after it.
+use Rattle.std.specs.Prelude.{◌≡◌, ◌<◌, ℕ, false, List, [], Option, length}
+use Rattle.relay_outside.specs.declared.settings.Config.{Config}
+use Rattle.turn_table.specs.declared.hands.Turns.{Turns}
+use Rattle.turn_table.specs.Hands.{IsHandOf, view, entries, parts}
+use Rattle.relay_core.specs.declared.part.Part.{Part}
+use Rattle.relay_core.specs.declared.machine.Relay.{Relay}
+use Rattle.relay_core.specs.Made.{Made}
+use Rattle.media_lane.specs.Lanes.{hand_of, config_of, index_of, lanes_of, list_of, IsSameLane}
+use Rattle.media_lane.specs.Looping.{AreSweeps, visits_of, MakesSweeps}
+use Rattle.media_lane.specs.Receipts.{KeepsList}
+use Rattle.media_lane.specs.Visits.{Row, Visit, all_rows, AreTotals}
+use Rattle.relay_app.specs.declared.threads.MediaThread.{MediaThread}
+
+module _ {I O : Type 0} {gi : _} {go : _} {gm : _} where
+  abbrev pub rows_of : MediaThread I O gi go gm → List Row
+  rows_of thread = entries (hand_of thread.lane)
+
+  -- the thread with this number, of so many threads, which has a part of the table's hands and did nothing yet
+  pub record IsFresh (config : Config) (turns : Turns (Relay I O) (Part I O) Made (Unit {0})) (threads index : ℕ) (thread : MediaThread I O gi go gm) : Type 0 where
+    pub of_table : IsHandOf turns (hand_of thread.lane)
+    pub one_part : parts (hand_of thread.lane) ≡ 1
+    pub not_main : (view (hand_of thread.lane)).main ≡ false
+    pub nothing : rows_of thread ≡ []
+    pub config_is : config_of thread.lane ≡ config
+    pub index_is : index_of thread.lane ≡ index
+    pub threads_are : lanes_of thread.lane ≡ threads
+
+  -- the same thread made one sweep or more, and nothing else
+  pub record HasWorked (range : Option (ℕ × ℕ)) (old new : MediaThread I O gi go gm) : Type 0 where
+    pub same : IsSameLane old.lane new.lane
+    pub made : MakesSweeps (config_of old.lane) (index_of old.lane) (lanes_of old.lane) range (hand_of old.lane) (hand_of new.lane) new.totals
+    pub some : 0 < length made.sweeps
+    pub list : KeepsList (config_of old.lane) (list_of old.lane) (list_of new.lane)
+
+  -- so all that it did are sweeps of its own pairs
+  pub record IsDone (config : Config) (turns : Turns (Relay I O) (Part I O) Made (Unit {0})) (threads : ℕ) (range : Option (ℕ × ℕ)) (index : ℕ) (thread : MediaThread I O gi go gm) : Type 0 where
+    pub of_table : IsHandOf turns (hand_of thread.lane)
+    pub one_part : parts (hand_of thread.lane) ≡ 1
+    pub not_main : (view (hand_of thread.lane)).main ≡ false
+    pub sweeps : List (List Visit)
+    pub some : 0 < length sweeps
+    pub are_sweeps : AreSweeps config index threads range sweeps
+    pub rows_are : rows_of thread ≡ all_rows config (visits_of sweeps)
+    pub totals_are : AreTotals (visits_of sweeps) thread.totals
+    pub list : KeepsList config [] (list_of thread.lane)

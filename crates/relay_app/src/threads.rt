@@ -1,0 +1,93 @@
+//! The threads of media of a run: each is a lane by a hand that is split from the main one, and is joined to it again at the end.
+ghost use Rattle.std.specs.Prelude.{◌≡◌, ◌+◌, ◌<◌, ◌≤◌, ◌++◌, ℕ, [], map, length, vec_capacity, slice_index_or};
+ghost use Rattle.turn_table.specs.Hands.{IsHandOf, IsSameHand, HasNoTurn, starts, entries, parts};
+ghost use Rattle.relay_core.specs.Joining.{IsSound};
+ghost use Rattle.relay_core.specs.Turning.{made_by};
+ghost use Rattle.media_lane.specs.Lanes.{hand_of};
+ghost use Rattle.board_turns.specs.Between.{IsBetween};
+ghost use Rattle.main_sweeps.specs.Totals.{HasTotals};
+ghost use Rattle.relay_app.specs.Rounds.{all_of};
+ghost use Rattle.relay_app.specs.Threads.{IsFresh, HasWorked, IsDone, rows_of};
+
+use crate::beside::MediaWork;
+use media_lane::{Lane, Totals, lane_loop};
+use relay_core::{Happening, Part, Relay};
+use relay_outside::{Clock, Config, Gate, InEnd, OutEnd};
+use std::sync::Wait;
+use std::sync::atomic::AtomicBool;
+use turn_table::{Hand, Machine, Turns};
+
+/// A thread of media: its lane, and what came of the packets that it took.
+#[derive(Drop)]
+pub(crate) struct MediaThread<I: InEnd, O: OutEnd>
+where
+    Relay<I, O>: Machine<State = Part<I, O>, Event = Happening, Outcome = ()>,
+{
+    pub(crate) lane: Lane<I, O>,
+    pub(crate) totals: Totals,
+}
+
+impl<I: InEnd, O: OutEnd, C: Clock, G: Gate> MediaWork<Turns<Relay<I, O>>, C, G>
+    for MediaThread<I, O>
+{
+    ghost can_work = { λ thread turns. IsHandOf turns (hand_of thread.lane) };
+
+    ghost did = { λ turns clock old new. HasWorked (C.range clock) old new };
+
+    fn work<W: Wait>(
+        &mut self,
+        rt: &W,
+        turns: &Turns<Relay<I, O>>,
+        clock: &C,
+        gate: &G,
+        halt: &AtomicBool,
+    ) {
+        self.totals = lane_loop(rt, &mut self.lane, turns, gate, clock, halt);
+    }
+}
+
+/// So many threads of media, into an empty list with room for them: each has a part of the main hand, and the pairs whose number is its own
+/// modulo their number.
+pub(crate) fn make_threads<I: InEnd, O: OutEnd>(
+    turns: &Turns<Relay<I, O>>,
+    hand: &mut Hand<Relay<I, O>>,
+    room: Vec<MediaThread<I, O>>,
+    count: u32,
+    config: &Config,
+) -> Vec<MediaThread<I, O>>
+    requires empty { room.items ≡ [] }
+    requires room { count ≤ vec_capacity room }
+    requires between { IsBetween config.now turns.now hand.old }
+    requires parts { count < parts hand.old }
+    ensures as_many { length result.items ≡ count }
+    ensures fresh { (i : ℕ) (d : _) → i < count → IsFresh config.now turns.now count i (slice_index_or result.items i d) }
+    ensures parts { parts hand.new + count ≡ parts hand.old }
+    ensures list { entries hand.new ≡ entries hand.old }
+    ensures between { IsBetween config.now turns.now hand.new }
+{
+    let mut threads = room;
+    for index in 0..count {
+        let part = turns.split_hand(hand);
+        threads.push_reserved(MediaThread {
+            lane: Lane::new(part, index, count, config),
+            totals: Totals::none(),
+        });
+    }
+    threads
+}
+
+/// Joins the hands of all threads to the main one, in their order, and adds what came of their packets.
+pub(crate) fn join_threads<I: InEnd, O: OutEnd>(
+    turns: &Turns<Relay<I, O>>,
+    hand: &mut Hand<Relay<I, O>>,
+    threads: Vec<MediaThread<I, O>>,
+    totals: &mut Totals,
+) {
+    let mut threads = threads;
+    threads.reverse();
+    while let Some(thread) = threads.pop() {
+        let MediaThread { lane, totals: more } = thread;
+        turns.join_hand(hand, lane.into_hand());
+        totals.add(more);
+    }
+}
