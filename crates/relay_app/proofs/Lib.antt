@@ -1,5 +1,6 @@
 mod Counts
 mod Loops
+pub mod MediaThreads
 mod Options
 mod Rounds
 mod Runs

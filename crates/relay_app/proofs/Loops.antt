@@ -16,8 +16,6 @@ use Rattle.call_board.specs.Acts.{Given, BoardEntry}
 use Rattle.relay_core.specs.declared.part.Part.{Part}
 use Rattle.relay_core.specs.Made.{Made, list_of}
 use Rattle.relay_core.specs.Turning.{made_by}
-use Rattle.media_lane.specs.declared.answers.Totals.{Totals}
-use Rattle.media_lane.specs.Sweeping.{Sweeps}
 use Rattle.media_lane.specs.Visits.{Row}
 use Rattle.board_turns.specs.Between.{board_of, IsBetween}
 use Rattle.control_entries.specs.Controls.{Hearing}
@@ -29,9 +27,9 @@ use Rattle.relay_app.specs.declared.status.Status.TheVariants as status
 use Rattle.relay_app.specs.declared.totals.Counts.{Counts}
 use Rattle.relay_app.specs.Rounds.{Round, status_after, entry_due, with_entry, history_after, moments, AreRounds}
 use Rattle.relay_app.specs.Served.{Outside, Gave, IsCaused, HaveCauses, given_in, openings, draws, counts_of, turn_counts, sum_of, counts_in, Counted, AreExchanges, AreCalls, last_take, HasEnded}
-use Rattle.relay_app.specs.Turned.{Running, DidTurns}
+use Rattle.relay_app.specs.Turned.{Running, AddsSweep, DidTurns}
 use Rattle.relay_app.proofs.Counts.{calls_counted, sum_none, not_answered, ends_uncounted, ends_below, ends_with, one_take}
-use Rattle.relay_app.proofs.Rounds.{AddsTurn, turn_rows, sweep_rows, one_more, no_rounds, board_after}
+use Rattle.relay_app.proofs.Rounds.{AddsTurn, turn_rows, one_more, no_rounds, board_after}
 
 -- what a device gave, and then more
 gave_more : {C : Type 0} (first second third : Option (List C)) (some more : List C) → Gave first second some → Gave second third more → Gave first third (some ++ more)
@@ -87,11 +85,11 @@ module _ (config : Config) (history : List BoardEntry) (now : ℕ) (then later :
   causes_for (Some x) gave entry given (there i) is = caused_later then later given p q port key (causes entry given i is)
 
 -- no turn yet
-pub begins : (config : Config) (range : Option (ℕ × ℕ)) (rows : List Row) (outside : Outside) → list_of rows ≡ [] → board_of (list_of rows) ≡ [] → outside.link ≡ outside.link_now
-    → outside.timer ≡ outside.timer_now → outside.opened ≡ outside.opened_now → outside.drew ≡ outside.drew_now → Running config range rows (counts_of 0 0 0) outside
-begins config range rows outside none board link timer opened drew = record {
+pub begins : (config : Config) (threads : ℕ) (range : Option (ℕ × ℕ)) (rows : List Row) (outside : Outside) → list_of rows ≡ [] → board_of (list_of rows) ≡ [] → outside.link ≡ outside.link_now
+    → outside.timer ≡ outside.timer_now → outside.opened ≡ outside.opened_now → outside.drew ≡ outside.drew_now → Running config threads range rows (counts_of 0 0 0) outside
+begins config threads range rows outside none board link timer opened drew = record {
   rounds = [];
-  are_rounds = no_rounds config range rows none;
+  are_rounds = no_rounds config threads range rows none;
   board_is = board;
   counts_are = refl;
   link = subst (λ (l : Option (List LinkCall)). Gained outside.link l (AreExchanges config [])) link (gained_none outside.link (AreExchanges config []) refl);
@@ -109,11 +107,11 @@ module _ {M I O : Type 0} {g : _} where
   ends_idle config old new now answer (Some x) ended ends follows =
       absurd (let k : true ≡ false = sym follows.0 ∙ not_answered answer ended ends in cc)
 
-  module _ (config : Config) (range : Option (ℕ × ℕ)) (turns : Turns M (Part I O) Made (Unit {0})) (old mid : Hand M (Part I O) Made (Unit {0}) g) (counts next : Counts) (now : ℕ)
+  module _ (config : Config) (threads : ℕ) (range : Option (ℕ × ℕ)) (turns : Turns M (Part I O) Made (Unit {0})) (old mid : Hand M (Part I O) Made (Unit {0}) g) (counts next : Counts) (now : ℕ)
       (answer : ControlTurn)
       (l0 l1 l2 : Option (List LinkCall)) (t0 t1 t2 : Option (List ℕ)) (o0 o1 o2 : Option (List PortCall)) (k0 k1 k2 : Option (List KeyCall)) (p0 p1 p2 q0 q1 q2 : ℕ)
       (next_is : next ≡ sum_of counts (turn_counts answer)) (before : IsBetween config turns old) (after : IsBetween config turns mid)
-      (running : Running config range (entries old) counts
+      (running : Running config threads range (entries old) counts
       (record { link = l0; link_now = l1; timer = t0; timer_now = t1; opened = o0; opened_now = o1; drew = k0; drew_now = k1; port_faults = p0; port_faults_now = p1; key_faults = q0; key_faults_now = q1 }))
       (asked : Gains t1 t2 now) (turned : Turned config old mid now answer p1 p2 q1 q2 o1 o2 k1 k2 l1 l2)
       (p_low : p0 ≤ p1) (q_low : q0 ≤ q1) (p_later : p1 ≤ p2) (q_later : q1 ≤ q2) where
@@ -158,14 +156,14 @@ module _ {M I O : Type 0} {g : _} where
         (record { link = l0; link_now = l1; timer = t0; timer_now = t1; opened = o0; opened_now = o1; drew = k0; drew_now = k1; port_faults = p0; port_faults_now = p1; key_faults = q0; key_faults_now = q1 })
         out running.causes refl refl p_low q_low p_later q_later o1 o2 k1 k2 made turned.given
 
-    -- one more round: the turn, after which the run goes on, and a sweep
+    -- one more round: the turn, after which the run goes on, and a sweep, where no thread relays media
     pub turn_goes : (new : Hand M (Part I O) Made (Unit {0}) g) → None ≡ status_after answer → board_of (made_by new) ≡ board_of (made_by mid)
-        → (t : Totals) × Sweeps config 0 1 range mid new t → Running config range (entries new) next out
-    turn_goes new goes same sweeps =
+        → AddsSweep config threads range (entries mid) (entries new) → Running config threads range (entries new) next out
+    turn_goes new goes same sweep =
         let r : Round = record { handed = now; answer = answer; heard = made } in
         record {
           rounds = r ∷ running.rounds;
-          are_rounds = one_more config range running.rounds r (entries old) (entries mid) (entries new) (sym goes) running.are_rounds turn (sweep_rows config range mid new sweeps);
+          are_rounds = one_more config threads range running.rounds r (entries old) (entries mid) (entries new) (sym goes) running.are_rounds turn sweep;
           board_is = same ∙ board_is;
           counts_are = next_is ∙ ap (λ (n : Counts). sum_of n (turn_counts answer)) running.counts_are;
           link =
@@ -196,11 +194,11 @@ module _ {M I O : Type 0} {g : _} where
             counted = subst (λ (zs : List LinkCall). Counted (counts_in running.rounds) (xs ++ zs)) (sym take) (calls_counted config running.rounds ended xs x);
           }
 
-      pub turn_ends : DidTurns limit config range out ended next (entries mid)
+      pub turn_ends : DidTurns limit config threads range out ended next (entries mid)
       turn_ends = record {
         rounds = running.rounds;
         last = now ∷ [];
-        are_rounds = subst (λ (k : Hand M (Part I O) Made (Unit {0}) g). AreRounds config range running.rounds (entries k)) (sym idle.1) running.are_rounds;
+        are_rounds = subst (λ (k : Hand M (Part I O) Made (Unit {0}) g). AreRounds config threads range running.rounds (entries k)) (sym idle.1) running.are_rounds;
         board_is = ap (λ (k : Hand M (Part I O) Made (Unit {0}) g). board_of (made_by k)) idle.1 ∙ running.board_is;
         counts_are = counts_stay ∙ running.counts_are;
         has_ended = subst (λ (n : Counts). HasEnded ended limit n.turns) (sym counts_stay) (ends_below limit counts.turns answer ended ends below);
@@ -215,9 +213,9 @@ module _ {M I O : Type 0} {g : _} where
       }
 
 -- all turns were made
-pub turns_spent : (config : Config) (range : Option (ℕ × ℕ)) (rows : List Row) (counts : Counts) (outside : Outside) (limit : ℕ) → counts.turns ≡ limit
-    → Running config range rows counts outside → DidTurns limit config range outside status.TurnsSpent counts rows
-turns_spent config range rows counts outside limit spent running = record {
+pub turns_spent : (config : Config) (threads : ℕ) (range : Option (ℕ × ℕ)) (rows : List Row) (counts : Counts) (outside : Outside) (limit : ℕ) → counts.turns ≡ limit
+    → Running config threads range rows counts outside → DidTurns limit config threads range outside status.TurnsSpent counts rows
+turns_spent config threads range rows counts outside limit spent running = record {
   rounds = running.rounds;
   last = [];
   are_rounds = running.are_rounds;

@@ -1,9 +1,9 @@
 -- How the rows of a run grow: by a control turn, by a sweep, and by the stop.
-use Rattle.std.proofs.Common.{◌≡◌, ◌∙◌, ap, refl, subst, sym, ℕ, ◌%◌, List, [], ◌∷◌, ◌++◌, append_assoc, append-nil, Option, None, Some, Bool, true, false, map, arith}
-use Rattle.std.specs.Prelude.{◌&&◌, ◌==◌}
+use Rattle.std.proofs.Common.{◌≡◌, ◌∙◌, ap, refl, subst, sym, ℕ, suc, ◌<◌, List, [], ◌∷◌, ◌++◌, length, append_assoc, append-nil, Option, None, Some, map, arith}
 use Rattle.relay_outside.specs.declared.settings.Config.{Config}
 use Rattle.turn_table.specs.declared.hands.Turns.{Turns}
 use Rattle.turn_table.specs.declared.hands.Hand.{Hand}
+use Rattle.turn_table.specs.Histories as table_lists
 use Rattle.turn_table.specs.Hands.{entries}
 use Rattle.call_board.specs.Acts.{BoardEntry}
 use Rattle.relay_core.specs.declared.part.Part.{Part}
@@ -12,10 +12,11 @@ use Rattle.relay_core.specs.Legal.{Legal}
 use Rattle.relay_core.specs.Safe.{Safe}
 use Rattle.relay_core.specs.Made.{Made, list_of, told}
 use Rattle.relay_core.specs.Timed.{AreTimed}
-use Rattle.relay_core.specs.Turning.{made_by}
+use Rattle.relay_core.specs.Turning.{IsOfLane, made_by}
+use Rattle.relay_core.proofs.Recording.{lane_no_boards}
 use Rattle.media_lane.specs.declared.answers.Totals.{Totals}
 use Rattle.media_lane.specs.Sweeping.{Sweeps}
-use Rattle.media_lane.specs.Visits.{Row, one_if}
+use Rattle.media_lane.specs.Visits.{Row}
 use Rattle.board_turns.specs.Between.{board_of, IsBetween, MakesTurn}
 use Rattle.board_turns.specs.Stopping.{stop_entry}
 use Rattle.board_turns.proofs.Grown.{makes_history}
@@ -23,9 +24,11 @@ use Rattle.control_entries.specs.Controls.{Hearing, entry_at, moment_at}
 use Rattle.control_turns.specs.declared.taking.ControlTurn.{ControlTurn}
 use Rattle.control_turns.specs.Taking.{Follows}
 use Rattle.main_sweeps.specs.Totals.{HasTotals}
+use Rattle.main_sweeps.proofs.Between.{lanes_board}
 use Rattle.main_sweeps.proofs.Counts.{turn_totals, told_totals}
 use Rattle.ng_server.proofs.Tellings.{told_board}
-use Rattle.relay_app.specs.Rounds.{Round, status_after, entry_due, with_entry, history_after, IsBoardTurn, MakesEntry, IsSweep, AreRounds, IsWhole}
+use Rattle.relay_app.specs.Rounds.{Round, status_after, entry_due, with_entry, history_after, IsBoardTurn, MakesEntry, AreRounds, SweepsAlone, AreThreads, all_of, IsWhole}
+use Rattle.relay_app.specs.Turned.{AddsSweep}
 
 -- what a control turn added to the rows
 pub record AddsTurn (config : Config) (entry : Option BoardEntry) (before after : List Row) : Type 0 where
@@ -33,35 +36,25 @@ pub record AddsTurn (config : Config) (entry : Option BoardEntry) (before after 
   pub are : after ≡ before ++ rows
   pub makes : MakesEntry config before entry rows
 
--- what a sweep added to them
-pub record AddsSweep (config : Config) (range : Option (ℕ × ℕ)) (before after : List Row) : Type 0 where
-  pub rows : List Row
-  pub are : after ≡ before ++ rows
-  pub is : IsSweep config range rows
-
 -- one more round
-pub one_more : (config : Config) (range : Option (ℕ × ℕ)) (rounds : List Round) (r : Round) (before between after : List Row) → status_after r.answer ≡ None
-    → AreRounds config range rounds before → AddsTurn config (entry_due config (history_after config rounds) r.handed r.heard) before between
-    → AddsSweep config range between after → AreRounds config range (r ∷ rounds) after
-one_more config range rounds r before between after goes are t s =
-    (before, t.rows, s.rows, s.are ∙ ap (λ (xs : List Row). xs ++ s.rows) t.are, goes, are, t.makes, s.is)
+pub one_more : (config : Config) (threads : ℕ) (range : Option (ℕ × ℕ)) (rounds : List Round) (r : Round) (before between after : List Row) → status_after r.answer ≡ None
+    → AreRounds config threads range rounds before → AddsTurn config (entry_due config (history_after config rounds) r.handed r.heard) before between
+    → AddsSweep config threads range between after → AreRounds config threads range (r ∷ rounds) after
+one_more config threads range rounds r before between after goes are t s =
+    (before, t.rows, s.rows, s.are ∙ ap (λ (xs : List Row). xs ++ s.rows) t.are, goes, are, t.makes, s.alone)
 
 no_rows : (rows : List Row) → list_of rows ≡ [] → rows ≡ []
 no_rows [] none = refl
 no_rows (row ∷ rows) none = absurd (let k = none in cc)
 
 -- before the first round
-pub no_rounds : (config : Config) (range : Option (ℕ × ℕ)) (rows : List Row) → list_of rows ≡ [] → AreRounds config range [] rows
-no_rounds config range rows none = no_rows rows none
+pub no_rounds : (config : Config) (threads : ℕ) (range : Option (ℕ × ℕ)) (rows : List Row) → list_of rows ≡ [] → AreRounds config threads range [] rows
+no_rounds config threads range rows none = no_rows rows none
 
--- the one lane of the main hand has all pairs
-
-and_true : (b : Bool) → (b && true) ≡ b
-and_true true = refl
-and_true false = refl
-
-in_one_lane : (b : Bool) (pair : ℕ) → (b && (pair % 1 == 0)) ≡ b
-in_one_lane b pair = let none : pair % 1 ≡ 0 = omega arith in ap (λ (n : ℕ). b && (n == 0)) none ∙ and_true b
+-- where threads relay media, nothing stands between the turns
+pub no_sweep_rows : (config : Config) (threads : ℕ) (range : Option (ℕ × ℕ)) (rows : List Row) → 0 < threads → AddsSweep config threads range rows rows
+no_sweep_rows config 0 range rows some = absurd (omega (arith, some))
+no_sweep_rows config (suc more) range rows some = record { rows = []; are = sym (append-nil rows); alone = refl }
 
 module _ {M I O : Type 0} {g : _} where
   pub turn_rows : (config : Config) (old new : Hand M (Part I O) Made (Unit {0}) g) (now : ℕ) (answer : ControlTurn) (made : Option Hearing) → Follows config old new now answer made
@@ -79,15 +72,12 @@ module _ {M I O : Type 0} {g : _} where
         makes = record { nested = m.rows; last = m.row; rows_are = refl; turn = m.turn; is = m.is };
       }
 
-  pub sweep_rows : (config : Config) (range : Option (ℕ × ℕ)) (old new : Hand M (Part I O) Made (Unit {0}) g) → (swept : Totals) × Sweeps config 0 1 range old new swept
-      → AddsSweep config range (entries old) (entries new)
-  sweep_rows config range old new swept =
+  pub sweep_rows : (config : Config) (threads : ℕ) (range : Option (ℕ × ℕ)) (old new : Hand M (Part I O) Made (Unit {0}) g) → threads ≡ 0
+      → (swept : Totals) × Sweeps config 0 1 range old new swept → AddsSweep config threads range (entries old) (entries new)
+  sweep_rows config threads range old new none swept =
       let s = swept.1 in
-      record {
-        rows = _;
-        are = s.list_is;
-        is = record { visits = s.visits; rows_are = refl; passed = s.passed; each_once = λ pair half. s.own_once pair half ∙ ap (λ (b : Bool). one_if b) (in_one_lane _ pair) };
-      }
+      subst (λ (n : ℕ). AddsSweep config n range (entries old) (entries new)) (sym none)
+      (record { rows = _; are = s.list_is; alone = record { visits = s.visits; rows_are = refl; is_sweep = record { passed = s.passed; own_once = s.own_once } } })
 
   -- the board's history, with the entry of a turn
   pub board_after : (config : Config) (turns : Turns M (Part I O) Made (Unit {0})) (old new : Hand M (Part I O) Made (Unit {0}) g) (now : ℕ) (answer : ControlTurn) (made : Option Hearing)
@@ -106,25 +96,29 @@ module _ {M I O : Type 0} {g : _} where
   follows_totals config turns old new now answer (Some x) totals before follows counts =
       turn_totals config old new (entry_at config (board_of (made_by old)) (moment_at (board_of (made_by old)) now) x) totals before.orderly follows.1 counts
 
-  -- The last sweep, the stop, and the close of the table: first is the hand behind the rounds, swept that behind the sweep, last that behind the stop.
-  module _ (config : Config) (range : Option (ℕ × ℕ)) (rounds : List Round) (totals : Totals) (turns : Turns M (Part I O) Made (Unit {0}))
-      (first swept last : Hand M (Part I O) Made (Unit {0}) g)
-      (are : AreRounds config range rounds (entries first)) (history_is : board_of (made_by first) ≡ history_after config rounds)
-      (same : board_of (made_by swept) ≡ board_of (made_by first)) (sweeps : (t : Totals) × Sweeps config 0 1 range first swept t)
+  -- The last sweep, the stop, the join of the threads' hands, and the close of the table: first is the hand behind the rounds, swept that behind
+  -- the sweep, last that behind the stop, all that behind the join.
+  module _ (config : Config) (threads : ℕ) (range : Option (ℕ × ℕ)) (rounds : List Round) (totals : Totals) (turns : Turns M (Part I O) Made (Unit {0}))
+      (first swept last all : Hand M (Part I O) Made (Unit {0}) g) (beside : List (List Row))
+      (are : AreRounds config threads range rounds (entries first)) (history_is : board_of (made_by first) ≡ history_after config rounds)
+      (same : board_of (made_by swept) ≡ board_of (made_by first)) (s : AddsSweep config threads range (entries first) (entries swept))
       (before : IsBetween config turns swept) (after : IsBetween config turns last)
-      (makes : MakesTurn config swept last (stop_entry (board_of (made_by swept)))) (counts : HasTotals (made_by swept) totals)
-      (closed : (l : List Entry) × (map told l ≡ made_by last) × Legal config l × Safe config l) (timed : AreTimed (entries last)) where
-    s : AddsSweep config range (entries first) (entries swept)
-    s = sweep_rows config range first swept sweeps
-
+      (makes : MakesTurn config swept last (stop_entry (board_of (made_by swept))))
+      (as_many : length beside ≡ threads) (are_threads : AreThreads config 0 threads range beside)
+      (of_lanes : (row : Row) → table_lists.In row (all_of beside) → IsOfLane row.event.event) (joined_is : entries all ≡ entries last ++ all_of beside)
+      (counts : HasTotals (made_by all) totals)
+      (closed : (l : List Entry) × (map told l ≡ made_by all) × Legal config l × Safe config l) (timed : AreTimed (entries all)) where
     history : board_of (made_by swept) ≡ history_after config rounds
     history = same ∙ history_is
 
     abbrev stop : List Row
     stop = makes.rows ++ makes.row ∷ []
 
-    rows_are : entries last ≡ (entries first ++ s.rows) ++ stop
-    rows_are = makes.list_is ∙ append_assoc (entries swept) makes.rows (makes.row ∷ []) ∙ ap (λ (xs : List Row). xs ++ stop) s.are
+    main_rows : entries last ≡ (entries first ++ s.rows) ++ stop
+    main_rows = makes.list_is ∙ append_assoc (entries swept) makes.rows (makes.row ∷ []) ∙ ap (λ (xs : List Row). xs ++ stop) s.are
+
+    rows_are : entries all ≡ ((entries first ++ s.rows) ++ stop) ++ all_of beside
+    rows_are = joined_is ∙ ap (λ (xs : List Row). xs ++ all_of beside) main_rows
 
     stopped : IsBoardTurn config (entries first ++ s.rows) (stop_entry (history_after config rounds)) stop
     stopped =
@@ -132,14 +126,17 @@ module _ {M I O : Type 0} {g : _} where
         (subst (λ (xs : List Row). IsBoardTurn config xs (stop_entry (board_of (made_by swept))) stop) s.are
         (record { nested = makes.rows; last = makes.row; rows_are = refl; turn = makes.turn; is = makes.is }))
 
-    pub whole_run : IsWhole config range rounds totals
+    pub whole_run : IsWhole config threads range rounds totals
     whole_run = record {
       in_rounds = entries first;
       last_sweep = s.rows;
       stop = stop;
+      beside = beside;
       are_rounds = are;
-      is_sweep = s.is;
+      is_sweep = s.alone;
       is_stop = stopped;
+      as_many = as_many;
+      are_threads = are_threads;
       timed = subst (λ (xs : List Row). AreTimed xs) rows_are timed;
       list = closed.0;
       told_is = closed.1 ∙ ap (λ (xs : List Row). list_of xs) rows_are;
@@ -147,10 +144,9 @@ module _ {M I O : Type 0} {g : _} where
       safe = closed.3;
       board_is =
           sym (told_board closed.0) ∙ ap board_of closed.1
+          ∙ ap (λ (xs : List Row). board_of (list_of xs)) joined_is
+          ∙ lanes_board (entries last) (all_of beside) (λ row i. lane_no_boards row.event.event (of_lanes row i))
           ∙ makes_history config turns swept last (stop_entry (board_of (made_by swept))) before after makes
           ∙ ap (λ (h : List BoardEntry). stop_entry h ∷ h) history;
-      totals_are =
-          told_totals closed.0 totals
-          (subst (λ (l : List Entry). HasTotals l totals) (sym closed.1)
-          (turn_totals config swept last (stop_entry (board_of (made_by swept))) totals before.orderly makes counts));
+      totals_are = told_totals closed.0 totals (subst (λ (l : List Entry). HasTotals l totals) (sym closed.1) counts);
     }

@@ -69,7 +69,7 @@ not_bound settings range outside wrote bound timer opened drew =
 module _ (l0 l1 l2 : Option (List LinkCall)) (t0 t1 : Option (List ℕ)) (o0 o1 : Option (List PortCall)) (k0 k1 : Option (List KeyCall)) (p0 p1 q0 q1 : ℕ)
     (settings : Settings) (config : Config) (range : Option (ℕ × ℕ)) (ended : Status) (counts : Counts) (totals : Totals)
     (bound : Gains l0 l1 (call.Bind settings.listen true)) (config_is : config ≡ settings.config)
-    (served : DidServe [] settings.turns config range
+    (served : DidServe [] settings.turns config settings.threads range
     (record { link = l1; link_now = l2; timer = t0; timer_now = t1; opened = o0; opened_now = o1; drew = k0; drew_now = k1; port_faults = p0; port_faults_now = p1; key_faults = q0; key_faults_now = q1 })
     ended counts totals) where
   abbrev out : Outside
@@ -87,7 +87,7 @@ module _ (l0 l1 l2 : Option (List LinkCall)) (t0 t1 : Option (List ℕ)) (o0 o1 
         subst (λ (zs : List LinkCall). Counted (counts_in served.rounds) (zs ++ ys)) (sym x) (bind_counted settings.listen true ys (counts_in served.rounds) y.counted);
   }
 
-  bound_serves : DidServe (bind ∷ []) settings.turns config range out ended counts totals
+  bound_serves : DidServe (bind ∷ []) settings.turns config settings.threads range out ended counts totals
   bound_serves = record {
     rounds = served.rounds;
     last = served.last;
@@ -114,7 +114,7 @@ module _ (l0 l1 l2 : Option (List LinkCall)) (t0 t1 : Option (List ℕ)) (o0 o1 
         ended = ended;
         counts = counts;
         totals = totals;
-        did = subst (λ (c : Config). DidServe (bind ∷ []) settings.turns c range out ended counts totals) config_is bound_serves;
+        did = subst (λ (c : Config). DidServe (bind ∷ []) settings.turns c settings.threads range out ended counts totals) config_is bound_serves;
         answer_is = told;
         line =
             gained_one wrote wrote_now (put.Write line done) (λ more. more ≡ put.Write (totals_line counts totals) (is_printed answer) ∷ []) gains

@@ -14,11 +14,10 @@ use Rattle.relay_core.specs.Made.{Made}
 use Rattle.media_ports.specs.Asked as asked
 use Rattle.media_ports.proofs.Asked.{gained_openings_alone}
 use Rattle.media_lane.specs.declared.answers.Totals.{Totals}
-use Rattle.media_lane.specs.Visits.{Row}
+use Rattle.media_lane.specs.Visits.{Row, AreTotals}
 use Rattle.board_turns.specs.Between.{IsBetween}
 use Rattle.board_turns.proofs.Firsts.{none_open}
 use Rattle.main_sweeps.specs.Totals.{HasTotals}
-use Rattle.main_sweeps.proofs.Counts.{nothing_totals}
 use Rattle.ng_server.specs.Servers.{OpensJust}
 use Rattle.relay_app.specs.declared.status.Status.{Status}
 use Rattle.relay_app.specs.declared.totals.Counts.{Counts}
@@ -45,16 +44,16 @@ stopped_causes history then later p q port key causes entry given i is =
     }
 
 -- so the turns are those of a whole run
-pub ran_whole : (limit : ℕ) (config : Config) (range : Option (ℕ × ℕ)) (l0 l1 : Option (List LinkCall)) (t0 t1 : Option (List ℕ)) (o0 o1 o2 : Option (List PortCall)) (k0 k1 : Option (List KeyCall))
+pub ran_whole : (limit : ℕ) (config : Config) (threads : ℕ) (range : Option (ℕ × ℕ)) (l0 l1 : Option (List LinkCall)) (t0 t1 : Option (List ℕ)) (o0 o1 o2 : Option (List PortCall)) (k0 k1 : Option (List KeyCall))
     (p0 p1 p2 q0 q1 : ℕ) (ended : Status) (counts : Counts) (totals : Totals) (rows : List Row) → p1 ≤ p2 → Gained o1 o2 asked.OpensNone
-    → (turns : DidTurns limit config range
+    → (turns : DidTurns limit config threads range
     (record { link = l0; link_now = l1; timer = t0; timer_now = t1; opened = o0; opened_now = o1; drew = k0; drew_now = k1; port_faults = p0; port_faults_now = p1; key_faults = q0; key_faults_now = q1 })
     ended counts rows)
-    → IsWhole config range turns.rounds totals
-    → DidServe [] limit config range
+    → IsWhole config threads range turns.rounds totals
+    → DidServe [] limit config threads range
     (record { link = l0; link_now = l1; timer = t0; timer_now = t1; opened = o0; opened_now = o2; drew = k0; drew_now = k1; port_faults = p0; port_faults_now = p2; key_faults = q0; key_faults_now = q1 })
     ended counts totals
-ran_whole limit config range l0 l1 t0 t1 o0 o1 o2 k0 k1 p0 p1 p2 q0 q1 ended counts totals rows later closes turns whole = record {
+ran_whole limit config threads range l0 l1 t0 t1 o0 o1 o2 k0 k1 p0 p1 p2 q0 q1 ended counts totals rows later closes turns whole = record {
   rounds = turns.rounds;
   last = turns.last;
   whole = whole;
@@ -79,8 +78,9 @@ pub never_called : (settings : Option Settings) (told : Option (List PortCall)) 
 never_called settings told nothing = subst (λ (t : Option (List PortCall)). TellsNone settings t) (sym nothing) (opens_none settings)
 
 -- a list without an entry has no totals
-pub first_totals : (l : List Entry) → l ≡ [] → HasTotals l (record { taken = 0; sent = 0; refused = 0; lost = 0 })
-first_totals l none = subst (λ (k : List Entry). HasTotals k (record { taken = 0; sent = 0; refused = 0; lost = 0 })) (sym none) nothing_totals
+pub first_totals : (l : List Entry) (t : Totals) → l ≡ [] → AreTotals [] t → HasTotals l t
+first_totals l t none are =
+    subst (λ (k : List Entry). HasTotals k t) (sym none) (record { taken = are.taken; sent = are.sent; refused = are.refused; lost = are.lost })
 
 -- just the ports are open that a history says, and so those that the same one says
 pub opens_again : (config : Config) (h k : List BoardEntry) (told : Option (List PortCall)) → k ≡ h → OpensJust config h told → OpensJust config k told

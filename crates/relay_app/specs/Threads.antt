@@ -1,13 +1,14 @@
 -- What is known of a thread of media: before its work, of its work, and after it.
-use Rattle.std.specs.Prelude.{◌≡◌, ◌<◌, ℕ, false, List, [], Option, length}
+use Rattle.std.specs.Prelude.{◌≡◌, ◌<◌, ℕ, false, List, [], ◌∷◌, Option, length}
 use Rattle.relay_outside.specs.declared.settings.Config.{Config}
 use Rattle.turn_table.specs.declared.hands.Turns.{Turns}
 use Rattle.turn_table.specs.Hands.{IsHandOf, view, entries, parts}
 use Rattle.relay_core.specs.declared.part.Part.{Part}
 use Rattle.relay_core.specs.declared.machine.Relay.{Relay}
 use Rattle.relay_core.specs.Made.{Made}
+use Rattle.media_lane.specs.declared.answers.Totals.{Totals}
 use Rattle.media_lane.specs.Lanes.{hand_of, config_of, index_of, lanes_of, list_of, IsSameLane}
-use Rattle.media_lane.specs.Looping.{AreSweeps, visits_of, MakesSweeps}
+use Rattle.media_lane.specs.Looping.{AddsTotals, AreSweeps, visits_of, MakesSweeps}
 use Rattle.media_lane.specs.Receipts.{KeepsList}
 use Rattle.media_lane.specs.Visits.{Row, Visit, all_rows, AreTotals}
 use Rattle.relay_app.specs.declared.threads.MediaThread.{MediaThread}
@@ -15,6 +16,17 @@ use Rattle.relay_app.specs.declared.threads.MediaThread.{MediaThread}
 module _ {I O : Type 0} {gi : _} {go : _} {gm : _} where
   abbrev pub rows_of : MediaThread I O gi go gm → List Row
   rows_of thread = entries (hand_of thread.lane)
+
+  -- its hand has one part of the table's, and isn't the main one
+  pub record MayJoin (turns : Turns (Relay I O) (Part I O) Made (Unit {0})) (thread : MediaThread I O gi go gm) : Type 0 where
+    pub of_table : IsHandOf turns (hand_of thread.lane)
+    pub one_part : parts (hand_of thread.lane) ≡ 1
+    pub not_main : (view (hand_of thread.lane)).main ≡ false
+
+  -- what came of their packets is added, of one after the other
+  abbrev pub AddsEach : List (MediaThread I O gi go gm) → Totals → Totals → Type 0
+  AddsEach [] old new = new ≡ old
+  AddsEach (thread ∷ more) old new = (mid : Totals) × AddsTotals old thread.totals mid × AddsEach more mid new
 
   -- the thread with this number, of so many threads, which has a part of the table's hands and did nothing yet
   pub record IsFresh (config : Config) (turns : Turns (Relay I O) (Part I O) Made (Unit {0})) (threads index : ℕ) (thread : MediaThread I O gi go gm) : Type 0 where

@@ -1,13 +1,10 @@
 //! The threads of media of a run: each is a lane by a hand that is split from the main one, and is joined to it again at the end.
-ghost use Rattle.std.specs.Prelude.{◌≡◌, ◌+◌, ◌<◌, ◌≤◌, ◌++◌, ℕ, [], map, length, vec_capacity, slice_index_or};
-ghost use Rattle.turn_table.specs.Hands.{IsHandOf, IsSameHand, HasNoTurn, starts, entries, parts};
-ghost use Rattle.relay_core.specs.Joining.{IsSound};
-ghost use Rattle.relay_core.specs.Turning.{made_by};
+ghost use Rattle.std.specs.Prelude.{◌≡◌, ◌+◌, ◌<◌, ◌≤◌, ◌++◌, ℕ, All, [], map, length, vec_capacity, slice_index_or};
+ghost use Rattle.turn_table.specs.Hands.{IsHandOf, HasNoTurn, starts, entries, parts};
 ghost use Rattle.media_lane.specs.Lanes.{hand_of};
 ghost use Rattle.board_turns.specs.Between.{IsBetween};
-ghost use Rattle.main_sweeps.specs.Totals.{HasTotals};
 ghost use Rattle.relay_app.specs.Rounds.{all_of};
-ghost use Rattle.relay_app.specs.Threads.{IsFresh, HasWorked, IsDone, rows_of};
+ghost use Rattle.relay_app.specs.Threads.{MayJoin, IsFresh, HasWorked, AddsEach, rows_of};
 
 use crate::beside::MediaWork;
 use media_lane::{Lane, Totals, lane_loop};
@@ -82,7 +79,17 @@ pub(crate) fn join_threads<I: InEnd, O: OutEnd>(
     hand: &mut Hand<Relay<I, O>>,
     threads: Vec<MediaThread<I, O>>,
     totals: &mut Totals,
-) {
+)
+    requires table { IsHandOf turns.now hand.old }
+    requires idle { HasNoTurn hand.old }
+    requires others { All (λ thread. MayJoin turns.now thread) threads.items }
+    ensures table { IsHandOf turns.now hand.new }
+    ensures idle { HasNoTurn hand.new }
+    ensures starts { starts hand.new ≡ starts hand.old }
+    ensures parts { parts hand.new ≡ parts hand.old + length threads.items }
+    ensures list { entries hand.new ≡ entries hand.old ++ all_of (map (λ thread. rows_of thread) threads.items) }
+    ensures totals { AddsEach threads.items totals.old totals.new }
+{
     let mut threads = threads;
     threads.reverse();
     while let Some(thread) = threads.pop() {

@@ -11,8 +11,8 @@ turns-init g c = record {
   same = (refl, refl, refl, refl);
   between = c.requires.between;
   opens = c.requires.open;
-  running = begins _ _ _ _ c.requires.nothing (first_board _ c.requires.nothing) refl refl refl refl;
-  totals = first_totals _ c.requires.nothing;
+  running = begins _ _ _ _ _ c.requires.nothing (first_board _ c.requires.nothing) refl refl refl refl;
+  totals = first_totals _ _ c.requires.nothing c.none-totals.ensures;
   later = omega arith;
   port_later = omega arith;
   key_later = omega arith;
@@ -24,17 +24,17 @@ turns-init g c = record {
 pub turns-preserved : goal.turns-preserved
 turns-preserved g c = record {
   same =
-      same_again c.args.hand c.control_turn-turn.new.hand c.sweep-hand.result
-      (same_again c.args.hand c.turns.hand c.control_turn-turn.new.hand c.turns.invariant.same c.control_turn-turn.ensures.same) c.sweep-hand.ensures.same;
-  between = c.sweep-hand.ensures.between;
-  opens = opens_again _ _ _ _ c.sweep-hand.ensures.history c.control_turn-turn.ensures.open;
+      same_again c.args.hand c.control_turn-turn.new.hand c.sweep_alone-hand.result
+      (same_again c.args.hand c.turns.hand c.control_turn-turn.new.hand c.turns.invariant.same c.control_turn-turn.ensures.same) c.sweep_alone-hand.ensures.same;
+  between = c.sweep_alone-hand.ensures.between;
+  opens = opens_again _ _ _ _ c.sweep_alone-hand.ensures.history c.control_turn-turn.ensures.open;
   running =
-      turn_goes _ _ _ c.turns.hand c.control_turn-turn.new.hand c.turns.counts c.with-counts.result _ c.control_turn-turn.result _ _ _ _ _ _ _ _ _ _ _ _ _ _ _ _ _ _
+      turn_goes _ _ _ _ c.turns.hand c.control_turn-turn.new.hand c.turns.counts c.with-counts.result _ c.control_turn-turn.result _ _ _ _ _ _ _ _ _ _ _ _ _ _ _ _ _ _
       c.with-counts.ensures.sum c.turns.invariant.between c.control_turn-turn.ensures.between c.turns.invariant.running c.now-now.ensures c.control_turn-turn.ensures.turned
       c.turns.invariant.port_later c.turns.invariant.key_later c.control_turn-turn.ensures.later.1 c.control_turn-turn.ensures.later.2
-      c.sweep-hand.result c.in_default.ensures.answer c.sweep-hand.ensures.history c.sweep-hand.ensures.swept;
+      c.sweep_alone-hand.result c.in_default.ensures.answer c.sweep_alone-hand.ensures.history c.sweep_alone-hand.ensures.swept;
   totals =
-      c.sweep-hand.ensures.totals
+      c.sweep_alone-hand.ensures.totals
       (follows_totals c.args.server.now.config c.args.server.now.turns c.turns.hand c.control_turn-turn.new.hand _ c.control_turn-turn.result
       c.control_turn-turn.ensures.turned.made c.turns.totals c.turns.invariant.between c.control_turn-turn.ensures.turned.follows c.turns.invariant.totals);
   later = omega (arith, c.turns.invariant.later, c.control_turn-turn.ensures.later.0);
@@ -50,10 +50,10 @@ returns-in-Some-clause-same g c = same_again c.args.hand c.turns.hand c.control_
 
 pub returns-in-Some-clause-did : goal.returns-in-Some-clause-did
 returns-in-Some-clause-did g c =
-    turn_ends _ _ _ c.turns.hand c.control_turn-turn.new.hand c.turns.counts c.with-counts.result _ c.control_turn-turn.result _ _ _ _ _ _ _ _ _ _ _ _ _ _ _ _ _ _
+    turn_ends _ _ _ _ c.turns.hand c.control_turn-turn.new.hand c.turns.counts c.with-counts.result _ c.control_turn-turn.result _ _ _ _ _ _ _ _ _ _ _ _ _ _ _ _ _ _
     c.with-counts.ensures.sum c.turns.invariant.between c.control_turn-turn.ensures.between c.turns.invariant.running c.now-now.ensures c.control_turn-turn.ensures.turned
     c.turns.invariant.port_later c.turns.invariant.key_later c.control_turn-turn.ensures.later.1 c.control_turn-turn.ensures.later.2
-    c.args.limit c.in-Some.status c.in-Some.ensures.answer c.turns-test.true
+    c.args.settings.now.turns c.in-Some.status c.in-Some.ensures.answer c.turns-test.true
 
 pub returns-in-Some-clause-totals : goal.returns-in-Some-clause-totals
 returns-in-Some-clause-totals g c =
@@ -61,4 +61,4 @@ returns-in-Some-clause-totals g c =
     c.control_turn-turn.ensures.turned.made c.turns.totals c.turns.invariant.between c.control_turn-turn.ensures.turned.follows c.turns.invariant.totals
 
 pub returns-clause-did : goal.returns-clause-did
-returns-clause-did g c = turns_spent _ _ _ c.turns.counts _ c.args.limit (omega (arith, c.turns-test.false, c.turns.invariant.below)) c.turns.invariant.running
+returns-clause-did g c = turns_spent _ _ _ _ c.turns.counts _ c.args.settings.now.turns (omega (arith, c.turns-test.false, c.turns.invariant.below)) c.turns.invariant.running

@@ -12,7 +12,7 @@ invariant-turns g l = record {
   same : IsSameHand l.fn.hand l.hand;
   between : IsBetween l.server.config l.server.turns l.hand;
   opens : OpensJust l.server.config (history_of l.hand) (g.P.PortMaker.told l.ports);
-  running : Running l.server.config (g.C.Clock.range l.clock) (entries l.hand) l.counts (record {
+  running : Running l.server.config l.settings.threads (g.C.Clock.range l.clock) (entries l.hand) l.counts (record {
     link = g.N.ControlLink.told l.fn.link;
     link_now = g.N.ControlLink.told l.link;
     timer = g.T.Timer.told l.fn.timer;
@@ -32,8 +32,8 @@ invariant-turns g l = record {
   key_later : g.K.KeySource.faults l.fn.keys ≤ g.K.KeySource.faults l.keys;
   replies : l.counts.replies ≤ l.counts.datagrams;
   datagrams : l.counts.datagrams ≤ l.counts.turns;
-  below : l.counts.turns ≤ l.limit;
+  below : l.counts.turns ≤ l.settings.turns;
 }
 
 abbrev pub decreases-turns : goal.decreases-turns
-decreases-turns g l = l.limit - l.counts.turns
+decreases-turns g l = l.settings.turns - l.counts.turns
