@@ -14,6 +14,7 @@ use relay_outside::{
 use std::alloc::Global;
 use std::rt::Clock;
 use std::sync::Wait;
+use std::thread::Threads;
 use std::time::Instant;
 use std::{env, io};
 
@@ -40,7 +41,12 @@ fn gifts_of(alloc: Global, calls: u32) -> Option<Vec<LinkGift>> {
 }
 
 /// Runs the words over this link, and devices in memory beside it.
-fn run_over<R: Wait>(rt: &R, alloc: Global, words: &[&str], link: &mut SteadyLink) -> Status {
+fn run_over<R: Threads + Wait + Sync>(
+    rt: &R,
+    alloc: Global,
+    words: &[&str],
+    link: &mut SteadyLink,
+) -> Status {
     run(
         rt,
         alloc,
@@ -57,10 +63,14 @@ fn run_over<R: Wait>(rt: &R, alloc: Global, words: &[&str], link: &mut SteadyLin
 }
 
 /// Runs so many calls, and answers the nanoseconds that the run took.
-fn time_calls<R: Wait + Clock>(rt: &R, alloc: Global, calls: u32) -> Option<u128> {
+fn time_calls<R: Threads + Wait + Sync + Clock>(
+    rt: &R,
+    alloc: Global,
+    calls: u32,
+) -> Option<u128> {
     let gifts = gifts_of(alloc, calls)?;
     let mut link = SteadyLink::new(alloc, gifts);
-    let words = ["serve", "--interface=203.0.113.1"];
+    let words = ["serve", "--interface=203.0.113.1", "--num-threads=0"];
     let start = Instant::now(rt).ok()?;
     let status = run_over(rt, alloc, &words, &mut link);
     let taken = start.elapsed(rt).ok()?.as_nanos();
@@ -70,7 +80,11 @@ fn time_calls<R: Wait + Clock>(rt: &R, alloc: Global, calls: u32) -> Option<u128
     Some(taken)
 }
 
-fn measure<R: Wait + Clock>(rt: &R, alloc: Global, words: &[&str]) -> Option<(u128, u128)> {
+fn measure<R: Threads + Wait + Sync + Clock>(
+    rt: &R,
+    alloc: Global,
+    words: &[&str],
+) -> Option<(u128, u128)> {
     let [calls] = words else {
         return None;
     };

@@ -13,10 +13,11 @@ use crate::playing::play;
 use std::process::ExitCode;
 use std::rt::Files;
 use std::sync::Wait;
+use std::thread::Threads;
 use std::{env, fs, io};
 
 /// Reads a script of this folder and what it prints, and plays it.
-fn check<R: Wait + Files + AllocGlobal>(
+fn check<R: Threads + Wait + Sync + Files + AllocGlobal>(
     rt: &R,
     folder: &str,
     name: &str,

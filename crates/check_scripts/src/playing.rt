@@ -10,6 +10,7 @@ use relay_outside::{
 };
 use std::alloc::{AllocError, Global};
 use std::sync::Wait;
+use std::thread::Threads;
 
 /// How the second line of a script begins where it has words for the command line.
 const WORDS: &str = "# words: ";
@@ -37,7 +38,7 @@ fn lines_of(alloc: Global, script: &str) -> Result<SteadyLines, AllocError> {
 }
 
 /// Runs these words over a script, a sink, and devices in memory that are left alone.
-fn replay_over<R: Wait>(
+fn replay_over<R: Threads + Wait + Sync>(
     rt: &R,
     alloc: Global,
     words: &[&str],
@@ -96,7 +97,7 @@ fn status_of(prints: &str) -> Status {
 }
 
 /// Plays a script with its words, and compares what it prints, and how it ends, with what it should print.
-pub(crate) fn play<R: Wait>(
+pub(crate) fn play<R: Threads + Wait + Sync>(
     rt: &R,
     alloc: Global,
     script: &str,

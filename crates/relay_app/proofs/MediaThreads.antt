@@ -1,24 +1,32 @@
 -- What all threads of media made, one after the other.
-use Rattle.std.proofs.Common.{◌≡◌, ◌∙◌, refl, sym, ap, subst, ℕ, suc, ◌+◌, ◌<◌, inl, inr, List, [], ◌∷◌, ◌++◌, Option, length, map, append-nil, append_assoc, arith}
+use Rattle.std.proofs.Common.{◌≡◌, ◌∙◌, refl, sym, ap, subst, ℕ, suc, ◌+◌, ◌<◌, inl, inr, false, List, [], ◌∷◌, ◌++◌, Option, length, map, reverse, append-nil, append_assoc, arith}
 use Rattle.std.specs.Prelude.{slice_index_or}
-use Rattle.std.proofs.lemmas.List.{map-append}
+use Rattle.std.proofs.lemmas.Bool.{cases_lt}
+use Rattle.std.proofs.lemmas.List.{map-append, reverse-append, get_or_append_left, get_or_push}
 use Rattle.relay_outside.specs.declared.settings.Config.{Config}
 use Rattle.turn_table.specs.declared.hands.Turns.{Turns}
+use Rattle.turn_table.specs.declared.hands.Hand.{Hand}
+use Rattle.turn_table.specs.declared.machine.Entry as table
 use Rattle.turn_table.specs.Histories as table_lists
-use Rattle.turn_table.specs.Hands.{entries}
+use Rattle.turn_table.specs.Hands.{IsHandOf, IsCut, IsLeft, view, entries, parts}
 use Rattle.histories.specs.Words.{In}
 use Rattle.relay_core.specs.declared.part.Part.{Part}
 use Rattle.relay_core.specs.declared.machine.Relay.{Relay}
 use Rattle.relay_core.specs.Entries.{Entry}
-use Rattle.relay_core.specs.Joining.{IsLane, IsSound}
+use Rattle.relay_core.specs.Beginning.{AreParts}
+use Rattle.relay_core.specs.Handed.{IsHanded}
+use Rattle.relay_core.specs.Joining.{TakesOwnPairs, IsLane, IsSound}
+use Rattle.relay_core.specs.Legal.{Orderly}
+use Rattle.relay_core.specs.Recorded.{IsRecorded}
 use Rattle.relay_core.specs.Made.{Made, entry_of, list_of}
-use Rattle.relay_core.specs.Turning.{IsOfLane, IsReceiving}
+use Rattle.relay_core.specs.Turning.{Numbered, IsOfLane, IsReceiving}
 use Rattle.relay_core.proofs.Joins.{joined, row_append}
 use Rattle.media_lane.specs.declared.answers.Totals.{Totals}
 use Rattle.media_lane.specs.Lanes.{hand_of, config_of, index_of, lanes_of, list_of as lane_list}
 use Rattle.media_lane.specs.Looping.{AddsTotals, IsSweep, AreSweeps, visits_of}
 use Rattle.media_lane.specs.Receipts.{KeepsList}
 use Rattle.media_lane.specs.Visits.{Row, Visit, IsPassed, packet_at, ArePassed, all_rows}
+use Rattle.board_turns.specs.Between.{IsBetween}
 use Rattle.main_sweeps.specs.Totals.{HasTotals}
 use Rattle.main_sweeps.proofs.Sweeps.{rows_in, visits_totals}
 use Rattle.relay_app.specs.declared.threads.MediaThread.{MediaThread}
@@ -138,3 +146,66 @@ module _ {I O : Type 0} {gi : _} {go : _} {gm : _} (config : Config) (turns : Tu
       subst (λ (all : List Row). HasTotals (list_of all) is) (append_assoc rows (rows_of x) (all_of (map (λ (y : MediaThread I O gi go gm). rows_of y) xs)))
       (all_totals (n + 1) xs done.1 (rows ++ rows_of x) adds.0 is adds.2
       (subst (λ (l : List Entry). HasTotals l adds.0) (sym (map-append entry_of rows (rows_of x))) (done_totals n x done.0 (list_of rows) was adds.0 adds.1 has)))
+
+-- The threads are made, one after the other.
+
+-- a fact of each element, and of one more
+pub each_push : {X : Type 0} (P : ℕ → X → Type 0) (xs : List X) (x : X) (n : ℕ) → length xs ≡ n → ((i : ℕ) (d : X) → i < n → P i (slice_index_or xs i d)) → P n x
+    → (i : ℕ) (d : X) → i < n + 1 → P i (slice_index_or (xs ++ x ∷ []) i d)
+each_push {X} P xs x n long all one i d lt =
+    elim (cases_lt i n) [
+      | inl h ↦ subst (λ (y : X). P i y) (sym (get_or_append_left xs (x ∷ []) d i (omega (arith, h, long)))) (all i d h)
+      | inr h ↦
+          (let last : n ≡ i = omega (arith, h, lt) in
+          subst (λ (y : X). P i y) (sym (get_or_push xs x d i (omega (arith, last, long)))) (subst (λ (k : ℕ). P k x) last one))
+    ]
+
+module _ {I O : Type 0} {gi : _} {go : _} {gm : _} (config : Config) (turns : Turns (Relay I O) (Part I O) Made (Unit {0})) where
+  -- a lane of a part of the main hand
+  pub cut_fresh : (threads i : ℕ) (hand part : Hand (Relay I O) (Part I O) Made (Unit {0}) gm) (x : MediaThread I O gi go gm) → IsHandOf turns hand → IsCut hand part → hand_of x.lane ≡ part
+      → config_of x.lane ≡ config → index_of x.lane ≡ i → lanes_of x.lane ≡ threads → IsFresh config turns threads i x
+  cut_fresh threads i hand part x of_table cut hand_is config_is index_is threads_are = record {
+    of_table = subst (λ (h : Hand (Relay I O) (Part I O) Made (Unit {0}) gm). IsHandOf turns h) (sym hand_is) (cut.0 ∙ of_table);
+    one_part = subst (λ (h : Hand (Relay I O) (Part I O) Made (Unit {0}) gm). parts h ≡ 1) (sym hand_is) cut.3;
+    not_main = subst (λ (h : Hand (Relay I O) (Part I O) Made (Unit {0}) gm). (view h).main ≡ false) (sym hand_is) cut.4;
+    nothing = subst (λ (h : Hand (Relay I O) (Part I O) Made (Unit {0}) gm). entries h ≡ []) (sym hand_is) cut.2;
+    config_is = config_is;
+    index_is = index_is;
+    threads_are = threads_are;
+  }
+
+-- the main hand stays what it is when a part of it is split
+pub left_between : {M I O T : Type 0} {g : _} (config : Config) (turns : Turns M (Part I O) Made T) (old new : Hand M (Part I O) Made T g) → IsLeft old new
+    → IsBetween config turns old → IsBetween config turns new
+left_between {M} {I} {O} {T} {g} config turns old new left b = record {
+  of_table = left.0 ∙ b.of_table;
+  main = left.4 ∙ b.main;
+  idle = left.5;
+  parts = subst (λ (l : List (Part I O)). AreParts config l) (sym left.1) b.parts;
+  numbered = subst (λ (rows : List (table.Entry Made T)). Numbered (list_of rows)) (sym left.2) b.numbered;
+  orderly = subst (λ (rows : List (table.Entry Made T)). Orderly config (list_of rows)) (sym left.2) b.orderly;
+  handed = subst (λ (rows : List (table.Entry Made T)). IsHanded rows) (sym left.2) b.handed;
+  recorded = subst (λ (rows : List (table.Entry Made T)). IsRecorded rows) (sym left.2) b.recorded;
+  receiving = subst (λ (rows : List (table.Entry Made T)). TakesOwnPairs config (list_of rows) → IsReceiving config (list_of rows)) (sym left.2) b.receiving;
+}
+
+-- Their hands are joined, one after the other: the last of the reversed list is the next one.
+
+next_reversed : {X : Type 0} (xs ys : List X) (x : X) → xs ≡ ys ++ x ∷ [] → reverse xs ≡ x ∷ reverse ys
+next_reversed {X} xs ys x is = ap (λ (zs : List X). reverse zs) is ∙ reverse-append ys (x ∷ [])
+
+module _ {I O : Type 0} {gi : _} {go : _} {gm : _} (xs ys : List (MediaThread I O gi go gm)) (x : MediaThread I O gi go gm) (is : xs ≡ ys ++ x ∷ []) where
+  abbrev rest : List (MediaThread I O gi go gm) → List Row
+  rest zs = all_of (map (λ (y : MediaThread I O gi go gm). rows_of y) zs)
+
+  pub next_list : (before after all : List Row) → after ≡ before ++ rows_of x → before ++ rest (reverse xs) ≡ all → after ++ rest (reverse ys) ≡ all
+  next_list before after all gains so_far =
+      ap (λ (rows : List Row). rows ++ rest (reverse ys)) gains
+      ∙ append_assoc before (rows_of x) (rest (reverse ys))
+      ∙ ap (λ (zs : List (MediaThread I O gi go gm)). before ++ rest zs) (sym (next_reversed xs ys x is))
+      ∙ so_far
+
+  pub next_totals : (was now : Totals) (R : Totals → Type 0) → AddsTotals was x.totals now → ((t : Totals) → AddsEach (reverse xs) was t → R t)
+      → (t : Totals) → AddsEach (reverse ys) now t → R t
+  next_totals was now R adds so_far t more =
+      so_far t (subst (λ (zs : List (MediaThread I O gi go gm)). AddsEach zs was t) (sym (next_reversed xs ys x is)) (now, adds, more))

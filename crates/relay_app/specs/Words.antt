@@ -7,10 +7,11 @@ use Rattle.relay_outside.specs.declared.address.Addr.{Addr}
 use Rattle.relay_outside.specs.declared.address.Ip.{Ip}
 use Rattle.relay_outside.specs.declared.address.Ip.TheVariants.{V4, V6}
 use Rattle.relay_outside.specs.declared.settings.Config.{Config}
-use Rattle.port_pool.specs.Ports.{pair_count}
+use Rattle.port_pool.specs.Ports.{first_port, pair_count}
 use Rattle.sdp_text.specs.Hosts.{ipv4_bytes}
 use Rattle.relay_app.specs.Numbers.{whole_number, number_within}
 use Rattle.relay_app.specs.declared.words.ReplaySettings.{ReplaySettings}
+use Rattle.relay_app.specs.declared.words.Media.{Media}
 use Rattle.relay_app.specs.declared.words.Settings.{Settings}
 
 -- an IPv4 address
@@ -155,6 +156,11 @@ option_settings words =
 abbrev pub settings : List (List ℕ) → Option Settings
 settings [] = None
 settings (command ∷ words) = if bytes_eq command (codes "serve") then option_settings words else None
+
+-- how a run with these settings relays media: by so many threads, over pairs of which the first begins at this port
+abbrev pub media : Option Settings → Option Media
+media None = None
+media (Some settings) = Some (record { threads = settings.threads; first_port = first_port settings.config })
 
 -- what the options of a replay say, where each says something
 abbrev pub replay_from : Option Config → Option ℕ → Option ReplaySettings

@@ -16,3 +16,4 @@ mod words;
 
 pub use app::run;
 pub use status::Status;
+pub use words::{Media, read_media};

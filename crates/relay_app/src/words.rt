@@ -1,6 +1,6 @@
 ghost use Rattle.std.specs.Prelude.{◌≡◌, ◌≤◌, ◌<◌, ◌==◌, ◌∷◌, ◌++◌, [], ℕ, List, Some, None, IfSome, MatchOption, IsTrue, ◌↔◌, codes, length, map, position};
 ghost use Rattle.std.specs.List.{list_all};
-ghost use Rattle.relay_app.specs.Words.{value_after, values_of, is_option, is_replay_option, ipv4, listen_address, media_port, session_count, turn_count, thread_count, seed_number, one_value, default_listen, has_pair, configuration, option_settings, settings, replay_options, replay_settings, IsV4, IsPair, IsInLimits};
+ghost use Rattle.relay_app.specs.Words.{value_after, values_of, is_option, is_replay_option, ipv4, listen_address, media_port, session_count, turn_count, thread_count, seed_number, one_value, default_listen, has_pair, configuration, option_settings, settings, media, replay_options, replay_settings, IsV4, IsPair, IsInLimits};
 ghost use Rattle.relay_app.specs.Numbers.{whole_number, number_within};
 ghost use Rattle.relay_app.specs.Given.{IsGiven};
 
@@ -28,6 +28,15 @@ pub(crate) struct ReplaySettings {
     pub(crate) config: Config,
     /// From which number the keys are drawn that the script doesn't give.
     pub(crate) seed: u64,
+}
+
+/// How a run of `serve` relays media, by its words.
+#[derive(Clone, Copy, PartialEq, Eq, Debug)]
+pub struct Media {
+    /// How many threads relay it, at most 16; 0: the one that answers commands does.
+    pub threads: u32,
+    /// The RTP port of the first pair: the first even port of the range.
+    pub first_port: u16,
 }
 
 /// The values that the words give to one option.
@@ -318,7 +327,7 @@ fn find_config(words: &[&str], interface: Option<Ip>) -> Option<Config>
 fn option_settings(words: &[&str]) -> Option<Settings>
     ensures value { result ≡ option_settings (map (λ word. word.now) words.now) }
     ensures config { IfSome result (λ settings. IsInLimits settings.config) }
-    ensures within { IfSome result (λ settings. settings.turns ≤ MOST_TURNS × settings.threads ≤ 16) }
+    ensures within { IfSome result (λ settings. (settings.turns ≤ MOST_TURNS) × (settings.threads ≤ 16)) }
 {
     if !are_options(words) {
         return None;
@@ -339,13 +348,26 @@ fn option_settings(words: &[&str]) -> Option<Settings>
 pub(crate) fn read_settings(words: &[&str]) -> Option<Settings>
     ensures value { result ≡ settings (map (λ word. word.now) words.now) }
     ensures config { IfSome result (λ settings. IsInLimits settings.config) }
-    ensures within { IfSome result (λ settings. settings.turns ≤ MOST_TURNS × settings.threads ≤ 16) }
+    ensures within { IfSome result (λ settings. (settings.turns ≤ MOST_TURNS) × (settings.threads ≤ 16)) }
 {
     let (command, options) = words.split_first()?;
     if *command != "serve" {
         return None;
     }
     option_settings(options)
+}
+
+/// How a run with these words relays media, for those who make its devices; `None` where they are no words of `serve`.
+#[tactic(auto, unfolding(port_pool::specs::Ports::pair_count))]
+pub fn read_media(words: &[&str]) -> Option<Media>
+    ensures { result ≡ media (settings (map (λ word. word.now) words.now)) }
+{
+    let settings = read_settings(words)?;
+    let port_min = settings.config.port_min;
+    Some(Media {
+        threads: settings.threads,
+        first_port: port_min + port_min % 2,
+    })
 }
 
 fn replay_options(words: &[&str]) -> Option<ReplaySettings>

@@ -76,6 +76,7 @@ const RANGE: Case = Case {
         "--interface=203.0.113.1",
         "--port-min=1025",
         "--port-max=1030",
+        "--num-threads=0",
     ],
     asked: &[OFFER, ANSWER],
     clock: 100_000,

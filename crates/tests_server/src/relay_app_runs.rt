@@ -8,6 +8,7 @@ use relay_outside::{Addr, HandClock, Ip, OpenGate};
 use std::alloc::Global;
 use std::process::Abort;
 use std::sync::Wait;
+use std::thread::Threads;
 
 /// A run.
 #[derive(Clone, Copy)]
@@ -50,9 +51,9 @@ pub(crate) const LISTEN: Addr = Addr {
     port: 2223,
 };
 
-/// A run of `serve` that is asked nothing.
+/// A run of `serve` that is asked nothing, and relays media between its control turns.
 pub(crate) const SERVING: Case = Case {
-    words: &["serve", "--interface=203.0.113.1"],
+    words: &["serve", "--interface=203.0.113.1", "--num-threads=0"],
     asked: &[],
     offers: 0,
     moments: &[],
@@ -96,7 +97,7 @@ pub(crate) const ANSWER: &[u8] =
     b"2 d7:call-id2:c17:command6:answer8:from-tag1:a3:sdp95:v=0\r\no=- 1 1 IN IP4 198.51.100.20\r\ns=-\r\nc=IN IP4 198.51.100.20\r\nt=0 0\r\nm=audio 7000 RTP/AVP 0\r\n6:to-tag1:be";
 
 /// Runs the words over these devices.
-fn run_with<R: Wait>(
+fn run_with<R: Threads + Wait + Sync>(
     rt: &R,
     alloc: Global,
     case: &Case,
@@ -129,7 +130,7 @@ fn are_closed(ports: &TablePorts) -> bool {
 }
 
 /// Whether a run is as it should be.
-fn is_so<R: Wait>(rt: &R, alloc: Global, case: &Case) -> bool {
+fn is_so<R: Threads + Wait + Sync>(rt: &R, alloc: Global, case: &Case) -> bool {
     let mut link = TableLink::new(case.asked, case.offers, case.reply, case.link_fails);
     let mut ports = TablePorts::new(case.ports);
     let mut script = TableLines::new(case.script, case.read_fails);
@@ -151,12 +152,17 @@ fn is_so<R: Wait>(rt: &R, alloc: Global, case: &Case) -> bool {
 }
 
 /// Compares a run with what it should be: a message names it by its place, from 0, in its table.
-pub(crate) fn check_case<R: Wait + Abort>(rt: &R, alloc: Global, place: usize, case: &Case) {
+pub(crate) fn check_case<R: Threads + Wait + Sync + Abort>(
+    rt: &R,
+    alloc: Global,
+    place: usize,
+    case: &Case,
+) {
     assert!(rt; is_so(rt, alloc, case), "case {place}");
 }
 
 /// The same of all runs of a table.
-pub(crate) fn check_cases<R: Wait + Abort>(rt: &R, alloc: Global, cases: &[Case]) {
+pub(crate) fn check_cases<R: Threads + Wait + Sync + Abort>(rt: &R, alloc: Global, cases: &[Case]) {
     for (place, case) in cases.iter().enumerate() {
         check_case(rt, alloc, place, case);
     }

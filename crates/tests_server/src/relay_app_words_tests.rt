@@ -63,6 +63,8 @@ const SERVED: &[(&[&str], [u8; 4], u16)] = &[
     (&["serve", INTERFACE, "--max-sessions=1"], LOCAL, 2223),
     (&["serve", INTERFACE, "--max-sessions=2048"], LOCAL, 2223),
     (&["serve", INTERFACE, "--num-threads=0"], LOCAL, 2223),
+    (&["serve", INTERFACE, "--num-threads=1"], LOCAL, 2223),
+    (&["serve", INTERFACE, "--num-threads=16"], LOCAL, 2223),
 ];
 
 /// Words of `replay` that are accepted.
@@ -118,9 +120,9 @@ const OTHERS: &[&[&str]] = &[
     &["serve", INTERFACE, "--num-threads"],
     &["serve", INTERFACE, "--num-threads="],
     &["serve", INTERFACE, "--num-threads=00"],
-    &["serve", INTERFACE, "--num-threads=1"],
-    &["serve", INTERFACE, "--num-threads=4"],
-    &["serve", INTERFACE, "--num-threads=16"],
+    &["serve", INTERFACE, "--num-threads=01"],
+    &["serve", INTERFACE, "--num-threads=17"],
+    &["serve", INTERFACE, "--num-threads=-1"],
     &["serve", INTERFACE, "--num-threads=0", "--num-threads=0"],
     &["replay", "--num-threads=0"],
     &["serve", INTERFACE, "--turns=0"],

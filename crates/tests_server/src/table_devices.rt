@@ -50,7 +50,7 @@ impl Calls {
 }
 
 /// Copies to the front of the buffer as many of the bytes as it holds, and says how many.
-fn fill(buf: &mut [u8], bytes: &[u8]) -> usize
+pub(crate) fn fill(buf: &mut [u8], bytes: &[u8]) -> usize
     ensures { result ≤ length buf.old }
 {
     let len = bytes.len().min(buf.len());
