@@ -5,3 +5,4 @@ pub mod Taken
 pub mod Relays
 pub mod Visiting
 pub mod Counting
+pub mod Marks

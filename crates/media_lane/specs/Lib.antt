@@ -6,3 +6,5 @@ pub mod Taking
 pub mod Relaying
 pub mod Visits
 pub mod Sweeping
+pub mod Visited
+pub mod Covering
