@@ -1,20 +1,24 @@
 -- How often each half of each pair was visited.
-use Rattle.std.proofs.Common.{◌≡◌, refl, sym, ◌∙◌, ap, ℕ, ◌+◌, ◌*◌, ◌/◌, ◌%◌, ◌<◌, ◌≤◌, inl, inr, ◌==◌, ◌&&◌, nat_lt, Bool, true, false, cond, List, [], ◌∷◌, ◌++◌, Option, filter, length, length-append, append_assoc, arith}
+use Rattle.std.proofs.Common.{◌≡◌, refl, sym, ◌∙◌, ap, subst, ℕ, ◌+◌, ◌*◌, ◌/◌, ◌%◌, ◌<◌, ◌≤◌, ◌⊎◌, inl, inr, ◌==◌, ◌&&◌, ◌||◌, nat_lt, Bool, true, false, cond, List, [], ◌∷◌, ◌++◌, Option, filter, length, length-append, append_assoc, arith}
 use Rattle.std.proofs.Math.Nat.{mul-le-mul_left, div-add-mod, mod-eq_of_lt}
-use Rattle.std.proofs.lemmas.Bool.{cases_lt}
+use Rattle.std.proofs.lemmas.Bool.{cases_lt, cases_order, eqb-true}
 use Rattle.std.proofs.lemmas.Bool.Decides.{nat_tests}
 use Rattle.relay_outside.specs.declared.settings.Config.{Config}
 use Rattle.rtp_packet.specs.declared.head.Half.{Half}
 use Rattle.rtp_packet.specs.declared.head.Half.TheVariants.{Rtp, Rtcp}
-use Rattle.turn_table.specs.declared.hands.Hand.{Hand}
 use Rattle.turn_table.specs.Hands.{entries}
 use Rattle.port_pool.specs.Ports.{pair_count}
 use Rattle.srtp_sources.specs.Notes.{is_half}
-use Rattle.relay_core.specs.Made.{Made}
 use Rattle.relay_core.proofs.Turns.{filter_append, nothing_more}
-use Rattle.media_lane.specs.declared.answers.Totals.{Totals}
-use Rattle.media_lane.specs.Visits.{Row, Visit, rows_of, all_rows, IsPassed, packet_at, ArePassed, is_of, times, is_own, one_if, AreTotals}
+use Rattle.media_lane.specs.declared.lane.Lane.{Lane}
+use Rattle.media_lane.specs.declared.sweeping.Progress.{Progress}
+use Rattle.media_lane.specs.Lanes.{hand_of, list_of, config_of, index_of, lanes_of, IsSameLane}
+use Rattle.media_lane.specs.Receipts.{KeepsList}
+use Rattle.media_lane.specs.Visits.{Row, Visit, rows_of, all_rows, ArePassed, is_of, times, is_own, one_if, AreTotals}
+use Rattle.media_lane.specs.Visited.{is_marked}
+use Rattle.media_lane.specs.Covering.{Covers}
 use Rattle.media_lane.specs.Sweeping.{VisitsOnce, Sweeps}
+use Rattle.media_lane.proofs.Visiting.{keeps_more}
 
 -- Numbers that are the same modulo another.
 
@@ -30,115 +34,209 @@ apart lanes m n same above below =
       | inr h ↦ (let k = mul-le-mul_left lanes h in omega (arith, k, p, q, same, above))
     ]
 
--- The visits up to a pair.
+-- no own pair is below the first
+pub none_before : (lanes index pair : ℕ) → index < lanes → pair % lanes ≡ index → pair < index → ⊥
+none_before lanes index pair below own before = let k : pair < lanes → pair % lanes ≡ pair = λ h. mod-eq_of_lt h in omega (arith, k, below, own, before)
 
--- whether the pair is one of the lane's, and below the number
-abbrev pub is_past : Config → ℕ → ℕ → ℕ → ℕ → Bool
-is_past config index lanes upto pair = is_own config index lanes pair && nat_lt pair upto
+-- the next own pair is so many further
+pub next_own : (lanes upto pair : ℕ) → upto % lanes ≡ pair % lanes → pair < upto + lanes → (pair < upto) ⊎ (pair ≡ upto)
+next_own lanes upto pair same below =
+    elim (cases_order pair upto) [
+      | inl h ↦ inr h
+      | inr (inl h) ↦ inl h
+      | inr (inr h) ↦ absurd (apart lanes upto pair same h below)
+    ]
 
-none_past : (pairs index lanes pair : ℕ) → index < lanes → ((nat_lt pair pairs && (pair % lanes == index)) && nat_lt pair index) ≡ false
-none_past pairs index lanes pair below = let k : pair < lanes → pair % lanes ≡ pair = λ h. mod-eq_of_lt h in grind (arith, nat_tests, k)
+-- Tests.
 
-all_past : (pairs index lanes upto pair : ℕ) → pairs ≤ upto → ((nat_lt pair pairs && (pair % lanes == index)) && nat_lt pair upto) ≡ (nat_lt pair pairs && (pair % lanes == index))
-all_past pairs index lanes upto pair over = grind (arith, nat_tests)
+joined : (m s : Bool) → (s ≡ true → m ≡ false) → one_if m + one_if s ≡ one_if (m || s)
+joined true true h = absurd (let k = h refl in cc)
+joined true false h = refl
+joined false true h = refl
+joined false false h = refl
 
-next_past : (pairs index lanes upto pair : ℕ) → upto % lanes ≡ index → upto < pairs → 0 < lanes
-    → one_if ((nat_lt pair pairs && (pair % lanes == index)) && nat_lt pair (upto + lanes)) ≡ one_if ((nat_lt pair pairs && (pair % lanes == index)) && nat_lt pair upto) + one_if (upto == pair)
-next_past pairs index lanes upto pair own within some = let k : upto % lanes ≡ pair % lanes → upto < pair → pair < upto + lanes → ⊥ = apart lanes upto pair in grind (arith, nat_tests, k)
+one_of : (s own : Bool) → (s ≡ true → own ≡ true) → one_if s ≤ one_if own
+one_of true true h = omega arith
+one_of true false h = absurd (let k = h refl in cc)
+one_of false own h = omega arith
 
--- The visits in turn.
+both_or : (t u own : ℕ) (a b c : Bool) → one_if a + t ≡ one_if b → one_if b + u ≡ one_if c → t ≤ own → u ≤ own → t + u ≤ own
+both_or t u own a b true p q r s = omega arith
+both_or t u own a b false p q r s = omega arith
 
-times_more : (pair : ℕ) (half : Half) (vs : List Visit) (v : Visit) → times pair half (vs ++ v ∷ []) ≡ times pair half vs + one_if (is_of pair half v)
-times_more pair half vs v =
-    ap (λ (xs : List Visit). length xs) (filter_append (is_of pair half) vs (v ∷ []))
-    ∙ length-append (filter (is_of pair half) vs) (filter (is_of pair half) (v ∷ []))
-    ∙ ap (λ (n : ℕ). times pair half vs + n) (one_long (is_of pair half v))
-  where
-    one_long : (b : Bool) → length (cond b (v ∷ []) []) ≡ one_if b
-    one_long true = refl
-    one_long false = refl
+still : (a b : Bool) (t : ℕ) → one_if a + t ≡ one_if b → a ≡ true → b ≡ true
+still true true t e q = refl
+still true false t e q = absurd (omega arith)
+still false b t e q = absurd (cc)
 
-both_halves : (b : Bool) (half : Half) → one_if (b && is_half Rtp half) + one_if (b && is_half Rtcp half) ≡ one_if b
-both_halves true Rtp = refl
-both_halves true Rtcp = refl
-both_halves false Rtp = refl
-both_halves false Rtcp = refl
+exactly : (t : ℕ) (a b own : Bool) → a ≡ false → one_if a + t ≡ one_if b → t ≤ one_if own → (own ≡ true → b ≡ true) → t ≡ one_if own
+exactly t true b own q e below all = absurd (cc)
+exactly t false true true q e below all = omega arith
+exactly t false false true q e below all = absurd (let k = all refl in cc)
+exactly t false b false q e below all = omega arith
 
-rows_more : (config : Config) (vs : List Visit) (v : Visit) → all_rows config (vs ++ v ∷ []) ≡ all_rows config vs ++ rows_of config v
-rows_more config [] v = nothing_more (rows_of config v)
-rows_more config (w ∷ vs) v =
-    ap (λ (rows : List Row). rows_of config w ++ rows) (rows_more config vs v) ∙ sym (append_assoc (rows_of config w) (all_rows config vs) (rows_of config v))
+same_half : (a b : Half) → is_half a b ≡ true → a ≡ b
+same_half Rtp Rtp q = refl
+same_half Rtcp Rtcp q = refl
+same_half Rtp Rtcp q = absurd (cc)
+same_half Rtcp Rtp q = absurd (cc)
 
-passed_more : (range : Option (ℕ × ℕ)) (vs : List Visit) (v : Visit) → ArePassed range vs → IsPassed range (packet_at v) v.passing → ArePassed range (vs ++ v ∷ [])
-passed_more range [] v all one = (one, tt)
-passed_more range (w ∷ vs) v all one = (all.0, passed_more range vs v all.1 one)
+first_true : (a b : Bool) → (a && b) ≡ true → a ≡ true
+first_true true b q = refl
+first_true false b q = absurd (cc)
 
-module _ {M S : Type 0} {g : _} where
-  -- these visits were made
-  record Visited (config : Config) (range : Option (ℕ × ℕ)) (old new : Hand M S Made (Unit {0}) g) (totals : Totals) (visits : List Visit) : Type 0 where
-    pub list_is : entries new ≡ entries old ++ all_rows config visits
-    pub passed : ArePassed range visits
-    pub totals_are : AreTotals visits totals
+second_true : (a b : Bool) → (a && b) ≡ true → b ≡ true
+second_true true b q = q
+second_true false b q = absurd (cc)
 
-  one_visit : (config : Config) (range : Option (ℕ × ℕ)) (pair : ℕ) (half : Half) (old mid new : Hand M S Made (Unit {0}) g) (s t : Totals) (vs : List Visit)
-      → Visited config range old mid s vs → (v : VisitsOnce config range pair half mid new s t) → Visited config range old new t (vs ++ v.visit ∷ [])
-  one_visit config range pair half old mid new s t vs done v = record {
-    list_is = v.list_is
-        ∙ ap (λ (rows : List Row). rows ++ rows_of config v.visit) done.list_is
-        ∙ append_assoc (entries old) (all_rows config vs) (rows_of config v.visit)
-        ∙ ap (λ (rows : List Row). entries old ++ rows) (sym (rows_more config vs v.visit));
-    passed = passed_more range vs v.visit done.passed v.passed;
-    totals_are = v.counted vs done.totals_are;
+own_by : (pair count lanes index : ℕ) → pair < count → pair % lanes ≡ index → (nat_lt pair count && (pair % lanes == index)) ≡ true
+own_by pair count lanes index below own = grind (arith, nat_tests)
+
+own_is : (pair count lanes index : ℕ) → (nat_lt pair count && (pair % lanes == index)) ≡ true → (pair < count) × (pair % lanes ≡ index)
+own_is pair count lanes index q = (grind (arith, nat_tests), grind (arith, nat_tests))
+
+-- Lists of visits.
+
+one_long : (b : Bool) (v : Visit) → length (cond b (v ∷ []) []) ≡ one_if b
+one_long true v = refl
+one_long false v = refl
+
+times_one : (pair : ℕ) (half : Half) (v : Visit) (own : ℕ) (at : Half) → v.pair ≡ own → v.half ≡ at → times pair half (v ∷ []) ≡ one_if ((own == pair) && is_half at half)
+times_one pair half v own at p h =
+    one_long (is_of pair half v) v
+    ∙ ap (λ (n : ℕ). one_if ((n == pair) && is_half v.half half)) p ∙ ap (λ (x : Half). one_if ((own == pair) && is_half x half)) h
+
+times_append : (pair : ℕ) (half : Half) (vs ws : List Visit) → times pair half (vs ++ ws) ≡ times pair half vs + times pair half ws
+times_append pair half vs ws =
+    ap (λ (xs : List Visit). length xs) (filter_append (is_of pair half) vs ws) ∙ length-append (filter (is_of pair half) vs) (filter (is_of pair half) ws)
+
+rows_append : (config : Config) (vs ws : List Visit) → all_rows config (vs ++ ws) ≡ all_rows config vs ++ all_rows config ws
+rows_append config [] ws = refl
+rows_append config (v ∷ vs) ws =
+    ap (λ (rows : List Row). rows_of config v ++ rows) (rows_append config vs ws) ∙ sym (append_assoc (rows_of config v) (all_rows config vs) (all_rows config ws))
+
+passed_append : (range : Option (ℕ × ℕ)) (vs ws : List Visit) → ArePassed range vs → ArePassed range ws → ArePassed range (vs ++ ws)
+passed_append range [] ws a b = b
+passed_append range (v ∷ vs) ws a b = (a.0, passed_append range vs ws a.1 b)
+
+-- How far a sweep has come.
+
+module _ {I O : Type 0} {gi : _} {go : _} {gm : _} where
+  pub same_both : (a b c : Lane I O gi go gm) → IsSameLane a b → IsSameLane b c → IsSameLane a c
+  same_both a b c p q = record {
+    hand = (q.hand.0 ∙ p.hand.0, q.hand.1 ∙ p.hand.1, q.hand.2 ∙ p.hand.2, q.hand.3 ∙ p.hand.3);
+    config_is = q.config_is ∙ p.config_is;
+    index_is = q.index_is ∙ p.index_is;
+    lanes_is = q.lanes_is ∙ p.lanes_is;
   }
 
-  -- the lane's own pairs below this number were visited, each half once
-  pub record SweptTo (config : Config) (index lanes upto : ℕ) (range : Option (ℕ × ℕ)) (old new : Hand M S Made (Unit {0}) g) (totals : Totals) : Type 0 where
-    pub visits : List Visit
-    pub list_is : entries new ≡ entries old ++ all_rows config visits
-    pub passed : ArePassed range visits
-    pub totals_are : AreTotals visits totals
-    pub own_once : (pair : ℕ) (half : Half) → times pair half visits ≡ one_if (is_past config index lanes upto pair)
-
-  pub swept_none : (config : Config) (index lanes : ℕ) (range : Option (ℕ × ℕ)) (hand : Hand M S Made (Unit {0}) g) (totals : Totals) → index < lanes → AreTotals [] totals
-      → SweptTo config index lanes index range hand hand totals
-  swept_none config index lanes range hand totals below none = record {
+  -- nothing was done
+  pub covers_nothing : (range : Option (ℕ × ℕ)) (lane : Lane I O gi go gm) (progress : Progress) → Covers range lane lane progress progress
+  covers_nothing range lane progress = record {
+    same = record { hand = (refl, refl, refl, refl); config_is = refl; index_is = refl; lanes_is = refl };
+    keeps = record { numbered = λ n. n; orderly = λ o. o; receiving = λ own r. r };
     visits = [];
-    list_is = sym (nothing_more (entries hand));
+    list_is = sym (nothing_more (entries (hand_of lane)));
     passed = tt;
-    totals_are = none;
-    own_once = λ pair half. ap (λ (b : Bool). one_if b) (sym (none_past (pair_count config) index lanes pair below));
+    marked = λ pair half. omega arith;
+    own = λ pair half. omega arith;
+    counted = λ earlier a. subst (λ (vs : List Visit). AreTotals vs progress.totals) (sym (nothing_more earlier)) a;
   }
 
-  pub swept_pair : (config : Config) (index lanes upto : ℕ) (range : Option (ℕ × ℕ)) (old a b c : Hand M S Made (Unit {0}) g) (r s t : Totals)
-      → upto % lanes ≡ index → upto < pair_count config → 0 < lanes → SweptTo config index lanes upto range old a r
-      → VisitsOnce config range upto Rtp a b r s → VisitsOnce config range upto Rtcp b c s t → SweptTo config index lanes (upto + lanes) range old c t
-  swept_pair config index lanes upto range old a b c r s t own within some so_far rtp rtcp =
-      let first : Visited config range old a r so_far.visits = record { list_is = so_far.list_is; passed = so_far.passed; totals_are = so_far.totals_are } in
-      let second = one_visit config range upto Rtp old a b r s so_far.visits first rtp in
-      let third = one_visit config range upto Rtcp old b c s t (so_far.visits ++ rtp.visit ∷ []) second rtcp in record {
-        visits = (so_far.visits ++ rtp.visit ∷ []) ++ rtcp.visit ∷ [];
-        list_is = third.list_is;
-        passed = third.passed;
-        totals_are = third.totals_are;
-        own_once = λ pair half.
-            (let e = times_more pair half (so_far.visits ++ rtp.visit ∷ []) rtcp.visit in
-            let f = times_more pair half so_far.visits rtp.visit in
-            let before = so_far.own_once pair half in
-            let x : one_if (is_of pair half rtp.visit) ≡ one_if ((upto == pair) && is_half Rtp half)
-            = ap (λ (n : ℕ). one_if ((n == pair) && is_half rtp.visit.half half)) rtp.pair_is ∙ ap (λ (h : Half). one_if ((upto == pair) && is_half h half)) rtp.half_is in
-            let y : one_if (is_of pair half rtcp.visit) ≡ one_if ((upto == pair) && is_half Rtcp half)
-            = ap (λ (n : ℕ). one_if ((n == pair) && is_half rtcp.visit.half half)) rtcp.pair_is ∙ ap (λ (h : Half). one_if ((upto == pair) && is_half h half)) rtcp.half_is in
-            let z = both_halves (upto == pair) half in
-            let w = next_past (pair_count config) index lanes upto pair own within some in
-            omega (arith, e, f, before, x, y, z, w));
-      }
+  -- a half was visited and marked that wasn't marked before
+  pub covers_visit : (range : Option (ℕ × ℕ)) (old new : Lane I O gi go gm) (before after : Progress) (pair : ℕ) (half : Half) → IsSameLane old new
+      → KeepsList (config_of old) (list_of old) (list_of new) → VisitsOnce (config_of old) range pair half (hand_of old) (hand_of new) before.totals after.totals
+      → is_marked before.visited pair half ≡ false
+      → ((p : ℕ) (h : Half) → is_marked after.visited p h ≡ (is_marked before.visited p h || ((pair == p) && is_half half h)))
+      → pair < pair_count (config_of old) → pair % lanes_of old ≡ index_of old → Covers range old new before after
+  covers_visit range old new before after pair half same keeps v new_one marks below own = record {
+    same = same;
+    keeps = keeps;
+    visits = v.visit ∷ [];
+    list_is = v.list_is ∙ ap (λ (rows : List Row). entries (hand_of old) ++ rows) (sym (nothing_more (rows_of (config_of old) v.visit)));
+    passed = (v.passed, tt);
+    marked = λ p h.
+        ap (λ (n : ℕ). one_if (is_marked before.visited p h) + n) (times_one p h v.visit pair half v.pair_is v.half_is)
+        ∙ joined (is_marked before.visited p h) ((pair == p) && is_half half h) (unmarked p h)
+        ∙ ap (λ (b : Bool). one_if b) (sym (marks p h));
+    own = λ p h. subst (λ (n : ℕ). n ≤ one_if (is_own (config_of old) (index_of old) (lanes_of old) p)) (sym (times_one p h v.visit pair half v.pair_is v.half_is))
+        (one_of ((pair == p) && is_half half h) (is_own (config_of old) (index_of old) (lanes_of old) p) (owned p h));
+    counted = v.counted;
+  }
+    where
+      unmarked : (p : ℕ) (h : Half) → ((pair == p) && is_half half h) ≡ true → is_marked before.visited p h ≡ false
+      unmarked p h q =
+          subst (λ (n : ℕ). is_marked before.visited n h ≡ false) (eqb-true pair p (first_true (pair == p) (is_half half h) q))
+          (subst (λ (x : Half). is_marked before.visited pair x ≡ false) (same_half half h (second_true (pair == p) (is_half half h) q)) new_one)
 
-  pub swept_all : (config : Config) (index lanes upto : ℕ) (range : Option (ℕ × ℕ)) (old new : Hand M S Made (Unit {0}) g) (totals : Totals) → pair_count config ≤ upto
-      → SweptTo config index lanes upto range old new totals → Sweeps config index lanes range old new totals
-  swept_all config index lanes upto range old new totals over s = record {
-    visits = s.visits;
-    list_is = s.list_is;
-    passed = s.passed;
-    own_once = λ pair half. s.own_once pair half ∙ ap (λ (b : Bool). one_if b) (all_past (pair_count config) index lanes upto pair over);
-    totals_are = s.totals_are;
+      owned : (p : ℕ) (h : Half) → ((pair == p) && is_half half h) ≡ true → is_own (config_of old) (index_of old) (lanes_of old) p ≡ true
+      owned p h q =
+          subst (λ (n : ℕ). is_own (config_of old) (index_of old) (lanes_of old) n ≡ true) (eqb-true pair p (first_true (pair == p) (is_half half h) q))
+          (own_by pair (pair_count (config_of old)) (lanes_of old) (index_of old) below own)
+
+  -- one after the other
+  pub covers_both : (range : Option (ℕ × ℕ)) (a b c : Lane I O gi go gm) (x y z : Progress) → Covers range a b x y → Covers range b c y z → Covers range a c x z
+  covers_both range a b c x y z first second = record {
+    same = same_both a b c first.same second.same;
+    keeps = keeps_more (config_of a) (config_of b) (all_rows (config_of b) second.visits) (hand_of a) (hand_of b) (hand_of c) second.list_is first.same.config_is first.keeps second.keeps;
+    visits = first.visits ++ second.visits;
+    list_is = second.list_is
+        ∙ ap (λ (rows : List Row). rows ++ all_rows (config_of b) second.visits) first.list_is
+        ∙ ap (λ (config : Config). (entries (hand_of a) ++ all_rows (config_of a) first.visits) ++ all_rows config second.visits) first.same.config_is
+        ∙ append_assoc (entries (hand_of a)) (all_rows (config_of a) first.visits) (all_rows (config_of a) second.visits)
+        ∙ ap (λ (rows : List Row). entries (hand_of a) ++ rows) (sym (rows_append (config_of a) first.visits second.visits));
+    passed = passed_append range first.visits second.visits first.passed second.passed;
+    marked = λ pair half.
+        (let e = times_append pair half first.visits second.visits in
+        let p = first.marked pair half in
+        let q = second.marked pair half in
+        omega (arith, e, p, q));
+    own = λ pair half. subst (λ (n : ℕ). n ≤ one_if (is_own (config_of a) (index_of a) (lanes_of a) pair)) (sym (times_append pair half first.visits second.visits))
+        (both_or (times pair half first.visits) (times pair half second.visits) (one_if (is_own (config_of a) (index_of a) (lanes_of a) pair)) (is_marked x.visited pair half)
+        (is_marked y.visited pair half) (is_marked z.visited pair half) (first.marked pair half) (second.marked pair half) (first.own pair half)
+        (subst (λ (n : ℕ). times pair half second.visits ≤ n) (same_own pair) (second.own pair half)));
+    counted = λ earlier t.
+        subst (λ (vs : List Visit). AreTotals vs z.totals) (append_assoc earlier first.visits second.visits)
+        (second.counted (earlier ++ first.visits) (first.counted earlier t));
+  }
+    where
+      same_own : (pair : ℕ) → one_if (is_own (config_of b) (index_of b) (lanes_of b) pair) ≡ one_if (is_own (config_of a) (index_of a) (lanes_of a) pair)
+      same_own pair =
+          ap (λ (config : Config). one_if (is_own config (index_of b) (lanes_of b) pair)) first.same.config_is
+          ∙ ap (λ (index : ℕ). one_if (is_own (config_of a) index (lanes_of b) pair)) first.same.index_is
+          ∙ ap (λ (lanes : ℕ). one_if (is_own (config_of a) (index_of a) lanes pair)) first.same.lanes_is
+
+  -- what is marked stays so
+  pub stays_marked : (range : Option (ℕ × ℕ)) (old new : Lane I O gi go gm) (before after : Progress) (pair : ℕ) (half : Half) → Covers range old new before after
+      → is_marked before.visited pair half ≡ true → is_marked after.visited pair half ≡ true
+  stays_marked range old new before after pair half c = still (is_marked before.visited pair half) (is_marked after.visited pair half) (times pair half c.visits) (c.marked pair half)
+
+  -- both halves of the next own pair are marked as well
+  pub next_marked : (range : Option (ℕ × ℕ)) (a b c : Lane I O gi go gm) (x y z : Progress) (index lanes upto : ℕ) → Covers range a b x y → Covers range b c y z
+      → is_marked y.visited upto Rtp ≡ true → is_marked z.visited upto Rtcp ≡ true → upto % lanes ≡ index
+      → ((pair : ℕ) (half : Half) → pair % lanes ≡ index → pair < upto → is_marked x.visited pair half ≡ true)
+      → (pair : ℕ) (half : Half) → pair % lanes ≡ index → pair < upto + lanes → is_marked z.visited pair half ≡ true
+  next_marked range a b c x y z index lanes upto first second rtp rtcp own below pair half same before =
+      elim (next_own lanes upto pair (own ∙ sym same) before) [
+        | inl h ↦ stays_marked range b c y z pair half second (stays_marked range a b x y pair half first (below pair half same h))
+        | inr h ↦ subst (λ (n : ℕ). is_marked z.visited n half ≡ true) (sym h) (both half)
+      ]
+    where
+      both : (at : Half) → is_marked z.visited upto at ≡ true
+      both Rtp = stays_marked range b c y z upto Rtp second rtp
+      both Rtcp = rtcp
+
+  -- all own halves were visited, from none on
+  pub sweeps_all : (range : Option (ℕ × ℕ)) (old new : Lane I O gi go gm) (before after : Progress) → Covers range old new before after
+      → ((pair : ℕ) (half : Half) → is_marked before.visited pair half ≡ false) → AreTotals [] before.totals
+      → ((pair : ℕ) (half : Half) → pair % lanes_of old ≡ index_of old → pair < pair_count (config_of old) → is_marked after.visited pair half ≡ true)
+      → Sweeps (config_of old) (index_of old) (lanes_of old) range (hand_of old) (hand_of new) after.totals
+  sweeps_all range old new before after c none nothing all = record {
+    visits = c.visits;
+    list_is = c.list_is;
+    passed = c.passed;
+    own_once = λ pair half. exactly (times pair half c.visits) (is_marked before.visited pair half) (is_marked after.visited pair half)
+        (is_own (config_of old) (index_of old) (lanes_of old) pair) (none pair half) (c.marked pair half) (c.own pair half)
+        (λ q. (let o = own_is pair (pair_count (config_of old)) (lanes_of old) (index_of old) q in all pair half o.1 o.0));
+    totals_are = c.counted [] nothing;
   }

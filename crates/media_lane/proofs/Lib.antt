@@ -6,3 +6,4 @@ pub mod Relays
 pub mod Visiting
 pub mod Counting
 pub mod Loops
+pub mod Marks

@@ -20,7 +20,7 @@ use Rattle.media_lane.specs.declared.answers.Totals.{Totals}
 use Rattle.media_lane.specs.Receipts.{KeepsList}
 use Rattle.media_lane.specs.Taking.{take_made}
 use Rattle.media_lane.specs.Relaying.{relay_made}
-use Rattle.media_lane.specs.Visits.{Row, Visit, Passing, packet_by, relay_rows, rows_of, IsPassed, has_packet, is_there, ends_so, ends_with, is_sent, is_refused, is_lost, count, one_more, AreTotals, CountsRelay}
+use Rattle.media_lane.specs.Visits.{Row, Visit, Passing, packet_by, relay_rows, IsPassed, has_packet, is_there, ends_so, ends_with, is_sent, is_refused, is_lost, count, one_more, AreTotals, CountsRelay}
 use Rattle.media_lane.specs.Sweeping.{VisitsOnce}
 
 -- One list after another.
@@ -39,13 +39,12 @@ pub list_append : {T : Type 0} (xs ys : List (table.Entry Made T)) → list_of (
 list_append [] ys = refl
 list_append (x ∷ xs) ys = ap (λ (l : List Entry). entry_of x ∷ l) (list_append xs ys)
 
-pub keeps_visited : {M S : Type 0} {g : _} (config config' : Config) (range : Option (ℕ × ℕ)) (pair : ℕ) (half : Half) (first old new : Hand M S Made (Unit {0}) g) (s t : Totals)
-    → VisitsOnce config range pair half old new s t → config' ≡ config → KeepsList config (made_by first) (made_by old) → KeepsList config' (made_by old) (made_by new)
+pub keeps_more : {M S : Type 0} {g : _} (config config' : Config) (rows : List Row) (first old new : Hand M S Made (Unit {0}) g)
+    → entries new ≡ entries old ++ rows → config' ≡ config → KeepsList config (made_by first) (made_by old) → KeepsList config' (made_by old) (made_by new)
     → KeepsList config (made_by first) (made_by new)
-keeps_visited config config' range pair half first old new s t v same before after =
-    keeps_both config (made_by first) (made_by old) (made_by new) (list_of (rows_of config v.visit))
-    (ap (λ (rows : List Row). list_of rows) v.list_is ∙ list_append (entries old) (rows_of config v.visit))
-    before (subst (λ (c : Config). KeepsList c (made_by old) (made_by new)) same after)
+keeps_more config config' rows first old new is same before after =
+    keeps_both config (made_by first) (made_by old) (made_by new) (list_of rows) (ap (λ (xs : List Row). list_of xs) is ∙ list_append (entries old) rows) before
+    (subst (λ (c : Config). KeepsList c (made_by old) (made_by new)) same after)
 
 -- Counts.
 

@@ -7,3 +7,5 @@ pub mod Relaying
 pub mod Visits
 pub mod Sweeping
 pub mod Looping
+pub mod Visited
+pub mod Covering

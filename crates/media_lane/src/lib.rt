@@ -5,17 +5,18 @@
 //! `receive` and `relay` do the same by a hand that may wait, and try the place's mark until it is free.
 //!
 //! Module `receipt` has what a take gave, `answers` what the calls answer, `lane` the lane, `receiving` and `relaying` its two
-//! steps, `sweeping` a round over its pairs, which may wait and keeps each datagram in the lane's room, `looping` sweeps until the lane
-//! is told to end, `puts` the way to put each
-//! kind of turn, `laws` what callers know.
+//! steps, `sweeping` a round over its pairs, which may wait and keeps each datagram in the lane's room, `hinted` its part that goes
+//! by the clock's hints, `visited` the halves that it was at, `looping` sweep after sweep until the lane is told to end, `puts` the
+//! way to put each kind of turn, `laws` what callers know.
 //!
 //! `specs/Starts.antt` says what the places of a lane's table begin as, `specs/Lanes.antt` what contracts see in a lane,
 //! `specs/Receipts.antt` what a receipt of a hand's list is, `specs/Busy.antt` what a busy call does, `specs/Taking.antt` and
 //! `specs/Relaying.antt` what a take and a relay add to the list of its hand, `specs/Visits.antt` and `specs/Sweeping.antt` what a
-//! sweep adds, `specs/Looping.antt` what sweep after sweep adds.
+//! sweep adds, `specs/Visited.antt` and `specs/Covering.antt` how far it has come, `specs/Looping.antt` what sweep after sweep adds.
 #![tactic(auto)]
 
 mod answers;
+mod hinted;
 mod lane;
 mod laws;
 mod looping;
@@ -24,6 +25,7 @@ mod receipt;
 mod receiving;
 mod relaying;
 mod sweeping;
+mod visited;
 
 pub use answers::{Received, Relayed, Totals};
 pub use lane::Lane;

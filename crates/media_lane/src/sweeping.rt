@@ -1,30 +1,34 @@
 //! A lane visits its pairs, and waits where another hand has a turn.
-ghost use Rattle.std.specs.Prelude.{◌≡◌, ◌<◌, ℕ, List, [], ◌∷◌, ◌++◌};
-ghost use Rattle.relay_outside.specs.declared.settings.Config.{Config};
+ghost use Rattle.std.specs.Prelude.{◌≡◌, ◌<◌, ◌%◌, ◌↔◌, ℕ, true, false, IsTrue, List, [], ◌∷◌, ◌++◌};
+ghost use Rattle.rtp_packet.specs.declared.head.Half.{Half};
 ghost use Rattle.port_pool.specs.Ports.{pair_count};
 ghost use Rattle.turn_table.specs.Hands.{IsHandOf};
 ghost use Rattle.media_lane.specs.Lanes.{hand_of, list_of, config_of, index_of, lanes_of, IsSameLane};
 ghost use Rattle.media_lane.specs.Receipts.{KeepsList};
 ghost use Rattle.media_lane.specs.Visits.{Visit, AreTotals, CountsRelay};
+ghost use Rattle.media_lane.specs.Visited.{is_marked};
+ghost use Rattle.media_lane.specs.Covering.{Covers};
 ghost use Rattle.media_lane.specs.Sweeping.{VisitsOnce, Sweeps};
 
 use crate::answers::Totals;
+use crate::hinted::count_pairs;
 use crate::lane::Lane;
 use crate::receiving::packet_in;
+use crate::visited::Visited;
 use call_cell::Outcome;
 use relay_core::Relay;
-use relay_outside::{Clock, Config, Gate, InEnd, OutEnd};
+use relay_outside::{Clock, Gate, InEnd, OutEnd};
 use rtp_packet::Half;
 use std::sync::Wait;
 use turn_table::Turns;
 
-/// How many port pairs there are: even ports of the range whose next port is in it too.
-#[tactic(auto, unfolding(port_pool::specs::Ports::pair_count))]
-fn count_pairs(config: &Config) -> u32
-    ensures { result ≡ pair_count config.now }
-{
-    let first_port = u32::from(config.port_min) + u32::from(config.port_min) % 2;
-    (u32::from(config.port_max) + 1).saturating_sub(first_port) / 2
+/// How far a sweep has come.
+#[derive(Drop)]
+pub(crate) struct Progress {
+    /// The halves that it has visited.
+    pub(crate) visited: Visited,
+    /// What came of the datagrams that it took there.
+    pub(crate) totals: Totals,
 }
 
 impl Totals {
@@ -78,8 +82,62 @@ impl<I: InEnd, O: OutEnd> Lane<I, O> {
         }
     }
 
+    /// Visits a half of an own pair, where the sweep hasn't visited it before. Answers whether it did.
+    pub(crate) fn visit_once<W: Wait, G: Gate, C: Clock>(
+        &mut self,
+        rt: &W,
+        turns: &Turns<Relay<I, O>>,
+        gate: &G,
+        clock: &C,
+        pair: u32,
+        half: Half,
+        progress: &mut Progress,
+    ) -> bool
+        requires table { IsHandOf turns.now (hand_of self.old) }
+        requires pair { pair < pair_count (config_of self.old) }
+        requires own { pair % lanes_of self.old ≡ index_of self.old }
+        requires held { pair < 32768 }
+        ensures covered { Covers (C.range clock.now) self.old self.new progress.old progress.new }
+        ensures marked { is_marked progress.new.visited pair half ≡ true }
+        ensures first { IsTrue result ↔ (is_marked progress.old.visited pair half ≡ false) }
+    {
+        if progress.visited.has(pair, half) {
+            return false;
+        }
+        self.visit(rt, turns, gate, clock, pair, half, &mut progress.totals);
+        progress.visited.mark(pair, half);
+        true
+    }
+
+    /// Visits each half of the lane's own pairs that the sweep hasn't visited yet, from the lowest pair upwards.
+    fn visit_rest<W: Wait, G: Gate, C: Clock>(
+        &mut self,
+        rt: &W,
+        turns: &Turns<Relay<I, O>>,
+        gate: &G,
+        clock: &C,
+        progress: &mut Progress,
+    )
+        requires { IsHandOf turns.now (hand_of self.old) }
+        ensures covered { Covers (C.range clock.now) self.old self.new progress.old progress.new }
+        ensures all { (pair : ℕ) (half : Half) → pair % lanes_of self.old ≡ index_of self.old → pair < pair_count (config_of self.old) → is_marked progress.new.visited pair half ≡ true }
+    {
+        let pairs = u64::from(count_pairs(&self.config));
+        let lanes = u64::from(self.lanes);
+        let mut pair = u64::from(self.index);
+        while pair < pairs {
+            self.visit_once(rt, turns, gate, clock, pair as u32, Half::Rtp, progress);
+            self.visit_once(rt, turns, gate, clock, pair as u32, Half::Rtcp, progress);
+            pair += lanes;
+        }
+    }
+
     /// Takes once of each half of each of the lane's own pairs, whose numbers are the lane's modulo the number of lanes, and
-    /// relays each datagram, handed a moment of the clock, before the next take. It may wait, where another hand has a turn.
+    /// relays each datagram, handed a moment of the clock, before the next take. It may wait, where another hand has a turn, and for
+    /// the clock's hints, 200 milliseconds at the most.
+    ///
+    /// The halves at whose ports the clock hints come first, in the order of its hints, and then all others, from the lowest pair
+    /// upwards.
     pub fn sweep<W: Wait, G: Gate, C: Clock>(
         &mut self,
         rt: &W,
@@ -92,15 +150,12 @@ impl<I: InEnd, O: OutEnd> Lane<I, O> {
         ensures swept { Sweeps (config_of self.old) (index_of self.old) (lanes_of self.old) (C.range clock.now) (hand_of self.old) (hand_of self.new) result }
         ensures list { KeepsList (config_of self.old) (list_of self.old) (list_of self.new) }
     {
-        let pairs = u64::from(count_pairs(&self.config));
-        let lanes = u64::from(self.lanes);
-        let mut totals = Totals::none();
-        let mut pair = u64::from(self.index);
-        while pair < pairs {
-            self.visit(rt, turns, gate, clock, pair as u32, Half::Rtp, &mut totals);
-            self.visit(rt, turns, gate, clock, pair as u32, Half::Rtcp, &mut totals);
-            pair += lanes;
-        }
-        totals
+        let mut progress = Progress {
+            visited: Visited::none(),
+            totals: Totals::none(),
+        };
+        self.visit_hinted(rt, turns, gate, clock, &mut progress);
+        self.visit_rest(rt, turns, gate, clock, &mut progress);
+        progress.totals
     }
 }

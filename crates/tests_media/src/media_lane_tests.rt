@@ -58,21 +58,22 @@ fn in_end(alloc: Global, count: usize) -> Result<SteadyIn, Fail> {
     Ok(receiving)
 }
 
-// A box that is held by the leg, whose port for RTP gives so many datagrams.
-fn held_box(alloc: Global, count: usize) -> Result<PairBox<SteadyIn>, Fail>
+// A box that is held by the leg, whose two ports give so many datagrams.
+fn held_box(alloc: Global, rtp: usize, rtcp: usize) -> Result<PairBox<SteadyIn>, Fail>
     ensures { IfOk result (λ held. HasCells 1 held) }
 {
-    let rtp = in_end(alloc, count)?;
-    let rtcp = in_end(alloc, 0)?;
+    let rtp = in_end(alloc, rtp)?;
+    let rtcp = in_end(alloc, rtcp)?;
     let mut held = PairBox::empty(1);
     held.put_in(HOLDER, rtp, rtcp);
     Ok(held)
 }
 
-// A table whose box gives so many datagrams, and whose cell has no call.
+// A table whose box gives so many datagrams at its two ports, and whose cell has no call.
 fn begin(
     alloc: Global,
-    count: usize,
+    rtp: usize,
+    rtcp: usize,
 ) -> Result<
     (
         Turns<Relay<SteadyIn, SteadyOut>>,
@@ -84,7 +85,7 @@ fn begin(
 {
     let board = Part::Board(Board::new(alloc, &CONFIG)?);
     let cell = Part::Cell(Cell::empty(alloc, &CONFIG));
-    let held = Part::Pair(held_box(alloc, count)?);
+    let held = Part::Pair(held_box(alloc, rtp, rtcp)?);
     let states = Vec::from_array(alloc, [board, cell, held])?;
     Ok(Turns::start(alloc, states)?)
 }
@@ -98,6 +99,7 @@ fn front_of(received: &Received) -> Option<u64> {
 }
 
 mod beside;
+mod hints;
 
 use beside::{receive_beside, relay_beside};
 
@@ -111,7 +113,7 @@ fn is_nothing(received: Received) -> bool {
 #[test]
 #[tactic(auto, unfolding(port_pool::specs::Ports::pair_count))]
 fn a_packet_is_received_and_relayed_in_the_cell_of_its_leg(rt: HostRuntime) -> Result<(), Fail> {
-    let (turns, hand) = begin(rt.alloc(), 1)?;
+    let (turns, hand) = begin(rt.alloc(), 1, 0)?;
     let mut lane = Lane::new(hand, 0, 1, &CONFIG);
     let Received::Got(receipt) = lane.receive_try(&turns, 0, Half::Rtp) else {
         panic!(rt; "a datagram is there");
@@ -165,7 +167,7 @@ fn begin_closed(
 #[test]
 #[tactic(auto, unfolding(port_pool::specs::Ports::pair_count))]
 fn a_box_is_busy_while_another_hand_has_its_turn(rt: HostRuntime) -> Result<(), Fail> {
-    let (turns, mut main) = begin(rt.alloc(), 1)?;
+    let (turns, mut main) = begin(rt.alloc(), 1, 0)?;
     let mut lane = Lane::new(turns.split_hand(&mut main), 0, 1, &CONFIG);
     let first = front_of(&receive_beside(&rt, &turns, &mut main, &mut lane));
     let is_there = matches!(lane.receive_try(&turns, 0, Half::Rtp), Received::Got(_));
@@ -183,7 +185,7 @@ fn a_box_is_busy_while_another_hand_has_its_turn(rt: HostRuntime) -> Result<(), 
 fn a_receipt_comes_back_while_another_hand_has_the_turn_of_its_cell(
     rt: HostRuntime,
 ) -> Result<(), Fail> {
-    let (turns, mut main) = begin(rt.alloc(), 1)?;
+    let (turns, mut main) = begin(rt.alloc(), 1, 0)?;
     let mut lane = Lane::new(turns.split_hand(&mut main), 0, 1, &CONFIG);
     let Received::Got(receipt) = lane.receive_try(&turns, 0, Half::Rtp) else {
         panic!(rt; "a datagram is there");
@@ -209,7 +211,7 @@ fn a_receipt_comes_back_while_another_hand_has_the_turn_of_its_cell(
 #[test]
 #[tactic(auto, unfolding(port_pool::specs::Ports::pair_count))]
 fn a_hand_that_may_wait_receives_and_relays(rt: HostRuntime) -> Result<(), Fail> {
-    let (turns, hand) = begin(rt.alloc(), 1)?;
+    let (turns, hand) = begin(rt.alloc(), 1, 0)?;
     let mut lane = Lane::new(hand, 0, 1, &CONFIG);
     let Received::Got(receipt) = lane.receive(&rt, &turns, 0, Half::Rtp) else {
         panic!(rt; "a datagram is there");
@@ -230,7 +232,7 @@ fn a_hand_that_may_wait_receives_and_relays(rt: HostRuntime) -> Result<(), Fail>
 #[test]
 #[tactic(auto, unfolding(port_pool::specs::Ports::pair_count))]
 fn a_sweep_takes_once_of_each_half(rt: HostRuntime) -> Result<(), Fail> {
-    let (turns, mut main) = begin(rt.alloc(), 2)?;
+    let (turns, mut main) = begin(rt.alloc(), 2, 0)?;
     let other = turns.split_hand(&mut main);
     let mut lane = Lane::new(main, 0, 2, &CONFIG);
     let mut beside = Lane::new(other, 1, 2, &CONFIG);

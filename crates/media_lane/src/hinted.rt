@@ -1,0 +1,119 @@
+//! The part of a sweep that goes by hints: where datagrams stand, first.
+ghost use Rattle.std.specs.Prelude.{◌≡◌, ◌<◌, ◌≤◌, ◌%◌, ℕ, MatchOption};
+ghost use Rattle.rtp_packet.specs.declared.head.Half.{Half};
+ghost use Rattle.port_pool.specs.Ports as ports;
+ghost use Rattle.port_pool.specs.Ports.{pair_count, half_port};
+ghost use Rattle.turn_table.specs.Hands.{IsHandOf};
+ghost use Rattle.media_lane.specs.Lanes.{hand_of, config_of, index_of, lanes_of};
+ghost use Rattle.media_lane.specs.Covering.{Covers};
+
+use crate::lane::Lane;
+use crate::sweeping::Progress;
+use relay_core::Relay;
+use relay_outside::{Clock, Config, Gate, InEnd, OutEnd};
+use rtp_packet::Half;
+use std::sync::Wait;
+use turn_table::Turns;
+
+/// For how many milliseconds a sweep goes by hints. All halves that no hint names wait so long at the most, and so does a thread that
+/// is told to stop: a lost or a wrong hint costs time and nothing else.
+const LONGEST_MILLIS: u64 = 200;
+
+/// How many halves there are at the most, one for each port: a sweep visits no half twice, so it asks no more often.
+const MOST_HALVES: u32 = 65_536;
+
+/// The first even port of the range.
+fn first_port(config: &Config) -> u32
+    ensures { result ≡ ports.first_port config.now }
+{
+    u32::from(config.port_min) + u32::from(config.port_min) % 2
+}
+
+/// How many port pairs there are: even ports of the range whose next port is in it too.
+#[tactic(auto, unfolding(port_pool::specs::Ports::pair_count))]
+pub(crate) fn count_pairs(config: &Config) -> u32
+    ensures count { result ≡ pair_count config.now }
+    ensures within { result ≤ 32768 }
+{
+    (u32::from(config.port_max) + 1).saturating_sub(first_port(config)) / 2
+}
+
+impl<I: InEnd, O: OutEnd> Lane<I, O> {
+    /// The half with this port, where it is of one of the lane's own pairs.
+    fn half_at(&self, port: u16) -> Option<(u32, Half)>
+        ensures { MatchOption result
+            ((pair : ℕ) (half : Half) → pair < pair_count (config_of self.now) → pair % lanes_of self.now ≡ index_of self.now → half_port (config_of self.now) pair half ≡ port → ⊥)
+            (λ at. (at.0 < pair_count (config_of self.now)) × (at.0 < 32768) × (at.0 % lanes_of self.now ≡ index_of self.now) × (half_port (config_of self.now) at.0 at.1 ≡ port)) }
+    {
+        let above = u32::from(port).checked_sub(first_port(&self.config))?;
+        let pair = above / 2;
+        if pair >= count_pairs(&self.config) || pair % self.lanes != self.index {
+            return None;
+        }
+        let half = if above % 2 == 0 {
+            Half::Rtp
+        } else {
+            Half::Rtcp
+        };
+        Some((pair, half))
+    }
+
+    /// Visits the halves with these ports in turn, up to the first port that isn't of an own pair or whose half was visited before.
+    /// Answers whether there was no such port.
+    fn visit_ports<W: Wait, G: Gate, C: Clock>(
+        &mut self,
+        rt: &W,
+        turns: &Turns<Relay<I, O>>,
+        gate: &G,
+        clock: &C,
+        ports: &[u16],
+        progress: &mut Progress,
+    ) -> bool
+        requires { IsHandOf turns.now (hand_of self.old) }
+        ensures { Covers (C.range clock.now) self.old self.new progress.old progress.new }
+    {
+        for port in ports {
+            let Some((pair, half)) = self.half_at(*port) else {
+                return false;
+            };
+            if !self.visit_once(rt, turns, gate, clock, pair, half, progress) {
+                return false;
+            }
+        }
+        true
+    }
+
+    /// Visits halves in the order in which the clock hints that datagrams stand at their ports, and waits for such hints.
+    ///
+    /// A hint is never trusted: it only chooses which half is visited next. A port that isn't of an own pair ends this part. So does
+    /// one whose half this sweep has visited: each half is visited once a sweep, so the sooner this sweep ends, the sooner that half
+    /// is visited again. A clock that knows nothing hints at nothing, and ends it at once.
+    pub(crate) fn visit_hinted<W: Wait, G: Gate, C: Clock>(
+        &mut self,
+        rt: &W,
+        turns: &Turns<Relay<I, O>>,
+        gate: &G,
+        clock: &C,
+        progress: &mut Progress,
+    )
+        requires { IsHandOf turns.now (hand_of self.old) }
+        ensures { Covers (C.range clock.now) self.old self.new progress.old progress.new }
+    {
+        let begun = clock.now();
+        let mut ports = [0; 64];
+        for _ in 0..MOST_HALVES {
+            let gone = clock.now().saturating_sub(begun);
+            if gone >= LONGEST_MILLIS {
+                return;
+            }
+            let left = (LONGEST_MILLIS - gone) as u32;
+            let count = clock.ready(self.index, left, &mut ports).min(ports.len());
+            if count == 0 {
+                return;
+            }
+            if !self.visit_ports(rt, turns, gate, clock, &ports[..count], progress) {
+                return;
+            }
+        }
+    }
+}
