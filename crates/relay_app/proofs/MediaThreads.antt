@@ -1,8 +1,9 @@
 -- What all threads of media made, one after the other.
-use Rattle.std.proofs.Common.{◌≡◌, ◌∙◌, refl, sym, ap, subst, ℕ, suc, ◌+◌, ◌<◌, inl, inr, false, List, [], ◌∷◌, ◌++◌, Option, length, map, reverse, append-nil, append_assoc, arith}
+use Rattle.std.proofs.Common.{◌≡◌, ◌∙◌, refl, sym, ap, subst, ℕ, suc, ◌+◌, ◌<◌, inl, inr, false, List, [], ◌∷◌, ◌++◌, Option, Some, All, length, map, reverse, append-nil, append_assoc, arith}
 use Rattle.std.specs.Prelude.{slice_index_or}
 use Rattle.std.proofs.lemmas.Bool.{cases_lt}
-use Rattle.std.proofs.lemmas.List.{map-append, reverse-append, get_or_append_left, get_or_push}
+use Rattle.std.proofs.lemmas.List.{length-map, map-append, reverse-append, get_or_append_left, get_or_push}
+use Rattle.std.proofs.lemmas.List.Elements.{All-pop, All-nil, All-cons, All-head, All-tail, All-append}
 use Rattle.relay_outside.specs.declared.settings.Config.{Config}
 use Rattle.turn_table.specs.declared.hands.Turns.{Turns}
 use Rattle.turn_table.specs.declared.hands.Hand.{Hand}
@@ -31,7 +32,7 @@ use Rattle.main_sweeps.specs.Totals.{HasTotals}
 use Rattle.main_sweeps.proofs.Sweeps.{rows_in, visits_totals}
 use Rattle.relay_app.specs.declared.threads.MediaThread.{MediaThread}
 use Rattle.relay_app.specs.Rounds.{IsThread, AreThreads, all_of}
-use Rattle.relay_app.specs.Threads.{rows_of, AddsEach, IsFresh, HasWorked, IsDone}
+use Rattle.relay_app.specs.Threads.{rows_of, MayJoin, AddsEach, IsFresh, HasWorked, IsDone}
 
 -- A fact of each element of a list by its number, from this number on.
 
@@ -147,6 +148,41 @@ module _ {I O : Type 0} {gi : _} {go : _} {gm : _} (config : Config) (turns : Tu
       (all_totals (n + 1) xs done.1 (rows ++ rows_of x) adds.0 is adds.2
       (subst (λ (l : List Entry). HasTotals l adds.0) (sym (map-append entry_of rows (rows_of x))) (done_totals n x done.0 (list_of rows) was adds.0 adds.1 has)))
 
+-- Each thread that was made and did its work is done.
+
+module _ {I O : Type 0} {gi : _} {go : _} {gm : _} (config config' : Config) (turns turns' : Turns (Relay I O) (Part I O) Made (Unit {0})) (threads : ℕ) (range : Option (ℕ × ℕ))
+    (xs ys : List (MediaThread I O gi go gm)) (config_is : config' ≡ config) (turns_are : turns' ≡ turns) (long : length ys ≡ length xs) (many : length xs ≡ threads)
+    (fresh : (i : ℕ) (d : MediaThread I O gi go gm) → i < threads → IsFresh config' turns' threads i (slice_index_or xs i d))
+    (worked : (i : ℕ) (d : MediaThread I O gi go gm) → i < length xs → HasWorked range (slice_index_or xs i d) (slice_index_or ys i d)) where
+  pub done_at : (i : ℕ) (d : MediaThread I O gi go gm) → i < length ys → IsDone config turns threads range i (slice_index_or ys i d)
+  done_at i d lt =
+      worked_done config turns threads range i (slice_index_or xs i d) (slice_index_or ys i d)
+      (subst (λ (k : Config). IsFresh k turns threads i (slice_index_or xs i d)) config_is
+      (subst (λ (t : Turns (Relay I O) (Part I O) Made (Unit {0})). IsFresh config' t threads i (slice_index_or xs i d)) turns_are (fresh i d (omega (arith, lt, long, many)))))
+      (worked i d (omega (arith, lt, long)))
+
+  pub are_done : AreDone config turns threads range 0 ys
+  are_done = each_from_none (λ (i : ℕ) (x : MediaThread I O gi go gm). IsDone config turns threads range i x) ys done_at
+
+  pub as_many : length (map (λ (x : MediaThread I O gi go gm). rows_of x) ys) ≡ threads
+  as_many = length-map ys (λ (x : MediaThread I O gi go gm). rows_of x) ∙ long ∙ many
+
+  pub may_join : (like : Turns (Relay I O) (Part I O) Made (Unit {0})) → turns ≡ like → All (λ (x : MediaThread I O gi go gm). MayJoin like x) ys
+  may_join like same i d lt =
+      let x = done_at i d lt in
+      record {
+        of_table = subst (λ (t : Turns (Relay I O) (Part I O) Made (Unit {0})). IsHandOf t (hand_of (slice_index_or ys i d).lane)) same x.of_table;
+        one_part = x.one_part;
+        not_main = x.not_main;
+      }
+
+-- the hands of threads that did nothing yet are of the table
+pub are_hands : {I O : Type 0} {gi : _} {go : _} {gm : _} (config : Config) (turns like : Turns (Relay I O) (Part I O) Made (Unit {0})) (threads : ℕ) (xs : List (MediaThread I O gi go gm))
+    → turns ≡ like → length xs ≡ threads → ((i : ℕ) (d : MediaThread I O gi go gm) → i < threads → IsFresh config turns threads i (slice_index_or xs i d))
+    → (i : ℕ) (d : MediaThread I O gi go gm) → i < length xs → IsHandOf like (hand_of (slice_index_or xs i d).lane)
+are_hands {I} {O} {gi} {go} {gm} config turns like threads xs same many fresh i d lt =
+    subst (λ (t : Turns (Relay I O) (Part I O) Made (Unit {0})). IsHandOf t (hand_of (slice_index_or xs i d).lane)) same (fresh i d (omega (arith, lt, many))).of_table
+
 -- The threads are made, one after the other.
 
 -- a fact of each element, and of one more
@@ -194,9 +230,24 @@ left_between {M} {I} {O} {T} {g} config turns old new left b = record {
 next_reversed : {X : Type 0} (xs ys : List X) (x : X) → xs ≡ ys ++ x ∷ [] → reverse xs ≡ x ∷ reverse ys
 next_reversed {X} xs ys x is = ap (λ (zs : List X). reverse zs) is ∙ reverse-append ys (x ∷ [])
 
-module _ {I O : Type 0} {gi : _} {go : _} {gm : _} (xs ys : List (MediaThread I O gi go gm)) (x : MediaThread I O gi go gm) (is : xs ≡ ys ++ x ∷ []) where
-  abbrev rest : List (MediaThread I O gi go gm) → List Row
+all_reverse : {X : Type 0} (P : X → Type 0) (xs : List X) → All P xs → All P (reverse xs)
+all_reverse {X} P [] all = all
+all_reverse {X} P (x ∷ xs) all =
+    subst (λ (zs : List X). All P zs) (sym (reverse-append (x ∷ []) xs))
+    (All-append P (reverse xs) (x ∷ []) (all_reverse P xs (All-tail P x xs all)) (All-cons P x [] (All-head P x xs all) (All-nil P)))
+
+pub all_reversed : {X : Type 0} (P : X → Type 0) (xs zs : List X) → zs ≡ reverse xs → All P xs → All P zs
+all_reversed {X} P xs zs is all = subst (λ (ys : List X). All P ys) (sym is) (all_reverse P xs all)
+
+module _ {I O : Type 0} {gi : _} {go : _} {gm : _} where
+  -- the rows of these threads
+  abbrev pub rest : List (MediaThread I O gi go gm) → List Row
   rest zs = all_of (map (λ (y : MediaThread I O gi go gm). rows_of y) zs)
+
+module _ {I O : Type 0} {gi : _} {go : _} {gm : _} (xs ys : List (MediaThread I O gi go gm)) (x : MediaThread I O gi go gm) (is : xs ≡ ys ++ x ∷ []) where
+  -- what is known of all is known of those that are left, and of this one
+  pub all_left : (P : MediaThread I O gi go gm → Type 0) → All P xs → All P ys × P x
+  all_left P all = All-pop P xs ys (Some x) is all
 
   pub next_list : (before after all : List Row) → after ≡ before ++ rows_of x → before ++ rest (reverse xs) ≡ all → after ++ rest (reverse ys) ≡ all
   next_list before after all gains so_far =

@@ -1,5 +1,5 @@
 -- How the rows of a run grow: by a control turn, by a sweep, and by the stop.
-use Rattle.std.proofs.Common.{◌≡◌, ◌∙◌, ap, refl, subst, sym, ℕ, suc, ◌<◌, List, [], ◌∷◌, ◌++◌, length, append_assoc, append-nil, Option, None, Some, map, arith}
+use Rattle.std.proofs.Common.{◌≡◌, ◌∙◌, ap, refl, subst, sym, ℕ, zero, suc, ◌<◌, List, [], ◌∷◌, ◌++◌, length, append_assoc, append-nil, Option, None, Some, map, arith}
 use Rattle.relay_outside.specs.declared.settings.Config.{Config}
 use Rattle.turn_table.specs.declared.hands.Turns.{Turns}
 use Rattle.turn_table.specs.declared.hands.Hand.{Hand}
@@ -53,7 +53,7 @@ no_rounds config threads range rows none = no_rows rows none
 
 -- where threads relay media, nothing stands between the turns
 pub no_sweep_rows : (config : Config) (threads : ℕ) (range : Option (ℕ × ℕ)) (rows : List Row) → 0 < threads → AddsSweep config threads range rows rows
-no_sweep_rows config 0 range rows some = absurd (omega (arith, some))
+no_sweep_rows config zero range rows some = absurd (omega (arith, some))
 no_sweep_rows config (suc more) range rows some = record { rows = []; are = sym (append-nil rows); alone = refl }
 
 module _ {M I O : Type 0} {g : _} where

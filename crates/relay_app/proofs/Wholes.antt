@@ -1,5 +1,5 @@
 -- The end of a run: the stop of all calls, and the close of the table.
-use Rattle.std.proofs.Common.{◌≡◌, refl, sym, subst, ℕ, ◌≤◌, arith, List, [], Option, Some, None}
+use Rattle.std.proofs.Common.{◌≡◌, refl, sym, subst, ℕ, ◌≤◌, ◌<◌, ◌^◌, arith, List, [], Option, Some, None}
 use Rattle.relay_outside.specs.declared.ports.PortCall.{PortCall}
 use Rattle.relay_outside.specs.declared.keys.KeyCall.{KeyCall}
 use Rattle.relay_outside.specs.declared.link.LinkCall.{LinkCall}
@@ -11,12 +11,14 @@ use Rattle.call_board.specs.Acts.{BoardEntry}
 use Rattle.relay_core.specs.declared.part.Part.{Part}
 use Rattle.relay_core.specs.Entries.{Entry}
 use Rattle.relay_core.specs.Made.{Made}
+use Rattle.relay_core.specs.Turning.{made_by}
+use Rattle.media_ports.specs.Held.{TellsHeld}
 use Rattle.media_ports.specs.Asked as asked
 use Rattle.media_ports.proofs.Asked.{gained_openings_alone}
 use Rattle.media_lane.specs.declared.answers.Totals.{Totals}
 use Rattle.media_lane.specs.Visits.{Row, AreTotals}
 use Rattle.board_turns.specs.Between.{IsBetween}
-use Rattle.board_turns.proofs.Firsts.{none_open}
+use Rattle.board_turns.proofs.Firsts.{first_board, none_open}
 use Rattle.main_sweeps.specs.Totals.{HasTotals}
 use Rattle.ng_server.specs.Servers.{OpensJust}
 use Rattle.relay_app.specs.declared.status.Status.{Status}
@@ -25,13 +27,33 @@ use Rattle.relay_app.specs.declared.words.Settings.{Settings}
 use Rattle.relay_app.specs.Rounds.{history_after, IsWhole}
 use Rattle.relay_app.specs.Run.{OpensNone, TellsNone}
 use Rattle.relay_app.specs.Served.{Outside, HaveCauses, openings, DidServe}
-use Rattle.relay_app.specs.Turned.{DidTurns}
+use Rattle.relay_app.specs.declared.serve.Looped.{Looped}
+use Rattle.relay_app.specs.Turned.{DidTurns, CanWork, DidWork, MadeTurns}
 
 -- the same hand, by another name of its table and its configuration
 pub moved_between : {M I O T : Type 0} {g : _} (config same : Config) (turns like : Turns M (Part I O) Made T) (hand : Hand M (Part I O) Made T g) → config ≡ same → turns ≡ like
     → IsBetween config turns hand → IsBetween same like hand
 moved_between {M} {I} {O} {T} {g} config same turns like hand p q b =
     subst (λ (t : Turns M (Part I O) Made T). IsBetween same t hand) q (subst (λ (c : Config). IsBetween c turns hand) p b)
+
+-- before the first turn
+pub may_begin : {M I O : Type 0} {g : _} (settings : Settings) (config : Config) (turns : Turns M (Part I O) Made (Unit {0})) (opened : Option (List PortCall))
+    (hand : Hand M (Part I O) Made (Unit {0}) g) → settings.turns < 2 ^ 63 → config ≡ settings.config → IsBetween config turns hand → made_by hand ≡ [] → TellsHeld config opened []
+    → CanWork settings config turns opened (Some hand)
+may_begin {M} {I} {O} {g} settings config turns opened hand limit config_is between nothing shut = record {
+  limit = limit;
+  config_is = config_is;
+  between = between;
+  nothing = nothing;
+  opens = subst (λ (h : List BoardEntry). OpensJust config h opened) (sym (first_board (made_by hand) nothing)) shut;
+}
+
+-- the turns of the hand that is there after them
+pub made_turns : {M I O : Type 0} {g : _} (settings : Settings) (config : Config) (turns : Turns M (Part I O) Made (Unit {0})) (range : Option (ℕ × ℕ)) (outside : Outside) (faults faults_now : ℕ)
+    (old new : Hand M (Part I O) Made (Unit {0}) g) (after : Option (Hand M (Part I O) Made (Unit {0}) g)) (looped : Looped) → after ≡ Some new
+    → DidWork settings config turns range outside faults faults_now (Some old) after looped → MadeTurns settings config turns range outside faults faults_now old new looped
+made_turns {M} {I} {O} {g} settings config turns range outside faults faults_now old new after looped is did =
+    subst (λ (h : Option (Hand M (Part I O) Made (Unit {0}) g)). DidWork settings config turns range outside faults faults_now (Some old) h looped) is did
 
 -- what the turns caused, when more faults of ports were counted after them
 stopped_causes : (history : List BoardEntry) (then later : Outside) → then.port_faults ≡ later.port_faults → then.key_faults ≡ later.key_faults

@@ -1,6 +1,6 @@
 -- The steps of a run. Those of the main hand, in the order in which they were made: rounds, each a control turn, and the stop. Where no thread
 -- relays media, a sweep of media stands behind each control turn and before the stop; else each thread made sweeps beside them.
-use Rattle.std.specs.Prelude.{◌≡◌, ◌+◌, ◌<◌, ℕ, suc, List, [], ◌∷◌, ◌++◌, Option, None, Some, map, length}
+use Rattle.std.specs.Prelude.{◌≡◌, ◌+◌, ◌<◌, ℕ, zero, suc, List, [], ◌∷◌, ◌++◌, Option, None, Some, map, length}
 use Rattle.std.specs.Option.{option_map}
 use Rattle.relay_outside.specs.declared.settings.Config.{Config}
 use Rattle.call_board.specs.Acts.{BoardEntry}
@@ -78,7 +78,7 @@ pub record HasSwept (config : Config) (index lanes : ℕ) (range : Option (ℕ �
 
 -- What the main hand sweeps, by how many threads relay media: all pairs, where there is none, and else nothing
 abbrev pub SweepsAlone : Config → (threads : ℕ) → Option (ℕ × ℕ) → List Row → Type 0
-SweepsAlone config 0 range rows = HasSwept config 0 1 range rows
+SweepsAlone config zero range rows = HasSwept config 0 1 range rows
 SweepsAlone config (suc more) range rows = rows ≡ []
 
 -- the rows of these rounds

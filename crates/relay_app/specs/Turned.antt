@@ -71,7 +71,7 @@ module _ {M I O : Type 0} {g : _} where
     pub config_is : config ≡ settings.config
     pub between : IsBetween config turns hand
     pub nothing : made_by hand ≡ []
-    pub open : OpensJust config (history_of hand) opened
+    pub opens : OpensJust config (history_of hand) opened
 
   abbrev pub CanWork : Settings → Config → Turns M (Part I O) Made (Unit {0}) → Option (List PortCall) → Option (Hand M (Part I O) Made (Unit {0}) g) → Type 0
   CanWork settings config turns opened None = ⊥
@@ -82,7 +82,7 @@ module _ {M I O : Type 0} {g : _} where
       (old new : Hand M (Part I O) Made (Unit {0}) g) (looped : Looped) : Type 0 where
     pub same : IsSameHand old new
     pub between : IsBetween config turns new
-    pub open : OpensJust config (history_of new) outside.opened_now
+    pub opens : OpensJust config (history_of new) outside.opened_now
     pub did : DidTurns settings.turns config settings.threads range outside looped.status looped.counts (entries new)
     pub totals : HasTotals (made_by new) looped.totals
     pub later : (link_faults ≤ link_faults_now) × (outside.port_faults ≤ outside.port_faults_now) × (outside.key_faults ≤ outside.key_faults_now)

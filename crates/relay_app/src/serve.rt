@@ -21,7 +21,7 @@ ghost use Rattle.relay_app.specs.Turned.{AddsSweep, DidTurns, CanWork, DidWork, 
 use crate::beside::{ControlWork, run_beside};
 use crate::status::Status;
 use crate::threads::{MediaThread, join_threads, make_threads};
-use crate::totals::Counts;
+use crate::totals::{Counts, no_totals};
 use crate::words::Settings;
 use main_sweeps::sweep_between;
 use media_lane::Totals;
@@ -45,10 +45,8 @@ pub(crate) struct Looped {
 }
 
 impl Looped {
-    /// Nothing was done yet; a run that makes no control turn has spent its turns.
-    fn not_begun() -> Looped
-        ensures { result ≡ record { status = Status.TurnsSpent; counts = record { turns = 0; datagrams = 0; replies = 0 }; totals = record { taken = 0; sent = 0; refused = 0; lost = 0 } } }
-    {
+    /// Nothing was done yet: a run that makes no control turn has spent its turns.
+    fn not_begun() -> Looped {
         Looped {
             status: Status::TurnsSpent,
             counts: Counts {
@@ -56,12 +54,7 @@ impl Looped {
                 datagrams: 0,
                 replies: 0,
             },
-            totals: Totals {
-                taken: 0,
-                sent: 0,
-                refused: 0,
-                lost: 0,
-            },
+            totals: no_totals(),
         }
     }
 }
@@ -160,7 +153,7 @@ fn make_turns<N: ControlLink, P: PortMaker, K: KeySource, T: Timer, C: Clock, G:
     ensures ends { IsLoopEnd result.0.status }
 {
     let mut hand = hand;
-    let mut totals = Totals::none();
+    let mut totals = no_totals();
     let mut counts = Counts {
         turns: 0,
         datagrams: 0,
@@ -363,10 +356,11 @@ where
         &mut threads,
     );
     let ControlLoop {
+        alloc: _,
+        settings: _,
         hand,
         mut desk,
         looped,
-        ..
     } = control;
     let Some(hand) = hand else {
         unreachable!()

@@ -7,6 +7,7 @@ ghost use Rattle.relay_app.specs.Rounds.{all_of};
 ghost use Rattle.relay_app.specs.Threads.{MayJoin, IsFresh, HasWorked, AddsEach, rows_of};
 
 use crate::beside::MediaWork;
+use crate::totals::no_totals;
 use media_lane::{Lane, Totals, lane_loop};
 use relay_core::{Happening, Part, Relay};
 use relay_outside::{Clock, Config, Gate, InEnd, OutEnd};
@@ -67,7 +68,7 @@ pub(crate) fn make_threads<I: InEnd, O: OutEnd>(
         let part = turns.split_hand(hand);
         threads.push_reserved(MediaThread {
             lane: Lane::new(part, index, count, config),
-            totals: Totals::none(),
+            totals: no_totals(),
         });
     }
     threads

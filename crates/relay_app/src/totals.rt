@@ -1,4 +1,5 @@
 ghost use Rattle.std.specs.Prelude.{◌≡◌, ◌+◌, ◌≤◌, ◌<◌, ◌^◌, ◌++◌, ℕ, [], length, decimal};
+ghost use Rattle.media_lane.specs.Visits.{AreTotals};
 ghost use Rattle.relay_app.specs.Served.{totals_line, sum_of, turn_counts};
 
 use media_lane::Totals;
@@ -14,6 +15,18 @@ pub(crate) struct Counts {
     pub(crate) datagrams: u64,
     /// The replies sent.
     pub(crate) replies: u64,
+}
+
+/// Nothing came of any packet yet.
+pub(crate) fn no_totals() -> Totals
+    ensures { AreTotals [] result }
+{
+    Totals {
+        taken: 0,
+        sent: 0,
+        refused: 0,
+        lost: 0,
+    }
 }
 
 impl Counts {

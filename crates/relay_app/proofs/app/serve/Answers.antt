@@ -9,6 +9,9 @@ returns-in_default-clause-served g c = not_begun c.args.settings.now _ _ _ refl 
 pub returns-in_default-new-clause-served : goal.returns-in_default-new-clause-served
 returns-in_default-new-clause-served g c = not_begun c.args.settings.now _ _ _ refl refl refl refl
 
+pub returns-in_default-thread_room-clause-served : goal.returns-in_default-thread_room-clause-served
+returns-in_default-thread_room-clause-served g c = not_begun c.args.settings.now _ _ _ refl refl refl refl
+
 pub returns-in_default-start-clause-served : goal.returns-in_default-start-clause-served
 returns-in_default-start-clause-served g c = not_begun c.args.settings.now _ _ _ refl refl refl refl
 

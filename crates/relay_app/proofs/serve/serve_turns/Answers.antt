@@ -1,19 +1,58 @@
-use Rattle.std.proofs.Common.{◌∙◌}
+use Rattle.std.proofs.Common.{◌∙◌, ap, sym, subst, map}
+use Rattle.turn_table.specs.Hands.{entries}
+use Rattle.relay_core.specs.Joining.{IsSound}
+use Rattle.relay_core.specs.Made.{list_of}
+use Rattle.board_turns.proofs.Betweens.{between_sound}
+use Rattle.main_sweeps.specs.Totals.{HasTotals}
+use Rattle.main_sweeps.proofs.Counts.{turn_totals}
+use Rattle.relay_app.specs.Threads.{rows_of}
+use Rattle.relay_app.proofs.MediaThreads.{are_done, are_hands, as_many, may_join, all_threads, all_of_lane, all_sound, all_totals}
 use Rattle.relay_app.proofs.Rounds.{whole_run}
-use Rattle.relay_app.proofs.Wholes.{opens_again, ran_whole}
+use Rattle.relay_app.proofs.Wholes.{moved_between, may_begin, made_turns, ran_whole}
 use Rattle.relay_app.proofs.serve.serve_turns.Goals as goal
 
-pub stop-requires-clause-open : goal.stop-requires-clause-open
-stop-requires-clause-open g c = opens_again _ _ _ _ c.sweep-hand.ensures.history c.make_turns-hand.ensures.open
+pub make_threads-threads-requires-clause-between : goal.make_threads-threads-requires-clause-between
+make_threads-threads-requires-clause-between g c =
+    moved_between c.args.server.config c.args.settings.now.config c.args.server.turns c.turns.result.now c.args.hand c.requires.config (sym c.turns.ensures) c.requires.between
 
-pub close_table-requires-clause-all : goal.close_table-requires-clause-all
-close_table-requires-clause-all g c = c.stop.ensures.same.2 ∙ c.sweep-hand.ensures.same.2 ∙ c.make_turns-hand.ensures.same.2 ∙ c.requires.all
+pub run_beside-requires-clause-control : goal.run_beside-requires-clause-control
+run_beside-requires-clause-control g c lifetimes within =
+    may_begin c.args.settings.now c.args.server.config c.args.server.turns _ c.make_threads-threads.new.hand c.requires.limit c.requires.config
+    (moved_between c.args.settings.now.config c.args.server.config c.turns.result.now c.args.server.turns c.make_threads-threads.new.hand (sym c.requires.config) c.turns.ensures
+    c.make_threads-threads.ensures.between)
+    (ap (λ rows. list_of rows) c.make_threads-threads.ensures.list ∙ c.requires.nothing) c.requires.open
+
+pub run_beside-requires-clause-threads : goal.run_beside-requires-clause-threads
+run_beside-requires-clause-threads g c lifetimes within i d lt =
+    are_hands c.args.settings.now.config c.turns.result.now c.turns-2.result.now c.args.settings.now.threads c.make_threads-threads.result.items (c.turns.ensures ∙ sym c.turns-2.ensures)
+    c.make_threads-threads.ensures.as_many c.make_threads-threads.ensures.fresh i d lt
+
+pub join_threads-requires-clause-others : goal.join_threads-requires-clause-others
+join_threads-requires-clause-others g c =
+    may_join c.args.server.config c.args.settings.now.config c.args.server.turns c.turns.result.now c.args.settings.now.threads (g.C.Clock.range c.args.clock.now) c.make_threads-threads.result.items c.run_beside.new.threads.items (sym c.requires.config) c.turns.ensures c.run_beside.ensures.as_many c.make_threads-threads.ensures.as_many c.make_threads-threads.ensures.fresh c.run_beside.ensures.threads c.turns-3.result.now (sym c.turns-3.ensures)
+
+pub close_table-requires-clause-sound : goal.close_table-requires-clause-sound
+close_table-requires-clause-sound g c =
+    subst (λ rows. IsSound c.args.server.config rows) (sym c.join_threads.ensures.list)
+    (all_sound c.args.server.config c.args.server.turns c.args.settings.now.threads (g.C.Clock.range c.args.clock.now) 0 c.run_beside.new.threads.items
+    (are_done c.args.server.config c.args.settings.now.config c.args.server.turns c.turns.result.now c.args.settings.now.threads (g.C.Clock.range c.args.clock.now) c.make_threads-threads.result.items c.run_beside.new.threads.items (sym c.requires.config) c.turns.ensures c.run_beside.ensures.as_many c.make_threads-threads.ensures.as_many c.make_threads-threads.ensures.fresh c.run_beside.ensures.threads)
+    (entries c.stop.new.hand) (between_sound c.args.server.config c.args.server.turns c.stop.new.hand c.stop.ensures.between))
 
 pub returns-clause-did : goal.returns-clause-did
 returns-clause-did g c =
-    let did = c.make_turns-hand.ensures.did in
-    ran_whole c.args.limit c.args.server.config _ _ _ _ _ _ _ _ _ _ _ _ _ _ _ c.make_turns-hand.result.0.status c.make_turns-hand.result.0.counts c.sweep-hand.new.totals _
-    c.stop.ensures.later c.stop.ensures.closes did
-    (whole_run c.args.server.config _ did.rounds c.sweep-hand.new.totals c.args.server.turns c.make_turns-hand.result.1 c.sweep-hand.result c.stop.new.hand
-    did.are_rounds did.board_is c.sweep-hand.ensures.history c.sweep-hand.ensures.swept c.sweep-hand.ensures.between c.stop.ensures.between c.stop.ensures.makes
-    (c.sweep-hand.ensures.totals c.make_turns-hand.ensures.totals) c.close_table.ensures.legal c.close_table.ensures.timed)
+    let made = made_turns c.args.settings.now c.args.server.config c.args.server.turns (g.C.Clock.range c.args.clock.now) _ _ _ c.make_threads-threads.new.hand c.in-Some.hand
+    c.run_beside.new.control.hand c.run_beside.new.control.looped c.in-Some.is c.run_beside.ensures.control in
+    let did = made.did in
+    let done = are_done c.args.server.config c.args.settings.now.config c.args.server.turns c.turns.result.now c.args.settings.now.threads (g.C.Clock.range c.args.clock.now) c.make_threads-threads.result.items c.run_beside.new.threads.items (sym c.requires.config) c.turns.ensures c.run_beside.ensures.as_many c.make_threads-threads.ensures.as_many c.make_threads-threads.ensures.fresh c.run_beside.ensures.threads in
+    ran_whole c.args.settings.now.turns c.args.server.config c.args.settings.now.threads _ _ _ _ _ _ _ _ _ _ _ _ _ _ _ c.run_beside.new.control.looped.status
+    c.run_beside.new.control.looped.counts c.join_threads.new.totals _ c.stop.ensures.later c.stop.ensures.closes did
+    (whole_run c.args.server.config c.args.settings.now.threads (g.C.Clock.range c.args.clock.now) did.rounds c.join_threads.new.totals c.args.server.turns c.in-Some.hand
+    c.sweep_alone-hand.result c.stop.new.hand c.join_threads.new.hand (map (λ thread. rows_of thread) c.run_beside.new.threads.items) did.are_rounds did.board_is
+    c.sweep_alone-hand.ensures.history c.sweep_alone-hand.ensures.swept c.sweep_alone-hand.ensures.between c.stop.ensures.between c.stop.ensures.makes
+    (as_many c.args.server.config c.args.settings.now.config c.args.server.turns c.turns.result.now c.args.settings.now.threads (g.C.Clock.range c.args.clock.now) c.make_threads-threads.result.items c.run_beside.new.threads.items (sym c.requires.config) c.turns.ensures c.run_beside.ensures.as_many c.make_threads-threads.ensures.as_many c.make_threads-threads.ensures.fresh c.run_beside.ensures.threads)
+    (all_threads c.args.server.config c.args.server.turns c.args.settings.now.threads (g.C.Clock.range c.args.clock.now) 0 c.run_beside.new.threads.items done) (all_of_lane c.args.server.config c.args.server.turns c.args.settings.now.threads (g.C.Clock.range c.args.clock.now) 0 c.run_beside.new.threads.items done) c.join_threads.ensures.list
+    (subst (λ rows. HasTotals (list_of rows) c.join_threads.new.totals) (sym c.join_threads.ensures.list)
+    (all_totals c.args.server.config c.args.server.turns c.args.settings.now.threads (g.C.Clock.range c.args.clock.now) 0 c.run_beside.new.threads.items done (entries c.stop.new.hand) c.sweep_alone-hand.new.totals c.join_threads.new.totals c.join_threads.ensures.totals
+    (turn_totals c.args.server.config c.sweep_alone-hand.result c.stop.new.hand _ c.sweep_alone-hand.new.totals c.sweep_alone-hand.ensures.between.orderly c.stop.ensures.makes
+    (c.sweep_alone-hand.ensures.totals made.totals))))
+    c.close_table.ensures.legal c.close_table.ensures.timed)
