@@ -7,6 +7,7 @@ use relay_outside::{Clock, OpenGate};
 use std::test::Fail;
 
 // A clock that stands still. It hints at these ports whenever it is asked, and says that it has written so many.
+#[derive(Drop)]
 struct HintingClock {
     hints: [u16; 4],
     count: usize,
