@@ -1,3 +1,5 @@
+ghost use Rattle.std.specs.Prelude.{◌≡◌, ◌-◌, ◌/◌, ◌%◌, ◌<◌, ◌≤◌, length};
+
 use libc::net::{EPOLL_CLOEXEC, EPOLL_CTL_ADD, EPOLLIN, epoll_create1};
 use os::EpollEvent;
 use std::alloc::Global;
@@ -63,7 +65,9 @@ impl EventSet {
 
     /// Waits until a socket is readable, and writes the numbers of those that are to the front of the buffer:
     /// how many they are.
-    fn wait(&self, clock: &impl rt::Clock, millis: u32, numbers: &mut [u16]) -> usize {
+    fn wait(&self, clock: &impl rt::Clock, millis: u32, numbers: &mut [u16]) -> usize
+        ensures { result ≤ length numbers.new }
+    {
         let longest = if self.complete.load(Ordering::SeqCst) {
             millis
         } else {
@@ -101,6 +105,7 @@ pub struct Readiness {
     sets: Vec<EventSet>,
     lanes: u32,
     first_port: u16,
+    ghost some_lane: { 0 < lanes },
 }
 
 impl Readiness {
@@ -131,9 +136,11 @@ impl Readiness {
     }
 
     /// The lane of the pair that has this port; lane 0 where it stands below the first.
-    fn lane_of(&self, port: u16) -> u32 {
+    fn lane_of(&self, port: u16) -> u32
+        ensures { result ≡ (port - self.now.first_port) / 2 % self.now.lanes }
+    {
         let pair = port.saturating_sub(self.first_port) / 2;
-        u32::from(pair).checked_rem(self.lanes).unwrap_or(0)
+        u32::from(pair) % self.lanes
     }
 
     /// Watches a media socket at this port, in the set of its lane.
@@ -161,7 +168,9 @@ impl Readiness {
         lane: u32,
         millis: u32,
         ports: &mut [u16],
-    ) -> usize {
+    ) -> usize
+        ensures { result ≤ length ports.new }
+    {
         match self.set_of(lane) {
             Some(set) => set.wait(clock, millis, ports),
             None => {
