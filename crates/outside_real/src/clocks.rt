@@ -1,3 +1,4 @@
+use crate::readiness::Readiness;
 use relay_outside::{Clock, Timer};
 use std::rt;
 use std::time::Instant;
@@ -41,17 +42,21 @@ impl<'a, R: rt::Clock> Timer for SystemTimer<'a, R> {
 }
 
 /// The system's monotonic clock, in milliseconds since this was made. It tells no range.
+///
+/// Its hints of ports are the system's, as `Readiness` gives them.
 #[derive(Drop)]
 pub struct SystemClock<'a, R: rt::Clock> {
     clock: &'a R,
+    readiness: &'a Readiness,
     start: Option<Instant>,
 }
 
 impl<'a, R: rt::Clock> SystemClock<'a, R> {
-    /// A clock that begins now.
-    pub fn new(clock: &'a R) -> SystemClock<'a, R> {
+    /// A clock that begins now, with hints of the sockets that are watched there.
+    pub fn new(clock: &'a R, readiness: &'a Readiness) -> SystemClock<'a, R> {
         SystemClock {
             clock,
+            readiness,
             start: Instant::now(clock).ok(),
         }
     }
@@ -64,5 +69,9 @@ impl<'a, R: rt::Clock> Clock for SystemClock<'a, R> {
 
     fn now(&self) -> u64 {
         millis_since(self.clock, &self.start)
+    }
+
+    fn ready(&self, lane: u32, millis: u32, ports: &mut [u16]) -> usize {
+        self.readiness.wait(self.clock, lane, millis, ports)
     }
 }

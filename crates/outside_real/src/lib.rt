@@ -1,7 +1,7 @@
 //! The devices of a running program, behind the traits of `relay_outside`: UDP sockets, the system's clock,
 //! keys from a ChaCha20 stream, standard input and output.
 //! Sockets, clock and streams are the trusted edge: each is a few lines, counts its faults and tells nothing
-//! of what it takes and gives. It is proved which bytes of the seed's stream each key is, and which lines a
+//! of what it takes and gives. Which sockets are readable is a hint, on which nothing rests. It is proved which bytes of the seed's stream each key is, and which lines a
 //! stream of known bytes gives.
 #![tactic(auto)]
 
@@ -12,6 +12,7 @@ mod keys;
 mod lines;
 mod link;
 mod ports;
+mod readiness;
 mod seed;
 mod sink;
 
@@ -21,5 +22,6 @@ pub use keys::ChaChaKeys;
 pub use lines::StdLines;
 pub use link::UdpLink;
 pub use ports::{UdpIn, UdpMaker, UdpOut};
+pub use readiness::Readiness;
 pub use seed::read_seed;
 pub use sink::StdSink;

@@ -1,13 +1,14 @@
 use crate::address::{addr_of, socket_addr};
 use crate::faults::Faults;
+use crate::readiness::Readiness;
 use relay_outside::{Addr, Failed, InCall, InEnd, OutCall, OutEnd, PortCall, PortMaker};
 use std::io::{self, ErrorKind};
 use std::net::{Net, UdpSocket};
 
 /// The receiving end of a UDP port. It tells nothing.
 ///
-/// A take never waits. Each error of the system is a fault, but for the one that says that nothing is
-/// there; that an earlier datagram reached nobody (ICMP) is not told to a socket without a fixed peer.
+/// A take never waits. Each error of the system is a fault, but for those that say that nothing is there or
+/// that a signal came; that an earlier datagram reached nobody (ICMP) is not told to a socket without a fixed peer.
 #[derive(Drop)]
 pub struct UdpIn {
     socket: UdpSocket,
@@ -24,8 +25,10 @@ impl InEnd for UdpIn {
     fn take(&mut self, buf: &mut [u8]) -> Result<Option<(Addr, usize)>, Failed> {
         match self.socket.recv_from(buf) {
             Ok((len, from)) => Ok(Some((addr_of(from), len))),
-            Err(error) if error.kind() == ErrorKind::WouldBlock => Ok(None),
-            Err(_) => Err(self.faults.count()),
+            Err(error) => match error.kind() {
+                ErrorKind::WouldBlock | ErrorKind::Interrupted => Ok(None),
+                _ => Err(self.faults.count()),
+            },
         }
     }
 }
@@ -56,31 +59,35 @@ impl OutEnd for UdpOut {
 
 /// Opens UDP ports, of both families, each as two ends of one socket. It tells nothing.
 ///
-/// An address that is in use, or is none of this host's, is a fault, and so is want of descriptors.
+/// An address that is in use, or is none of this host's, is a fault, and so is want of descriptors. That the
+/// system doesn't watch a socket is none.
 #[derive(Drop)]
 pub struct UdpMaker<'a, R: Net> {
     net: &'a R,
+    readiness: &'a Readiness,
     faults: Faults,
 }
 
 impl<'a, R: Net> UdpMaker<'a, R> {
-    /// A maker that has opened no port yet.
-    pub fn new(net: &'a R) -> UdpMaker<'a, R> {
+    /// A maker that has opened no port yet. Each port that it opens is watched there.
+    pub fn new(net: &'a R, readiness: &'a Readiness) -> UdpMaker<'a, R> {
         UdpMaker {
             net,
+            readiness,
             faults: Faults::new(),
         }
     }
 }
 
-/// The two ends of a socket that is bound here and never waits.
-fn open<R: Net>(net: &R, at: Addr) -> io::Result<(UdpIn, UdpOut)> {
+/// The two ends of a socket that is bound here, never waits, and is watched.
+fn open<R: Net>(net: &R, readiness: &Readiness, at: Addr) -> io::Result<(UdpIn, UdpOut)> {
     let socket = UdpSocket::bind(net, socket_addr(at))?;
     socket.set_nonblocking(true)?;
     let sending = UdpOut {
         socket: socket.try_clone()?,
         faults: Faults::new(),
     };
+    readiness.watch(&socket, at.port);
     let receiving = UdpIn {
         socket,
         faults: Faults::new(),
@@ -100,13 +107,13 @@ impl<'a, R: Net> PortMaker for UdpMaker<'a, R> {
     ghost faults = { λ maker. maker.faults };
 
     fn open(&mut self, at: Addr) -> Result<(UdpIn, UdpOut), Failed> {
-        match open(self.net, at) {
+        match open(self.net, self.readiness, at) {
             Ok(ends) => Ok(ends),
             Err(_) => Err(self.faults.count()),
         }
     }
 
-    /// The system closes the port where both ends are dropped, which is done here.
+    /// The system closes the port, and watches it no more, where both ends are dropped, which is done here.
     fn close(&mut self, _at: Addr, receiving: UdpIn, sending: UdpOut) {
         drop(receiving);
         drop(sending);

@@ -7,17 +7,22 @@ mod words;
 
 use crate::words::{Words, read_words};
 use outside_real::{
-    ChaChaKeys, StdLines, StdSink, SystemClock, SystemTimer, UdpLink, UdpMaker, read_seed,
+    ChaChaKeys, Readiness, StdLines, StdSink, SystemClock, SystemTimer, UdpLink, UdpMaker,
+    read_seed,
 };
-use relay_app::{Status, run};
+use relay_app::{Media, Status, read_media, run};
 use relay_outside::OpenGate;
-use std::alloc::Global;
+use std::alloc::{AllocError, Global};
 use std::io::{self, BufReader};
 use std::net::Net;
 use std::process::ExitCode;
 use std::random::RandomSource;
 use std::rt::Clock;
 use std::sync::Wait;
+use std::thread::Threads;
+
+/// How long a take of the control link waits where media have threads of their own, in milliseconds.
+const CONTROL_WAIT_MILLIS: u32 = 1_000;
 
 fn main(rt: HostRuntime) -> ExitCode {
     let alloc = rt.alloc();
@@ -29,34 +34,61 @@ fn main(rt: HostRuntime) -> ExitCode {
     ExitCode::from(status.number())
 }
 
-/// Makes the devices and runs the relay: sockets, the system's clock, keys from a seed of the runtime's
-/// random source, standard input and output. Without a seed nothing is run, and the answer is that of a
-/// run that got no memory.
-fn start<R>(rt: &R, alloc: Global, words: &Vec<String>) -> Status
-where
-    R: Wait + Sync + Net + Clock + RandomSource + Input + Print,
-{
+/// The words as slices.
+fn texts_of(alloc: Global, words: &Vec<String>) -> Result<Vec<&str>, AllocError> {
     let mut texts = Vec::new(alloc);
     for word in words {
-        if texts.push(word.as_str()).is_err() {
-            return Status::OutOfMemory;
-        }
+        texts.push(word.as_str())?;
     }
+    Ok(texts)
+}
+
+/// What the words say of media; without words of `serve`, for which no socket is opened, no threads.
+fn media_of(words: &[&str]) -> Media {
+    match read_media(words) {
+        Some(media) => media,
+        None => Media {
+            threads: 0,
+            first_port: 0,
+        },
+    }
+}
+
+/// The control link: its take waits where media have threads of their own, and else the sweep does.
+fn link<'a, R: Net>(net: &'a R, readiness: &'a Readiness, threads: u32) -> UdpLink<'a, R> {
+    match threads {
+        0 => UdpLink::watched(net, readiness),
+        _ => UdpLink::waiting(net, CONTROL_WAIT_MILLIS),
+    }
+}
+
+/// Makes the devices and runs the relay: sockets, the system's hints of which are readable, its clock, keys
+/// from a seed of the runtime's random source, standard input and output. Without a seed nothing is run, and
+/// the answer is that of a run that got no memory.
+fn start<R>(rt: &R, alloc: Global, words: &Vec<String>) -> Status
+where
+    R: Threads + Wait + Sync + Net + Clock + RandomSource + Input + Print,
+{
+    let Ok(texts) = texts_of(alloc, words) else {
+        return Status::OutOfMemory;
+    };
     let Ok(seed) = read_seed(rt) else {
         return Status::OutOfMemory;
     };
     let Ok(input) = BufReader::new(alloc, rt.reader()) else {
         return Status::OutOfMemory;
     };
+    let media = media_of(texts.as_slice());
+    let readiness = Readiness::new(alloc, media.threads, media.first_port);
     run(
         rt,
         alloc,
         texts.as_slice(),
-        &mut UdpLink::new(rt),
-        &mut UdpMaker::new(rt),
+        &mut link(rt, &readiness, media.threads),
+        &mut UdpMaker::new(rt, &readiness),
         &mut ChaChaKeys::from_seed(seed),
         &mut SystemTimer::new(rt),
-        &SystemClock::new(rt),
+        &SystemClock::new(rt, &readiness),
         &OpenGate::new(),
         &mut StdLines::new(input),
         &mut StdSink::new(io::writer(rt)),

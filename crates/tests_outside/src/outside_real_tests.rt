@@ -1,27 +1,47 @@
 use outside_real::{
-    ChaChaKeys, StdLines, StdSink, SystemClock, SystemTimer, UdpIn, UdpLink, UdpMaker, UdpOut,
-    addr_of, socket_addr,
+    ChaChaKeys, Readiness, StdLines, StdSink, SystemClock, SystemTimer, UdpIn, UdpLink, UdpMaker,
+    UdpOut, addr_of, socket_addr,
 };
 use relay_outside::{
     Addr, Clock, ControlLink, InEnd, Ip, KeySource, LineRead, LineSink, LineSource, OutEnd,
     PortMaker, Taken, Timer,
 };
+use std::alloc::Global;
 use std::io::{self, BufReader, Read, Write};
 use std::net::Net;
 use std::process::Abort;
 
+/// The port of the control socket, and of each port that stands alone.
+const PORT: u16 = 22_391;
+
+/// How long a wait lasts at the most that is to find something, in milliseconds.
+const LONG: u32 = 2_000;
+
+/// How long a wait lasts that is to find nothing, in milliseconds.
+const SHORT: u32 = 5;
+
 /// An address of the loopback network, with this last byte.
 fn local(host: u8) -> Addr {
+    at_port(host, PORT)
+}
+
+/// An address of the loopback network, with this last byte and this port.
+fn at_port(host: u8, port: u16) -> Addr {
     Addr {
         ip: Ip::V4([127, 0, 0, host]),
-        port: 22_391,
+        port,
     }
+}
+
+/// The hints of two lanes, whose range begins at the port.
+fn hints(alloc: Global) -> Readiness {
+    Readiness::new(alloc, 2, PORT)
 }
 
 #[test]
 fn a_datagram_goes_over_loopback(rt: HostRuntime) {
-    let mut one = UdpLink::new(&rt);
-    let mut two = UdpLink::new(&rt);
+    let mut one = UdpLink::waiting(&rt, SHORT);
+    let mut two = UdpLink::waiting(&rt, SHORT);
     let mut buf = [0; 16];
     assert!(rt; one.take(&mut buf).is_err(), "not bound yet");
     assert!(rt; one.bind(local(77)).is_ok());
@@ -38,8 +58,8 @@ fn a_datagram_goes_over_loopback(rt: HostRuntime) {
 
 #[test]
 fn an_address_in_use_can_not_be_bound(rt: HostRuntime) {
-    let mut one = UdpLink::new(&rt);
-    let mut two = UdpLink::new(&rt);
+    let mut one = UdpLink::waiting(&rt, SHORT);
+    let mut two = UdpLink::waiting(&rt, SHORT);
     assert!(rt; one.bind(local(79)).is_ok());
     assert!(rt; two.bind(local(79)).is_err());
     assert!(rt; two.send(local(79), b"ping").is_err());
@@ -65,7 +85,8 @@ fn takes(end: &mut UdpIn, buf: &mut [u8; 4], wanted: Option<(Addr, usize)>) -> b
 
 #[test]
 fn a_packet_goes_from_port_to_port(rt: HostRuntime) {
-    let mut maker = UdpMaker::new(&rt);
+    let readiness = hints(rt.alloc());
+    let mut maker = UdpMaker::new(&rt, &readiness);
     let (mut one_in, mut one_out) = open(&rt, &mut maker, local(80));
     let (mut two_in, two_out) = open(&rt, &mut maker, local(81));
     let mut buf = [0; 4];
@@ -90,8 +111,9 @@ fn a_packet_goes_from_port_to_port(rt: HostRuntime) {
 
 #[test]
 fn a_port_is_free_once_it_is_closed(rt: HostRuntime) {
-    let mut maker = UdpMaker::new(&rt);
-    let mut other = UdpMaker::new(&rt);
+    let readiness = hints(rt.alloc());
+    let mut maker = UdpMaker::new(&rt, &readiness);
+    let mut other = UdpMaker::new(&rt, &readiness);
     let (receiving, sending) = open(&rt, &mut maker, local(82));
     assert!(rt; other.open(local(82)).is_err(), "in use");
     maker.close(local(82), receiving, sending);
@@ -101,7 +123,8 @@ fn a_port_is_free_once_it_is_closed(rt: HostRuntime) {
 
 #[test]
 fn an_address_of_the_other_family_can_not_be_sent_to(rt: HostRuntime) {
-    let mut maker = UdpMaker::new(&rt);
+    let readiness = hints(rt.alloc());
+    let mut maker = UdpMaker::new(&rt, &readiness);
     let (receiving, mut sending) = open(&rt, &mut maker, local(83));
     let six = Addr {
         ip: Ip::V6([0, 0, 0, 0, 0, 0, 0, 0, 0, 0, 0, 0, 0, 0, 0, 1]),
@@ -109,6 +132,104 @@ fn an_address_of_the_other_family_can_not_be_sent_to(rt: HostRuntime) {
     };
     assert!(rt; sending.send(six, b"lost").is_err());
     maker.close(local(83), receiving, sending);
+}
+
+/// Whether the lane gives this port, and no other, within so many milliseconds.
+fn is_ready(clock: &impl Clock, lane: u32, millis: u32, port: u16) -> bool {
+    let mut ports = [0; 4];
+    ports[1] = PORT;
+    clock.ready(lane, millis, &mut ports) == 1 && ports[..2] == [port, PORT]
+}
+
+/// Whether the lane gives nothing within a few milliseconds.
+fn is_idle(clock: &impl Clock, lane: u32) -> bool {
+    clock.ready(lane, SHORT, &mut [0; 4]) == 0
+}
+
+#[test]
+fn a_lane_is_told_the_ports_of_its_own_pairs(rt: HostRuntime) {
+    let readiness = hints(rt.alloc());
+    let clock = SystemClock::new(&rt, &readiness);
+    let mut maker = UdpMaker::new(&rt, &readiness);
+    let (first, second) = (at_port(85, PORT + 1), at_port(85, PORT + 2));
+    let (mut one_in, mut one_out) = open(&rt, &mut maker, first);
+    let (two_in, two_out) = open(&rt, &mut maker, second);
+    let mut buf = [0; 4];
+    assert!(rt; is_idle(&clock, 0) && is_idle(&clock, 1));
+    assert!(rt; one_out.send(first, b"one").is_ok());
+    assert!(rt; is_ready(&clock, 0, LONG, PORT + 1));
+    assert!(rt; is_ready(&clock, 0, LONG, PORT + 1), "until it is taken");
+    assert!(rt; is_idle(&clock, 1));
+    assert!(rt; takes(&mut one_in, &mut buf, Some((first, 3))));
+    assert!(rt; is_idle(&clock, 0));
+    assert!(rt; one_out.send(second, b"two").is_ok());
+    assert!(rt; is_ready(&clock, 1, LONG, PORT + 2));
+    maker.close(second, two_in, two_out);
+    assert!(rt; is_idle(&clock, 0) && is_idle(&clock, 1), "after its close");
+    maker.close(first, one_in, one_out);
+}
+
+#[test]
+fn a_short_buffer_is_filled_and_no_more(rt: HostRuntime) {
+    let readiness = Readiness::new(rt.alloc(), 0, PORT);
+    let clock = SystemClock::new(&rt, &readiness);
+    let mut maker = UdpMaker::new(&rt, &readiness);
+    let (first, second) = (at_port(86, PORT), at_port(86, PORT + 5));
+    let (one_in, mut one_out) = open(&rt, &mut maker, first);
+    let (two_in, two_out) = open(&rt, &mut maker, second);
+    assert!(rt; one_out.send(first, b"one").is_ok());
+    assert!(rt; one_out.send(second, b"two").is_ok());
+    let mut ports = [0; 4];
+    assert!(rt;
+        clock.ready(0, LONG, &mut ports) == 2,
+        "no lane counts as one"
+    );
+    ports.sort_unstable();
+    assert!(rt; ports == [0, 0, PORT, PORT + 5]);
+    assert!(rt; clock.ready(0, LONG, &mut [0; 1]) == 1);
+    assert!(rt; clock.ready(0, SHORT, &mut []) == 0);
+    maker.close(first, one_in, one_out);
+    maker.close(second, two_in, two_out);
+}
+
+#[test]
+fn a_lane_without_a_set_is_told_nothing(rt: HostRuntime) {
+    let readiness = hints(rt.alloc());
+    let clock = SystemClock::new(&rt, &readiness);
+    let start = clock.now();
+    assert!(rt; clock.ready(2, LONG, &mut [0; 4]) == 0);
+    assert!(rt;
+        clock.now() < start.saturating_add(u64::from(LONG)),
+        "it doesn't sleep for long"
+    );
+}
+
+#[test]
+fn a_command_wakes_the_first_lane(rt: HostRuntime) {
+    let readiness = hints(rt.alloc());
+    let clock = SystemClock::new(&rt, &readiness);
+    let mut link = UdpLink::watched(&rt, &readiness);
+    let mut peer = UdpLink::waiting(&rt, LONG);
+    let mut buf = [0; 4];
+    assert!(rt; link.bind(local(87)).is_ok());
+    assert!(rt; peer.bind(local(88)).is_ok());
+    assert!(rt; link.take(&mut buf) == Ok(Taken::Nothing));
+    assert!(rt; is_idle(&clock, 0));
+    assert!(rt; peer.send(local(87), b"ping").is_ok());
+    assert!(rt; is_ready(&clock, 0, LONG, 0));
+    assert!(rt; is_idle(&clock, 1));
+    let ping = Taken::Datagram {
+        from: local(88),
+        len: 4,
+    };
+    assert!(rt; link.take(&mut buf) == Ok(ping));
+    assert!(rt; is_idle(&clock, 0));
+    assert!(rt; link.send(local(88), b"pong").is_ok());
+    let pong = Taken::Datagram {
+        from: local(87),
+        len: 4,
+    };
+    assert!(rt; peer.take(&mut buf) == Ok(pong));
 }
 
 #[test]
@@ -124,7 +245,8 @@ fn addresses_of_both_families_stay_the_same(rt: HostRuntime) {
 #[test]
 fn the_clocks_go_forward(rt: HostRuntime) {
     let mut timer = SystemTimer::new(&rt);
-    let clock = SystemClock::new(&rt);
+    let readiness = hints(rt.alloc());
+    let clock = SystemClock::new(&rt, &readiness);
     let first = timer.now();
     assert!(rt; first <= timer.now() && first < 60_000);
     assert!(rt; clock.now() < 60_000);
