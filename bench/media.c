@@ -233,8 +233,7 @@ int main(int count, char **words) {
     if (!asked.relay) link_open((uint16_t)asked.port);
     if (asked.window < asked.threads) asked.window = asked.threads;
     const char *mode = words[1];
-    if (!strcmp(mode, "ping")) return link_is_answered((int)asked.seconds * 1000) ? 0 : 1;
-    if (!strcmp(mode, "probe")) return link_is_answered(50) ? 0 : 1;
+    if (!strcmp(mode, "probe")) return link_is_answered() ? 0 : 1;
     if (!asked.calls && strcmp(mode, "idle")) fail("no calls");
     if (!strcmp(mode, "paced")) measure_traffic(0);
     else if (!strcmp(mode, "flood")) measure_traffic(asked.window);

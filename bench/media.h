@@ -36,8 +36,8 @@ struct call {
 };
 /* The link to the proxy's control port of 127.0.0.1. */
 void link_open(uint16_t port);
-/* Waits for the proxy's answer to a ping, at most so many milliseconds. */
-bool link_is_answered(int milliseconds);
+/* Whether a ping is answered in a tenth of a second. */
+bool link_is_answered(void);
 /* Offers and answers the call, and ends it. */
 void call_open(struct call *call);
 void call_close(const struct call *call);

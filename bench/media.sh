@@ -66,18 +66,20 @@ start() {
     peer) set -- "$peer" --config-file=none --table=-1 --foreground --log-stderr --log-level=4 --delete-delay=0 "${words[@]}" ;;
     relay) set -- "$room/relay" "$first" "$3" ;;
     esac
-    if [ "$program" != relay ] && "$room/media" probe port=$control; then
+    if "$room/media" probe port=$control; then
         tell "somebody answers at 127.0.0.1:$control already"
         exit 3
     fi
     nice -n "$priority" "$@" <&9 >"$room/log" 2>&1 &
     running=$!
-    if [ "$program" = relay ]; then sleep 0.3; else "$room/media" ping port=$control seconds=5 || stop; fi
-    if [ -z "$running" ] || ! kill -0 "$running" 2>/dev/null; then
-        tail -n 5 "$room/log" >&2
-        tell "$program doesn't start: $*"
-        exit 3
-    fi
+    [ "$program" != relay ] || sleep 0.3
+    for _ in $(seq 50); do
+        kill -0 "$running" 2>/dev/null || break
+        if [ "$program" = relay ] || "$room/media" probe port=$control; then return; fi
+    done
+    tail -n 5 "$room/log" >&2
+    tell "$program doesn't start: $*"
+    exit 3
 }
 
 # measure CASE PROGRAM THREADS CALLS MODE WORD...: starts the program, measures it, and keeps and prints the line.

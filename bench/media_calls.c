@@ -41,12 +41,12 @@ static bool try(unsigned long cookie, const char *body, int milliseconds) {
     return false;
 }
 
-bool link_is_answered(int milliseconds) {
-    uint64_t end = clock_ns(CLOCK_MONOTONIC) + (uint64_t)milliseconds * 1000000;
-    while (clock_ns(CLOCK_MONOTONIC) < end) {
+bool link_is_answered(void) {
+    uint64_t end = clock_ns(CLOCK_MONOTONIC) + 100000000;
+    do {
         if (try(++cookies, "d7:command4:pinge", 100)) return strstr(reply, "4:pong") != NULL;
         usleep(20000);
-    }
+    } while (clock_ns(CLOCK_MONOTONIC) < end);
     return false;
 }
 
