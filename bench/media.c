@@ -2,7 +2,7 @@
  * of main and the words of struct asked. A measurement is a line of NAME=NUMBER words:
  *
  *   sent, received, lost   packets: lost is sent less received
- *   strange                packets that came back changed, twice, or more than 100 ms late in a flood
+ *   strange                packets that came back changed, or twice
  *   dropped                packets that the generator's own sockets had no room for
  *   rate                   packets relayed a second
  *   p50, p99               microseconds from the send of a packet to the arrival of what it became, median and 99th percentile

@@ -36,7 +36,8 @@ struct stream {
     uint8_t packet[SECURE_LENGTH];
     struct {
         uint32_t index;
-        uint64_t at; /* 0 where the packet is not awaited */
+        bool given_up; /* it doesn't count as on its way any more */
+        uint64_t at;   /* 0 where the packet is not awaited */
     } sent[REMEMBERED];
 };
 
@@ -141,9 +142,11 @@ static void send_packet(struct worker *worker, unsigned number) {
     memcpy(stream->packet + 2, &sequence, 2);
     memcpy(stream->packet + 4, &stamp, 4);
     if (stream->tagged) srtp_tag(&stream->key, index >> 16, stream->packet, PLAIN_LENGTH);
-    if (stream->sent[index % REMEMBERED].at && worker->window) worker->on_way--; /* an older one, which never came */
-    stream->sent[index % REMEMBERED].index = index;
-    stream->sent[index % REMEMBERED].at = clock_ns(CLOCK_REALTIME);
+    unsigned place = index % REMEMBERED;
+    if (stream->sent[place].at && !stream->sent[place].given_up && worker->window) worker->on_way--; /* an older one, which never came */
+    stream->sent[place].index = index;
+    stream->sent[place].given_up = false;
+    stream->sent[place].at = clock_ns(CLOCK_REALTIME);
     while (sendto(stream->from_socket, stream->packet, stream->length, 0, (struct sockaddr *)&stream->to, sizeof stream->to) < 0) {
         if (errno != EAGAIN && errno != EINTR && errno != ENOBUFS) fail("sending: %s", strerror(errno));
     }
@@ -169,7 +172,7 @@ static void note_packet(struct worker *worker, int socket, uint16_t port, const 
     stream->sent[place].at = 0;
     worker->counts.received++;
     worker->counts.delays[delay < LONGEST_DELAY ? delay : LONGEST_DELAY]++;
-    if (worker->window) worker->on_way--;
+    if (worker->window && !stream->sent[place].given_up) worker->on_way--;
 }
 
 static void receive_packets(struct worker *worker, int socket) {
@@ -232,7 +235,7 @@ static void give_up_late(struct worker *worker) {
         uint32_t index = worker->pending[worker->first_pending % PENDING].index, place = index % REMEMBERED;
         if (stream->sent[place].index != index || !stream->sent[place].at) continue;
         if (now < stream->sent[place].at + GIVEN_UP) return;
-        stream->sent[place].at = 0;
+        stream->sent[place].given_up = true;
         worker->on_way--;
     }
 }
