@@ -1,0 +1,243 @@
+#!/usr/bin/env bash
+# Loads this program and a peer (Sipwise's rtpengine, in user space) with the same media on 127.0.0.1, in turn, and prints their ratios.
+# shellcheck disable=SC2119,SC2120 # the modes take numbers where they are called by name
+set -eu
+usage() {
+    cat <<'END'
+usage: bench/media.sh MODE [NUMBER]...
+
+  paced [CALLS [SECONDS]]      each call a packet each way every 20 ms; 1, 100 and 500 calls, 5 seconds
+  flood [SECONDS [WINDOW]]     10 calls, as fast as packets come back, at most WINDOW on their way; 3 seconds, 32
+  idle [SECONDS]               no calls, and 100 without media; 10 seconds
+  setup [SECONDS]              calls offered, answered and deleted one after the other, while 100 others have media; 5 seconds
+  lanes [SECONDS [WINDOW]]     a flood of this program with 0, 1, 2 and 4 threads, and of a bare relay; 3 seconds, 64
+  soak [MINUTES [CALLS]]       one program alone, ours, a line each minute; 10 minutes, 200 calls
+  all                          paced, flood, idle, setup and lanes: some seven minutes
+
+paced and flood have calls of plain RTP, and calls whose answerer speaks SRTP. Each program is started anew for each measurement: ours,
+peer, ours, peer. What the words of a line mean is told at the top of bench/media.c. Variables, with what they are where they are not set:
+
+  RTPENGINE   our program (crates/rtpengine/out/rtpengine of this clone)
+  PEER        the peer (/usr/bin/rtpengine, of Debian's rtpengine-daemon); where it isn't there, ours is measured alone
+  PROGRAMS    which are measured, in this order (ours peer); relay is the bare relay, for plain calls
+  KINDS       of calls (plain secure)
+  ROUNDS      how often each program is measured (2)
+  THREADS     --num-threads of both programs (4)
+  SENDERS     threads of the load generator in a flood (2, or 1 where there are fewer than 4 processors)
+  PRIORITY    of the programs and the generator, for nice (0)
+  CC          the C compiler (cc)
+
+Status: 0, or 2 for wrong words, 3 where a program or the compiler can't be had, 4 where a measurement fails.
+END
+}
+
+top=$(cd "$(dirname "$0")/.." && pwd)
+ours=${RTPENGINE:-$top/crates/rtpengine/out/rtpengine} peer=${PEER:-/usr/bin/rtpengine}
+programs=${PROGRAMS:-ours peer} kinds=${KINDS:-plain secure} rounds=${ROUNDS:-2} threads=${THREADS:-4} priority=${PRIORITY:-0}
+senders=${SENDERS:-$(($(nproc) < 4 ? 1 : 2))}
+control=22260 first=10000 last=19999 # below the ports that the system gives to clients
+
+tell() { echo "bench/media.sh: $*" >&2; }
+wrong() {
+    tell "$*"
+    usage >&2
+    exit 2
+}
+
+# Ends the program that is measured, and no other.
+running=
+stop() {
+    [ -n "$running" ] || return 0
+    kill "$running" 2>/dev/null || true
+    for _ in $(seq 50); do
+        kill -0 "$running" 2>/dev/null || break
+        sleep 0.1
+    done
+    kill -KILL "$running" 2>/dev/null || true
+    wait "$running" 2>/dev/null || true
+    running=
+}
+
+# start PROGRAM THREADS CALLS
+start() {
+    local program=$1 words=("--interface=127.0.0.1" "--listen-ng=127.0.0.1:$control" "--port-min=$first" "--port-max=$last" "--num-threads=$2")
+    case $program in
+    ours) set -- "$ours" serve "${words[@]}" ;;
+    peer) set -- "$peer" --config-file=none --table=-1 --foreground --log-stderr --log-level=4 --delete-delay=0 "${words[@]}" ;;
+    relay) set -- "$room/relay" "$first" "$3" ;;
+    esac
+    if "$room/media" probe port=$control; then
+        tell "somebody answers at 127.0.0.1:$control already"
+        exit 3
+    fi
+    nice -n "$priority" "$@" <&9 >"$room/log" 2>&1 &
+    running=$!
+    [ "$program" != relay ] || sleep 0.3
+    for _ in $(seq 50); do
+        kill -0 "$running" 2>/dev/null || break
+        if [ "$program" = relay ] || "$room/media" probe port=$control; then return; fi
+    done
+    tail -n 5 "$room/log" >&2
+    tell "$program doesn't start: $*"
+    exit 3
+}
+
+# measure CASE PROGRAM THREADS CALLS MODE WORD...: starts the program, measures it, and keeps and prints the line.
+measure() {
+    local case=$1 program=$2 count=$3 calls=$4 link=port=$control line
+    shift 4
+    start "$program" "$count" "$calls"
+    [ "$program" != relay ] || link=relay=$first
+    if ! line=$(nice -n "$priority" "$room/media" "$@" $link calls="$calls" pid="$running"); then
+        tail -n 5 "$room/log" >&2
+        tell "$case of $program failed"
+        exit 4
+    fi
+    stop
+    printf '%-18s %-6s %s\n' "$case" "$program" "$line"
+    printf '%s\t%s\t%s\n' "$case" "$program" "$line" >>"$room/lines"
+}
+
+# in_turn CASE CALLS MODE WORD...: the same load on each program, in turn.
+in_turn() {
+    local case=$1 calls=$2 program
+    shift 2
+    for _ in $(seq "$rounds"); do
+        for program in $programs; do
+            if [ "$program" = relay ] && [[ $case != *plain ]]; then continue; fi
+            measure "$case" "$program" "$threads" "$calls" "$@"
+        done
+    done
+}
+
+is_secure() { [ "$1" = plain ] && echo 0 || echo 1; }
+
+paced() {
+    local calls kind
+    for calls in ${1:-1 100 500}; do
+        for kind in $kinds; do in_turn "paced $calls $kind" "$calls" paced seconds="${2:-5}" secure="$(is_secure "$kind")"; done
+    done
+}
+
+flood() {
+    local kind
+    for kind in $kinds; do
+        in_turn "flood $kind" 10 flood seconds="${1:-3}" window="${2:-32}" threads="$senders" secure="$(is_secure "$kind")"
+    done
+}
+
+idle() {
+    local calls
+    for calls in 0 100; do in_turn "idle $calls" "$calls" idle seconds="${1:-10}"; done
+}
+
+setup() { in_turn "setup" 100 setup seconds="${1:-5}"; }
+
+lanes() {
+    local count words=(flood seconds="${1:-3}" window="${2:-64}" threads="$senders")
+    for _ in $(seq "$rounds"); do
+        measure "lanes relay" relay 1 16 "${words[@]}"
+        for count in 0 1 2 4; do measure "lanes $count" ours $count 16 "${words[@]}"; done
+    done
+}
+
+soak() {
+    local program=${programs%% *}
+    start "$program" "$threads" "${2:-200}"
+    if ! nice -n "$priority" "$room/media" soak port=$control calls="${2:-200}" minutes="${1:-10}" pid="$running"; then
+        tail -n 5 "$room/log" >&2
+        tell "the soak of $program failed"
+        exit 4
+    fi
+    stop
+}
+
+# The mean of each figure over the rounds, and the ratio of the programs'.
+table() {
+    awk -F '\t' '
+    function mean(name, program, figure) { return rounds[name, program] ? sum[name, program, figure] / rounds[name, program] : 0 }
+    function shown(name, program, figure,    x) {
+        if (!rounds[name, program]) return "-"
+        x = mean(name, program, figure)
+        return sprintf(x >= 1000 ? "%.0f" : x >= 10 ? "%.1f" : "%.3f", x)
+    }
+    function row(name, figure, text,    a, b) {
+        a = mean(name, "ours", figure); b = mean(name, "peer", figure)
+        printf "%-18s %-30s %10s %10s %10s", name, text, shown(name, "ours", figure), shown(name, "peer", figure), (a > 0 && b > 0) ? sprintf("%.2f", a / b) : "-"
+        printf relay ? " %10s\n" : "\n", shown(name, "relay", figure)
+    }
+    {
+        if (!($1 in seen)) { seen[$1] = 1; if ($1 ~ /^lanes/) lanes[++lane_count] = $1; else names[++count] = $1 }
+        rounds[$1, $2]++
+        if ($1 !~ /^lanes/ && $2 == "relay") relay = 1
+        words = split($3, word, " ")
+        for (i = 1; i <= words; i++) { split(word[i], pair, "="); sum[$1, $2, pair[1]] += pair[2] }
+    }
+    END {
+        if (count) printf relay ? "\n%-18s %-30s %10s %10s %10s %10s\n" : "\n%-18s %-30s %10s %10s %10s\n", "", "", "ours", "peer", "ours/peer", "relay"
+        for (k = 1; k <= count; k++) {
+            name = names[k]
+            if (name ~ /^setup/) { row(name, "setups", "set-ups a second"); row(name, "setup_p50", "set-up, p50, us"); row(name, "setup_p99", "set-up, p99, us") }
+            if (name ~ /^flood/) row(name, "rate", "packets a second")
+            if (name !~ /^idle/) { row(name, "lost", "packets lost"); row(name, "p50", "delay, p50, us"); row(name, "p99", "delay, p99, us") }
+            if (name ~ /^(paced|flood)/) row(name, "us", "processor time a packet, us")
+            row(name, "processor", "processor time, % of one")
+            row(name, "rss", "resident memory, KiB")
+            if (name ~ /^flood/) row(name, "generator", "generator, % of one processor")
+            if (name ~ /^(paced|setup)/) row(name, "latest", "generator late, at most, us")
+        }
+        if (lane_count) printf "\n%-14s %10s %10s %10s %10s %10s %10s %10s\n", "lanes", "packets/s", "to relay", "us/packet", "own %", "lost", "p50, us", "p99, us"
+        for (k = 1; k <= lane_count; k++) {
+            name = lanes[k]; p = name ~ /relay/ ? "relay" : "ours"
+            printf "%-14s %10.0f %10.2f %10.2f %10.0f %10.1f %10.0f %10.0f\n", p == "relay" ? p : substr(name, 7) " threads", mean(name, p, "rate"),
+                mean(name, p, "rate") / (mean("lanes relay", "relay", "rate") + 0.001), mean(name, p, "us"), mean(name, p, "own"), mean(name, p, "lost"), mean(name, p, "p50"),
+                mean(name, p, "p99")
+        }
+    }' "$room/lines"
+}
+
+mode=${1-}
+case $mode in
+paced | flood | lanes | soak) most=2 ;;
+idle | setup) most=1 ;;
+all) most=0 ;;
+-h | --help | help) usage; exit ;;
+*) wrong "${mode:-nothing} is no mode" ;;
+esac
+shift
+[ $# -le $most ] || wrong "$mode takes at most $most numbers"
+for word in "$@" "$rounds" "$senders"; do [[ $word =~ ^[1-9][0-9]{0,3}$ ]] || wrong "$word is no number"; done
+
+# An open port takes two descriptors in our program: eight a call.
+ulimit -n "$(ulimit -Hn)"
+[ "$(ulimit -n)" = unlimited ] || [ "$(ulimit -n)" -ge 4500 ] || tell "only $(ulimit -n) files may be open (ulimit -Hn): 500 calls need 4500"
+
+if [[ $programs == *peer* ]] && [ ! -x "$peer" ]; then
+    tell "there is no $peer (Debian: apt-get install rtpengine-daemon): ours is measured alone"
+    programs=${programs/peer/}
+fi
+if [[ $programs == *ours* || $mode == lanes ]] && [ ! -x "$ours" ]; then
+    tell "there is no $ours: run tools/build-program, or name the program by RTPENGINE"
+    exit 3
+fi
+
+room=$(mktemp -d "${TMPDIR:-/tmp}/rtpengine-media-XXXXXX")
+trap 'stop; rm -rf "$room"' EXIT
+trap 'exit 130' INT TERM HUP
+mkfifo "$room/input"
+exec 9<>"$room/input" # the programs' standard input, which doesn't end
+if ! "${CC:-cc}" -O2 -pthread -o "$room/media" "$top"/bench/media*.c || ! "${CC:-cc}" -O2 -o "$room/relay" "$top/bench/relay.c"; then
+    tell "the load generator can't be built"
+    exit 3
+fi
+echo "$(nproc) processors, load $(cut -d ' ' -f 1-3 /proc/loadavg)"
+if [ "$mode" = all ]; then
+    paced
+    flood
+    idle
+    setup
+    [[ $programs != *ours* ]] || lanes
+else
+    "$mode" "$@"
+fi
+[ ! -e "$room/lines" ] || table
