@@ -20,8 +20,7 @@ end() {
 trap end EXIT
 trap 'exit 130' INT TERM
 
-# The proxy ends by itself after these turns, some fifteen seconds, so that it prints its totals.
-"$rtpengine" serve --interface=127.0.0.1 --listen-ng=127.0.0.1:2223 --port-min=30000 --port-max=30099 --turns=1000 >"$room/totals" &
+"$rtpengine" serve --interface=127.0.0.1 --listen-ng=127.0.0.1:2223 --port-min=30000 --port-max=30099 >"$room/totals" &
 proxy=$!
 until python3 "$here/call.py" ping; do
     kill -0 "$proxy" 2>/dev/null || { echo "run.sh: the proxy did not start" >&2; exit 1; }
@@ -36,7 +35,8 @@ python3 "$here/call.py" || status=1
 grep -E 'ERROR|WARNING|rtpengine' "$room/log" | sed 's/^/kamailio: /' || true
 kill "$sip" && wait "$sip" || true
 sip=
-wait "$proxy" || true
+# Stopped by a signal to its launcher, it ends its calls and prints its totals.
+kill "$proxy" && wait "$proxy" || true
 proxy=
 echo "proxy: $(cat "$room/totals")"
 exit $status

@@ -63,11 +63,7 @@ fn run_over<R: Threads + Wait + Sync>(
 }
 
 /// Runs so many calls, and answers the nanoseconds that the run took.
-fn time_calls<R: Threads + Wait + Sync + Clock>(
-    rt: &R,
-    alloc: Global,
-    calls: u32,
-) -> Option<u128> {
+fn time_calls<R: Threads + Wait + Sync + Clock>(rt: &R, alloc: Global, calls: u32) -> Option<u128> {
     let gifts = gifts_of(alloc, calls)?;
     let mut link = SteadyLink::new(alloc, gifts);
     let words = ["serve", "--interface=203.0.113.1", "--num-threads=0"];

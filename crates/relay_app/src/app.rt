@@ -6,8 +6,8 @@ ghost use Rattle.relay_app.specs.Run.{Serves, PrintsUsage, IsServed, StatusByWor
 
 use crate::replaying::replay_else;
 use crate::serve::{close_table, serve_turns};
-use crate::threads::MediaThread;
 use crate::status::Status;
+use crate::threads::MediaThread;
 use crate::totals::put_totals;
 use crate::words::{Settings, read_settings};
 use ng_bencode::Text;

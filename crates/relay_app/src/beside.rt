@@ -85,9 +85,12 @@ where
     ensures { (i : ℕ) (d : _) → i < length threads.old → L.did turns.now clock.now (slice_index_or threads.old i d) (slice_index_or threads.new i d) }
 {
     let count = threads.len();
-    thread::for_each_mut(rt, threads, count, &|_, thread| {
-        thread.work(rt, turns, clock, gate, halt)
-    });
+    thread::for_each_mut(
+        rt,
+        threads,
+        count,
+        &|_, thread| { thread.work(rt, turns, clock, gate, halt) },
+    );
 }
 
 /// Makes all control turns in this thread, and relays media in as many others as there are threads of media, until the control turns are

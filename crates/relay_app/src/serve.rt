@@ -362,9 +362,7 @@ where
         mut desk,
         looped,
     } = control;
-    let Some(hand) = hand else {
-        unreachable!()
-    };
+    let Some(hand) = hand else { unreachable!() };
     let Looped {
         status,
         counts,

@@ -26,8 +26,7 @@ where
 }
 
 impl<I: InEnd, O: OutEnd, C: Clock, G: Gate> MediaWork<Turns<Relay<I, O>>, C, G>
-    for MediaThread<I, O>
-{
+    for MediaThread<I, O> {
     ghost can_work = { λ thread turns. IsHandOf turns (hand_of thread.lane) };
 
     ghost did = { λ turns clock old new. HasWorked (C.range clock) old new };

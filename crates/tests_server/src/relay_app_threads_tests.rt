@@ -9,7 +9,7 @@ use relay_outside::{
 };
 use std::sync::atomic::{AtomicBool, Ordering};
 
-/// How often a relay looks for the other one, and a link for both.
+/// How often a relay looks for the other one.
 const MOST_LOOKS: u64 = 1_000_000_000;
 
 /// How many takes of the link give nothing at the most.
@@ -25,6 +25,7 @@ const SECOND_ANSWER: &[u8] =
 const COMMANDS: &[&[u8]] = &[OFFER, ANSWER, SECOND_OFFER, SECOND_ANSWER];
 
 /// What the devices of one run share: which relays have begun, and which of them saw the other.
+#[derive(Drop)]
 struct Meeting {
     /// Both calls were answered.
     is_answered: AtomicBool,
@@ -65,6 +66,7 @@ fn meet(own: &AtomicBool, other: &AtomicBool, met: &AtomicBool) {
 }
 
 /// A gate in which the relays of the two calls wait for each other.
+#[derive(Drop)]
 struct MeetingGate<'a> {
     meeting: &'a Meeting,
 }
