@@ -1,5 +1,5 @@
 -- What all threads of media made, one after the other.
-use Rattle.std.proofs.Common.{◌≡◌, ◌∙◌, refl, sym, ap, subst, ℕ, suc, ◌+◌, ◌<◌, inl, inr, false, List, [], ◌∷◌, ◌++◌, Option, Some, All, length, map, reverse, append-nil, append_assoc, arith}
+use Rattle.std.proofs.Common.{◌≡◌, ◌∙◌, sym, ap, subst, ℕ, suc, ◌+◌, ◌<◌, inl, inr, false, List, [], ◌∷◌, ◌++◌, Option, Some, All, length, map, reverse, append-nil, append_assoc, arith}
 use Rattle.std.specs.Prelude.{slice_index_or}
 use Rattle.std.proofs.lemmas.Bool.{cases_lt}
 use Rattle.std.proofs.lemmas.List.{length-map, map-append, reverse-append, get_or_append_left, get_or_push}
@@ -10,7 +10,6 @@ use Rattle.turn_table.specs.declared.hands.Hand.{Hand}
 use Rattle.turn_table.specs.declared.machine.Entry as table
 use Rattle.turn_table.specs.Histories as table_lists
 use Rattle.turn_table.specs.Hands.{IsHandOf, IsCut, IsLeft, view, entries, parts}
-use Rattle.histories.specs.Words.{In}
 use Rattle.relay_core.specs.declared.part.Part.{Part}
 use Rattle.relay_core.specs.declared.machine.Relay.{Relay}
 use Rattle.relay_core.specs.Entries.{Entry}
@@ -24,14 +23,14 @@ use Rattle.relay_core.specs.Turning.{Numbered, IsOfLane, IsReceiving}
 use Rattle.relay_core.proofs.Joins.{joined, row_append}
 use Rattle.media_lane.specs.declared.answers.Totals.{Totals}
 use Rattle.media_lane.specs.Lanes.{hand_of, config_of, index_of, lanes_of, list_of as lane_list}
-use Rattle.media_lane.specs.Looping.{AddsTotals, IsSweep, AreSweeps, visits_of}
+use Rattle.media_lane.specs.Looping.{AddsTotals, AreSweeps, visits_of}
 use Rattle.media_lane.specs.Receipts.{KeepsList}
-use Rattle.media_lane.specs.Visits.{Row, Visit, IsPassed, packet_at, ArePassed, all_rows}
+use Rattle.media_lane.specs.Visits.{Row, Visit, ArePassed, all_rows}
 use Rattle.board_turns.specs.Between.{IsBetween}
 use Rattle.main_sweeps.specs.Totals.{HasTotals}
 use Rattle.main_sweeps.proofs.Sweeps.{rows_in, visits_totals}
 use Rattle.relay_app.specs.declared.threads.MediaThread.{MediaThread}
-use Rattle.relay_app.specs.Rounds.{IsThread, AreThreads, all_of}
+use Rattle.relay_app.specs.Rounds.{AreThreads, all_of}
 use Rattle.relay_app.specs.Threads.{rows_of, MayJoin, AddsEach, IsFresh, HasWorked, IsDone}
 
 -- A fact of each element of a list by its number, from this number on.

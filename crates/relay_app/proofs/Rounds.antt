@@ -27,7 +27,7 @@ use Rattle.main_sweeps.specs.Totals.{HasTotals}
 use Rattle.main_sweeps.proofs.Between.{lanes_board}
 use Rattle.main_sweeps.proofs.Counts.{turn_totals, told_totals}
 use Rattle.ng_server.proofs.Tellings.{told_board}
-use Rattle.relay_app.specs.Rounds.{Round, status_after, entry_due, with_entry, history_after, IsBoardTurn, MakesEntry, AreRounds, SweepsAlone, AreThreads, all_of, IsWhole}
+use Rattle.relay_app.specs.Rounds.{Round, status_after, entry_due, with_entry, history_after, IsBoardTurn, MakesEntry, AreRounds, AreThreads, all_of, IsWhole}
 use Rattle.relay_app.specs.Turned.{AddsSweep}
 
 -- what a control turn added to the rows

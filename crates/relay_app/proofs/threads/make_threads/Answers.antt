@@ -1,6 +1,5 @@
-use Rattle.std.proofs.Common.{◌∙◌, ◌+◌, ◌<◌, ◌++◌, ◌∷◌, [], ap, sym, subst, arith, ℕ, length, length-append, slice_index_or}
+use Rattle.std.proofs.Common.{◌∙◌, ◌+◌, ◌<◌, ◌∷◌, [], ap, sym, subst, arith, ℕ, length, length-append, slice_index_or}
 use Rattle.turn_table.specs.Hands.{starts}
-use Rattle.media_lane.specs.Lanes.{hand_of}
 use Rattle.media_lane.specs.Starts.{HasLaneStarts}
 use Rattle.media_lane.proofs.Places.{parts_begin}
 use Rattle.relay_app.specs.Threads.{IsFresh}
