@@ -29,7 +29,7 @@ use Rattle.relay_app.specs.Rounds.{Round, status_after, entry_due, with_entry, h
 use Rattle.relay_app.specs.Served.{Outside, Gave, IsCaused, HaveCauses, given_in, openings, draws, counts_of, turn_counts, sum_of, counts_in, Counted, AreExchanges, AreCalls, last_take, HasEnded}
 use Rattle.relay_app.specs.Turned.{Running, AddsSweep, DidTurns}
 use Rattle.relay_app.proofs.Counts.{calls_counted, sum_none, not_answered, ends_uncounted, ends_below, ends_with, one_take}
-use Rattle.relay_app.proofs.Rounds.{AddsTurn, turn_rows, one_more, no_rounds, board_after}
+use Rattle.relay_app.proofs.Rounds.{AddsTurn, turn_rows, turn_heard, one_more, no_rounds, board_after}
 
 -- what a device gave, and then more
 gave_more : {C : Type 0} (first second third : Option (List C)) (some more : List C) → Gave first second some → Gave second third more → Gave first third (some ++ more)
@@ -163,7 +163,8 @@ module _ {M I O : Type 0} {g : _} where
         let r : Round = record { handed = now; answer = answer; heard = made } in
         record {
           rounds = r ∷ running.rounds;
-          are_rounds = one_more config threads range running.rounds r (entries old) (entries mid) (entries new) (sym goes) running.are_rounds turn sweep;
+          are_rounds = one_more config threads range running.rounds r (entries old) (entries mid) (entries new) (sym goes) (turn_heard config old mid now answer made turned.follows)
+              running.are_rounds turn sweep;
           board_is = same ∙ board_is;
           counts_are = next_is ∙ ap (λ (n : Counts). sum_of n (turn_counts answer)) running.counts_are;
           link =

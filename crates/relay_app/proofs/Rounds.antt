@@ -27,7 +27,7 @@ use Rattle.main_sweeps.specs.Totals.{HasTotals}
 use Rattle.main_sweeps.proofs.Between.{lanes_board}
 use Rattle.main_sweeps.proofs.Counts.{turn_totals, told_totals}
 use Rattle.ng_server.proofs.Tellings.{told_board}
-use Rattle.relay_app.specs.Rounds.{Round, status_after, entry_due, with_entry, history_after, IsBoardTurn, MakesEntry, AreRounds, AreThreads, all_of, IsWhole}
+use Rattle.relay_app.specs.Rounds.{Round, status_after, entry_due, with_entry, history_after, IsBoardTurn, HasHeard, MakesEntry, AreRounds, AreThreads, all_of, IsWhole}
 use Rattle.relay_app.specs.Turned.{AddsSweep}
 
 -- what a control turn added to the rows
@@ -37,11 +37,11 @@ pub record AddsTurn (config : Config) (entry : Option BoardEntry) (before after 
   pub makes : MakesEntry config before entry rows
 
 -- one more round
-pub one_more : (config : Config) (threads : ℕ) (range : Option (ℕ × ℕ)) (rounds : List Round) (r : Round) (before between after : List Row) → status_after r.answer ≡ None
+pub one_more : (config : Config) (threads : ℕ) (range : Option (ℕ × ℕ)) (rounds : List Round) (r : Round) (before between after : List Row) → status_after r.answer ≡ None → HasHeard r.answer r.heard
     → AreRounds config threads range rounds before → AddsTurn config (entry_due config (history_after config rounds) r.handed r.heard) before between
     → AddsSweep config threads range between after → AreRounds config threads range (r ∷ rounds) after
-one_more config threads range rounds r before between after goes are t s =
-    (before, t.rows, s.rows, s.are ∙ ap (λ (xs : List Row). xs ++ s.rows) t.are, goes, are, t.makes, s.alone)
+one_more config threads range rounds r before between after goes heard are t s =
+    (before, t.rows, s.rows, s.are ∙ ap (λ (xs : List Row). xs ++ s.rows) t.are, goes, heard, are, t.makes, s.alone)
 
 no_rows : (rows : List Row) → list_of rows ≡ [] → rows ≡ []
 no_rows [] none = refl
@@ -78,6 +78,12 @@ module _ {M I O : Type 0} {g : _} where
       let s = swept.1 in
       subst (λ (n : ℕ). AddsSweep config n range (entries old) (entries new)) (sym none)
       (record { rows = _; are = s.list_is; alone = record { visits = s.visits; rows_are = refl; is_sweep = record { passed = s.passed; own_once = s.own_once } } })
+
+  -- what a turn heard, by how it ended
+  pub turn_heard : (config : Config) (old new : Hand M (Part I O) Made (Unit {0}) g) (now : ℕ) (answer : ControlTurn) (made : Option Hearing) → Follows config old new now answer made
+      → HasHeard answer made
+  turn_heard config old new now answer None follows = follows.0
+  turn_heard config old new now answer (Some x) follows = follows.0
 
   -- the board's history, with the entry of a turn
   pub board_after : (config : Config) (turns : Turns M (Part I O) Made (Unit {0})) (old new : Hand M (Part I O) Made (Unit {0}) g) (now : ℕ) (answer : ControlTurn) (made : Option Hearing)

@@ -1,6 +1,6 @@
 -- The steps of a run. Those of the main hand, in the order in which they were made: rounds, each a control turn, and the stop. Where no thread
 -- relays media, a sweep of media stands behind each control turn and before the stop; else each thread made sweeps beside them.
-use Rattle.std.specs.Prelude.{◌≡◌, ◌+◌, ◌<◌, ℕ, zero, suc, List, [], ◌∷◌, ◌++◌, Option, None, Some, map, length}
+use Rattle.std.specs.Prelude.{◌≡◌, ◌+◌, ◌<◌, ℕ, zero, suc, true, false, List, [], ◌∷◌, ◌++◌, Option, None, Some, map, length}
 use Rattle.std.specs.Option.{option_map}
 use Rattle.relay_outside.specs.declared.settings.Config.{Config}
 use Rattle.call_board.specs.Acts.{BoardEntry}
@@ -16,6 +16,7 @@ use Rattle.media_lane.specs.Looping.{IsSweep, AreSweeps, visits_of}
 use Rattle.board_turns.specs.Between.{board_of}
 use Rattle.board_turns.specs.Stopping.{stop_entry}
 use Rattle.control_entries.specs.Controls.{Hearing, entry_at, moment_at}
+use Rattle.control_turns.specs.Taking.{is_answered}
 use Rattle.control_turns.specs.declared.taking.ControlTurn.{ControlTurn}
 use Rattle.control_turns.specs.declared.taking.ControlTurn.TheVariants as turn
 use Rattle.main_sweeps.specs.Totals.{HasTotals}
@@ -81,11 +82,17 @@ abbrev pub SweepsAlone : Config → (threads : ℕ) → Option (ℕ × ℕ) → 
 SweepsAlone config zero range rows = HasSwept config 0 1 range rows
 SweepsAlone config (suc more) range rows = rows ≡ []
 
+-- a control turn that sent a reply, or failed to send it, heard a datagram with a frame, and no other did
+abbrev pub HasHeard : ControlTurn → Option Hearing → Type 0
+HasHeard answer None = is_answered answer ≡ false
+HasHeard answer (Some x) = is_answered answer ≡ true
+
 -- the rows of these rounds
 abbrev pub AreRounds : Config → (threads : ℕ) → Option (ℕ × ℕ) → List Round → List Row → Type 0
 AreRounds config threads range [] rows = rows ≡ []
 AreRounds config threads range (r ∷ rounds) rows =
     (before : List Row) × (turn : List Row) × (sweep : List Row) × (rows ≡ (before ++ turn) ++ sweep) × (status_after r.answer ≡ None)
+    × HasHeard r.answer r.heard
     × AreRounds config threads range rounds before
     × MakesEntry config before (entry_due config (history_after config rounds) r.handed r.heard) turn
     × SweepsAlone config threads range sweep
