@@ -15,13 +15,15 @@ mod ports;
 mod readiness;
 mod seed;
 mod sink;
+mod stop;
 
 pub use address::{addr_of, socket_addr};
 pub use clocks::{SystemClock, SystemTimer};
 pub use keys::ChaChaKeys;
 pub use lines::StdLines;
-pub use link::UdpLink;
+pub use link::{LinkFault, UdpLink};
 pub use ports::{UdpIn, UdpMaker, UdpOut};
 pub use readiness::Readiness;
 pub use seed::read_seed;
 pub use sink::StdSink;
+pub use stop::StopPipe;

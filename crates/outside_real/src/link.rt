@@ -1,10 +1,14 @@
 use crate::address::{addr_of, socket_addr};
 use crate::faults::Faults;
 use crate::readiness::Readiness;
+use crate::stop::StopPipe;
 use relay_outside::{Addr, ControlLink, Failed, LinkCall, Taken};
 use std::io::{self, ErrorKind};
 use std::net::{Net, UdpSocket};
 use std::time::Duration;
+
+/// How long a read waits for a datagram that the system told and doesn't give, in milliseconds.
+const READ_MILLIS: u64 = 1;
 
 /// Where the program waits for a datagram of the control socket.
 #[derive(Drop)]
@@ -15,58 +19,104 @@ enum Waits<'a> {
     InSweep { readiness: &'a Readiness },
 }
 
-/// A UDP socket as the control link. It never ends by itself, and tells nothing.
+/// How long a take waits at the most, in milliseconds.
+fn longest_wait(waits: &Waits) -> u32 {
+    match waits {
+        Waits::InTake { millis } => *millis,
+        Waits::InSweep { readiness: _ } => 0,
+    }
+}
+
+/// Why a link could not be bound, or could not be read from: what the system said.
+#[derive(Clone, Copy)]
+pub enum LinkFault {
+    /// A bind failed.
+    Bind {
+        /// The address.
+        at: Addr,
+        /// The system's error.
+        error: io::Error,
+    },
+    /// A take failed.
+    Take {
+        /// The system's error.
+        error: io::Error,
+    },
+}
+
+/// A UDP socket as the control link. It tells nothing.
 ///
+/// A take of a bound link answers `End` once its pipe has ended, as `StopPipe` says it, and from then on always. It looks there
+/// first: a datagram that stands at the socket then is not taken. In no other case does a take answer `End`.
 /// A take that finds no datagram answers `Nothing`. So does one that ends in an error which passes by itself: that a
 /// signal came, or that an earlier datagram of this socket reached nobody or found no way (ICMP). Any other error of
 /// the system is a fault: it says that the socket can't be read from at all.
 /// A send makes a fault of each error; where the link is watched it doesn't wait for room either.
+/// A bind that succeeds writes a line to standard error: at which address the link listens.
 #[derive(Drop)]
 pub struct UdpLink<'a, R: Net> {
     net: &'a R,
     waits: Waits<'a>,
+    stop: StopPipe,
+    /// Whether a take answered that the pipe has ended.
+    ended: bool,
     socket: Option<UdpSocket>,
+    fault: Option<LinkFault>,
     faults: Faults,
 }
 
 impl<'a, R: Net> UdpLink<'a, R> {
     /// A link whose takes wait for so many milliseconds at the most, 0 counting as 1: for a thread that has nothing
-    /// else to do. It is not bound yet. Until it is, its takes and sends fail.
-    pub fn waiting(net: &'a R, millis: u32) -> UdpLink<'a, R> {
-        UdpLink::that(net, Waits::InTake { millis })
+    /// else to do. The end of the pipe ends such a wait. It is not bound yet. Until it is, its takes and sends fail.
+    pub fn waiting(net: &'a R, stop: StopPipe, millis: u32) -> UdpLink<'a, R> {
+        let millis = millis.max(1);
+        UdpLink::that(net, stop, Waits::InTake { millis })
     }
 
-    /// A link whose takes don't wait, since the sweep of lane 0 does, and wakes for it: for a thread that also sweeps.
-    /// It is not bound yet. Until it is, its takes and sends fail.
-    pub fn watched(net: &'a R, readiness: &'a Readiness) -> UdpLink<'a, R> {
-        UdpLink::that(net, Waits::InSweep { readiness })
+    /// A link whose takes don't wait, since the sweep of lane 0 does, and wakes for it and for the end of the pipe: for a
+    /// thread that also sweeps. It is not bound yet. Until it is, its takes and sends fail.
+    pub fn watched(net: &'a R, stop: StopPipe, readiness: &'a Readiness) -> UdpLink<'a, R> {
+        UdpLink::that(net, stop, Waits::InSweep { readiness })
     }
 
     /// A link that waits so, and is not bound yet.
-    fn that(net: &'a R, waits: Waits<'a>) -> UdpLink<'a, R> {
+    fn that(net: &'a R, stop: StopPipe, waits: Waits<'a>) -> UdpLink<'a, R> {
         UdpLink {
             net,
             waits,
+            stop,
+            ended: false,
             socket: None,
+            fault: None,
             faults: Faults::new(),
         }
+    }
+
+    /// Why the last bind or take failed of those that did, where the system said why. A send that failed is not told.
+    pub fn fault(&self) -> Option<LinkFault> {
+        self.fault
     }
 }
 
 /// A bound socket whose reads wait as is said.
-fn open<R: Net>(net: &R, waits: &Waits, at: Addr) -> io::Result<UdpSocket> {
+fn open<R: Net>(net: &R, waits: &Waits, stop: StopPipe, at: Addr) -> io::Result<UdpSocket> {
     let socket = UdpSocket::bind(net, socket_addr(at))?;
     match waits {
-        Waits::InTake { millis } => {
-            let longest = Duration::from_millis(u64::from(*millis).max(1));
-            socket.set_read_timeout(Some(longest))?;
+        Waits::InTake { millis: _ } => {
+            socket.set_read_timeout(Some(Duration::from_millis(READ_MILLIS)))?;
         }
         Waits::InSweep { readiness } => {
             socket.set_nonblocking(true)?;
-            readiness.watch_control(&socket);
+            readiness.watch_control(&socket, stop);
         }
     }
     Ok(socket)
+}
+
+/// Writes to standard error where the socket listens: the system may have picked the port. Nothing depends on that line.
+fn announce(err: &impl Eprint, socket: &UdpSocket, at: Addr) {
+    let at = socket.local_addr().unwrap_or(socket_addr(at));
+    let _ = eprintln!(err; "rtpengine: listening on {at}");
 }
 
 /// Whether an error of a read passes by itself, so that the next read may give a datagram.
@@ -79,7 +129,7 @@ fn passes(error: ErrorKind) -> bool {
     }
 }
 
-impl<'a, R: Net> ControlLink for UdpLink<'a, R> {
+impl<'a, R: Net + Eprint> ControlLink for UdpLink<'a, R> {
     ghost use Rattle.std.specs.Prelude.{None};
 
     ghost told = { λ link. None };
@@ -87,26 +137,38 @@ impl<'a, R: Net> ControlLink for UdpLink<'a, R> {
     ghost faults = { λ link. link.faults };
 
     fn bind(&mut self, at: Addr) -> Result<(), Failed> {
-        match open(self.net, &self.waits, at) {
+        match open(self.net, &self.waits, self.stop, at) {
             Ok(socket) => {
+                announce(self.net, &socket, at);
                 self.socket = Some(socket);
                 Ok(())
             }
-            Err(_) => Err(self.faults.count()),
+            Err(error) => {
+                self.fault = Some(LinkFault::Bind { at, error });
+                Err(self.faults.count())
+            }
         }
     }
 
     fn take(&mut self, buf: &mut [u8]) -> Result<Taken, Failed> {
+        let longest = longest_wait(&self.waits);
         let Some(socket) = &self.socket else {
             return Err(self.faults.count());
         };
+        if self.ended || self.stop.ends_within(socket, longest) {
+            self.ended = true;
+            return Ok(Taken::End);
+        }
         match socket.recv_from(buf) {
             Ok((len, from)) => Ok(Taken::Datagram {
                 from: addr_of(from),
                 len,
             }),
             Err(error) if passes(error.kind()) => Ok(Taken::Nothing),
-            Err(_) => Err(self.faults.count()),
+            Err(error) => {
+                self.fault = Some(LinkFault::Take { error });
+                Err(self.faults.count())
+            }
         }
     }
 

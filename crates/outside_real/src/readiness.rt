@@ -1,5 +1,6 @@
 ghost use Rattle.std.specs.Prelude.{◌≡◌, ◌-◌, ◌/◌, ◌%◌, ◌<◌, ◌≤◌, length};
 
+use crate::stop::StopPipe;
 use libc::net::{EPOLL_CLOEXEC, EPOLL_CTL_ADD, EPOLLIN, epoll_create1};
 use os::EpollEvent;
 use std::alloc::Global;
@@ -15,7 +16,7 @@ const BLIND_MILLIS: u32 = 2;
 /// How many sockets one wait tells at the most.
 const EVENTS: usize = 64;
 
-/// The number of the control socket in its set. No media port has it.
+/// The number of the control socket in its set, and of the pipe whose end stops the program. No media port has it.
 const CONTROL: u16 = 0;
 
 /// A set of sockets of which the system tells those that are readable, as long as they are (epoll,
@@ -49,13 +50,14 @@ impl EventSet {
         })
     }
 
-    /// Adds a socket under this number. Where the system refuses it, the set isn't complete from then on.
-    fn add(&self, socket: &UdpSocket, number: u16) {
+    /// Adds a socket or another descriptor under this number, and the events of which it is told beside its end and its
+    /// errors. Where the system refuses it, the set isn't complete from then on.
+    fn add(&self, descriptor: i32, events: u32, number: u16) {
         let added = os::epoll_ctl(
             self.descriptor,
             EPOLL_CTL_ADD,
-            socket.as_raw_fd(),
-            EPOLLIN,
+            descriptor,
+            events,
             u64::from(number),
         );
         if added < 0 {
@@ -146,14 +148,18 @@ impl Readiness {
     /// Watches a media socket at this port, in the set of its lane.
     pub(crate) fn watch(&self, socket: &UdpSocket, port: u16) {
         if let Some(set) = self.set_of(self.lane_of(port)) {
-            set.add(socket, port);
+            set.add(socket.as_raw_fd(), EPOLLIN, port);
         }
     }
 
-    /// Watches the control socket in the set of lane 0, where it stands for port 0.
-    pub(crate) fn watch_control(&self, socket: &UdpSocket) {
-        if let Some(set) = self.set_of(0) {
-            set.add(socket, CONTROL);
+    /// Watches the control socket in the set of lane 0, and the pipe's end beside it. Both stand for port 0 there.
+    pub(crate) fn watch_control(&self, socket: &UdpSocket, stop: StopPipe) {
+        let Some(set) = self.set_of(0) else {
+            return;
+        };
+        set.add(socket.as_raw_fd(), EPOLLIN, CONTROL);
+        if let Some(pipe) = stop.descriptor() {
+            set.add(pipe, 0, CONTROL);
         }
     }
 

@@ -3,14 +3,16 @@
 //! pass on is trusted; all that is proved is over these devices.
 #![tactic(auto)]
 
+mod endings;
 mod words;
 
+use crate::endings::Ending;
 use crate::words::{Words, read_words};
 use outside_real::{
-    ChaChaKeys, Readiness, StdLines, StdSink, SystemClock, SystemTimer, UdpLink, UdpMaker,
-    read_seed,
+    ChaChaKeys, Readiness, StdLines, StdSink, StopPipe, SystemClock, SystemTimer, UdpLink,
+    UdpMaker, read_seed,
 };
-use relay_app::{Media, Status, read_media, run};
+use relay_app::{Media, read_media, run};
 use relay_outside::OpenGate;
 use std::alloc::{AllocError, Global};
 use std::io::{self, BufReader};
@@ -26,12 +28,13 @@ const CONTROL_WAIT_MILLIS: u32 = 1_000;
 
 fn main(rt: HostRuntime) -> ExitCode {
     let alloc = rt.alloc();
-    let status = match read_words(&rt, alloc) {
+    let ending = match read_words(&rt, alloc) {
         Words::Read(words) => start(&rt, alloc, &words),
         Words::NotText => start(&rt, alloc, &Vec::new(alloc)),
-        Words::OutOfMemory => Status::OutOfMemory,
+        Words::OutOfMemory => Ending::NoMemory,
     };
-    ExitCode::from(status.number())
+    ending.tell(&rt);
+    ExitCode::from(ending.status().number())
 }
 
 /// The words as slices.
@@ -54,37 +57,40 @@ fn media_of(words: &[&str]) -> Media {
     }
 }
 
-/// The control link: its take waits where media have threads of their own, and else the sweep does.
+/// The control link, which ends with the pipe at standard input: its take waits where media have threads of their own, and
+/// else the sweep does.
 fn link<'a, R: Net>(net: &'a R, readiness: &'a Readiness, threads: u32) -> UdpLink<'a, R> {
+    let stop = StopPipe::standard_input();
     match threads {
-        0 => UdpLink::watched(net, readiness),
-        _ => UdpLink::waiting(net, CONTROL_WAIT_MILLIS),
+        0 => UdpLink::watched(net, stop, readiness),
+        _ => UdpLink::waiting(net, stop, CONTROL_WAIT_MILLIS),
     }
 }
 
 /// Makes the devices and runs the relay: sockets, the system's hints of which are readable, its clock, keys
-/// from a seed of the runtime's random source, standard input and output. Without a seed nothing is run, and
-/// the answer is that of a run that got no memory.
-fn start<R>(rt: &R, alloc: Global, words: &Vec<String>) -> Status
+/// from a seed of the runtime's random source, standard input and output. Without memory or a seed nothing is run.
+fn start<R>(rt: &R, alloc: Global, words: &Vec<String>) -> Ending
 where
-    R: Threads + Wait + Sync + Net + Clock + RandomSource + Input + Print,
+    R: Threads + Wait + Sync + Net + Clock + RandomSource + Input + Print + Eprint,
 {
     let Ok(texts) = texts_of(alloc, words) else {
-        return Status::OutOfMemory;
+        return Ending::NoMemory;
     };
-    let Ok(seed) = read_seed(rt) else {
-        return Status::OutOfMemory;
+    let seed = match read_seed(rt) {
+        Ok(seed) => seed,
+        Err(error) => return Ending::NoSeed(error),
     };
     let Ok(input) = BufReader::new(alloc, rt.reader()) else {
-        return Status::OutOfMemory;
+        return Ending::NoMemory;
     };
     let media = media_of(texts.as_slice());
     let readiness = Readiness::new(alloc, media.threads, media.first_port);
-    run(
+    let mut control = link(rt, &readiness, media.threads);
+    let status = run(
         rt,
         alloc,
         texts.as_slice(),
-        &mut link(rt, &readiness, media.threads),
+        &mut control,
         &mut UdpMaker::new(rt, &readiness),
         &mut ChaChaKeys::from_seed(seed),
         &mut SystemTimer::new(rt),
@@ -92,5 +98,6 @@ where
         &OpenGate::new(),
         &mut StdLines::new(input),
         &mut StdSink::new(io::writer(rt)),
-    )
+    );
+    Ending::Ran(status, control.fault())
 }

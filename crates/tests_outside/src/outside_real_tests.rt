@@ -1,13 +1,14 @@
 use outside_real::{
-    ChaChaKeys, Readiness, StdLines, StdSink, SystemClock, SystemTimer, UdpIn, UdpLink, UdpMaker,
-    UdpOut, addr_of, socket_addr,
+    ChaChaKeys, LinkFault, Readiness, StdLines, StdSink, StopPipe, SystemClock, SystemTimer, UdpIn,
+    UdpLink, UdpMaker, UdpOut, addr_of, socket_addr,
 };
 use relay_outside::{
     Addr, Clock, ControlLink, InEnd, Ip, KeySource, LineRead, LineSink, LineSource, OutEnd,
     PortMaker, Taken, Timer,
 };
 use std::alloc::Global;
-use std::io::{self, BufReader, Read, Write};
+use std::fs::File;
+use std::io::{self, BufReader, ErrorKind, Read, Write};
 use std::net::Net;
 use std::process::Abort;
 
@@ -40,8 +41,8 @@ fn hints(alloc: Global) -> Readiness {
 
 #[test]
 fn a_datagram_goes_over_loopback(rt: HostRuntime) {
-    let mut one = UdpLink::waiting(&rt, SHORT);
-    let mut two = UdpLink::waiting(&rt, SHORT);
+    let mut one = UdpLink::waiting(&rt, StopPipe::none(), SHORT);
+    let mut two = UdpLink::waiting(&rt, StopPipe::none(), SHORT);
     let mut buf = [0; 16];
     assert!(rt; one.take(&mut buf).is_err(), "not bound yet");
     assert!(rt; one.bind(local(77)).is_ok());
@@ -58,11 +59,17 @@ fn a_datagram_goes_over_loopback(rt: HostRuntime) {
 
 #[test]
 fn an_address_in_use_can_not_be_bound(rt: HostRuntime) {
-    let mut one = UdpLink::waiting(&rt, SHORT);
-    let mut two = UdpLink::waiting(&rt, SHORT);
+    let mut one = UdpLink::waiting(&rt, StopPipe::none(), SHORT);
+    let mut two = UdpLink::waiting(&rt, StopPipe::none(), SHORT);
     assert!(rt; one.bind(local(79)).is_ok());
+    assert!(rt; two.fault().is_none());
     assert!(rt; two.bind(local(79)).is_err());
     assert!(rt; two.send(local(79), b"ping").is_err());
+    let Some(LinkFault::Bind { at, error }) = two.fault() else {
+        panic!(rt; "not told");
+    };
+    assert!(rt; at == local(79) && error.kind() == ErrorKind::AddrInUse);
+    assert!(rt; one.fault().is_none());
 }
 
 /// What may be moved to another thread.
@@ -208,8 +215,8 @@ fn a_lane_without_a_set_is_told_nothing(rt: HostRuntime) {
 fn a_command_wakes_the_first_lane(rt: HostRuntime) {
     let readiness = hints(rt.alloc());
     let clock = SystemClock::new(&rt, &readiness);
-    let mut link = UdpLink::watched(&rt, &readiness);
-    let mut peer = UdpLink::waiting(&rt, LONG);
+    let mut link = UdpLink::watched(&rt, StopPipe::none(), &readiness);
+    let mut peer = UdpLink::waiting(&rt, StopPipe::none(), LONG);
     let mut buf = [0; 4];
     assert!(rt; link.bind(local(87)).is_ok());
     assert!(rt; peer.bind(local(88)).is_ok());
@@ -230,6 +237,68 @@ fn a_command_wakes_the_first_lane(rt: HostRuntime) {
         len: 4,
     };
     assert!(rt; peer.take(&mut buf) == Ok(pong));
+}
+
+#[test]
+fn the_end_of_its_pipe_ends_a_link(rt: HostRuntime) {
+    let Ok((reading, writing)) = io::pipe(&rt) else {
+        panic!(rt; "no pipe");
+    };
+    let mut link = UdpLink::waiting(&rt, StopPipe::of(&reading), SHORT);
+    let mut peer = UdpLink::waiting(&rt, StopPipe::none(), SHORT);
+    let mut buf = [0; 4];
+    assert!(rt; link.bind(local(89)).is_ok());
+    assert!(rt; peer.bind(local(90)).is_ok());
+    assert!(rt; link.take(&mut buf) == Ok(Taken::Nothing));
+    assert!(rt; peer.send(local(89), b"ping").is_ok());
+    let ping = Taken::Datagram {
+        from: local(90),
+        len: 4,
+    };
+    assert!(rt; link.take(&mut buf) == Ok(ping));
+    assert!(rt; (&writing).write_all(b"it stands for nothing").is_ok());
+    assert!(rt; link.take(&mut buf) == Ok(Taken::Nothing));
+    assert!(rt; peer.send(local(89), b"late").is_ok());
+    drop(writing);
+    assert!(rt; link.take(&mut buf) == Ok(Taken::End), "before the datagram");
+    assert!(rt; link.take(&mut buf) == Ok(Taken::End), "and from then on");
+    assert!(rt; &buf == b"ping");
+}
+
+#[test]
+fn the_end_of_its_pipe_ends_a_wait(rt: HostRuntime) {
+    let readiness = hints(rt.alloc());
+    let clock = SystemClock::new(&rt, &readiness);
+    let Ok((reading, writing)) = io::pipe(&rt) else {
+        panic!(rt; "no pipe");
+    };
+    let stop = StopPipe::of(&reading);
+    let mut watched = UdpLink::watched(&rt, stop, &readiness);
+    let mut waiting = UdpLink::waiting(&rt, stop, 60_000);
+    let mut buf = [0; 4];
+    assert!(rt; watched.bind(local(91)).is_ok());
+    assert!(rt; waiting.bind(local(92)).is_ok());
+    assert!(rt; is_idle(&clock, 0));
+    assert!(rt; watched.take(&mut buf) == Ok(Taken::Nothing));
+    drop(writing);
+    assert!(rt; is_ready(&clock, 0, LONG, 0));
+    assert!(rt; is_idle(&clock, 1));
+    assert!(rt; watched.take(&mut buf) == Ok(Taken::End));
+    assert!(rt; waiting.take(&mut buf) == Ok(Taken::End), "within a minute");
+}
+
+#[test]
+fn what_is_no_pipe_never_ends_a_link(rt: HostRuntime) {
+    let Ok(nothing) = File::open(&rt, "/dev/null") else {
+        panic!(rt; "no /dev/null");
+    };
+    let mut link = UdpLink::waiting(&rt, StopPipe::of(&nothing), SHORT);
+    let mut closed = UdpLink::waiting(&rt, StopPipe::of(&-1), SHORT);
+    let mut buf = [0; 4];
+    assert!(rt; link.bind(local(93)).is_ok());
+    assert!(rt; closed.bind(local(94)).is_ok());
+    assert!(rt; link.take(&mut buf) == Ok(Taken::Nothing));
+    assert!(rt; closed.take(&mut buf) == Ok(Taken::Nothing));
 }
 
 #[test]

@@ -1,0 +1,66 @@
+use outside_real::{LinkFault, socket_addr};
+use relay_app::Status;
+use std::io::{self, Error, ErrorKind};
+
+/// Why the program ends.
+#[derive(Drop)]
+pub(crate) enum Ending {
+    /// Nothing was run: memory was refused.
+    NoMemory,
+    /// Nothing was run: the system gave no random bytes.
+    NoSeed(Error),
+    /// The run ended, with its status and what the control link met.
+    Ran(Status, Option<LinkFault>),
+}
+
+impl Ending {
+    /// The status of the program: a run that didn't begin is as one that got no memory.
+    pub(crate) fn status(&self) -> Status {
+        match self {
+            Ending::NoMemory | Ending::NoSeed(_) => Status::OutOfMemory,
+            Ending::Ran(status, _) => *status,
+        }
+    }
+
+    /// Writes one line to standard error where the status isn't 0. Nothing depends on that line.
+    pub(crate) fn tell(&self, err: &impl Eprint) {
+        let _ = match self {
+            Ending::NoMemory => eprintln!(err; "rtpengine: out of memory"),
+            Ending::NoSeed(error) => eprintln!(err; "rtpengine: no random bytes: {error}"),
+            Ending::Ran(Status::Ok, _) => Ok(()),
+            Ending::Ran(Status::ControlFault, fault) => tell_fault(err, *fault),
+            Ending::Ran(status, _) => eprintln!(err; "rtpengine: {}", cause(*status)),
+        };
+    }
+}
+
+/// Why a run ended with this status, in plain words.
+fn cause(status: Status) -> &'static str {
+    match status {
+        Status::Ok => "the end",
+        Status::Usage => "wrong words (see above)",
+        Status::ControlFault => "the control socket failed",
+        Status::PrintFault => "writing to standard output failed",
+        Status::OutOfMemory => "out of memory",
+        Status::ScriptFault => "a line of the script is wrong (see above)",
+        Status::TurnsSpent => "all waits for a command that --turns allows are over",
+        Status::ScriptRead => "reading the script failed",
+    }
+}
+
+/// Writes what the control link met.
+fn tell_fault(err: &impl Eprint, fault: Option<LinkFault>) -> io::Result<()> {
+    match fault {
+        Some(LinkFault::Bind { at, error }) => {
+            let at = socket_addr(at);
+            match error.kind() {
+                ErrorKind::Uncategorized => eprintln!(err; "rtpengine: cannot bind {at}: {error}"),
+                kind => eprintln!(err; "rtpengine: cannot bind {at}: {kind}"),
+            }
+        }
+        Some(LinkFault::Take { error }) => {
+            eprintln!(err; "rtpengine: receiving on the control socket failed: {error}")
+        }
+        None => eprintln!(err; "rtpengine: {}", cause(Status::ControlFault)),
+    }
+}
