@@ -260,7 +260,10 @@ fn the_end_of_its_pipe_ends_a_link(rt: HostRuntime) {
     assert!(rt; link.take(&mut buf) == Ok(Taken::Nothing));
     assert!(rt; peer.send(local(89), b"late").is_ok());
     drop(writing);
-    assert!(rt; link.take(&mut buf) == Ok(Taken::End), "before the datagram");
+    assert!(rt;
+        link.take(&mut buf) == Ok(Taken::End),
+        "before the datagram"
+    );
     assert!(rt; link.take(&mut buf) == Ok(Taken::End), "and from then on");
     assert!(rt; &buf == b"ping");
 }
