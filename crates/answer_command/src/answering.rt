@@ -1,7 +1,7 @@
 //! An answer.
 ghost use Rattle.std.specs.Prelude.{◌≡◌, ◌≤◌, ◌<◌, ◌^◌, [], Option, length};
 ghost use Rattle.relay_outside.specs.Told.{Gained};
-ghost use Rattle.turn_table.specs.Hands.{IsSameHand, SameTurns};
+ghost use Rattle.turn_table.specs.Hands.{IsSameHand, SameTurns, entries};
 ghost use Rattle.ng_bencode.specs.Tree.{Entries};
 ghost use Rattle.ng_command.specs.Said.{Answer};
 ghost use Rattle.call_board.specs.Boards.{KeepsReplies};
@@ -13,6 +13,7 @@ ghost use Rattle.board_turns.specs.Acting.{InTurn};
 ghost use Rattle.control_entries.specs.Carrying.{hearing_by, Carries};
 ghost use Rattle.control_entries.specs.Giving.{IsUnasked};
 ghost use Rattle.control_entries.specs.Telling.{IsAnew, IsAsking};
+ghost use Rattle.board_turns.specs.Ties.{Ties};
 
 use crate::room::{AnswerRoom, answer_room};
 use answer_turns::answer_act;
@@ -55,6 +56,7 @@ pub fn answer<P: PortMaker, R: Wait>(
         Carries config.now hand.old hand.new nest (hearing_by request.now pairs result) result.reply board.new (P.told ports.new) }
     ensures replies { KeepsReplies board.old board.new }
     ensures empty { gone.new ≡ [] }
+    ensures ties { Ties config.now (P.told ports.old) (P.told ports.new) (entries hand.old) (entries hand.new) }
     ensures later { P.faults ports.old ≤ P.faults ports.new }
     ensures closes { Gained (P.told ports.old) (P.told ports.new) OpensNone }
     ensures unasked { IsUnasked result.gave }

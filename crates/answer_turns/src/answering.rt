@@ -1,7 +1,7 @@
 //! An accepted answer.
 ghost use Rattle.std.specs.Prelude.{◌≡◌, ◌≤◌, [], length};
 ghost use Rattle.relay_outside.specs.Told.{Gained};
-ghost use Rattle.turn_table.specs.Hands.{IsSameHand, SameTurns};
+ghost use Rattle.turn_table.specs.Hands.{IsSameHand, SameTurns, entries};
 ghost use Rattle.offer_answer.specs.Plan.{answer_text};
 ghost use Rattle.offer_answer.specs.Rounds.{AnswerAsk};
 ghost use Rattle.offer_answer.specs.Widths.{WritesFrom};
@@ -14,6 +14,7 @@ ghost use Rattle.media_ports.specs.Asked.{OpensNone};
 ghost use Rattle.nested_steps.specs.Nesting.{MayNest};
 ghost use Rattle.board_turns.specs.Acting.{InTurn, DoesAct};
 ghost use Rattle.answer_turns.specs.Due.{IsAnswerOf};
+ghost use Rattle.board_turns.specs.Ties.{Ties};
 
 use crate::writing::write_answer;
 use board_turns::close_legs;
@@ -59,6 +60,7 @@ pub fn answer_act<P: PortMaker, R: Wait>(
         DoesAct config.now hand.old hand.new nest e board.new (P.told ports.new) }
     ensures replies { KeepsReplies board.old board.new }
     ensures closes { Gained (P.told ports.old) (P.told ports.new) OpensNone }
+    ensures ties { Ties config.now (P.told ports.old) (P.told ports.new) (entries hand.old) (entries hand.new) }
     ensures later { P.faults ports.old ≤ P.faults ports.new }
     ensures empty { gone.new ≡ [] }
 {

@@ -3,3 +3,4 @@ pub mod Between
 pub mod Closing
 pub mod Ending
 pub mod Stopping
+pub mod Ties

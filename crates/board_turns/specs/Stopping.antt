@@ -6,7 +6,7 @@ use Rattle.call_board.specs.Calls.{live}
 use Rattle.call_board.specs.Pairs.{held, closed_of}
 use Rattle.call_board.specs.Views.{last_moment}
 use Rattle.relay_core.specs.Entries.{Board}
-use Rattle.relay_core.specs.Made.{Made}
+use Rattle.relay_core.specs.Made.{Made, nothing_left}
 use Rattle.board_turns.specs.Closing.{pairs_left}
 use Rattle.board_turns.specs.Ending.{leg_pairs}
 
@@ -20,4 +20,4 @@ still_held h e calls = pairs_left (leg_pairs (flat_map (closed_of h e) calls)) (
 
 -- as the table records it
 abbrev pub stop_made : List BoardEntry → Made
-stop_made h = record { handed = last_moment h; moment = last_moment h; board = 0; before = h; event = Board (Stop (live h)) }
+stop_made h = record { handed = last_moment h; moment = last_moment h; board = 0; before = h; event = Board (Stop (live h)); left = nothing_left }

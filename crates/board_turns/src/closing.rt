@@ -2,13 +2,14 @@
 ghost use Rattle.std.specs.Prelude.{◌≡◌, ◌≤◌, ℕ, List, [], ◌∷◌, map};
 ghost use Rattle.relay_outside.specs.declared.settings.Config.{Config};
 ghost use Rattle.relay_outside.specs.Told.{Gained, WhereTold};
-ghost use Rattle.turn_table.specs.Hands.{IsSameHand, SameTurns};
+ghost use Rattle.turn_table.specs.Hands.{IsSameHand, SameTurns, entries};
 ghost use Rattle.call_board.specs.Boards.{Shows, KeepsCalls, KeepsReplies, pairs_in};
 ghost use Rattle.call_board.specs.Views.{View, with_returned};
 ghost use Rattle.relay_core.specs.Turning.{GainsNested, made_by};
 ghost use Rattle.media_ports.specs.Held.{OpensHeld};
 ghost use Rattle.nested_steps.specs.Nesting.{MayNest, closing_of};
 ghost use Rattle.board_turns.specs.Closing.{CanClose, leases_of, closings_of, ClosesLegs, pairs_left};
+ghost use Rattle.board_turns.specs.Ties.{TiesTakes};
 
 use call_board::Board;
 use call_cell::Gone;
@@ -42,6 +43,7 @@ fn close_leg<P: PortMaker, R: Wait>(
     ensures closes { Gained (P.told ports.old) (P.told ports.new) (ClosesLegs P.Out.told config.now.interface (leg ∷ [])) }
     ensures open { (held : List ℕ) → WhereTold (P.told ports.old) (λ calls. OpensHeld config.now calls held) →
         WhereTold (P.told ports.new) (λ calls. OpensHeld config.now calls (pairs_left (leg.0.pair ∷ []) held)) }
+    ensures takes { TiesTakes config.now (P.told ports.old) (P.told ports.new) (entries hand.old) (entries hand.new) }
     ensures later { P.faults ports.old ≤ P.faults ports.new }
 {
     let (lease, rtp_out, rtcp_out) = leg;
@@ -80,6 +82,7 @@ pub fn close_legs<P: PortMaker, R: Wait>(
     ensures closes { Gained (P.told ports.old) (P.told ports.new) (ClosesLegs P.Out.told config.now.interface gone.old) }
     ensures open { (held : List ℕ) → WhereTold (P.told ports.old) (λ calls. OpensHeld config.now calls held) →
         WhereTold (P.told ports.new) (λ calls. OpensHeld config.now calls (pairs_left (pairs_in (leases_of gone.old)) held)) }
+    ensures takes { TiesTakes config.now (P.told ports.old) (P.told ports.new) (entries hand.old) (entries hand.new) }
     ensures later { P.faults ports.old ≤ P.faults ports.new }
     ensures empty { gone.new ≡ [] }
 {

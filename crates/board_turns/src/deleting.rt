@@ -1,7 +1,7 @@
 //! A call that is deleted.
 ghost use Rattle.std.specs.Prelude.{◌≡◌, ◌≤◌, []};
 ghost use Rattle.relay_outside.specs.Told.{Gained};
-ghost use Rattle.turn_table.specs.Hands.{IsSameHand, SameTurns};
+ghost use Rattle.turn_table.specs.Hands.{IsSameHand, SameTurns, entries};
 ghost use Rattle.histories.specs.Words.{In};
 ghost use Rattle.call_board.specs.Acts.{Call, BoardEntry, Deleted, act};
 ghost use Rattle.call_board.specs.Boards.{KeepsReplies};
@@ -11,6 +11,7 @@ ghost use Rattle.relay_core.specs.Turning.{made_by};
 ghost use Rattle.media_ports.specs.Asked.{OpensNone};
 ghost use Rattle.nested_steps.specs.Nesting.{MayNest};
 ghost use Rattle.board_turns.specs.Acting.{InTurn, DoesAct};
+ghost use Rattle.board_turns.specs.Ties.{Ties};
 
 use crate::ending::end_call;
 use call_board::Board;
@@ -43,6 +44,7 @@ pub fn delete_call<P: PortMaker, R: Wait>(
         e.moment ≡ nest.moment → DoesAct config.now hand.old hand.new nest e board.new (P.told ports.new) }
     ensures replies { KeepsReplies board.old board.new }
     ensures closes { Gained (P.told ports.old) (P.told ports.new) OpensNone }
+    ensures ties { Ties config.now (P.told ports.old) (P.told ports.new) (entries hand.old) (entries hand.new) }
     ensures later { P.faults ports.old ≤ P.faults ports.new }
     ensures empty { gone.new ≡ [] }
 {

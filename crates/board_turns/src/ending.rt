@@ -2,7 +2,7 @@
 ghost use Rattle.std.specs.Prelude.{◌≡◌, ◌≤◌, ℕ, List, []};
 ghost use Rattle.relay_outside.specs.declared.settings.Config.{Config};
 ghost use Rattle.relay_outside.specs.Told.{Gained, WhereTold};
-ghost use Rattle.turn_table.specs.Hands.{IsSameHand, SameTurns};
+ghost use Rattle.turn_table.specs.Hands.{IsSameHand, SameTurns, entries};
 ghost use Rattle.port_pool.specs.declared.holder.Holder.{Holder};
 ghost use Rattle.call_board.specs.Acts.{Call};
 ghost use Rattle.call_board.specs.Boards.{Shows, KeepsReplies, CellsApart};
@@ -12,6 +12,7 @@ ghost use Rattle.media_ports.specs.Held.{OpensHeld};
 ghost use Rattle.nested_steps.specs.Nesting.{MayNest};
 ghost use Rattle.board_turns.specs.Closing.{pairs_left};
 ghost use Rattle.board_turns.specs.Ending.{CanEnd, ClosesTheirs, ending_of, leg_pairs, with_end};
+ghost use Rattle.board_turns.specs.Ties.{Ties};
 
 use crate::closing::close_legs;
 use call_board::Board;
@@ -51,6 +52,7 @@ pub fn end_call<P: PortMaker, R: Wait>(
     ensures open { (of : Call) (legs : List Holder) → CanEnd config.now (made_by hand.old) board.old (P.told ports.old) call of legs →
         (held : List ℕ) → WhereTold (P.told ports.old) (λ calls. OpensHeld config.now calls held) →
         WhereTold (P.told ports.new) (λ calls. OpensHeld config.now calls (pairs_left (leg_pairs legs) held)) }
+    ensures ties { Ties config.now (P.told ports.old) (P.told ports.new) (entries hand.old) (entries hand.new) }
     ensures later { P.faults ports.old ≤ P.faults ports.new }
     ensures empty { gone.new ≡ [] }
 {

@@ -1,7 +1,7 @@
 //! All live calls, ended in order, and the turn of the board in which a stop does so.
 ghost use Rattle.std.specs.Prelude.{◌≡◌, ◌≤◌, [], ◌∷◌, length};
 ghost use Rattle.relay_outside.specs.Told.{Gained, WhereTold};
-ghost use Rattle.turn_table.specs.Hands.{IsSameHand, SameTurns};
+ghost use Rattle.turn_table.specs.Hands.{IsSameHand, SameTurns, entries};
 ghost use Rattle.call_board.specs.Boards.{BoardFor, KeepsReplies};
 ghost use Rattle.call_board.specs.Calls.{live};
 ghost use Rattle.call_board.specs.Pairs.{held};
@@ -17,6 +17,7 @@ ghost use Rattle.nested_steps.specs.Nesting.{MayNest};
 ghost use Rattle.board_turns.specs.Between.{board_of, IsBetween, MakesTurn};
 ghost use Rattle.board_turns.specs.Ending.{leg_pairs};
 ghost use Rattle.board_turns.specs.Stopping.{stop_entry, still_held};
+ghost use Rattle.board_turns.specs.Ties.{Ties};
 
 use crate::ending::end_call;
 use crate::putting::put_entry;
@@ -58,6 +59,7 @@ pub fn end_live<P: PortMaker, R: Wait>(
     ensures open { let h = board_history (made_by hand.old) nest.number in
         WhereTold (P.told ports.new) (λ calls. OpensHeld config.now calls (still_held h (stop_entry h) (live h))) }
     ensures closes { Gained (P.told ports.old) (P.told ports.new) OpensNone }
+    ensures ties { Ties config.now (P.told ports.old) (P.told ports.new) (entries hand.old) (entries hand.new) }
     ensures later { P.faults ports.old ≤ P.faults ports.new }
     ensures empty { gone.new ≡ [] }
 {
@@ -95,6 +97,7 @@ fn stop_part<P: PortMaker, R: Wait>(
     ensures count { result ≡ length (live (board_history (made_by hand.old) number)) }
     ensures shut { TellsHeld config.now (P.told ports.new) [] }
     ensures closes { Gained (P.told ports.old) (P.told ports.new) OpensNone }
+    ensures ties { Ties config.now (P.told ports.old) (P.told ports.new) (entries hand.old) (entries hand.new) }
     ensures later { P.faults ports.old ≤ P.faults ports.new }
     ensures empty { gone.new ≡ [] }
 {
@@ -129,6 +132,7 @@ pub fn stop_turn<P: PortMaker, R: Wait>(
     ensures count { result ≡ length (live (board_of (made_by hand.old))) }
     ensures shut { TellsHeld config.now (P.told ports.new) [] }
     ensures closes { Gained (P.told ports.old) (P.told ports.new) OpensNone }
+    ensures ties { Ties config.now (P.told ports.old) (P.told ports.new) (entries hand.old) (entries hand.new) }
     ensures later { P.faults ports.old ≤ P.faults ports.new }
     ensures empty { gone.new ≡ [] }
 {

@@ -10,7 +10,7 @@ use Rattle.call_board.specs.Answers.{Answered, answering_unless}
 use Rattle.call_board.specs.Kept.{kept}
 use Rattle.call_board.specs.Views.{last_moment}
 use Rattle.relay_core.specs.Entries.{Board}
-use Rattle.relay_core.specs.Made.{Made}
+use Rattle.relay_core.specs.Made.{Made, nothing_left}
 
 -- what was heard of a datagram with a frame, and what the outside gave in its turn
 pub record Hearing : Type 0 where
@@ -73,4 +73,5 @@ control_made config h now x = record {
   board = 0;
   before = h;
   event = Board (Turn (control_of config h (moment_at h now) x));
+  left = nothing_left;
 }

@@ -1,7 +1,7 @@
 //! A command that is no repeat, carried out.
 ghost use Rattle.std.specs.Prelude.{◌≡◌, ◌≤◌, [], Option, false, IfOk, length};
 ghost use Rattle.ng_command.specs.Said.{said};
-ghost use Rattle.turn_table.specs.Hands.{IsSameHand, SameTurns};
+ghost use Rattle.turn_table.specs.Hands.{IsSameHand, SameTurns, entries};
 ghost use Rattle.ng_bencode.specs.Tree.{Entries};
 ghost use Rattle.call_board.specs.Asked.{Reads, command_in};
 ghost use Rattle.call_board.specs.Boards.{KeepsReplies};
@@ -13,6 +13,7 @@ ghost use Rattle.board_turns.specs.Acting.{InTurn};
 ghost use Rattle.control_entries.specs.Telling.{IsAnew};
 ghost use Rattle.control_entries.specs.Carrying.{hearing_by, Carries};
 ghost use Rattle.control_entries.specs.Giving.{given_by, IsGivenBy};
+ghost use Rattle.board_turns.specs.Ties.{Ties};
 
 use answer_command::answer;
 use call_board::Board;
@@ -68,6 +69,7 @@ fn carry_out_command<P: PortMaker, K: KeySource, R: Wait>(
         Carries config.now hand.old hand.new nest (hearing_by request.now pairs result) result.reply board.new (P.told ports.new) }
     ensures replies { KeepsReplies board.old board.new }
     ensures empty { gone.new ≡ [] }
+    ensures ties { Ties config.now (P.told ports.old) (P.told ports.new) (entries hand.old) (entries hand.new) }
     ensures later { (P.faults ports.old ≤ P.faults ports.new) × (K.faults keys.old ≤ K.faults keys.new) }
     ensures given { IsGivenBy (given_by result.gave) (P.faults ports.old) (P.faults ports.new) (K.faults keys.old) (K.faults keys.new) (P.told ports.old) (P.told ports.new) (K.told keys.old) (K.told keys.new) }
 {
@@ -113,6 +115,7 @@ pub(crate) fn carry_out<P: PortMaker, K: KeySource, R: Wait>(
     ensures carries { Carries config.now hand.old hand.new nest (hearing_by request.now (pairs_if result.dictionary) result.done) result.done.reply board.new (P.told ports.new) }
     ensures replies { KeepsReplies board.old board.new }
     ensures empty { gone.new ≡ [] }
+    ensures ties { Ties config.now (P.told ports.old) (P.told ports.new) (entries hand.old) (entries hand.new) }
     ensures later { (P.faults ports.old ≤ P.faults ports.new) × (K.faults keys.old ≤ K.faults keys.new) }
     ensures given { IsGivenBy (given_by result.done.gave) (P.faults ports.old) (P.faults ports.new) (K.faults keys.old) (K.faults keys.new) (P.told ports.old) (P.told ports.new) (K.told keys.old) (K.told keys.new) }
 {

@@ -1,7 +1,7 @@
 //! A datagram, dealt with in the board's turn.
 ghost use Rattle.std.specs.Prelude.{◌≡◌, ◌≤◌, [], None};
 ghost use Rattle.relay_outside.specs.Told.{HasCause};
-ghost use Rattle.turn_table.specs.Hands.{IsSameHand, SameTurns};
+ghost use Rattle.turn_table.specs.Hands.{IsSameHand, SameTurns, entries};
 ghost use Rattle.ng_reply.specs.Replies.{error_datagram};
 ghost use Rattle.cookie_cache.specs.Keepings.{IsCookie};
 ghost use Rattle.relay_core.specs.Entries.{board_history};
@@ -14,6 +14,7 @@ ghost use Rattle.control_turns.specs.Sending.{Sends};
 ghost use Rattle.control_entries.specs.Telling.{IsAnew};
 ghost use Rattle.control_turns.specs.Turning.{IsRequest};
 ghost use Rattle.control_turns.specs.Dealing.{hearing_of, Deals, IsTaken, DealsAt};
+ghost use Rattle.board_turns.specs.Ties.{Ties};
 
 use crate::carrying::{Carried, carry_out};
 use crate::dealt::Dealt;
@@ -83,6 +84,7 @@ fn answer_anew<N: ControlLink, P: PortMaker, K: KeySource, R: Wait>(
         result.sent (N.told link.old) (N.told link.new) }
     ensures cause { HasCause (N.faults link.old) (N.faults link.new) result.sent }
     ensures empty { gone.new ≡ [] }
+    ensures ties { Ties config.now (P.told ports.old) (P.told ports.new) (entries hand.old) (entries hand.new) }
     ensures later { (P.faults ports.old ≤ P.faults ports.new) × (K.faults keys.old ≤ K.faults keys.new) }
     ensures given { IsGivenBy (given_by result.dealt.gave) (P.faults ports.old) (P.faults ports.new) (K.faults keys.old) (K.faults keys.new) (P.told ports.old) (P.told ports.new) (K.told keys.old) (K.told keys.new) }
 {
@@ -130,6 +132,7 @@ fn deal<N: ControlLink, P: PortMaker, K: KeySource, R: Wait>(
         result.sent (N.told link.old) (N.told link.new) }
     ensures cause { HasCause (N.faults link.old) (N.faults link.new) result.sent }
     ensures empty { gone.new ≡ [] }
+    ensures ties { Ties config.now (P.told ports.old) (P.told ports.new) (entries hand.old) (entries hand.new) }
     ensures later { (P.faults ports.old ≤ P.faults ports.new) × (K.faults keys.old ≤ K.faults keys.new) }
     ensures given { IsGivenBy (given_by result.dealt.gave) (P.faults ports.old) (P.faults ports.new) (K.faults keys.old) (K.faults keys.new) (P.told ports.old) (P.told ports.new) (K.told keys.old) (K.told keys.new) }
 {
@@ -174,6 +177,7 @@ pub(crate) fn deal_part<N: ControlLink, P: PortMaker, K: KeySource, R: Wait>(
         Sends request.now.source (control_of config.now h (moment_at h now) (hearing_of request.now result.dealt)).reply result.sent (N.told link.old) (N.told link.new) }
     ensures cause { HasCause (N.faults link.old) (N.faults link.new) result.sent }
     ensures empty { gone.new ≡ [] }
+    ensures ties { Ties config.now (P.told ports.old) (P.told ports.new) (entries hand.old) (entries hand.new) }
     ensures later { (P.faults ports.old ≤ P.faults ports.new) × (K.faults keys.old ≤ K.faults keys.new) }
     ensures given { IsGivenBy (given_by result.dealt.gave) (P.faults ports.old) (P.faults ports.new) (K.faults keys.old) (K.faults keys.new) (P.told ports.old) (P.told ports.new) (K.told keys.old) (K.told keys.new) }
 {

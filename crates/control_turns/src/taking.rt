@@ -1,13 +1,14 @@
 //! One control turn: a take from the link, and what follows it.
 ghost use Rattle.std.specs.Prelude.{◌≡◌, ◌≤◌, ◌≢◌, [], length};
 ghost use Rattle.relay_outside.specs.Told.{Rose};
-ghost use Rattle.turn_table.specs.Hands.{IsSameHand};
+ghost use Rattle.turn_table.specs.Hands.{IsSameHand, entries};
 ghost use Rattle.call_board.specs.Pairs.{held};
 ghost use Rattle.relay_core.specs.Turning.{made_by};
 ghost use Rattle.media_ports.specs.Held.{TellsHeld};
 ghost use Rattle.board_turns.specs.Between.{IsBetween, board_of};
 ghost use Rattle.board_turns.specs.Ending.{leg_pairs};
 ghost use Rattle.control_turns.specs.Taking.{Responded, Turned};
+ghost use Rattle.board_turns.specs.Ties.{Ties};
 
 use crate::turn::answer_datagram;
 use call_cell::Gone;
@@ -63,6 +64,7 @@ fn respond<N: ControlLink, P: PortMaker, K: KeySource, R: Wait>(
     ensures responded { Responded config.now hand.old hand.new now from datagram.now result (P.faults ports.old) (P.faults ports.new) (K.faults keys.old) (K.faults keys.new) (P.told ports.old) (P.told ports.new) (K.told keys.old) (K.told keys.new) (N.told link.old) (N.told link.new) }
     ensures no_read_fault { result ≢ ControlTurn.ReadFault }
     ensures reply_fault { result ≡ ControlTurn.ReplyFault → Rose (N.faults link.old) (N.faults link.new) }
+    ensures ties { Ties config.now (P.told ports.old) (P.told ports.new) (entries hand.old) (entries hand.new) }
     ensures later { (N.faults link.old ≤ N.faults link.new) × (P.faults ports.old ≤ P.faults ports.new) × (K.faults keys.old ≤ K.faults keys.new) }
     ensures empty { gone.new ≡ [] }
 {
@@ -112,6 +114,7 @@ pub fn control_turn<N: ControlLink, P: PortMaker, K: KeySource, R: Wait>(
     ensures turned { Turned config.now hand.old hand.new now result (P.faults ports.old) (P.faults ports.new) (K.faults keys.old) (K.faults keys.new) (P.told ports.old) (P.told ports.new) (K.told keys.old) (K.told keys.new) (N.told link.old) (N.told link.new) }
     ensures read_fault { result ≡ ControlTurn.ReadFault → Rose (N.faults link.old) (N.faults link.new) }
     ensures reply_fault { result ≡ ControlTurn.ReplyFault → Rose (N.faults link.old) (N.faults link.new) }
+    ensures ties { Ties config.now (P.told ports.old) (P.told ports.new) (entries hand.old) (entries hand.new) }
     ensures later { (N.faults link.old ≤ N.faults link.new) × (P.faults ports.old ≤ P.faults ports.new) × (K.faults keys.old ≤ K.faults keys.new) }
     ensures empty { gone.new ≡ [] }
 {

@@ -1,13 +1,14 @@
 //! The board's turn of one datagram.
 ghost use Rattle.std.specs.Prelude.{◌≡◌, ◌≤◌, []};
 ghost use Rattle.relay_outside.specs.Told.{HasCause};
-ghost use Rattle.turn_table.specs.Hands.{IsSameHand};
+ghost use Rattle.turn_table.specs.Hands.{IsSameHand, entries};
 ghost use Rattle.call_board.specs.Pairs.{held};
 ghost use Rattle.relay_core.specs.Turning.{made_by};
 ghost use Rattle.media_ports.specs.Held.{TellsHeld};
 ghost use Rattle.board_turns.specs.Between.{IsBetween, board_of};
 ghost use Rattle.board_turns.specs.Ending.{leg_pairs};
 ghost use Rattle.control_turns.specs.Turning.{IsRequest, Answers};
+ghost use Rattle.board_turns.specs.Ties.{Ties};
 
 use crate::dealing::deal_part;
 use crate::putting::put_control;
@@ -49,6 +50,7 @@ pub fn answer_datagram<N: ControlLink, P: PortMaker, K: KeySource, R: Wait>(
     ensures open { TellsHeld config.now (P.told ports.new) (leg_pairs (held (board_of (made_by hand.new)))) }
     ensures answers { Answers config.now hand.old hand.new request.now now result (P.faults ports.old) (P.faults ports.new) (K.faults keys.old) (K.faults keys.new) (P.told ports.old) (P.told ports.new) (K.told keys.old) (K.told keys.new) (N.told link.old) (N.told link.new) }
     ensures cause { HasCause (N.faults link.old) (N.faults link.new) result }
+    ensures ties { Ties config.now (P.told ports.old) (P.told ports.new) (entries hand.old) (entries hand.new) }
     ensures later { (P.faults ports.old ≤ P.faults ports.new) × (K.faults keys.old ≤ K.faults keys.new) }
     ensures empty { gone.new ≡ [] }
 {

@@ -17,7 +17,7 @@ use Rattle.call_cell.specs.Standing.{sent_ok}
 use Rattle.relay_core.specs.declared.part.Part.{Part}
 use Rattle.relay_core.specs.declared.part.Part.TheVariants as part
 use Rattle.relay_core.specs.Entries.{Cell}
-use Rattle.relay_core.specs.Made.{Made, told_relay}
+use Rattle.relay_core.specs.Made.{Made, nothing_left, told_relay}
 use Rattle.relay_core.specs.Steps.{CellRelayed}
 use Rattle.media_lane.specs.declared.receipt.Receipt.{Receipt}
 use Rattle.media_lane.specs.declared.answers.Relayed.{Relayed}
@@ -27,7 +27,7 @@ use Rattle.media_lane.specs.Busy.{Gives, FindsBusy}
 
 -- a relay as the table records it
 abbrev pub relay_made : cells.Receipt → ℕ → ℕ → Outcome → Made
-relay_made p now moment outcome = record { handed = now; moment = moment; board = 0; before = []; event = Cell (cells.Relay (told_relay p outcome)) }
+relay_made p now moment outcome = record { handed = now; moment = moment; board = 0; before = []; event = Cell (cells.Relay (told_relay p outcome)); left = nothing_left }
 
 -- the last moment of a cell
 abbrev pub moment_in : {I O : Type 0} → Part I O → ℕ

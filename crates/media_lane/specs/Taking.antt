@@ -17,7 +17,7 @@ use Rattle.port_pool.specs.Taking as taking
 use Rattle.relay_core.specs.declared.part.Part.{Part}
 use Rattle.relay_core.specs.declared.part.Part.TheVariants as part
 use Rattle.relay_core.specs.Entries.{Box, Entry, box_of}
-use Rattle.relay_core.specs.Made.{Made}
+use Rattle.relay_core.specs.Made.{Made, nothing_left}
 use Rattle.relay_core.specs.Steps.{BoxStep}
 use Rattle.media_lane.specs.declared.receipt.Receipt.{Receipt}
 use Rattle.media_lane.specs.declared.answers.Received.{Received}
@@ -28,7 +28,7 @@ use Rattle.media_lane.specs.Receipts.{IsReceiptOf}
 
 -- a take as the table records it
 abbrev pub take_made : Half → Taken → Made
-take_made half taken = record { handed = 0; moment = 0; board = 0; before = []; event = Box (box.Take half taken) }
+take_made half taken = record { handed = 0; moment = 0; board = 0; before = []; event = Box (box.Take half taken); left = nothing_left }
 
 -- the same by the answer of a box and the bytes of the buffer after it
 abbrev pub box_take_made : Half → BoxTake → List ℕ → Made

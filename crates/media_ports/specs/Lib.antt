@@ -3,4 +3,5 @@ pub mod Asked
 pub mod Calls
 pub mod Draws
 pub mod Ends
+pub mod Given
 pub mod Held

@@ -1,11 +1,13 @@
 -- Who may make nested steps, and what such a step tells.
-use Rattle.std.specs.Prelude.{◌≡◌, ℕ, List, [], Option, Some, None, IsSome}
+use Rattle.std.specs.Prelude.{◌≡◌, ◌++◌, ℕ, List, [], ◌∷◌, Option, Some, None, IsSome}
 use Rattle.relay_outside.specs.declared.settings.Config.{Config}
 use Rattle.relay_outside.specs.declared.ports.InCall.{InCall}
 use Rattle.relay_outside.specs.declared.ports.OutCall.{OutCall}
 use Rattle.turn_table.specs.declared.hands.Turns.{Turns}
 use Rattle.turn_table.specs.declared.hands.Hand.{Hand}
-use Rattle.turn_table.specs.Hands.{IsHandOf, IsMain, HasPlace, IsGiven, starts}
+use Rattle.turn_table.specs.declared.machine.Entry as table
+use Rattle.turn_table.specs.Hands.{IsHandOf, IsMain, HasPlace, IsGiven, starts, entries}
+use Rattle.port_pool.specs.declared.pairs.Lease.{Lease}
 use Rattle.port_pool.specs.declared.boxes.PairBox.{PairBox}
 use Rattle.port_pool.specs.Boxes.{Close, holder}
 use Rattle.port_pool.specs.PairBoxes.{ends_in}
@@ -13,8 +15,8 @@ use Rattle.relay_core.specs.declared.part.Part.{Part}
 use Rattle.relay_core.specs.declared.part.Part.TheVariants as part
 use Rattle.relay_core.specs.Entries.{Event, Box, Entry, box_history, box_of}
 use Rattle.relay_core.specs.Scripts.{Owed}
-use Rattle.relay_core.specs.Made.{Made}
-use Rattle.relay_core.specs.Steps.{Relates, IsReserved}
+use Rattle.relay_core.specs.Made.{Left, Made, nothing_left}
+use Rattle.relay_core.specs.Steps.{Relates, IsReserved, legs_left}
 use Rattle.relay_core.specs.Beginning.{AreParts}
 use Rattle.relay_core.specs.Turning.{Numbered, IsAbove, made_by}
 
@@ -27,9 +29,29 @@ pub record MayNest {M I O T : Type 0} {g : _} (config : Config) (turns : Turns M
   pub parts : AreParts config (starts hand)
   pub numbered : Numbered (made_by hand)
 
--- a step that was handed this moment, as the table records it
+-- a step that was handed this moment, as the table records it, and by which this leaves its place
+abbrev pub leaving : (number handed moment : ℕ) → Event → Left → Made
+leaving number handed moment event left = record { handed = handed; moment = moment; board = number; before = []; event = event; left = left }
+
+-- the same of one by which nothing leaves
 abbrev pub nested : (number handed moment : ℕ) → Event → Made
-nested number handed moment event = record { handed = handed; moment = moment; board = number; before = []; event = event }
+nested number handed moment event = leaving number handed moment event nothing_left
+
+-- the in ends of a box leave
+abbrev pub ends_left : {I : Type 0} → (I → Option (List InCall)) → I × I → Left
+ends_left told ends = record { rtp = told ends.0; rtcp = told ends.1; legs = [] }
+
+-- legs of a cell go
+abbrev pub gone_left : {O : Type 0} → (O → Option (List OutCall)) → List (Lease × O × O) → Left
+gone_left told gone = record { rtp = Some []; rtcp = Some []; legs = legs_left told gone }
+
+-- the hand's list gained one row of that place, with this event, and by which this left
+pub record AddsRow {M S T : Type 0} {g : _} (place : ℕ) (event : Event) (left : Left) (old new : Hand M S Made T g) : Type 0 where
+  pub row : table.Entry Made T
+  pub list_is : entries new ≡ entries old ++ row ∷ []
+  pub place_is : row.place ≡ place
+  pub event_is : row.event.event ≡ event
+  pub left_is : row.event.left ≡ left
 
 -- Boxes.
 

@@ -8,7 +8,7 @@ ghost use Rattle.relay_core.specs.Entries.{Box, box_of};
 ghost use Rattle.relay_core.specs.Scripts.{opening};
 ghost use Rattle.relay_core.specs.Steps.{Relates};
 ghost use Rattle.relay_core.specs.Turning.{GainsNested, made_by};
-ghost use Rattle.nested_steps.specs.Nesting.{MayNest, nested, IsShut, IsOpen, closing_of, Opens, Shuts};
+ghost use Rattle.nested_steps.specs.Nesting.{MayNest, nested, leaving, ends_left, AddsRow, IsShut, IsOpen, closing_of, Opens, Shuts};
 ghost use Rattle.nested_steps.specs.Taken.{CanOpen, CanShut, HasEnds};
 
 use crate::nest::Nest;
@@ -42,7 +42,7 @@ fn open_part<I: InEnd, O: OutEnd>(part: &mut Part<I, O>, holder: Holder, rtp_end
 
 fn shut_part<I: InEnd, O: OutEnd>(part: &mut Part<I, O>) -> (I, I)
     requires { CanShut part.old }
-    ensures step { (number handed : ℕ) → Relates I.told I.faults O.told O.faults part.old (nested number handed 0 (Box Close)) part.new }
+    ensures step { (number handed : ℕ) → Relates I.told I.faults O.told O.faults part.old (leaving number handed 0 (Box Close) (ends_left I.told result)) part.new }
     ensures ends { HasEnds part.old result }
 {
     match part {
@@ -94,10 +94,11 @@ pub fn shut_box<I: InEnd, O: OutEnd, R: Wait>(
     ensures same { IsSameHand hand.old hand.new × SameTurns hand.old hand.new }
     ensures may { MayNest config.now turns.now hand.new }
     ensures gained { GainsNested nest.number nest.moment (closing_of config.now pair ∷ []) hand.old hand.new }
-    ensures ends { Shuts I.told I.faults O.told O.faults hand.old (box_of config.now pair) (nested nest.number nest.moment 0 (Box Close)) result }
+    ensures row { AddsRow (box_of config.now pair) (Box Close) (ends_left I.told result) hand.old hand.new }
+    ensures ends { Shuts I.told I.faults O.told O.faults hand.old (box_of config.now pair) (leaving nest.number nest.moment 0 (Box Close) (ends_left I.told result)) result }
 {
     let mut turn = turns.turn(rt, hand, box_place(config, pair));
     let ends = shut_part(turn.state());
-    put_closing::<I, O, Brand>(turns, hand, turn, nest);
+    put_closing::<I, O, Brand>(turns, hand, turn, nest, &ends);
     ends
 }

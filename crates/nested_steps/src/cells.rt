@@ -6,7 +6,7 @@ ghost use Rattle.relay_core.specs.Entries.{Cell};
 ghost use Rattle.relay_core.specs.Standing.{IsCellPart};
 ghost use Rattle.relay_core.specs.Steps.{Relates};
 ghost use Rattle.relay_core.specs.Turning.{GainsNested, made_by};
-ghost use Rattle.nested_steps.specs.Nesting.{MayNest, nested};
+ghost use Rattle.nested_steps.specs.Nesting.{MayNest, nested, leaving, gone_left, AddsRow};
 ghost use Rattle.nested_steps.specs.InCells.{HasNewKeys, in_cell_of, moment_in, Ends, Expires, EndsPart, ExpiresPart};
 ghost use Rattle.nested_steps.specs.Leaving.{AllWent};
 
@@ -31,7 +31,7 @@ pub(crate) fn cell_place(config: &Config, cell: u32) -> usize
 fn end_part<I: InEnd, O: OutEnd>(part: &mut Part<I, O>, gone: &mut Gone<O>)
     requires cell { IsCellPart part.old }
     requires empty { gone.old ≡ [] }
-    ensures step { (number handed : ℕ) → Relates I.told I.faults O.told O.faults part.old (nested number handed (moment_in part.old) (Cell End)) part.new }
+    ensures step { (number handed : ℕ) → Relates I.told I.faults O.told O.faults part.old (leaving number handed (moment_in part.old) (Cell End) (gone_left O.told gone.new)) part.new }
     ensures ends { EndsPart part.old part.new gone.new }
 {
     match part {
@@ -70,12 +70,13 @@ pub fn end_cell<I: InEnd, O: OutEnd, R: Wait>(
     ensures same { IsSameHand hand.old hand.new × SameTurns hand.old hand.new }
     ensures may { MayNest config.now turns.now hand.new }
     ensures gained { GainsNested nest.number nest.moment (in_cell_of cell End ∷ []) hand.old hand.new }
+    ensures row { AddsRow cell (Cell End) (gone_left O.told gone.new) hand.old hand.new }
     ensures ended { Ends I.told I.faults O.told O.faults config.now hand.old cell gone.new }
     ensures went { AllWent config.now (made_by hand.old) cell gone.new }
 {
     let mut turn = turns.turn(rt, hand, cell_place(config, cell));
     end_part(turn.state(), gone);
-    put_end::<I, O, Brand>(turns, hand, turn, nest);
+    put_end::<I, O, Brand>(turns, hand, turn, nest, gone);
 }
 
 /// Whether the call of a cell is due to end at the moment of the board's entry. Nothing changes but the cell's last moment.

@@ -7,13 +7,13 @@ ghost use Rattle.call_cell.specs.Cells.{Commit, Expire, End};
 ghost use Rattle.call_cell.specs.Preparing.{added};
 ghost use Rattle.relay_core.specs.Entries.{Box, Cell};
 ghost use Rattle.relay_core.specs.Steps.{Relates};
-ghost use Rattle.nested_steps.specs.Nesting.{nested};
+ghost use Rattle.nested_steps.specs.Nesting.{nested, leaving, ends_left, gone_left};
 ghost use Rattle.nested_steps.specs.InCells.{moment_in, preparing};
 ghost use Rattle.nested_steps.specs.Bringing.{brought_keys, brought_dropped};
 
 use crate::brought::Brought;
 use crate::nest::Nest;
-use call_cell::Prepare;
+use call_cell::{Gone, Prepare};
 use port_pool::{Holder, Signal};
 use relay_core::{Relay, Says, Told};
 use relay_outside::{InEnd, OutEnd};
@@ -38,36 +38,38 @@ pub(crate) fn put_opening<I: InEnd, O: OutEnd, X: Says>(
     turns.put::<Told<X>>(hand, turn);
 }
 
-/// A box was shut.
+/// A box was shut, and these were its ends.
 pub(crate) fn put_closing<I: InEnd, O: OutEnd, X: Says>(
     turns: &Turns<Relay<I, O>>,
     hand: &mut Hand<Relay<I, O>>,
     turn: Turn<Relay<I, O>>,
     nest: Nest,
+    ends: &(I, I),
 )
     requires table { IsHandOf turns.now hand.old × IsMain hand.old }
     requires turn { HasTurn hand.old turn }
-    requires step { Relates I.told I.faults O.told O.faults (taken_of turn) (nested nest.number nest.moment 0 (Box Close)) (state_of turn) }
-    requires said { X.made ≡ nested nest.number nest.moment 0 (Box Close) }
+    requires step { Relates I.told I.faults O.told O.faults (taken_of turn) (leaving nest.number nest.moment 0 (Box Close) (ends_left I.told ends.now)) (state_of turn) }
+    requires said { X.made ≡ leaving nest.number nest.moment 0 (Box Close) (ends_left I.told ends.now) }
     ensures same { IsSameHand hand.old hand.new }
-    ensures entry { EndsTurn (place_of turn) (front_of turn) (nested nest.number nest.moment 0 (Box Close)) tt hand.old hand.new }
+    ensures entry { EndsTurn (place_of turn) (front_of turn) (leaving nest.number nest.moment 0 (Box Close) (ends_left I.told ends.now)) tt hand.old hand.new }
 {
     turns.put::<Told<X>>(hand, turn);
 }
 
-/// The call of a cell ended.
+/// The call of a cell ended, and these legs went.
 pub(crate) fn put_end<I: InEnd, O: OutEnd, X: Says>(
     turns: &Turns<Relay<I, O>>,
     hand: &mut Hand<Relay<I, O>>,
     turn: Turn<Relay<I, O>>,
     nest: Nest,
+    gone: &Gone<O>,
 )
     requires table { IsHandOf turns.now hand.old × IsMain hand.old }
     requires turn { HasTurn hand.old turn }
-    requires step { Relates I.told I.faults O.told O.faults (taken_of turn) (nested nest.number nest.moment (moment_in (taken_of turn)) (Cell End)) (state_of turn) }
-    requires said { X.made ≡ nested nest.number nest.moment (moment_in (taken_of turn)) (Cell End) }
+    requires step { Relates I.told I.faults O.told O.faults (taken_of turn) (leaving nest.number nest.moment (moment_in (taken_of turn)) (Cell End) (gone_left O.told gone.now)) (state_of turn) }
+    requires said { X.made ≡ leaving nest.number nest.moment (moment_in (taken_of turn)) (Cell End) (gone_left O.told gone.now) }
     ensures same { IsSameHand hand.old hand.new }
-    ensures entry { EndsTurn (place_of turn) (front_of turn) (nested nest.number nest.moment (moment_in (taken_of turn)) (Cell End)) tt hand.old hand.new }
+    ensures entry { EndsTurn (place_of turn) (front_of turn) (leaving nest.number nest.moment (moment_in (taken_of turn)) (Cell End) (gone_left O.told gone.now)) tt hand.old hand.new }
 {
     turns.put::<Told<X>>(hand, turn);
 }
@@ -90,7 +92,7 @@ pub(crate) fn put_expiry<I: InEnd, O: OutEnd, X: Says>(
     turns.put::<Told<X>>(hand, turn);
 }
 
-/// A cell was prepared by an offer, with these legs.
+/// A cell was prepared by an offer, with these legs, and these went.
 pub(crate) fn put_prepare<I: InEnd, O: OutEnd, X: Says>(
     turns: &Turns<Relay<I, O>>,
     hand: &mut Hand<Relay<I, O>>,
@@ -99,35 +101,37 @@ pub(crate) fn put_prepare<I: InEnd, O: OutEnd, X: Says>(
     call: u64,
     legs: &Snapshot<Prepare<O>>,
     brought: &Brought,
+    gone: &Gone<O>,
 )
     requires table { IsHandOf turns.now hand.old × IsMain hand.old }
     requires turn { HasTurn hand.old turn }
     requires step { Relates I.told I.faults O.told O.faults (taken_of turn)
-        (nested nest.number nest.moment (max nest.moment (moment_in (taken_of turn))) (Cell (preparing call (added legs.now.value) (brought_keys brought.now) (brought_dropped brought.now)))) (state_of turn) }
-    requires said { X.made ≡ nested nest.number nest.moment (max nest.moment (moment_in (taken_of turn))) (Cell (preparing call (added legs.now.value) (brought_keys brought.now) (brought_dropped brought.now))) }
+        (leaving nest.number nest.moment (max nest.moment (moment_in (taken_of turn))) (Cell (preparing call (added legs.now.value) (brought_keys brought.now) (brought_dropped brought.now))) (gone_left O.told gone.now)) (state_of turn) }
+    requires said { X.made ≡ leaving nest.number nest.moment (max nest.moment (moment_in (taken_of turn))) (Cell (preparing call (added legs.now.value) (brought_keys brought.now) (brought_dropped brought.now))) (gone_left O.told gone.now) }
     ensures same { IsSameHand hand.old hand.new }
     ensures entry { EndsTurn (place_of turn) (front_of turn)
-        (nested nest.number nest.moment (max nest.moment (moment_in (taken_of turn))) (Cell (preparing call (added legs.now.value) (brought_keys brought.now) (brought_dropped brought.now)))) tt hand.old hand.new }
+        (leaving nest.number nest.moment (max nest.moment (moment_in (taken_of turn))) (Cell (preparing call (added legs.now.value) (brought_keys brought.now) (brought_dropped brought.now))) (gone_left O.told gone.now)) tt hand.old hand.new }
 {
     turns.put::<Told<X>>(hand, turn);
 }
 
-/// A cell was committed by an answer.
+/// A cell was committed by an answer, and these legs went.
 pub(crate) fn put_commit<I: InEnd, O: OutEnd, X: Says>(
     turns: &Turns<Relay<I, O>>,
     hand: &mut Hand<Relay<I, O>>,
     turn: Turn<Relay<I, O>>,
     nest: Nest,
     signal: &Signal,
+    gone: &Gone<O>,
 )
     requires table { IsHandOf turns.now hand.old × IsMain hand.old }
     requires turn { HasTurn hand.old turn }
     requires step { Relates I.told I.faults O.told O.faults (taken_of turn)
-        (nested nest.number nest.moment (max nest.moment (moment_in (taken_of turn))) (Cell (Commit signal.now))) (state_of turn) }
-    requires said { X.made ≡ nested nest.number nest.moment (max nest.moment (moment_in (taken_of turn))) (Cell (Commit signal.now)) }
+        (leaving nest.number nest.moment (max nest.moment (moment_in (taken_of turn))) (Cell (Commit signal.now)) (gone_left O.told gone.now)) (state_of turn) }
+    requires said { X.made ≡ leaving nest.number nest.moment (max nest.moment (moment_in (taken_of turn))) (Cell (Commit signal.now)) (gone_left O.told gone.now) }
     ensures same { IsSameHand hand.old hand.new }
     ensures entry { EndsTurn (place_of turn) (front_of turn)
-        (nested nest.number nest.moment (max nest.moment (moment_in (taken_of turn))) (Cell (Commit signal.now))) tt hand.old hand.new }
+        (leaving nest.number nest.moment (max nest.moment (moment_in (taken_of turn))) (Cell (Commit signal.now)) (gone_left O.told gone.now)) tt hand.old hand.new }
 {
     turns.put::<Told<X>>(hand, turn);
 }

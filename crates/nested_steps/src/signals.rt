@@ -4,9 +4,9 @@ ghost use Rattle.turn_table.specs.Hands.{IsSameHand, SameTurns};
 ghost use Rattle.call_cell.specs.Cells.{Commit};
 ghost use Rattle.call_cell.specs.Preparing.{IsReady, PrepareFor, added};
 ghost use Rattle.relay_core.specs.Entries.{Cell};
-ghost use Rattle.relay_core.specs.Steps.{Relates};
+ghost use Rattle.relay_core.specs.Steps.{Relates, AreUncalled};
 ghost use Rattle.relay_core.specs.Turning.{GainsNested, made_by};
-ghost use Rattle.nested_steps.specs.Nesting.{MayNest, nested};
+ghost use Rattle.nested_steps.specs.Nesting.{MayNest, leaving, gone_left, AddsRow};
 ghost use Rattle.nested_steps.specs.Bringing.{brought_keys, brought_dropped};
 ghost use Rattle.nested_steps.specs.InCells.{HasNewKeys, in_cell_of, moment_in, preparing, CanPrepare, CanCommit, HasSpace, TakesOffer, TakesAnswer, PreparesPart, CommitsPart, Prepares, Commits};
 ghost use Rattle.nested_steps.specs.Leaving.{DroppedWent, RejectedWent};
@@ -34,9 +34,10 @@ fn prepare_part<I: InEnd, O: OutEnd>(
 )
     requires takes { TakesOffer part.old signal call (brought_keys brought.now) (brought_dropped brought.now) }
     requires ready { IsReady signal }
+    requires uncalled { AreUncalled O.told signal }
     requires empty { gone.old ≡ [] }
     ensures step { (number : ℕ) → Relates I.told I.faults O.told O.faults part.old
-        (nested number now (max now (moment_in part.old)) (Cell (preparing call (added signal) (brought_keys brought.now) (brought_dropped brought.now)))) part.new }
+        (leaving number now (max now (moment_in part.old)) (Cell (preparing call (added signal) (brought_keys brought.now) (brought_dropped brought.now))) (gone_left O.told gone.new)) part.new }
     ensures prepares { PreparesPart part.old part.new signal call (brought_keys brought.now) (brought_dropped brought.now) now gone.new }
 {
     match part {
@@ -56,7 +57,7 @@ fn commit_part<I: InEnd, O: OutEnd>(
     requires takes { TakesAnswer part.old signal.now contexts }
     requires empty { gone.old ≡ [] }
     ensures step { (number : ℕ) → Relates I.told I.faults O.told O.faults part.old
-        (nested number now (max now (moment_in part.old)) (Cell (Commit signal.now))) part.new }
+        (leaving number now (max now (moment_in part.old)) (Cell (Commit signal.now)) (gone_left O.told gone.new)) part.new }
     ensures commits { CommitsPart part.old part.new signal.now now gone.new }
 {
     match part {
@@ -67,7 +68,7 @@ fn commit_part<I: InEnd, O: OutEnd>(
 }
 
 /// Takes into a cell what an offer brings to the call with this number: its legs and keys, which `brought` tells too. The legs
-/// of the sections that it drops go to `gone`, which is empty. Cells are numbered from 1.
+/// of the sections that it drops go to `gone`, which is empty. The out ends of its legs have not been called. Cells are numbered from 1.
 pub fn prepare_cell<I: InEnd, O: OutEnd, R: Wait>(
     rt: &R,
     turns: &Turns<Relay<I, O>>,
@@ -86,18 +87,20 @@ pub fn prepare_cell<I: InEnd, O: OutEnd, R: Wait>(
     requires tells { PrepareFor signal (brought_keys brought.now) (brought_dropped brought.now) }
     requires comes { CanPrepare config.now (made_by hand.old) cell signal call (brought_keys brought.now) (brought_dropped brought.now) }
     requires ready { IsReady signal }
+    requires uncalled { AreUncalled O.told signal }
     requires empty { gone.old ≡ [] }
     ensures same { IsSameHand hand.old hand.new × SameTurns hand.old hand.new }
     ensures may { MayNest config.now turns.now hand.new }
     ensures gained { GainsNested nest.number nest.moment
         (in_cell_of cell (preparing call (added signal) (brought_keys brought.now) (brought_dropped brought.now)) ∷ []) hand.old hand.new }
+    ensures row { AddsRow cell (Cell (preparing call (added signal) (brought_keys brought.now) (brought_dropped brought.now))) (gone_left O.told gone.new) hand.old hand.new }
     ensures prepared { Prepares I.told I.faults O.told O.faults config.now hand.old cell signal call (brought_keys brought.now) (brought_dropped brought.now) nest.moment gone.new }
     ensures went { DroppedWent config.now (made_by hand.old) cell (brought_dropped brought.now) gone.new }
 {
     let legs = Snapshot::of(&signal);
     let mut turn = turns.turn(rt, hand, cell_place(config, cell));
     prepare_part(turn.state(), call, signal, brought, gone, nest.moment);
-    put_prepare::<I, O, Brand>(turns, hand, turn, nest, call, &legs, brought);
+    put_prepare::<I, O, Brand>(turns, hand, turn, nest, call, &legs, brought, gone);
 }
 
 /// Commits in a cell what an answer says of the call's legs. The legs of the sections that it rejects go to `gone`, which is
@@ -122,10 +125,11 @@ pub fn commit_cell<I: InEnd, O: OutEnd, R: Wait>(
     ensures same { IsSameHand hand.old hand.new × SameTurns hand.old hand.new }
     ensures may { MayNest config.now turns.now hand.new }
     ensures gained { GainsNested nest.number nest.moment (in_cell_of cell (Commit signal.now) ∷ []) hand.old hand.new }
+    ensures row { AddsRow cell (Cell (Commit signal.now)) (gone_left O.told gone.new) hand.old hand.new }
     ensures committed { Commits I.told I.faults O.told O.faults config.now hand.old cell signal.now nest.moment gone.new }
     ensures went { RejectedWent config.now (made_by hand.old) cell signal.now gone.new }
 {
     let mut turn = turns.turn(rt, hand, cell_place(config, cell));
     commit_part(turn.state(), signal, contexts, gone, nest.moment);
-    put_commit::<I, O, Brand>(turns, hand, turn, nest, signal);
+    put_commit::<I, O, Brand>(turns, hand, turn, nest, signal, gone);
 }

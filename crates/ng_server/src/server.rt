@@ -11,12 +11,14 @@ ghost use Rattle.relay_core.specs.Turning.{made_by};
 ghost use Rattle.relay_core.specs.Beginning.{AreParts};
 ghost use Rattle.relay_core.specs.Joining.{IsSound, AreStanding};
 ghost use Rattle.relay_core.specs.Timed.{AreTimed};
+ghost use Rattle.relay_core.specs.Told.{InOrder, InsAreTold};
 ghost use Rattle.media_ports.specs.Asked.{OpensNone};
 ghost use Rattle.media_ports.specs.Held.{TellsHeld};
 ghost use Rattle.board_turns.specs.Between.{IsBetween, MakesTurn};
 ghost use Rattle.board_turns.specs.Stopping.{stop_entry};
 ghost use Rattle.control_turns.specs.Taking.{Turned};
 ghost use Rattle.ng_server.specs.Servers.{OpensJust, history_of};
+ghost use Rattle.board_turns.specs.Ties.{Ties};
 
 use crate::desk::Desk;
 use board_turns::stop_turn;
@@ -102,6 +104,7 @@ impl<P: PortMaker> Server<P> {
         ensures turned { Turned self.now.config hand.old hand.new now result (P.faults ports.old) (P.faults ports.new) (K.faults keys.old) (K.faults keys.new) (P.told ports.old) (P.told ports.new) (K.told keys.old) (K.told keys.new) (N.told link.old) (N.told link.new) }
         ensures read_fault { result ≡ ControlTurn.ReadFault → Rose (N.faults link.old) (N.faults link.new) }
         ensures reply_fault { result ≡ ControlTurn.ReplyFault → Rose (N.faults link.old) (N.faults link.new) }
+        ensures ties { Ties self.now.config (P.told ports.old) (P.told ports.new) (entries hand.old) (entries hand.new) }
         ensures later { (N.faults link.old ≤ N.faults link.new) × (P.faults ports.old ≤ P.faults ports.new) × (K.faults keys.old ≤ K.faults keys.new) }
     {
         control_turn(
@@ -136,6 +139,7 @@ impl<P: PortMaker> Server<P> {
         ensures count { result ≡ length (live (history_of hand.old)) }
         ensures shut { TellsHeld self.now.config (P.told ports.new) [] }
         ensures closes { Gained (P.told ports.old) (P.told ports.new) OpensNone }
+        ensures ties { Ties self.now.config (P.told ports.old) (P.told ports.new) (entries hand.old) (entries hand.new) }
         ensures later { P.faults ports.old ≤ P.faults ports.new }
     {
         stop_turn(rt, &self.turns, hand, &self.config, ports, &mut desk.gone)
@@ -154,6 +158,7 @@ impl<P: PortMaker> Server<P> {
         ensures length { length result.items ≡ length (starts hand) }
         ensures states { AreStanding self.config result.items (made_by hand) }
         ensures legal { (l : List Entry) × (map told l ≡ made_by hand) × Legal self.config l × Safe self.config l }
+        ensures ins { InOrder (made_by hand) → InsAreTold self.config (entries hand) }
         ensures timed { AreTimed (entries hand) }
     {
         let Server { config: _, turns } = self;

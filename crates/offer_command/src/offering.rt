@@ -1,6 +1,6 @@
 //! An offer.
 ghost use Rattle.std.specs.Prelude.{◌≡◌, ◌≤◌, ◌<◌, ◌^◌, [], Option, length};
-ghost use Rattle.turn_table.specs.Hands.{IsSameHand, SameTurns};
+ghost use Rattle.turn_table.specs.Hands.{IsSameHand, SameTurns, entries};
 ghost use Rattle.ng_bencode.specs.Tree.{Entries};
 ghost use Rattle.ng_command.specs.Said.{Offer};
 ghost use Rattle.call_board.specs.Boards.{KeepsReplies};
@@ -11,6 +11,7 @@ ghost use Rattle.board_turns.specs.Acting.{InTurn};
 ghost use Rattle.control_entries.specs.Carrying.{hearing_by, Carries};
 ghost use Rattle.control_entries.specs.Giving.{given_by, IsGivenBy};
 ghost use Rattle.control_entries.specs.Telling.{IsAnew, IsAsking};
+ghost use Rattle.board_turns.specs.Ties.{Ties};
 
 use crate::memory::{OfferMemory, offer_memory};
 use crate::replying::{accepted, undone};
@@ -55,6 +56,7 @@ pub fn offer<P: PortMaker, K: KeySource, R: Wait>(
         Carries config.now hand.old hand.new nest (hearing_by request.now pairs result) result.reply board.new (P.told ports.new) }
     ensures replies { KeepsReplies board.old board.new }
     ensures empty { gone.new ≡ [] }
+    ensures ties { Ties config.now (P.told ports.old) (P.told ports.new) (entries hand.old) (entries hand.new) }
     ensures later { (P.faults ports.old ≤ P.faults ports.new) × (K.faults keys.old ≤ K.faults keys.new) }
     ensures given { IsGivenBy (given_by result.gave) (P.faults ports.old) (P.faults ports.new) (K.faults keys.old) (K.faults keys.new) (P.told ports.old) (P.told ports.new) (K.told keys.old) (K.told keys.new) }
 {

@@ -1,7 +1,7 @@
 //! A planned offer, from its first lease to its last close.
 ghost use Rattle.std.specs.Prelude.{◌≡◌, ◌≤◌, ◌*◌, ℕ, true, List, [], length, replicate, IfOk, IfErr};
 ghost use Rattle.relay_outside.specs.Told.{Gained};
-ghost use Rattle.turn_table.specs.Hands.{IsSameHand, SameTurns};
+ghost use Rattle.turn_table.specs.Hands.{IsSameHand, SameTurns, entries};
 ghost use Rattle.offer_answer.specs.Rounds.{OfferAsk};
 ghost use Rattle.offer_answer.specs.Offering.{pair_count, key_count};
 ghost use Rattle.offer_answer.specs.Widths.{WritesFrom};
@@ -20,6 +20,7 @@ ghost use Rattle.offer_leases.specs.Leasing.{pairs_of_plan, keys_of_plan};
 ghost use Rattle.offer_leases.specs.Undoing.{ComesEarly, DrawsBefore, HasRisen, keys_before, opens_before};
 ghost use Rattle.offer_turns.specs.Offers.{CanOffer, offer_of, undone_leases, text_of};
 ghost use Rattle.offer_turns.specs.Brings.{HasOfferRoom};
+ghost use Rattle.board_turns.specs.Ties.{Ties};
 
 use crate::room::OfferRoom;
 use crate::taking::take_in;
@@ -73,6 +74,7 @@ pub fn offer_act<P: PortMaker, K: KeySource, R: Wait>(
     ensures may { MayNest config.now turns.now hand.new }
     ensures empty { gone.new ≡ [] }
     ensures replies { KeepsReplies board.old board.new }
+    ensures ties { Ties config.now (P.told ports.old) (P.told ports.new) (entries hand.old) (entries hand.new) }
     ensures later { (P.faults ports.old ≤ P.faults ports.new) × (K.faults keys.old ≤ K.faults keys.new) }
 
     // An accepted offer does what its entry owes, and its description is the one that is due.

@@ -2,7 +2,7 @@
 ghost use Rattle.std.specs.Prelude.{◌≡◌, ◌≤◌, ◌+◌, ◌^◌, ◌++◌, ℕ, List, [], length, vec_capacity};
 ghost use Rattle.sdp_text.specs.Lines.{lines_of};
 ghost use Rattle.relay_outside.specs.Told.{Gained};
-ghost use Rattle.turn_table.specs.Hands.{IsSameHand, SameTurns};
+ghost use Rattle.turn_table.specs.Hands.{IsSameHand, SameTurns, entries};
 ghost use Rattle.offer_answer.specs.Rounds.{OfferAsk};
 ghost use Rattle.offer_answer.specs.Offering.{pair_count, key_count};
 ghost use Rattle.offer_answer.specs.Widths.{WritesFrom};
@@ -23,6 +23,7 @@ ghost use Rattle.board_turns.specs.Acting.{DoesAct};
 ghost use Rattle.board_turns.specs.Ending.{leg_pairs};
 ghost use Rattle.offer_turns.specs.Offers.{IsDue, next_key, offer_of, leased_view, text_of};
 ghost use Rattle.offer_turns.specs.Brings.{HasLegRoom, HasToldRoom, HasListRoom};
+ghost use Rattle.board_turns.specs.Ties.{Ties};
 
 use crate::applying::apply_offer;
 use crate::filling::list_ports;
@@ -88,6 +89,7 @@ pub(crate) fn take_in<P: PortMaker, R: Wait>(
     ensures may { MayNest config.now turns.now hand.new }
     ensures empty { gone.new ≡ [] }
     ensures closes { Gained (P.told ports.old) (P.told ports.new) OpensNone }
+    ensures ties { Ties config.now (P.told ports.old) (P.told ports.new) (entries hand.old) (entries hand.new) }
     ensures later { P.faults ports.old ≤ P.faults ports.new }
     ensures replies { KeepsReplies board.old board.new }
     ensures within { length out.new.list ≤ length out.old.list + plan.plan.reply_len }

@@ -8,6 +8,7 @@ pub mod Codes
 pub mod Made
 pub mod Recorded
 pub mod Steps
+pub mod Told
 pub mod Beginning
 pub mod Standing
 pub mod Turning

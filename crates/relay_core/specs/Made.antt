@@ -1,6 +1,9 @@
 -- What the table of places records of a step, and the lists of entries that hands make.
-use Rattle.std.specs.Prelude.{ℕ, ◌||◌, max, List, None, map, if◌then◌else◌}
+use Rattle.std.specs.Prelude.{ℕ, ◌||◌, max, List, [], Option, Some, None, map, if◌then◌else◌}
+use Rattle.relay_outside.specs.declared.ports.InCall.{InCall}
+use Rattle.relay_outside.specs.declared.ports.OutCall.{OutCall}
 use Rattle.turn_table.specs.declared.machine.Entry as table
+use Rattle.port_pool.specs.declared.pairs.Lease.{Lease}
 use Rattle.call_cell.specs.declared.outcome.Outcome.{Outcome}
 use Rattle.call_cell.specs.Cells.{CellEvent, Relay, Receipt, Relayed, Deed}
 use Rattle.call_cell.specs.Standing.{sent_ok}
@@ -8,15 +11,32 @@ use Rattle.call_board.specs.Acts.{BoardEntry}
 use Rattle.relay_core.specs.Entries.{Event, Cell, Entry}
 use Rattle.relay_core.specs.Legal.{is_handed_own, is_handed_boards}
 
+-- A leg that goes from a cell: its lease, and what its out ends tell, that for RTP and that for RTCP
+pub record LegLeft : Type 0 where
+  pub lease : Lease
+  pub rtp : Option (List OutCall)
+  pub rtcp : Option (List OutCall)
+
+-- What leaves a place by a step, by what its ends tell: the in ends of a box that is shut, that for RTP and that for RTCP, and the legs that
+-- go from a cell, in lease order
+pub record Left : Type 0 where
+  pub rtp : Option (List InCall)
+  pub rtcp : Option (List InCall)
+  pub legs : List LegLeft
+
+abbrev pub nothing_left : Left
+nothing_left = record { rtp = Some []; rtcp = Some []; legs = [] }
+
 -- A step as the table records it: the moment that it was handed, its moment, the number of the board entry that it belongs to, of a
--- step of the board the history before it, which its state does not tell in full, and its event. Of a relay the outcome is recorded:
--- what it noted, protected and sent follows from the history of its cell.
+-- step of the board the history before it, which its state does not tell in full, its event, and what leaves its place. Of a relay the
+-- outcome is recorded: what it noted, protected and sent follows from the history of its cell.
 pub record Made : Type 0 where
   pub handed : ℕ
   pub moment : ℕ
   pub board : ℕ
   pub before : List BoardEntry
   pub event : Event
+  pub left : Left
 
 -- a relay by its packet and its outcome
 abbrev pub told_deed : Receipt → Outcome → Deed

@@ -1,6 +1,6 @@
 -- Which steps of the board, the cells and the boxes their events are: of a cell and of a box what their calls say for every history
 -- that the old state stands for, of the board for the history that the step records.
-use Rattle.std.specs.Prelude.{◌≡◌, ℕ, Bool, true, List, ◌∷◌, Option, Some, None}
+use Rattle.std.specs.Prelude.{◌≡◌, ℕ, Bool, true, List, [], ◌∷◌, Option, Some, None, map}
 use Rattle.relay_outside.specs.declared.ports.InCall.{InCall}
 use Rattle.relay_outside.specs.declared.ports.OutCall.{OutCall}
 use Rattle.relay_outside.specs.declared.settings.Config.{Config}
@@ -14,6 +14,7 @@ use Rattle.port_pool.specs.Signals.{NewKey}
 use Rattle.port_pool.specs.Boxes.{BoxEvent, Open, Take, Close, FitsBox}
 use Rattle.port_pool.specs.PairBoxes.{BoxFor, ends_in, cells_of}
 use Rattle.port_pool.specs.Taking.{EndsTaken}
+use Rattle.call_cell.specs.declared.leg.Leg.{Leg}
 use Rattle.call_cell.specs.declared.prepare.Prepare as prepared
 use Rattle.call_cell.specs.declared.cell.Cell as cell
 use Rattle.call_cell.specs.Cells.{CellEvent, CellEntry, Prepare, Commit, Relay, Expire, Read, End, Relayed, since_end, key_numbered}
@@ -31,7 +32,7 @@ use Rattle.call_board.specs.Fits.{FitsBoard, IsFitting}
 use Rattle.relay_core.specs.declared.part.Part.{Part}
 use Rattle.relay_core.specs.declared.part.Part.TheVariants as part
 use Rattle.relay_core.specs.Entries.{Event, Board, Cell, Box, is_nested_cell, is_nested_box}
-use Rattle.relay_core.specs.Made.{Made, told_relay, moment_of}
+use Rattle.relay_core.specs.Made.{LegLeft, Left, Made, told_relay, moment_of}
 
 -- The board.
 
@@ -61,16 +62,21 @@ pub record GetsEnds {I : Type 0} (told : I → Option (List InCall)) (new : Opti
   pub rtp_is_new : StartsEmpty (told rtp)
   pub rtcp_is_new : StartsEmpty (told rtcp)
 
+-- what leaves are these ends; from a box that is shut there is none
+abbrev pub LeavesEnds : {I : Type 0} → (I → Option (List InCall)) → Option (I × I) → Left → Type 0
+LeavesEnds told None left = (left.rtp ≡ Some []) × (left.rtcp ≡ Some [])
+LeavesEnds told (Some ends) left = (left.rtp ≡ told ends.0) × (left.rtcp ≡ told ends.1)
+
 -- what an event does to the ends of a box
-abbrev pub BoxEnds : {I : Type 0} → (I → Option (List InCall)) → (I → ℕ) → BoxEvent → Option (I × I) → Option (I × I) → Type 0
-BoxEnds told faults (Open leg) old new = (old ≡ None) × GetsEnds told new
-BoxEnds told faults (Take half taken) old new = EndsTaken told faults half old new taken
-BoxEnds told faults Close old new = new ≡ None
+abbrev pub BoxEnds : {I : Type 0} → (I → Option (List InCall)) → (I → ℕ) → BoxEvent → Left → Option (I × I) → Option (I × I) → Type 0
+BoxEnds told faults (Open leg) left old new = (old ≡ None) × GetsEnds told new
+BoxEnds told faults (Take half taken) left old new = EndsTaken told faults half old new taken
+BoxEnds told faults Close left old new = (new ≡ None) × LeavesEnds told old left
 
 pub record BoxStep {I : Type 0} (told : I → Option (List InCall)) (faults : I → ℕ) (old : PairBox I) (made : Made) (event : BoxEvent) (new : PairBox I) : Type 0 where
   pub moment_is : made.moment ≡ 0
   pub cells_are : cells_of new ≡ cells_of old
-  pub ends : BoxEnds told faults event (ends_in old) (ends_in new)
+  pub ends : BoxEnds told faults event made.left (ends_in old) (ends_in new)
   pub stands : (h : List BoxEvent) → BoxFor old h → FitsBox h event × BoxFor new (event ∷ h)
 
 abbrev pub BoxSteps : {I : Type 0} → (I → Option (List InCall)) → (I → ℕ) → PairBox I → Made → Event → PairBox I → Type 0
@@ -95,30 +101,47 @@ pub record CellRelayed {O : Type 0} (told : O → Option (List OutCall)) (faults
   pub steps : (config : Config) (h : List CellEntry) → CellFor config old h
       → HasMoment made (Relay x) h × CellRelays told faults config old new h x.packet made.handed buffer x.deed.outcome
 
-pub record CellPrepared {O : Type 0} (old : cell.Cell O) (made : Made) (call : ℕ) (legs : List Holder) (keys : List NewKey) (dropped : List ℕ) (new : cell.Cell O) : Type 0 where
+-- legs that go, by what their out ends tell
+abbrev pub legs_left : {O : Type 0} → (O → Option (List OutCall)) → List (Lease × O × O) → List LegLeft
+legs_left told gone = map (λ leg. record { lease = leg.0; rtp = told leg.1; rtcp = told leg.2 }) gone
+
+-- no out end of a leg was called since it was opened
+pub record IsUncalled {O : Type 0} (told : O → Option (List OutCall)) (leg : Leg O) : Type 0 where
+  pub rtp : StartsEmpty (told leg.sending.rtp)
+  pub rtcp : StartsEmpty (told leg.sending.rtcp)
+
+-- the same of all that an offer adds
+abbrev pub AreUncalled : {O : Type 0} → (O → Option (List OutCall)) → prepared.Prepare O → Type 0
+AreUncalled {O} told signal = (leg : Leg O) → In leg signal.legs.items → IsUncalled told leg
+
+pub record CellPrepared {O : Type 0} (told : O → Option (List OutCall)) (old : cell.Cell O) (made : Made) (call : ℕ) (legs : List Holder) (keys : List NewKey) (dropped : List ℕ) (new : cell.Cell O) : Type 0 where
   pub signal : prepared.Prepare O
   pub legs_are : added signal ≡ legs
+  pub uncalled : AreUncalled told signal
   pub gone : List (Lease × O × O)
+  pub left_are : made.left.legs ≡ legs_left told gone
   pub steps : (config : Config) (h : List CellEntry) → CellFor config old h → AreNew h keys
       → HasMoment made (Prepare call legs keys dropped) h × CellPrepares config old new h signal call keys dropped made.handed gone
 
-pub record CellCommitted {O : Type 0} (old : cell.Cell O) (made : Made) (signal : List SectionSignal) (new : cell.Cell O) : Type 0 where
+pub record CellCommitted {O : Type 0} (told : O → Option (List OutCall)) (old : cell.Cell O) (made : Made) (signal : List SectionSignal) (new : cell.Cell O) : Type 0 where
   pub gone : List (Lease × O × O)
+  pub left_are : made.left.legs ≡ legs_left told gone
   pub steps : (config : Config) (h : List CellEntry) → CellFor config old h
       → HasMoment made (Commit signal) h × CellCommits config old new h signal made.handed gone
 
-pub record CellEnded {O : Type 0} (old : cell.Cell O) (made : Made) (new : cell.Cell O) : Type 0 where
+pub record CellEnded {O : Type 0} (told : O → Option (List OutCall)) (old : cell.Cell O) (made : Made) (new : cell.Cell O) : Type 0 where
   pub gone : List (Lease × O × O)
+  pub left_are : made.left.legs ≡ legs_left told gone
   pub steps : (config : Config) (h : List CellEntry) → CellFor config old h → HasMoment made End h × CellEnds config old new h gone
 
 abbrev pub CellStepsBy : {O : Type 0} → (O → Option (List OutCall)) → (O → ℕ) → cell.Cell O → Made → CellEvent → cell.Cell O → Type 0
-CellStepsBy told faults old made (Prepare call legs keys dropped) new = CellPrepared old made call legs keys dropped new
-CellStepsBy told faults old made (Commit signal) new = CellCommitted old made signal new
+CellStepsBy told faults old made (Prepare call legs keys dropped) new = CellPrepared told old made call legs keys dropped new
+CellStepsBy told faults old made (Commit signal) new = CellCommitted told old made signal new
 CellStepsBy told faults old made (Relay x) new = CellRelayed told faults old made x new
 CellStepsBy told faults old made (Expire due) new =
     (config : Config) (h : List CellEntry) → CellFor config old h → HasMoment made (Expire due) h × CellExpires config old new h made.handed due
 CellStepsBy told faults old made (Read reports) new = ⊥
-CellStepsBy told faults old made End new = CellEnded old made new
+CellStepsBy told faults old made End new = CellEnded told old made new
 
 abbrev pub CellSteps : {O : Type 0} → (O → Option (List OutCall)) → (O → ℕ) → cell.Cell O → Made → Event → cell.Cell O → Type 0
 CellSteps told faults old made (Cell event) new = CellStepsBy told faults old made event new

@@ -13,7 +13,7 @@ pub struct Happening {
 impl Model for Happening {
     ghost use Rattle.std.specs.Prelude.{[]};
     ghost use Rattle.relay_core.specs.Entries.{Box};
-    ghost use Rattle.relay_core.specs.Made.{Made};
+    ghost use Rattle.relay_core.specs.Made.{Made, nothing_left};
     ghost use Rattle.port_pool.specs.Boxes.{Close};
     ghost use Rattle.std.specs.Coded.{codes};
     ghost use Rattle.relay_core.specs.Codes.{entries_code};
@@ -22,7 +22,7 @@ impl Model for Happening {
 
     ghost coded = { Prim.hlevel (codes, entries_code) };
 
-    ghost view = { λ happening. record { handed = 0; moment = 0; board = 0; before = []; event = Box Close } };
+    ghost view = { λ happening. record { handed = 0; moment = 0; board = 0; before = []; event = Box Close; left = nothing_left } };
 }
 
 /// The machine of the board, the cells and the boxes, whose in ends and out ends are of these types.
@@ -56,9 +56,10 @@ pub trait Says {
 impl Says for Brand {
     ghost use Rattle.std.specs.Prelude.{[]};
     ghost use Rattle.relay_core.specs.Entries.{Box};
+    ghost use Rattle.relay_core.specs.Made.{nothing_left};
     ghost use Rattle.port_pool.specs.Boxes.{Close};
 
-    ghost made = { record { handed = 0; moment = 0; board = 0; before = []; event = Box Close } };
+    ghost made = { record { handed = 0; moment = 0; board = 0; before = []; event = Box Close; left = nothing_left } };
 }
 
 /// What X says, of this machine.
