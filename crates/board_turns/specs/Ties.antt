@@ -1,15 +1,18 @@
 -- How the calls of a port maker follow from the rows that the main hand adds: its closings give back the ends that leave boxes and cells.
-use Rattle.std.specs.Prelude.{◌≡◌, ◌<◌, ◌++◌, ℕ, All, List, Option}
+use Rattle.std.specs.Prelude.{◌≡◌, ◌<◌, ◌++◌, ℕ, All, List, [], Option, Some}
+use Rattle.relay_outside.specs.declared.ports.OutCall.{OutCall}
 use Rattle.relay_outside.specs.declared.ports.PortCall.{PortCall}
 use Rattle.relay_outside.specs.declared.settings.Config.{Config}
 use Rattle.relay_outside.specs.Ports.{taken_at, sent_at}
 use Rattle.relay_outside.specs.Told.{Gained}
 use Rattle.rtp_packet.specs.declared.head.Half.{Half}
 use Rattle.turn_table.specs.declared.machine.Entry as table
+use Rattle.port_pool.specs.declared.pairs.Lease.{Lease}
 use Rattle.port_pool.specs.Ports.{pair_count}
 use Rattle.relay_core.specs.Entries.{box_of}
 use Rattle.relay_core.specs.Made.{Made}
-use Rattle.relay_core.specs.Told.{ins_told, outs_told}
+use Rattle.relay_core.specs.Steps.{legs_left}
+use Rattle.relay_core.specs.Told.{ins_told, legs_told, outs_told}
 use Rattle.media_ports.specs.Addresses.{port_address}
 use Rattle.media_ports.specs.Given.{Agrees, IsOfPair}
 
@@ -36,8 +39,16 @@ module _ {T : Type 0} where
     pub rows_are : rows_now ≡ rows ++ more
     pub calls : Gained told told_now (AreTied config more)
 
-  -- the same of in ends alone
+  -- the same of in ends alone, by rows of which no leg goes from a cell
   pub record TiesTakes (config : Config) (told told_now : Option (List PortCall)) (rows rows_now : List (table.Entry Made T)) : Type 0 where
     pub more : List (table.Entry Made T)
     pub rows_are : rows_now ≡ rows ++ more
     pub calls : Gained told told_now (λ calls. All (IsOfPair config) calls × AreTakesTied config more calls)
+    pub no_legs : (pair : ℕ) (half : Half) → outs_told more pair half ≡ Some []
+
+  -- rows came behind the earlier ones, by which just these legs went from a cell, and no box was shut
+  pub record LegsLeave {O : Type 0} (told : O → Option (List OutCall)) (gone : List (Lease × O × O)) (rows rows_now : List (table.Entry Made T)) : Type 0 where
+    pub more : List (table.Entry Made T)
+    pub rows_are : rows_now ≡ rows ++ more
+    pub no_ends : (place : ℕ) (half : Half) → ins_told more place half ≡ Some []
+    pub legs : (pair : ℕ) (half : Half) → outs_told more pair half ≡ legs_told (legs_left told gone) pair half
