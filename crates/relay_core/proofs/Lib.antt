@@ -50,6 +50,7 @@ pub mod Joins
 pub mod Handing
 pub mod Known
 pub mod Placing
+pub mod InsTold
 pub mod Closed
 mod Example
 mod rows
