@@ -83,7 +83,7 @@ board_place config k (part.Board b) at is = at
 board_place config k (part.Cell c) at is = absurd is
 board_place config k (part.Pair b) at is = absurd is
 
-in_range : {A : Type 0} (starts : List A) (k : ℕ) → k < length starts → (a : A) × (slice_get starts k ≡ Some a)
+pub in_range : {A : Type 0} (starts : List A) (k : ℕ) → k < length starts → (a : A) × (slice_get starts k ≡ Some a)
 in_range [] k within = absurd (omega (arith, within))
 in_range (a ∷ starts) zero within = (a, refl)
 in_range (a ∷ starts) (suc k) within = in_range starts k (omega (arith, within))
@@ -255,7 +255,7 @@ module _ {T I O : Type 0} (it : I → Option (List InCall)) (ic : I → ℕ) (ot
         sym (ap (λ (x : Entry). x.place) r.is) ∙ (holder_leased config (list_of rows) orderly r.row.place r.row.number leg held).1
 
     -- above all that a place has, its history is whole
-    whole_past : (k : ℕ) (a : Part I O) → (w : IsWhole it ic ot oc rows k a) → (n : ℕ) → IsAbove (list_of rows) k n
+    pub whole_past : (k : ℕ) (a : Part I O) → (w : IsWhole it ic ot oc rows k a) → (n : ℕ) → IsAbove (list_of rows) k n
         → onto w.past [] ≡ history (list_of rows) k n
     whole_past k a w n above =
         ap (λ (xs : List (table.Entry Made T)). onto xs []) (sym (take-length w.past))

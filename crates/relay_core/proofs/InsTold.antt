@@ -1,5 +1,5 @@
 -- What the in ends of boxes told when they left is what the histories of their boxes say that they took.
-use Rattle.std.proofs.Common.{◌≡◌, ◌∙◌, sym, ap, subst, refl, ℕ, zero, suc, ◌+◌, ◌<◌, ◌≤◌, ◌⊎◌, inl, inr, List, [], ◌∷◌, ◌++◌, Bool, true, false, cond, Option, Some, None, map, length, filter, arith, slice_get, append_assoc, append-nil}
+use Rattle.std.proofs.Common.{◌≡◌, ◌∙◌, sym, ap, subst, refl, ℕ, ◌≤◌, List, [], ◌∷◌, ◌++◌, Bool, true, false, cond, Option, Some, None, append_assoc, append-nil}
 use Rattle.std.specs.Prelude.{IfSome}
 use Rattle.std.specs.Option.{option_map}
 use Rattle.std.specs.List.{filter_map, cons_option}
@@ -8,7 +8,7 @@ use Rattle.relay_outside.specs.declared.ports.InCall.TheVariants as into
 use Rattle.relay_outside.specs.declared.ports.InGiven.{InGiven}
 use Rattle.relay_outside.specs.declared.ports.OutCall.{OutCall}
 use Rattle.relay_outside.specs.Ports.{joined}
-use Rattle.relay_outside.specs.Told.{Gains, StartsEmpty, WhereTold}
+use Rattle.relay_outside.specs.Told.{Gains, StartsEmpty}
 use Rattle.rtp_packet.specs.declared.head.Half.{Half}
 use Rattle.rtp_packet.specs.declared.head.Half.TheVariants.{Rtp, Rtcp}
 use Rattle.turn_table.specs.declared.machine.Entry as table
@@ -24,9 +24,9 @@ use Rattle.relay_core.specs.declared.part.Part.{Part}
 use Rattle.relay_core.specs.declared.part.Part.TheVariants as part
 use Rattle.relay_core.specs.Entries.{Event, Board, Cell, Box, Entry, box_in, box_event}
 use Rattle.relay_core.specs.Made.{Left, Made, entry_of}
-use Rattle.relay_core.specs.Steps.{GetsEnds, LeavesEnds, BoxEnds, BoxSteps, Relates}
+use Rattle.relay_core.specs.Steps.{GetsEnds, LeavesEnds, BoxSteps, Relates}
 use Rattle.relay_core.specs.Standing.{IsBoxPart}
-use Rattle.relay_core.specs.Told.{is_closing, in_left, is_half, taken_by, behind, takes_of}
+use Rattle.relay_core.specs.Told.{is_closing, in_left, taken_by, behind, takes_of}
 use Rattle.relay_core.proofs.Stays.{onto, Steps, box_stays}
 
 -- Joined lists.

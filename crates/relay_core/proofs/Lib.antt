@@ -52,5 +52,6 @@ pub mod Known
 pub mod Placing
 pub mod InsTold
 pub mod Closed
+pub mod Closings
 mod Example
 mod rows

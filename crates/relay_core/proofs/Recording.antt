@@ -1,14 +1,11 @@
 -- The history that each step of the board records stays the one that the list has before it, while the list gets longer.
-use Rattle.std.proofs.Common.{◌≡◌, ◌∙◌, sym, ap, subst, refl, ℕ, ◌<◌, ◌⊎◌, inl, inr, Bool, true, false, List, [], ◌∷◌, ◌++◌, Option, Some, None, arith}
+use Rattle.std.proofs.Common.{◌≡◌, ◌∙◌, sym, ap, subst, refl, ℕ, ◌<◌, ◌⊎◌, inl, inr, true, false, List, [], ◌∷◌, ◌++◌, None, arith}
 use Rattle.std.proofs.lemmas.List.{map-append}
 use Rattle.relay_outside.specs.declared.settings.Config.{Config}
 use Rattle.turn_table.specs.declared.machine.Entry as table
 use Rattle.turn_table.specs.Histories as table_lists
 use Rattle.histories.specs.Words.{In, here, there}
 use Rattle.histories.proofs.Lists.{in_append}
-use Rattle.port_pool.specs.Boxes.{Take}
-use Rattle.call_cell.specs.Cells.{Relay}
-use Rattle.call_board.specs.Acts.{BoardEntry}
 use Rattle.relay_core.specs.Entries.{Event, Board, Cell, Box, Entry, is_nested, board_at, board_entry, board_history}
 use Rattle.relay_core.specs.Legal.{Orderly}
 use Rattle.relay_core.specs.Made.{Made, entry_of, list_of}
@@ -16,7 +13,7 @@ use Rattle.relay_core.specs.Recorded.{is_boards, IsRecorded}
 use Rattle.relay_core.specs.Scripts.{owed_by}
 use Rattle.relay_core.specs.Turning.{IsTurn, IsOfLane, IsAbove}
 use Rattle.relay_core.proofs.Elsewhere.{IsElsewhere}
-use Rattle.relay_core.proofs.Own.{rows_in, IsRow, in_rows}
+use Rattle.relay_core.proofs.Own.{rows_in, in_rows}
 use Rattle.relay_core.proofs.Turns.{same_board, turn_elsewhere}
 
 no_entry : (moment : ℕ) (v : Event) → is_boards v ≡ false → board_at moment v ≡ None

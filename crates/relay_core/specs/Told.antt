@@ -11,11 +11,11 @@ use Rattle.rtp_packet.specs.declared.head.Half.{Half}
 use Rattle.rtp_packet.specs.declared.head.Half.TheVariants.{Rtp, Rtcp}
 use Rattle.turn_table.specs.declared.machine.Entry as table
 use Rattle.histories.specs.Words.{In, Before}
-use Rattle.port_pool.specs.Boxes.{BoxEvent, Open, Take, Close, holder}
+use Rattle.port_pool.specs.Boxes.{BoxEvent, Take, Close, holder}
 use Rattle.port_pool.specs.Taking.{given_of}
 use Rattle.port_pool.specs.Ports.{pair_count}
-use Rattle.call_cell.specs.Cells.{CellEvent, Prepare, Commit, Relay, Expire, Read, End}
-use Rattle.relay_core.specs.Entries.{Event, Board, Cell, Box, Entry, is_nested, box_history, box_of, front}
+use Rattle.call_cell.specs.Cells.{Prepare, Commit, End}
+use Rattle.relay_core.specs.Entries.{Event, Cell, Box, Entry, is_nested, box_history, box_of, front}
 use Rattle.relay_core.specs.Made.{LegLeft, Left, Made, list_of}
 
 -- By the rows.

@@ -1,5 +1,6 @@
 use Rattle.turn_table.specs.Hands.{starts, entries}
 use Rattle.relay_core.proofs.Closed.{closed_numbered, sound_legal, sound_timed, closed_parts, whole_of}
+use Rattle.relay_core.proofs.Closings.{sound_ins}
 use Rattle.relay_core.proofs.closing.close_relay.Goals as goal
 
 pub returns-clause-numbered : goal.returns-clause-numbered
@@ -23,3 +24,9 @@ returns-clause-timed g c = λ config are sound.
     sound_timed g.I.InEnd.told g.I.InEnd.faults g.O.OutEnd.told g.O.OutEnd.faults (starts c.args.hand) (entries c.args.hand) c.close.ensures.range
     (whole_of g.I.InEnd.told g.I.InEnd.faults g.O.OutEnd.told g.O.OutEnd.faults (starts c.args.hand) (entries c.args.hand) c.close.result.items c.close.ensures.states)
     config are sound
+
+pub returns-clause-ins : goal.returns-clause-ins
+returns-clause-ins g c = λ config are sound ordered.
+    sound_ins g.I.InEnd.told g.I.InEnd.faults g.O.OutEnd.told g.O.OutEnd.faults (starts c.args.hand) (entries c.args.hand) c.close.ensures.range
+    (whole_of g.I.InEnd.told g.I.InEnd.faults g.O.OutEnd.told g.O.OutEnd.faults (starts c.args.hand) (entries c.args.hand) c.close.result.items c.close.ensures.states)
+    config are sound ordered
