@@ -91,14 +91,14 @@ in_range (a ∷ starts) (suc k) within = in_range starts k (omega (arith, within
 module _ {T I O : Type 0} (it : I → Option (List InCall)) (ic : I → ℕ) (ot : O → Option (List OutCall)) (oc : O → ℕ)
     (starts : List (Part I O)) (rows : List (table.Entry Made T)) (range : InRange starts rows) (whole : AreWhole it ic ot oc starts rows) where
   -- where a row stands in the history of its place
-  record Place (row : table.Entry Made T) : Type 0 where
-    start : Part I O
-    starts_so : slice_get starts row.place ≡ Some start
-    history_of : IsWhole it ic ot oc rows row.place start
-    at : slice_get history_of.past row.number ≡ Some row
-    within : row.number < length history_of.past
+  pub record Place (row : table.Entry Made T) : Type 0 where
+    pub start : Part I O
+    pub starts_so : slice_get starts row.place ≡ Some start
+    pub history_of : IsWhole it ic ot oc rows row.place start
+    pub at : slice_get history_of.past row.number ≡ Some row
+    pub within : row.number < length history_of.past
 
-  place_of : (row : table.Entry Made T) → table_lists.In row rows → Place row
+  pub place_of : (row : table.Entry Made T) → table_lists.In row rows → Place row
   place_of row i =
       let a = in_range starts row.place (range row i) in
       let w = whole row.place a.0 a.1 in
@@ -118,7 +118,7 @@ module _ {T I O : Type 0} (it : I → Option (List InCall)) (ic : I → ℕ) (ot
 
   module _ (config : Config) (are : AreParts config starts) (orderly : Orderly config (list_of rows)) (recorded : IsRecorded rows) where
     -- the history of a place, up to a number, is the list's
-    past_is : (k : ℕ) (a : Part I O) → (w : IsWhole it ic ot oc rows k a) → (n : ℕ) → n ≤ length w.past
+    pub past_is : (k : ℕ) (a : Part I O) → (w : IsWhole it ic ot oc rows k a) → (n : ℕ) → n ≤ length w.past
         → onto (take n w.past) [] ≡ history (list_of rows) k n
     past_is k a w n within =
         sym (filter_every (λ (e : Entry). true) (onto (take n w.past) []) (λ e i. refl))
@@ -127,7 +127,7 @@ module _ {T I O : Type 0} (it : I → Option (List InCall)) (ic : I → ℕ) (ot
         ∙ filter_every (λ (e : Entry). true) (history (list_of rows) k n) (λ e i. refl)
 
     -- its keys are new
-    new_keys : (k : ℕ) (a : Part I O) → (w : IsWhole it ic ot oc rows k a) → (n : ℕ) → n ≤ length w.past
+    pub new_keys : (k : ℕ) (a : Part I O) → (w : IsWhole it ic ot oc rows k a) → (n : ℕ) → n ≤ length w.past
         → BringsNewKeys (filter_map cell_entry (onto (take n w.past) []))
     new_keys k a w n within =
         subst (λ (h : List Entry). BringsNewKeys (filter_map cell_entry h)) (sym (past_is k a w n within)) (keys_once config (list_of rows) orderly k n)
@@ -150,7 +150,7 @@ module _ {T I O : Type 0} (it : I → Option (List InCall)) (ic : I → ℕ) (ot
         (begins_kind config row.place p.start b, begins_stands config row.place p.start b)
 
     -- each row is of its place's kind
-    row_placed : (row : table.Entry Made T) → table_lists.In row rows → IsPlaced config row.place row.event.moment row.event.event
+    pub row_placed : (row : table.Entry Made T) → table_lists.In row rows → IsPlaced config row.place row.event.moment row.event.event
     row_placed row i =
         let p = place_of row i in
         let w = p.history_of in
@@ -166,7 +166,7 @@ module _ {T I O : Type 0} (it : I → Option (List InCall)) (ic : I → ℕ) (ot
         (subst (λ (x : Entry). IsPlaced config x.place x.moment x.event) r.is (row_placed r.row r.is_in))
 
     -- with the row behind it
-    next_is : (row : table.Entry Made T) → (p : Place row)
+    pub next_is : (row : table.Entry Made T) → (p : Place row)
         → onto (take (suc row.number) p.history_of.past) [] ≡ entry_of row ∷ history (list_of rows) row.place row.number
     next_is row p =
         let past = p.history_of.past in
@@ -315,16 +315,16 @@ module _ {T I O : Type 0} (it : I → Option (List InCall)) (ic : I → ℕ) (ot
 
     -- the list that is recorded, filled in, is legal, and so safe
     pub closed_legal : IsReceiving config (list_of rows) → IsHanded rows
-        → (l : List Entry) × (map told l ≡ list_of rows) × Legal config l × Safe config l
+        → (map told (filled_in config (list_of rows)) ≡ list_of rows) × Legal config (filled_in config (list_of rows)) × Safe config (filled_in config (list_of rows))
     closed_legal receiving handed =
         let made : (e : Entry) → In e (list_of rows) → right.Made config (list_of rows) e
         = λ e i. let r = in_rows rows i in subst (λ (x : Entry). right.Made config (list_of rows) x) r.is (row_made handed r.row r.is_in) in
         let legal : Legal config (filled_in config (list_of rows)) = legal_filled config (list_of rows) orderly receiving made in
-        (filled_in config (list_of rows), filled_tells config (list_of rows) made, legal, legal_safe config (filled_in config (list_of rows)) legal)
+        (filled_tells config (list_of rows) made, legal, legal_safe config (filled_in config (list_of rows)) legal)
 
   -- so what is known of the main hand's rows, with those of lanes, makes them a legal list
   pub sound_legal : (config : Config) → AreParts config starts → IsSound config rows
-      → (l : List Entry) × (map told l ≡ list_of rows) × Legal config l × Safe config l
+      → (map told (filled_in config (list_of rows)) ≡ list_of rows) × Legal config (filled_in config (list_of rows)) × Safe config (filled_in config (list_of rows))
   sound_legal config are sound =
       let orderly = sound.orderly closed_numbered in
       let recorded = sound.recorded closed_numbered in

@@ -79,7 +79,7 @@ module _ {I O : Type 0} where
   board_begins config (part.Cell c) is = absurd (let l = is.0 in omega (arith, l))
   board_begins config (part.Pair b) is = absurd (let l = is.0 in omega (arith, l))
 
-  cell_begins : (config : Config) (k : ℕ) (x : Part I O) → 1 ≤ k → k ≤ config.max_sessions → BeginsAs config k x → IsCellPart x × Stands config x []
+  pub cell_begins : (config : Config) (k : ℕ) (x : Part I O) → 1 ≤ k → k ≤ config.max_sessions → BeginsAs config k x → IsCellPart x × Stands config x []
   cell_begins config k (part.Board b) low high is = absurd (let l = is.0 in omega (arith, l))
   cell_begins config k (part.Cell c) low high is = (tt, record { history = []; is_recorded = refl; fitting = empty; stands = is.2 })
   cell_begins config k (part.Pair b) low high is = absurd (let l = is.0 in omega (arith, l))

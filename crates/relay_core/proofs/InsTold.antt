@@ -68,13 +68,13 @@ event_call half _ = None
 -- The end that a box has of a half, by what it told so far.
 
 -- by a step the list of an end grew by this call
-abbrev pub Grew : Option (List InCall) → Option (List InCall) → Option InCall → Type 0
-Grew before now call = (calls : List InCall) → now ≡ Some calls → (earlier : List InCall) × (before ≡ Some earlier) × (calls ≡ behind earlier call)
+abbrev pub Grew : {C : Type 0} → Option (List C) → Option (List C) → Option C → Type 0
+Grew {C} before now call = (calls : List C) → now ≡ Some calls → (earlier : List C) × (before ≡ Some earlier) × (calls ≡ behind earlier call)
 
-same_grew : (before now : Option (List InCall)) → now ≡ before → Grew before now None
+pub same_grew : {C : Type 0} (before now : Option (List C)) → now ≡ before → Grew before now None
 same_grew before now same calls q = (calls, sym same ∙ q, refl)
 
-gains_grew : (before now : Option (List InCall)) (call : InCall) → Gains before now call → Grew before now (Some call)
+pub gains_grew : {C : Type 0} (before now : Option (List C)) (call : C) → Gains before now call → Grew before now (Some call)
 gains_grew (Some old) (Some new) call gains calls q =
     let k : new ≡ calls = (let e : Some new ≡ Some calls = q in cc) in
     (old, refl, sym k ∙ gains)

@@ -51,7 +51,9 @@ pub mod Handing
 pub mod Known
 pub mod Placing
 pub mod InsTold
+pub mod OutsTold
 pub mod Closed
 pub mod Closings
+pub mod Partings
 mod Example
 mod rows

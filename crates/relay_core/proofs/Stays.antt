@@ -153,7 +153,7 @@ module _ {T : Type 0} where
   onto [] h = h
   onto (row ∷ rows) h = onto rows (entry_of row ∷ h)
 
-  brings_onto : (rows : List (table.Entry Made T)) (h : List Entry) → BringsNewKeys (filter_map cell_entry (onto rows h)) → BringsNewKeys (filter_map cell_entry h)
+  pub brings_onto : (rows : List (table.Entry Made T)) (h : List Entry) → BringsNewKeys (filter_map cell_entry (onto rows h)) → BringsNewKeys (filter_map cell_entry h)
   brings_onto [] h b = b
   brings_onto (row ∷ rows) h b = brings_option (cell_entry (entry_of row)) (filter_map cell_entry h) (brings_onto rows (entry_of row ∷ h) b)
 

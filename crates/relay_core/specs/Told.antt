@@ -1,21 +1,29 @@
 -- What the ends of ports told when they left their places, by the rows of a list, and what the histories of these places say that they took.
-use Rattle.std.specs.Prelude.{◌≡◌, ◌<◌, ℕ, Bool, true, false, ◌&&◌, ◌==◌, List, [], ◌∷◌, ◌++◌, Option, Some, None, if◌then◌else◌}
+use Rattle.std.specs.Prelude.{◌≡◌, ◌<◌, ℕ, Bool, true, false, ◌&&◌, ◌==◌, List, [], ◌∷◌, ◌++◌, Option, Some, None, filter, if◌then◌else◌}
+use Rattle.std.specs.List.{AllZip, list_any}
 use Rattle.std.specs.Option.{option_map}
 use Rattle.relay_outside.specs.declared.ports.InCall.{InCall}
 use Rattle.relay_outside.specs.declared.ports.InCall.TheVariants as into
 use Rattle.relay_outside.specs.declared.ports.OutCall.{OutCall}
+use Rattle.relay_outside.specs.declared.ports.OutCall.TheVariants as out
 use Rattle.relay_outside.specs.declared.settings.Config.{Config}
 use Rattle.relay_outside.specs.Ports.{joined}
 use Rattle.relay_outside.specs.Told.{WhereTold}
 use Rattle.rtp_packet.specs.declared.head.Half.{Half}
 use Rattle.rtp_packet.specs.declared.head.Half.TheVariants.{Rtp, Rtcp}
 use Rattle.turn_table.specs.declared.machine.Entry as table
+use Rattle.turn_table.specs.Histories as table_lists
+use Rattle.srtp_sources.specs.Notes.{is_half}
 use Rattle.histories.specs.Words.{In, Before}
 use Rattle.port_pool.specs.Boxes.{BoxEvent, Take, Close, holder}
 use Rattle.port_pool.specs.Taking.{given_of}
 use Rattle.port_pool.specs.Ports.{pair_count}
-use Rattle.call_cell.specs.Cells.{Prepare, Commit, End}
-use Rattle.relay_core.specs.Entries.{Event, Cell, Box, Entry, is_nested, box_history, box_of, front}
+use Rattle.port_pool.specs.declared.holder.Holder.{Holder}
+use Rattle.port_pool.specs.Signals.{same_leg}
+use Rattle.call_cell.specs.Cells.{CellEvent, CellEntry, Sending, Prepare, Commit, Relay, End, legs, legs_of, takes_away, since_end}
+use Rattle.call_cell.specs.Deeds.{found}
+use Rattle.call_cell.specs.Standing.{opposite_of, is_leaving}
+use Rattle.relay_core.specs.Entries.{Event, Cell, Box, Entry, is_nested, cell_history, box_history, box_of, front}
 use Rattle.relay_core.specs.Made.{LegLeft, Left, Made, list_of}
 
 -- By the rows.
@@ -60,12 +68,6 @@ module _ {T : Type 0} where
 
 -- By the histories of the boxes.
 
-abbrev pub is_half : Half → Half → Bool
-is_half Rtp Rtp = true
-is_half Rtcp Rtcp = true
-is_half Rtp Rtcp = false
-is_half Rtcp Rtp = false
-
 -- the call of an end that an event of a box makes: none of that of the other half, and none of a box that is shut
 abbrev pub taken_by : Half → BoxEvent → Option InCall
 taken_by half (Take other taken) = if is_half half other then option_map (into.Take 2001) (given_of taken) else None
@@ -94,3 +96,42 @@ module _ {T : Type 0} where
   InsAreTold config rows =
       (pair : ℕ) (half : Half) → pair < pair_count config → holder (box_history (list_of rows) (box_of config pair) (front (list_of rows) (box_of config pair))) ≡ None
       → WhereTold (ins_told rows (box_of config pair) half) (λ calls. calls ≡ takes_at (list_of rows) (box_of config pair) half)
+
+-- By the histories of the cells, of which these are the entries since the last end of a call.
+
+-- the call of the out end of a half that a send makes, which was answered so
+abbrev pub sent_of : Half → Bool → Option Sending → Option OutCall
+sent_of half ok None = None
+sent_of half ok (Some sending) = if is_half half sending.half then Some (out.Send sending.to sending.bytes ok) else None
+
+-- the call of the out end of a leg's half that an event after those entries makes: that of a relay which leaves by the leg
+abbrev pub sent_by : Holder → Half → List CellEntry → CellEvent → Option OutCall
+sent_by leg half h (Relay x) = if is_leaving (opposite_of h (found h x.packet)) leg then sent_of half x.sent_ok x.deed.sending else None
+sent_by leg half h _ = None
+
+-- the calls of the out end of a leg's half since the leg was added, in order
+abbrev pub sends_since : Holder → Half → List CellEntry → List OutCall
+sends_since leg half [] = []
+sends_since leg half (e ∷ h) = if list_any (same_leg leg) (legs_of e.event) then [] else behind (sends_since leg half h) (sent_by leg half h e.event)
+
+-- the legs that go by an event after those entries, in order
+abbrev pub legs_going : List CellEntry → CellEvent → List Holder
+legs_going h End = legs h
+legs_going h event = filter (λ leg. takes_away event leg.section) (legs h)
+
+-- a leg that went, with what its out ends told
+pub record HasTold (h : List CellEntry) (left : LegLeft) (leg : Holder) : Type 0 where
+  pub pair : left.lease.pair ≡ leg.pair
+  pub generation : left.lease.generation ≡ leg.generation
+  pub sends : (half : Half) → WhereTold (out_left half left) (λ calls. calls ≡ sends_since leg half h)
+
+abbrev pub GoesWith : List CellEntry → Event → List LegLeft → Type 0
+GoesWith h (Cell event) left = AllZip (HasTold h) left (legs_going h event)
+GoesWith h _ left = Unit {0}
+
+module _ {T : Type 0} where
+  -- the out ends of each leg that went from a cell told what the list has of the sends by them
+  abbrev pub OutsAreTold : List (table.Entry Made T) → List Entry → Type 0
+  OutsAreTold rows l =
+      (row : table.Entry Made T) → table_lists.In row rows → is_parting row.event.event ≡ true
+      → GoesWith (since_end (cell_history l row.place row.number)) row.event.event row.event.left.legs
