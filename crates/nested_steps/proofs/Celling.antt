@@ -1,5 +1,5 @@
 -- What the main hand is given at a cell, and what the steps of a cell are.
-use Rattle.std.proofs.Common.{◌≡◌, sym, ap, subst, ℕ, ◌≤◌, max, Bool, List, Option}
+use Rattle.std.proofs.Common.{◌≡◌, refl, sym, ap, subst, ℕ, ◌≤◌, max, Bool, List, Option}
 use Rattle.relay_outside.specs.declared.settings.Config.{Config}
 use Rattle.relay_outside.specs.declared.ports.InCall.{InCall}
 use Rattle.relay_outside.specs.declared.ports.OutCall.{OutCall}
@@ -20,7 +20,7 @@ use Rattle.relay_core.specs.Standing.{IsCellPart, CellIs, nested_of}
 use Rattle.relay_core.specs.Steps.{Relates}
 use Rattle.relay_core.specs.Turning.{made_by}
 use Rattle.relay_core.proofs.Given.{given_cell}
-use Rattle.nested_steps.specs.Nesting.{MayNest, nested}
+use Rattle.nested_steps.specs.Nesting.{MayNest, leaving, nested, gone_left}
 use Rattle.nested_steps.specs.InCells.{HasNewKeys, moment_in, EndsPart, ExpiresPart, Ends, Expires}
 use Rattle.nested_steps.proofs.Nesting.{above_rows}
 use Rattle.nested_steps.proofs.Boxing.{Gives}
@@ -34,10 +34,10 @@ module _ {I O : Type 0} where
 module _ {I O : Type 0} (it : I → Option (List InCall)) (ic : I → ℕ) (ot : O → Option (List OutCall)) (oc : O → ℕ) where
   pub end_relates : (x : Part I O) (old new : cell.Cell O) (gone : List (Lease × O × O)) (number handed : ℕ) → x ≡ part.Cell old
       → ((config : Config) (h : List CellEntry) → CellFor config old h → CellEnds config old new h gone)
-      → Relates it ic ot oc x (nested number handed (moment_in x) (Cell End)) (part.Cell new)
+      → Relates it ic ot oc x (leaving number handed (moment_in x) (Cell End) (gone_left ot gone)) (part.Cell new)
   end_relates x old new gone number handed is steps =
-      subst (λ (z : Part I O). Relates it ic ot oc z (nested number handed (moment_in z) (Cell End)) (part.Cell new)) (sym is)
-      (record { gone = gone; steps = λ config h for. (for.moment, steps config h for) })
+      subst (λ (z : Part I O). Relates it ic ot oc z (leaving number handed (moment_in z) (Cell End) (gone_left ot gone)) (part.Cell new)) (sym is)
+      (record { gone = gone; left_are = refl; steps = λ config h for. (for.moment, steps config h for) })
 
   pub expire_relates : (x : Part I O) (old new : cell.Cell O) (number now : ℕ) (due : Bool) → x ≡ part.Cell old
       → ((config : Config) (h : List CellEntry) → CellFor config old h → CellExpires config old new h now due)

@@ -16,13 +16,13 @@ use Rattle.port_pool.specs.Ports.{pair_count}
 use Rattle.relay_core.specs.declared.part.Part.{Part}
 use Rattle.relay_core.specs.Entries.{Event, Entry}
 use Rattle.relay_core.specs.Scripts.{Owed}
-use Rattle.relay_core.specs.Made.{Made, entry_of, list_of}
+use Rattle.relay_core.specs.Made.{Left, Made, entry_of, list_of}
 use Rattle.relay_core.specs.Beginning.{AreParts}
 use Rattle.relay_core.specs.Turning.{Numbered, IsAbove, Gained, GainsNested, made_by}
 use Rattle.relay_core.proofs.Own.{IsRow, in_rows}
 use Rattle.relay_core.proofs.Gains.{gained_nothing, gained_one, gained_more, rising_numbered}
 use Rattle.relay_core.proofs.Turns.{nothing_more}
-use Rattle.nested_steps.specs.Nesting.{MayNest, nested}
+use Rattle.nested_steps.specs.Nesting.{MayNest, leaving, AddsRow}
 
 module _ {I O : Type 0} where
   -- so many places there are
@@ -72,11 +72,11 @@ only_row made moment h row (table_lists.there i) = elim i [ ]
 
 module _ {M S T : Type 0} {g : _} where
   -- a list that gains one entry
-  pub gains_one : (number moment place n last : ℕ) (event : Event) (outcome : T) (old new : Hand M S Made T g)
-      → IsAbove (made_by old) place n → entries new ≡ entries old ++ entry place n (nested number moment last event) outcome ∷ []
+  pub gains_one : (number moment place n last : ℕ) (event : Event) (left : Left) (outcome : T) (old new : Hand M S Made T g)
+      → IsAbove (made_by old) place n → entries new ≡ entries old ++ entry place n (leaving number moment last event left) outcome ∷ []
       → GainsNested number moment ((record { place = place; event = event }) ∷ []) old new
-  gains_one number moment place n last event outcome old new above is =
-      let row = entry place n (nested number moment last event) outcome in
+  gains_one number moment place n last event left outcome old new above is =
+      let row = entry place n (leaving number moment last event left) outcome in
       record {
         rows = row ∷ [];
         list_is = is;
@@ -164,17 +164,31 @@ module _ {M I O T : Type 0} {g : _} where
   GainsOne number moment place event old new = GainsNested number moment ((record { place = place; event = event }) ∷ []) old new
 
   -- the turn of the place was taken, and put back with this step
-  pub turn_gained : (number moment last place found : ℕ) (event : Event) (outcome : T) (old mid new : Hand M (Part I O) Made T g)
+  pub turn_gained : (number moment last place found : ℕ) (event : Event) (left : Left) (outcome : T) (old mid new : Hand M (Part I O) Made T g)
       (turn : Turn M (Part I O) Made T) → found ≡ place → IsAbove (made_by old) found (front_of turn)
       → IsSameHand old mid × (entries mid ≡ entries old) → GainsTurn found turn old mid
-      → EndsTurn (place_of turn) (front_of turn) (nested number moment last event) outcome mid new → GainsOne number moment place event old new
-  turn_gained number moment last place found event outcome old mid new turn at above same turned ended =
-      let made = nested number moment last event in
+      → EndsTurn (place_of turn) (front_of turn) (leaving number moment last event left) outcome mid new → GainsOne number moment place event old new
+  turn_gained number moment last place found event left outcome old mid new turn at above same turned ended =
+      let made = leaving number moment last event left in
       let row : ℕ → table.Entry Made T = λ (k : ℕ). entry k (front_of turn) made outcome in
       subst (λ (k : ℕ). GainsOne number moment k event old new) at
-      (gains_one number moment found (front_of turn) last event outcome old new above
+      (gains_one number moment found (front_of turn) last event left outcome old new above
       (ended.0 ∙ ap (λ (rows : List (table.Entry Made T)). rows ++ row (place_of turn) ∷ []) same.1
       ∙ ap (λ (k : ℕ). entries old ++ row k ∷ []) turned.0))
+
+  -- so its list gained the row of the step
+  pub turn_row : (number moment last place found : ℕ) (event : Event) (left : Left) (outcome : T) (old mid new : Hand M (Part I O) Made T g)
+      (turn : Turn M (Part I O) Made T) → found ≡ place → IsSameHand old mid × (entries mid ≡ entries old) → GainsTurn found turn old mid
+      → EndsTurn (place_of turn) (front_of turn) (leaving number moment last event left) outcome mid new → AddsRow place event left old new
+  turn_row number moment last place found event left outcome old mid new turn at same turned ended =
+      let row = entry (place_of turn) (front_of turn) (leaving number moment last event left) outcome in
+      record {
+        row = row;
+        list_is = ended.0 ∙ ap (λ (rows : List (table.Entry Made T)). rows ++ row ∷ []) same.1;
+        place_is = turned.0 ∙ at;
+        event_is = refl;
+        left_is = refl;
+      }
 
   -- then the hand has the turns that it had
   pub turn_same : (config : Config) (turns : Turns M (Part I O) Made T) (found : ℕ) (made : Made) (outcome : T)
@@ -190,11 +204,11 @@ module _ {M I O T : Type 0} {g : _} where
       )
 
   -- and may make more nested steps
-  pub turn_may : (config : Config) (turns : Turns M (Part I O) Made T) (number moment last place found : ℕ) (event : Event) (outcome : T)
+  pub turn_may : (config : Config) (turns : Turns M (Part I O) Made T) (number moment last place found : ℕ) (event : Event) (left : Left) (outcome : T)
       (old mid new : Hand M (Part I O) Made T g) (turn : Turn M (Part I O) Made T) → MayNest config turns old → 1 ≤ found
       → IsSameHand old mid × (entries mid ≡ entries old) → GainsTurn found turn old mid → IsSameHand mid new
-      → EndsTurn (place_of turn) (front_of turn) (nested number moment last event) outcome mid new → GainsOne number moment place event old new
+      → EndsTurn (place_of turn) (front_of turn) (leaving number moment last event left) outcome mid new → GainsOne number moment place event old new
       → MayNest config turns new
-  turn_may config turns number moment last place found event outcome old mid new turn may low same turned again ended gains =
-      let kept = turn_same config turns found (nested number moment last event) outcome old mid new turn may low same turned again ended in
+  turn_may config turns number moment last place found event left outcome old mid new turn may low same turned again ended gains =
+      let kept = turn_same config turns found (leaving number moment last event left) outcome old mid new turn may low same turned again ended in
       may_still config turns number moment ((record { place = place; event = event }) ∷ []) old new may kept.0 kept.1 gains

@@ -1,5 +1,5 @@
 -- What an offer and an answer make of a cell.
-use Rattle.std.proofs.Common.{◌≡◌, refl, sym, ◌∙◌, ap, subst, ℕ, ◌≤◌, ◌⊎◌, inl, inr, max, List, [], ◌∷◌, Option, arith}
+use Rattle.std.proofs.Common.{◌≡◌, refl, sym, ◌∙◌, ap, subst, ℕ, ◌≤◌, inl, inr, max, List, [], ◌∷◌, Option, arith}
 use Rattle.std.proofs.lemmas.List.Sums.{count_by-le-length}
 use Rattle.relay_outside.specs.declared.settings.Config.{Config}
 use Rattle.relay_outside.specs.declared.ports.InCall.{InCall}
@@ -24,11 +24,11 @@ use Rattle.call_cell.proofs.Nested.{entry_at, can_come_kept, names_keys_kept, du
 use Rattle.relay_core.specs.declared.part.Part.{Part}
 use Rattle.relay_core.specs.declared.part.Part.TheVariants as part
 use Rattle.relay_core.specs.Entries.{Entry, Cell, cell_history}
-use Rattle.relay_core.specs.Made.{Made}
+use Rattle.relay_core.specs.Made.{Left, Made}
 use Rattle.relay_core.specs.Standing.{CellIs, nested_of}
-use Rattle.relay_core.specs.Steps.{Relates}
+use Rattle.relay_core.specs.Steps.{Relates, AreUncalled}
 use Rattle.relay_core.specs.Turning.{IsAbove, made_by}
-use Rattle.nested_steps.specs.Nesting.{nested}
+use Rattle.nested_steps.specs.Nesting.{leaving, gone_left}
 use Rattle.nested_steps.specs.InCells.{moment_in, HasSpace, OfferComes, AnswerComes, TakesOffer, TakesAnswer, PreparesPart, CommitsPart, Prepares, Commits}
 use Rattle.nested_steps.proofs.Boxing.{Gives}
 
@@ -139,18 +139,20 @@ module _ {I O : Type 0} where
 
 module _ {I O : Type 0} (it : I → Option (List InCall)) (ic : I → ℕ) (ot : O → Option (List OutCall)) (oc : O → ℕ) where
   pub prepare_relates : (x : Part I O) (old new : cell.Cell O) (signal : prepared.Prepare O) (call : ℕ) (keys : List NewKey) (dropped : List ℕ) (now : ℕ)
-      (gone : List (Lease × O × O)) (number : ℕ) → x ≡ part.Cell old → TakesOffer x signal call keys dropped
+      (gone : List (Lease × O × O)) (number : ℕ) → x ≡ part.Cell old → TakesOffer x signal call keys dropped → AreUncalled ot signal
       → ((config : Config) (h : List CellEntry) (k : List NewKey) (d : List ℕ) → CellFor config old h → PrepareFor signal k d → CanCome config (since_end h) signal call k d
       → CellPrepares config old new h signal call k d now gone)
-      → Relates it ic ot oc x (nested number now (max now (moment_in x)) (Cell (Prepare call (added signal) keys dropped))) (part.Cell new)
-  prepare_relates x old new signal call keys dropped now gone number is takes steps =
+      → Relates it ic ot oc x (leaving number now (max now (moment_in x)) (Cell (Prepare call (added signal) keys dropped)) (gone_left ot gone)) (part.Cell new)
+  prepare_relates x old new signal call keys dropped now gone number is takes uncalled steps =
       let o = offer_of x old signal call keys dropped is takes in
       let at : (config : Config) (h : List CellEntry) → CellFor config old h → o.config ≡ config = λ config h for. sym o.stands.config_is ∙ for.config_is in
-      subst (λ (z : Part I O). Relates it ic ot oc z (nested number now (max now (moment_in z)) (Cell (Prepare call (added signal) keys dropped))) (part.Cell new)) (sym is)
+      subst (λ (z : Part I O). Relates it ic ot oc z (leaving number now (max now (moment_in z)) (Cell (Prepare call (added signal) keys dropped)) (gone_left ot gone)) (part.Cell new)) (sym is)
       (record {
         signal = signal;
         legs_are = refl;
+        uncalled = uncalled;
         gone = gone;
+        left_are = refl;
         steps = λ config h for new_keys. (
           ap (λ (m : ℕ). max now m) for.moment,
           steps config h keys dropped for o.tells
@@ -163,12 +165,13 @@ module _ {I O : Type 0} (it : I → Option (List InCall)) (ic : I → ℕ) (ot :
   pub commit_relates : (x : Part I O) (old new : cell.Cell O) (signal : List SectionSignal) (contexts now : ℕ) (gone : List (Lease × O × O)) (number : ℕ)
       → x ≡ part.Cell old → TakesAnswer x signal contexts
       → ((config : Config) (h : List CellEntry) → CellFor config old h → NamesKeys (since_end h) signal → CellCommits config old new h signal now gone)
-      → Relates it ic ot oc x (nested number now (max now (moment_in x)) (Cell (Commit signal))) (part.Cell new)
+      → Relates it ic ot oc x (leaving number now (max now (moment_in x)) (Cell (Commit signal)) (gone_left ot gone)) (part.Cell new)
   commit_relates x old new signal contexts now gone number is takes steps =
       let a = answer_of x old signal contexts is takes in
-      subst (λ (z : Part I O). Relates it ic ot oc z (nested number now (max now (moment_in z)) (Cell (Commit signal))) (part.Cell new)) (sym is)
+      subst (λ (z : Part I O). Relates it ic ot oc z (leaving number now (max now (moment_in z)) (Cell (Commit signal)) (gone_left ot gone)) (part.Cell new)) (sym is)
       (record {
         gone = gone;
+        left_are = refl;
         steps = λ config h for. (
           ap (λ (m : ℕ). max now m) for.moment,
           steps config h for
@@ -215,8 +218,8 @@ module _ {M I O T : Type 0} {g : _} (it : I → Option (List InCall)) (ic : I �
 
 module _ {M S T O : Type 0} {g : _} where
   -- the step tells the legs of what was prepared
-  pub tells_legs : (place n number moment last call : ℕ) (told signal : prepared.Prepare O) (keys : List NewKey) (dropped : List ℕ) (outcome : T) (old new : Hand M S Made T g)
-      → told ≡ signal → EndsTurn place n (nested number moment last (Cell (Prepare call (added told) keys dropped))) outcome old new
-      → EndsTurn place n (nested number moment last (Cell (Prepare call (added signal) keys dropped))) outcome old new
-  tells_legs place n number moment last call told signal keys dropped outcome old new same ended =
-      subst (λ (s : prepared.Prepare O). EndsTurn place n (nested number moment last (Cell (Prepare call (added s) keys dropped))) outcome old new) same ended
+  pub tells_legs : (place n number moment last call : ℕ) (told signal : prepared.Prepare O) (keys : List NewKey) (dropped : List ℕ) (left : Left) (outcome : T) (old new : Hand M S Made T g)
+      → told ≡ signal → EndsTurn place n (leaving number moment last (Cell (Prepare call (added told) keys dropped)) left) outcome old new
+      → EndsTurn place n (leaving number moment last (Cell (Prepare call (added signal) keys dropped)) left) outcome old new
+  tells_legs place n number moment last call told signal keys dropped left outcome old new same ended =
+      subst (λ (s : prepared.Prepare O). EndsTurn place n (leaving number moment last (Cell (Prepare call (added s) keys dropped)) left) outcome old new) same ended

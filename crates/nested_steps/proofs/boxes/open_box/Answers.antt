@@ -1,6 +1,7 @@
 use Rattle.std.proofs.Common.{sym, subst, arith}
 use Rattle.port_pool.specs.Boxes.{Open}
 use Rattle.relay_core.specs.Entries.{Box, box_of}
+use Rattle.relay_core.specs.Made.{nothing_left}
 use Rattle.nested_steps.specs.Nesting.{nested}
 use Rattle.nested_steps.specs.Taken.{CanOpen}
 use Rattle.nested_steps.proofs.Nesting.{above_rows, turn_gained, turn_may}
@@ -18,14 +19,14 @@ pub returns-clause-gained : goal.returns-clause-gained
 returns-clause-gained g c =
     let leg = c.args.holder in
     let given = c.turn-turn.ensures.turn.1 in
-    turn_gained c.args.nest.number c.args.nest.moment 0 (box_of c.args.config.now leg.pair) c.box_place.result (Box (Open leg)) tt c.args.hand.now c.turn-turn.new.hand
+    turn_gained c.args.nest.number c.args.nest.moment 0 (box_of c.args.config.now leg.pair) c.box_place.result (Box (Open leg)) nothing_left tt c.args.hand.now c.turn-turn.new.hand
     c.put_opening.new.hand c.turn-turn.result c.box_place.ensures (above_rows _ _ _ given.above) c.turn-turn.ensures.same c.turn-turn.ensures.turn.0 c.put_opening.ensures.entry
 
 pub returns-clause-may : goal.returns-clause-may
 returns-clause-may g c =
     let leg = c.args.holder in
     let at = c.box_place.ensures in
-    turn_may c.args.config.now c.args.turns.now c.args.nest.number c.args.nest.moment 0 (box_of c.args.config.now leg.pair) c.box_place.result (Box (Open leg)) tt
+    turn_may c.args.config.now c.args.turns.now c.args.nest.number c.args.nest.moment 0 (box_of c.args.config.now leg.pair) c.box_place.result (Box (Open leg)) nothing_left tt
     c.args.hand.now c.turn-turn.new.hand c.put_opening.new.hand c.turn-turn.result c.requires.may (omega (arith, at)) c.turn-turn.ensures.same c.turn-turn.ensures.turn.0
     c.put_opening.ensures.same c.put_opening.ensures.entry (returns-clause-gained g c)
 

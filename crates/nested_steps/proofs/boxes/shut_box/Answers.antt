@@ -1,9 +1,9 @@
 use Rattle.std.proofs.Common.{sym, subst, arith}
 use Rattle.port_pool.specs.Boxes.{Close}
 use Rattle.relay_core.specs.Entries.{Box, box_of}
-use Rattle.nested_steps.specs.Nesting.{nested}
+use Rattle.nested_steps.specs.Nesting.{leaving, ends_left}
 use Rattle.nested_steps.specs.Taken.{CanShut}
-use Rattle.nested_steps.proofs.Nesting.{above_rows, turn_gained, turn_may}
+use Rattle.nested_steps.proofs.Nesting.{above_rows, turn_gained, turn_row, turn_may}
 use Rattle.nested_steps.proofs.Boxing.{open_given, shut_from}
 use Rattle.nested_steps.proofs.boxes.shut_box.Goals as goal
 
@@ -16,19 +16,27 @@ shut_part-ends-requires g c =
 pub returns-clause-gained : goal.returns-clause-gained
 returns-clause-gained g c =
     let given = c.turn-turn.ensures.turn.1 in
-    turn_gained c.args.nest.number c.args.nest.moment 0 (box_of c.args.config.now c.args.pair) c.box_place.result (Box Close) tt c.args.hand.now c.turn-turn.new.hand
+    turn_gained c.args.nest.number c.args.nest.moment 0 (box_of c.args.config.now c.args.pair) c.box_place.result (Box Close)
+    (ends_left g.I.InEnd.told c.shut_part-ends.result) tt c.args.hand.now c.turn-turn.new.hand
     c.put_closing.new.hand c.turn-turn.result c.box_place.ensures (above_rows _ _ _ given.above) c.turn-turn.ensures.same c.turn-turn.ensures.turn.0 c.put_closing.ensures.entry
+
+pub returns-clause-row : goal.returns-clause-row
+returns-clause-row g c =
+    turn_row c.args.nest.number c.args.nest.moment 0 (box_of c.args.config.now c.args.pair) c.box_place.result (Box Close)
+    (ends_left g.I.InEnd.told c.shut_part-ends.result) tt c.args.hand.now c.turn-turn.new.hand c.put_closing.new.hand c.turn-turn.result c.box_place.ensures
+    c.turn-turn.ensures.same c.turn-turn.ensures.turn.0 c.put_closing.ensures.entry
 
 pub returns-clause-may : goal.returns-clause-may
 returns-clause-may g c =
     let at = c.box_place.ensures in
-    turn_may c.args.config.now c.args.turns.now c.args.nest.number c.args.nest.moment 0 (box_of c.args.config.now c.args.pair) c.box_place.result (Box Close) tt
+    turn_may c.args.config.now c.args.turns.now c.args.nest.number c.args.nest.moment 0 (box_of c.args.config.now c.args.pair) c.box_place.result (Box Close)
+    (ends_left g.I.InEnd.told c.shut_part-ends.result) tt
     c.args.hand.now c.turn-turn.new.hand c.put_closing.new.hand c.turn-turn.result c.requires.may (omega (arith, at)) c.turn-turn.ensures.same c.turn-turn.ensures.turn.0
     c.put_closing.ensures.same c.put_closing.ensures.entry (returns-clause-gained g c)
 
 pub returns-clause-ends : goal.returns-clause-ends
 returns-clause-ends g c =
-    let made = nested c.args.nest.number c.args.nest.moment 0 (Box Close) in
+    let made = leaving c.args.nest.number c.args.nest.moment 0 (Box Close) (ends_left g.I.InEnd.told c.shut_part-ends.result) in
     shut_from g.I.InEnd.told g.I.InEnd.faults g.O.OutEnd.told g.O.OutEnd.faults c.args.hand.now c.box_place.result (box_of c.args.config.now c.args.pair) c.turn-turn.result.front
     c.turn-turn.result.state c.state.result.now
     c.shut_part-ends.new.part made c.shut_part-ends.result c.box_place.ensures c.state.ensures.value c.turn-turn.ensures.turn.1

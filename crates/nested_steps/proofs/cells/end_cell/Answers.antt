@@ -1,8 +1,9 @@
 use Rattle.std.proofs.Common.{arith}
 use Rattle.call_cell.specs.Cells.{End}
 use Rattle.relay_core.specs.Entries.{Cell}
+use Rattle.nested_steps.specs.Nesting.{gone_left}
 use Rattle.nested_steps.specs.InCells.{moment_in}
-use Rattle.nested_steps.proofs.Nesting.{above_rows, turn_gained, turn_may}
+use Rattle.nested_steps.proofs.Nesting.{above_rows, turn_gained, turn_row, turn_may}
 use Rattle.nested_steps.proofs.Celling.{is_cell, cell_given, ends_by}
 use Rattle.nested_steps.proofs.Leaving.{ended_went}
 use Rattle.nested_steps.proofs.cells.end_cell.Goals as goal
@@ -17,15 +18,23 @@ end_part-requires-clause-cell g c =
 pub returns-clause-gained : goal.returns-clause-gained
 returns-clause-gained g c =
     let given = c.turn-turn.ensures.turn.1 in
-    turn_gained c.args.nest.number c.args.nest.moment (moment_in c.turn-turn.result.taken.value) c.args.cell c.cell_place.result (Cell End) tt c.args.hand.now
+    turn_gained c.args.nest.number c.args.nest.moment (moment_in c.turn-turn.result.taken.value) c.args.cell c.cell_place.result (Cell End)
+    (gone_left g.O.OutEnd.told c.end_part.new.gone) tt c.args.hand.now
     c.turn-turn.new.hand c.put_end.new.hand c.turn-turn.result c.cell_place.ensures (above_rows _ _ _ given.above) c.turn-turn.ensures.same
     c.turn-turn.ensures.turn.0 c.put_end.ensures.entry
+
+pub returns-clause-row : goal.returns-clause-row
+returns-clause-row g c =
+    turn_row c.args.nest.number c.args.nest.moment (moment_in c.turn-turn.result.taken.value) c.args.cell c.cell_place.result (Cell End)
+    (gone_left g.O.OutEnd.told c.end_part.new.gone) tt c.args.hand.now c.turn-turn.new.hand c.put_end.new.hand c.turn-turn.result c.cell_place.ensures
+    c.turn-turn.ensures.same c.turn-turn.ensures.turn.0 c.put_end.ensures.entry
 
 pub returns-clause-may : goal.returns-clause-may
 returns-clause-may g c =
     let at = c.cell_place.ensures in
     let low = c.requires.cell.0 in
-    turn_may c.args.config.now c.args.turns.now c.args.nest.number c.args.nest.moment (moment_in c.turn-turn.result.taken.value) c.args.cell c.cell_place.result (Cell End) tt
+    turn_may c.args.config.now c.args.turns.now c.args.nest.number c.args.nest.moment (moment_in c.turn-turn.result.taken.value) c.args.cell c.cell_place.result (Cell End)
+    (gone_left g.O.OutEnd.told c.end_part.new.gone) tt
     c.args.hand.now c.turn-turn.new.hand c.put_end.new.hand c.turn-turn.result c.requires.may (omega (arith, at, low)) c.turn-turn.ensures.same c.turn-turn.ensures.turn.0
     c.put_end.ensures.same c.put_end.ensures.entry (returns-clause-gained g c)
 

@@ -1,6 +1,7 @@
 use Rattle.std.proofs.Common.{arith, max}
 use Rattle.call_cell.specs.Cells.{Expire}
 use Rattle.relay_core.specs.Entries.{Cell}
+use Rattle.relay_core.specs.Made.{nothing_left}
 use Rattle.nested_steps.specs.InCells.{moment_in}
 use Rattle.nested_steps.proofs.Nesting.{above_rows, turn_gained, turn_may}
 use Rattle.nested_steps.proofs.Celling.{is_cell, cell_given, expires_by}
@@ -17,7 +18,7 @@ pub returns-clause-gained : goal.returns-clause-gained
 returns-clause-gained g c =
     let given = c.turn-turn.ensures.turn.1 in
     turn_gained c.args.nest.number c.args.nest.moment (max c.args.nest.moment (moment_in c.turn-turn.result.taken.value)) c.args.cell c.cell_place.result
-    (Cell (Expire c.expire_part-due.result)) tt c.args.hand.now
+    (Cell (Expire c.expire_part-due.result)) nothing_left tt c.args.hand.now
     c.turn-turn.new.hand c.put_expiry.new.hand c.turn-turn.result c.cell_place.ensures (above_rows _ _ _ given.above) c.turn-turn.ensures.same
     c.turn-turn.ensures.turn.0 c.put_expiry.ensures.entry
 
@@ -26,7 +27,7 @@ returns-clause-may g c =
     let at = c.cell_place.ensures in
     let low = c.requires.cell.0 in
     turn_may c.args.config.now c.args.turns.now c.args.nest.number c.args.nest.moment (max c.args.nest.moment (moment_in c.turn-turn.result.taken.value)) c.args.cell
-    c.cell_place.result (Cell (Expire c.expire_part-due.result)) tt
+    c.cell_place.result (Cell (Expire c.expire_part-due.result)) nothing_left tt
     c.args.hand.now c.turn-turn.new.hand c.put_expiry.new.hand c.turn-turn.result c.requires.may (omega (arith, at, low)) c.turn-turn.ensures.same c.turn-turn.ensures.turn.0
     c.put_expiry.ensures.same c.put_expiry.ensures.entry (returns-clause-gained g c)
 

@@ -2,8 +2,9 @@ use Rattle.std.proofs.Common.{arith, max}
 use Rattle.call_cell.specs.Cells.{Commit}
 use Rattle.relay_core.specs.Entries.{Cell, cell_history}
 use Rattle.relay_core.specs.Turning.{made_by}
+use Rattle.nested_steps.specs.Nesting.{gone_left}
 use Rattle.nested_steps.specs.InCells.{moment_in}
-use Rattle.nested_steps.proofs.Nesting.{above_rows, turn_gained, turn_may}
+use Rattle.nested_steps.proofs.Nesting.{above_rows, turn_gained, turn_row, turn_may}
 use Rattle.nested_steps.proofs.Celling.{cell_given}
 use Rattle.nested_steps.proofs.Signalling.{takes_answer, space_is, commits_by}
 use Rattle.nested_steps.proofs.Leaving.{committed_went}
@@ -24,16 +25,22 @@ pub returns-clause-gained : goal.returns-clause-gained
 returns-clause-gained g c =
     let given = c.turn-turn.ensures.turn.1 in
     turn_gained c.args.nest.number c.args.nest.moment (max c.args.nest.moment (moment_in c.turn-turn.result.taken.value)) c.args.cell c.cell_place.result
-    (Cell (Commit c.args.signal.now)) tt c.args.hand.now
+    (Cell (Commit c.args.signal.now)) (gone_left g.O.OutEnd.told c.commit_part.new.gone) tt c.args.hand.now
     c.turn-turn.new.hand c.put_commit.new.hand c.turn-turn.result c.cell_place.ensures (above_rows _ _ _ given.above) c.turn-turn.ensures.same
     c.turn-turn.ensures.turn.0 c.put_commit.ensures.entry
+
+pub returns-clause-row : goal.returns-clause-row
+returns-clause-row g c =
+    turn_row c.args.nest.number c.args.nest.moment (max c.args.nest.moment (moment_in c.turn-turn.result.taken.value)) c.args.cell c.cell_place.result
+    (Cell (Commit c.args.signal.now)) (gone_left g.O.OutEnd.told c.commit_part.new.gone) tt c.args.hand.now c.turn-turn.new.hand c.put_commit.new.hand c.turn-turn.result
+    c.cell_place.ensures c.turn-turn.ensures.same c.turn-turn.ensures.turn.0 c.put_commit.ensures.entry
 
 pub returns-clause-may : goal.returns-clause-may
 returns-clause-may g c =
     let at = c.cell_place.ensures in
     let low = c.requires.cell.0 in
     turn_may c.args.config.now c.args.turns.now c.args.nest.number c.args.nest.moment (max c.args.nest.moment (moment_in c.turn-turn.result.taken.value)) c.args.cell
-    c.cell_place.result (Cell (Commit c.args.signal.now)) tt
+    c.cell_place.result (Cell (Commit c.args.signal.now)) (gone_left g.O.OutEnd.told c.commit_part.new.gone) tt
     c.args.hand.now c.turn-turn.new.hand c.put_commit.new.hand c.turn-turn.result c.requires.may (omega (arith, at, low)) c.turn-turn.ensures.same c.turn-turn.ensures.turn.0
     c.put_commit.ensures.same c.put_commit.ensures.entry (returns-clause-gained g c)
 

@@ -2,11 +2,11 @@ use Rattle.std.specs.Prelude.{max}
 use Rattle.turn_table.specs.Hands.{taken_of}
 use Rattle.call_cell.specs.Cells.{Commit}
 use Rattle.relay_core.specs.Entries.{Cell}
-use Rattle.nested_steps.specs.Nesting.{nested}
+use Rattle.nested_steps.specs.Nesting.{leaving, gone_left}
 use Rattle.nested_steps.specs.InCells.{moment_in}
 use Rattle.nested_steps.proofs.signals.commit_cell.Given as goal
 
 abbrev pub ghosts-put_commit : goal.ghosts-put_commit
 ghosts-put_commit g a = record {
-  made = nested a.nest.number a.nest.moment (max a.nest.moment (moment_in (taken_of a.turn))) (Cell (Commit a.signal.now));
+  made = leaving a.nest.number a.nest.moment (max a.nest.moment (moment_in (taken_of a.turn))) (Cell (Commit a.signal.now)) (gone_left g.O.OutEnd.told a.gone.now);
 }

@@ -3,9 +3,9 @@ use Rattle.call_cell.specs.Cells.{Prepare}
 use Rattle.call_cell.specs.Preparing.{added}
 use Rattle.relay_core.specs.Entries.{Cell}
 use Rattle.nested_steps.specs.Bringing.{brought_keys, brought_dropped}
-use Rattle.nested_steps.specs.Nesting.{nested}
+use Rattle.nested_steps.specs.Nesting.{leaving, gone_left}
 use Rattle.nested_steps.specs.InCells.{moment_in}
-use Rattle.nested_steps.proofs.Nesting.{above_rows, turn_gained, turn_same, turn_may}
+use Rattle.nested_steps.proofs.Nesting.{above_rows, turn_gained, turn_row, turn_same, turn_may}
 use Rattle.nested_steps.proofs.Celling.{cell_given}
 use Rattle.nested_steps.proofs.Signalling.{takes_offer, prepares_by, tells_legs}
 use Rattle.nested_steps.proofs.Leaving.{prepared_went}
@@ -24,22 +24,31 @@ pub returns-clause-gained : goal.returns-clause-gained
 returns-clause-gained g c =
     let given = c.turn-turn.ensures.turn.1 in
     turn_gained c.args.nest.number c.args.nest.moment (max c.args.nest.moment (moment_in c.turn-turn.result.taken.value)) c.args.cell c.cell_place.result
-    (Cell (Prepare c.args.call (added c.args.signal) (brought_keys c.args.brought.now) (brought_dropped c.args.brought.now))) tt c.args.hand.now
+    (Cell (Prepare c.args.call (added c.args.signal) (brought_keys c.args.brought.now) (brought_dropped c.args.brought.now))) (gone_left g.O.OutEnd.told c.prepare_part.new.gone) tt c.args.hand.now
     c.turn-turn.new.hand c.put_prepare.new.hand c.turn-turn.result c.cell_place.ensures (above_rows _ _ _ given.above) c.turn-turn.ensures.same
     c.turn-turn.ensures.turn.0 (tells_legs c.turn-turn.result.place c.turn-turn.result.front c.args.nest.number c.args.nest.moment
     (max c.args.nest.moment (moment_in c.turn-turn.result.taken.value)) c.args.call c.of-legs.result.value c.args.signal (brought_keys c.args.brought.now)
-    (brought_dropped c.args.brought.now) tt c.turn-turn.new.hand c.put_prepare.new.hand c.of-legs.ensures c.put_prepare.ensures.entry)
+    (brought_dropped c.args.brought.now) (gone_left g.O.OutEnd.told c.prepare_part.new.gone) tt c.turn-turn.new.hand c.put_prepare.new.hand c.of-legs.ensures c.put_prepare.ensures.entry)
+
+pub returns-clause-row : goal.returns-clause-row
+returns-clause-row g c =
+    turn_row c.args.nest.number c.args.nest.moment (max c.args.nest.moment (moment_in c.turn-turn.result.taken.value)) c.args.cell c.cell_place.result
+    (Cell (Prepare c.args.call (added c.args.signal) (brought_keys c.args.brought.now) (brought_dropped c.args.brought.now))) (gone_left g.O.OutEnd.told c.prepare_part.new.gone) tt c.args.hand.now c.turn-turn.new.hand
+    c.put_prepare.new.hand c.turn-turn.result c.cell_place.ensures c.turn-turn.ensures.same c.turn-turn.ensures.turn.0
+    (tells_legs c.turn-turn.result.place c.turn-turn.result.front c.args.nest.number c.args.nest.moment
+    (max c.args.nest.moment (moment_in c.turn-turn.result.taken.value)) c.args.call c.of-legs.result.value c.args.signal (brought_keys c.args.brought.now)
+    (brought_dropped c.args.brought.now) (gone_left g.O.OutEnd.told c.prepare_part.new.gone) tt c.turn-turn.new.hand c.put_prepare.new.hand c.of-legs.ensures c.put_prepare.ensures.entry)
 
 pub returns-clause-may : goal.returns-clause-may
 returns-clause-may g c =
     let at = c.cell_place.ensures in
     let low = c.requires.cell.0 in
     turn_may c.args.config.now c.args.turns.now c.args.nest.number c.args.nest.moment (max c.args.nest.moment (moment_in c.turn-turn.result.taken.value)) c.args.cell
-    c.cell_place.result (Cell (Prepare c.args.call (added c.args.signal) (brought_keys c.args.brought.now) (brought_dropped c.args.brought.now))) tt
+    c.cell_place.result (Cell (Prepare c.args.call (added c.args.signal) (brought_keys c.args.brought.now) (brought_dropped c.args.brought.now))) (gone_left g.O.OutEnd.told c.prepare_part.new.gone) tt
     c.args.hand.now c.turn-turn.new.hand c.put_prepare.new.hand c.turn-turn.result c.requires.may (omega (arith, at, low)) c.turn-turn.ensures.same
     c.turn-turn.ensures.turn.0 c.put_prepare.ensures.same (tells_legs c.turn-turn.result.place c.turn-turn.result.front c.args.nest.number c.args.nest.moment
     (max c.args.nest.moment (moment_in c.turn-turn.result.taken.value)) c.args.call c.of-legs.result.value c.args.signal (brought_keys c.args.brought.now)
-    (brought_dropped c.args.brought.now) tt c.turn-turn.new.hand c.put_prepare.new.hand c.of-legs.ensures c.put_prepare.ensures.entry) (returns-clause-gained g c)
+    (brought_dropped c.args.brought.now) (gone_left g.O.OutEnd.told c.prepare_part.new.gone) tt c.turn-turn.new.hand c.put_prepare.new.hand c.of-legs.ensures c.put_prepare.ensures.entry) (returns-clause-gained g c)
 
 pub returns-clause-prepared : goal.returns-clause-prepared
 returns-clause-prepared g c =
@@ -59,6 +68,6 @@ returns-clause-same g c =
     let at = c.cell_place.ensures in
     let low = c.requires.cell.0 in
     turn_same c.args.config.now c.args.turns.now c.cell_place.result
-    (nested c.args.nest.number c.args.nest.moment (max c.args.nest.moment (moment_in c.turn-turn.result.taken.value))
-    (Cell (Prepare c.args.call (added c.of-legs.result.value) (brought_keys c.args.brought.now) (brought_dropped c.args.brought.now)))) tt c.args.hand.now c.turn-turn.new.hand c.put_prepare.new.hand c.turn-turn.result c.requires.may
+    (leaving c.args.nest.number c.args.nest.moment (max c.args.nest.moment (moment_in c.turn-turn.result.taken.value))
+    (Cell (Prepare c.args.call (added c.of-legs.result.value) (brought_keys c.args.brought.now) (brought_dropped c.args.brought.now))) (gone_left g.O.OutEnd.told c.prepare_part.new.gone)) tt c.args.hand.now c.turn-turn.new.hand c.put_prepare.new.hand c.turn-turn.result c.requires.may
     (omega (arith, at, low)) c.turn-turn.ensures.same c.turn-turn.ensures.turn.0 c.put_prepare.ensures.same c.put_prepare.ensures.entry
