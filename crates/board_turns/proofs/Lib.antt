@@ -12,3 +12,4 @@ pub mod Unheld
 pub mod Firsts
 pub mod StopTurns
 pub mod Grown
+pub mod Tying

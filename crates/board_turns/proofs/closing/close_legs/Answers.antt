@@ -3,6 +3,7 @@ use Rattle.relay_outside.specs.declared.ports.PortCall.{PortCall}
 use Rattle.relay_outside.specs.Told.{WhereTold}
 use Rattle.relay_outside.proofs.Telling.{gained_none, gained_both}
 use Rattle.histories.specs.Words.{has}
+use Rattle.turn_table.specs.Hands.{entries}
 use Rattle.port_pool.specs.declared.pairs.Lease.{Lease}
 use Rattle.call_board.specs.Views.{with_returned}
 use Rattle.call_board.specs.Boards.{Shows, pairs_in}
@@ -14,6 +15,7 @@ use Rattle.nested_steps.proofs.Nesting.{gains_more, same_again}
 use Rattle.board_turns.specs.Closing.{CanClose, ClosesLegs, leases_of, closings_of, pairs_left}
 use Rattle.board_turns.proofs.Lefts.{left_none, left_twice, told_alike}
 use Rattle.board_turns.proofs.Closed.{gains_nothing, first_can, rest_can, closings_more, pairs_more, closes_more}
+use Rattle.board_turns.proofs.Tying.{ties_takes_none, ties_takes_both}
 use Rattle.board_turns.proofs.closing.close_legs.Goals as goal
 
 pub loop-leg-init : goal.loop-leg-init
@@ -31,6 +33,7 @@ loop-leg-init g c =
       replies = refl;
       closes = gained_none told (ClosesLegs g.P.Out.OutEnd.told c.args.config.now.interface []) refl;
       opens = λ held opens. told_alike c.args.config.now told held (pairs_left [] held) (left_none held) opens;
+      takes = ties_takes_none c.args.config.now told (entries c.args.hand.now);
       later = omega arith;
     }
 
@@ -77,6 +80,7 @@ loop-leg-preserved g c =
       opens = λ held opens. told_alike config after (pairs_left (leg.0.pair ∷ []) (pairs_left pairs held)) (pairs_left (pairs_in (leases_of (some ++ one))) held)
           (λ q. left_twice pairs (leg.0.pair ∷ []) held q ∙ ap (λ (ps : List ℕ). has (pairs_left ps held) q) (sym (pairs_more some one)))
           (now.«open» (pairs_left pairs held) (was.opens held opens));
+      takes = ties_takes_both config before told after (entries c.args.hand.now) (entries c.loop-leg.hand) (entries c.close_leg.new.hand) was.takes now.takes;
       later = omega (arith, first, second);
     }
 

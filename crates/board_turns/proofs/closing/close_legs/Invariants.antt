@@ -1,7 +1,7 @@
 use Rattle.std.proofs.Common.{◌≡◌, ◌≤◌, ◌++◌, ℕ, List, length}
 use Rattle.relay_outside.specs.declared.settings.Config.{Config}
 use Rattle.relay_outside.specs.Told.{Gained, WhereTold}
-use Rattle.turn_table.specs.Hands.{IsSameHand, SameTurns}
+use Rattle.turn_table.specs.Hands.{IsSameHand, SameTurns, entries}
 use Rattle.port_pool.specs.declared.pairs.Lease.{Lease}
 use Rattle.call_board.specs.Boards.{Shows, KeepsCalls, KeepsReplies, pairs_in}
 use Rattle.call_board.specs.Views.{View, with_returned}
@@ -9,6 +9,7 @@ use Rattle.relay_core.specs.Turning.{GainsNested, made_by}
 use Rattle.media_ports.specs.Held.{OpensHeld}
 use Rattle.nested_steps.specs.Nesting.{MayNest}
 use Rattle.board_turns.specs.Closing.{CanClose, leases_of, closings_of, ClosesLegs, pairs_left}
+use Rattle.board_turns.specs.Ties.{TiesTakes}
 use Rattle.board_turns.proofs.closing.close_legs.Given as goal
 
 abbrev pub invariant-loop-leg : goal.invariant-loop-leg
@@ -27,6 +28,7 @@ invariant-loop-leg g l =
       closes : Gained (told l.initial.ports) (told l.ports) (ClosesLegs g.P.Out.OutEnd.told l.config.interface closed);
       opens : (held : List ℕ) → WhereTold (told l.initial.ports) (λ calls. OpensHeld l.config calls held) →
           WhereTold (told l.ports) (λ calls. OpensHeld l.config calls (pairs_left (pairs_in (leases_of closed)) held));
+      takes : TiesTakes l.config (told l.initial.ports) (told l.ports) (entries l.initial.hand) (entries l.hand);
       later : g.P.PortMaker.faults l.initial.ports ≤ g.P.PortMaker.faults l.ports;
     }
 

@@ -1,4 +1,4 @@
-use Rattle.std.proofs.Common.{◌≡◌, ◌∙◌, ap, subst, ℕ, List, [], ◌∷◌}
+use Rattle.std.proofs.Common.{◌≡◌, ◌∙◌, refl, ap, subst, ℕ, List, [], ◌∷◌}
 use Rattle.relay_outside.specs.declared.ports.PortCall.{PortCall}
 use Rattle.relay_outside.specs.Told.{WhereTold}
 use Rattle.relay_outside.proofs.Telling.{gained_less}
@@ -7,6 +7,7 @@ use Rattle.call_cell.specs.Cells.{End}
 use Rattle.call_board.specs.Boards.{Shows}
 use Rattle.call_board.specs.Views.{with_returned, without_call}
 use Rattle.call_board.proofs.Found.{found_is_live}
+use Rattle.relay_core.specs.Entries.{Cell}
 use Rattle.relay_core.specs.Scripts.{Owed}
 use Rattle.relay_core.specs.Turning.{GainsNested, made_by}
 use Rattle.media_ports.specs.Held.{OpensHeld}
@@ -14,7 +15,8 @@ use Rattle.nested_steps.specs.InCells.{in_cell_of}
 use Rattle.nested_steps.proofs.Nesting.{above_rows, gains_more}
 use Rattle.board_turns.specs.Closing.{ClosesLegs, closings_of, pairs_left}
 use Rattle.board_turns.specs.Ending.{ClosesTheirs, ending_of}
-use Rattle.board_turns.proofs.Ended.{cell_is, went_are, pairs_are, closings_are, can_close}
+use Rattle.board_turns.proofs.Ended.{cell_is, went_are, pairs_are, ports_are, closings_are, can_close}
+use Rattle.board_turns.proofs.Tying.{legs_leave, ties_gone}
 use Rattle.board_turns.proofs.ending.end_call.Goals as goal
 
 pub end_call-cell-requires : goal.end_call-cell-requires
@@ -88,3 +90,22 @@ returns-clause-open g c of legs can held opens =
     (above_rows (entries c.args.hand.now) cell was.number was.given.above) in
     subst (λ (ps : List ℕ). WhereTold (g.P.PortMaker.told c.close_legs.new.ports) (λ (calls : List PortCall). OpensHeld c.args.config.now calls (pairs_left ps held)))
     (pairs_are c.args.config.now c.end_cell.new.gone legs are) (c.close_legs.ensures.«open» held opens)
+
+pub returns-clause-ties : goal.returns-clause-ties
+returns-clause-ties g c =
+    let config = c.args.config.now in
+    let of = c.requires.can.0 in
+    let legs = c.requires.can.1 in
+    let can = c.requires.can.2 in
+    let sent = g.P.Out.OutEnd.told in
+    let told = g.P.PortMaker.told c.args.ports.now in
+    let l = made_by c.args.hand.now in
+    let cell = c.end_call-cell.result in
+    let gone = c.end_cell.new.gone in
+    let is = cell_is config l c.args.board.now told c.args.call of legs cell can c.end_call-cell.ensures.cell in
+    let was = c.end_cell.ensures.ended.was in
+    let are = went_are config l c.args.board.now told c.args.call of legs cell was.number gone can is c.end_cell.ensures.went
+    (above_rows (entries c.args.hand.now) cell was.number was.given.above) in
+    ties_gone sent config told (g.P.PortMaker.told c.close_legs.new.ports) (entries c.args.hand.now) (entries c.end_cell.new.hand) (entries c.close_legs.new.hand) gone
+    (ports_are config gone legs are) (legs_leave sent gone cell (Cell End) c.args.hand.now c.end_cell.new.hand refl c.end_cell.ensures.row) c.close_legs.ensures.takes
+    c.close_legs.ensures.closes

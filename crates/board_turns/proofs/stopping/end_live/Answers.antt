@@ -5,6 +5,7 @@ use Rattle.std.specs.List.{flat_map}
 use Rattle.relay_outside.specs.declared.ports.PortCall.{PortCall}
 use Rattle.relay_outside.specs.Told.{WhereTold}
 use Rattle.histories.specs.Words.{has}
+use Rattle.turn_table.specs.Hands.{entries}
 use Rattle.port_pool.specs.declared.holder.Holder.{Holder}
 use Rattle.call_board.specs.Acts.{Call}
 use Rattle.call_board.specs.Boards.{Shows}
@@ -29,6 +30,7 @@ use Rattle.board_turns.proofs.Lefts.{left_none, left_twice, told_alike}
 use Rattle.board_turns.proofs.Closed.{gains_nothing}
 use Rattle.board_turns.proofs.Unopened.{theirs_open_none}
 use Rattle.board_turns.proofs.Stopped.{nth, spread_more, next_number, one_left, stop_can}
+use Rattle.board_turns.proofs.Tying.{ties_none, ties_both}
 use Rattle.board_turns.proofs.stopping.end_live.Goals as goal
 
 pub loop-ended-init : goal.loop-ended-init
@@ -41,6 +43,7 @@ loop-ended-init g c =
       shows = c.requires.board;
       opens = told_alike c.args.config.now (g.P.PortMaker.told c.args.ports.now) (leg_pairs (held h)) (pairs_left [] (leg_pairs (held h))) (left_none (leg_pairs (held h))) c.requires.«open»;
       closes = gained_no_opening (g.P.PortMaker.told c.args.ports.now);
+      ties = ties_none c.args.config.now (g.P.PortMaker.told c.args.ports.now) (entries c.args.hand.now);
       replies = refl;
       later = omega arith;
       empty = c.requires.empty;
@@ -138,6 +141,8 @@ loop-ended-preserved g c =
           (now.«open» of legs can (pairs_left pairs (leg_pairs (held h))) was.opens);
       closes = gained_no_openings (g.P.PortMaker.told c.args.ports.now) told (g.P.PortMaker.told c.end_call.new.ports) was.closes
           (theirs_open_none g.P.Out.OutEnd.told config legs told (g.P.PortMaker.told c.end_call.new.ports) (now.closes of legs can));
+      ties = ties_both config (g.P.PortMaker.told c.args.ports.now) told (g.P.PortMaker.told c.end_call.new.ports) (entries c.args.hand.now) (entries c.loop-ended.hand) (entries new)
+          was.ties now.ties;
       replies = now.replies ∙ was.replies;
       later = omega (arith, first_later, second_later);
       empty = now.empty;

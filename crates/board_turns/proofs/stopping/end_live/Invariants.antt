@@ -1,7 +1,7 @@
 use Rattle.std.proofs.Common.{◌≡◌, ◌≤◌, take, []}
 use Rattle.std.specs.List.{flat_map}
 use Rattle.relay_outside.specs.Told.{Gained, WhereTold}
-use Rattle.turn_table.specs.Hands.{IsSameHand, SameTurns}
+use Rattle.turn_table.specs.Hands.{IsSameHand, SameTurns, entries}
 use Rattle.call_board.specs.Boards.{Shows, KeepsReplies}
 use Rattle.call_board.specs.Calls.{live}
 use Rattle.call_board.specs.Views.{view_of}
@@ -13,6 +13,7 @@ use Rattle.media_ports.specs.Asked.{OpensNone}
 use Rattle.media_ports.specs.Held.{OpensHeld}
 use Rattle.nested_steps.specs.Nesting.{MayNest}
 use Rattle.board_turns.specs.Stopping.{stop_entry, still_held}
+use Rattle.board_turns.specs.Ties.{Ties}
 use Rattle.board_turns.proofs.stopping.end_live.Given as goal
 
 abbrev pub invariant-loop-ended : goal.invariant-loop-ended
@@ -27,6 +28,7 @@ invariant-loop-ended g l =
       shows : Shows l.config l.board (with_ended h e gone (view_of l.config h));
       opens : WhereTold (g.P.PortMaker.told l.ports) (λ calls. OpensHeld l.config calls (still_held h e gone));
       closes : Gained (g.P.PortMaker.told l.initial.ports) (g.P.PortMaker.told l.ports) OpensNone;
+      ties : Ties l.config (g.P.PortMaker.told l.initial.ports) (g.P.PortMaker.told l.ports) (entries l.initial.hand) (entries l.hand);
       replies : KeepsReplies l.initial.board l.board;
       later : g.P.PortMaker.faults l.initial.ports ≤ g.P.PortMaker.faults l.ports;
       empty : l.gone ≡ [];

@@ -1,14 +1,19 @@
-use Rattle.std.proofs.Common.{◌∙◌, sym, ap, subst, ℕ, List, length}
-use Rattle.turn_table.specs.Hands.{front_of, state_of, taken_of}
+use Rattle.std.proofs.Common.{◌∙◌, refl, sym, ap, subst, ℕ, List, length}
+use Rattle.turn_table.specs.declared.machine.Entry as table
+use Rattle.turn_table.specs.Hands.{place_of, front_of, state_of, taken_of, entries}
 use Rattle.call_board.specs.Acts.{BoardEntry}
 use Rattle.call_board.specs.Calls.{live}
 use Rattle.call_board.specs.Pairs.{held}
 use Rattle.media_ports.specs.Held.{TellsHeld}
 use Rattle.relay_core.specs.Entries.{board_history}
+use Rattle.relay_core.specs.Made.{Made}
 use Rattle.relay_core.specs.Turning.{IsAbove, made_by}
 use Rattle.board_turns.specs.Ending.{leg_pairs}
 use Rattle.board_turns.proofs.Betweens.{between_may, turn_begins, begins_whole}
 use Rattle.board_turns.proofs.StopTurns.{moved, moved_to, stopped_at, gained_at, stop_relates, stop_history, stop_ends}
+use Rattle.board_turns.specs.Stopping.{stop_made}
+use Rattle.board_turns.specs.Ties.{Ties}
+use Rattle.board_turns.proofs.Tying.{ties_ended}
 use Rattle.board_turns.proofs.stopping.stop_turn.Goals as goal
 
 pub turn-turn-requires-clause-place : goal.turn-turn-requires-clause-place
@@ -90,3 +95,14 @@ returns-clause-count g c =
     ∙ ap (λ (k : ℕ). length (live (board_history (made_by c.turn-turn.new.hand) k))) c.front-number.ensures
     ∙ ap (λ (h : List BoardEntry). length (live h))
     (begins_whole c.args.config.now c.args.turns.now c.args.hand.now c.turn-turn.new.hand c.turn-turn.result c.turn-turn.ensures.same.1 begins)
+
+pub returns-clause-ties : goal.returns-clause-ties
+returns-clause-ties g c =
+    let config = c.args.config.now in
+    let before = g.P.PortMaker.told c.args.ports.now in
+    let after = g.P.PortMaker.told c.stop_part-count.new.ports in
+    let turn = c.turn-turn.result in
+    let mid = c.stop_part-count.new.hand in
+    ties_ended config before after (entries c.args.hand.now) (place_of turn) (front_of turn) (stop_made (board_history (made_by mid) (front_of turn))) tt mid
+    c.put_entry.new.hand refl refl c.put_entry.ensures.entry
+    (subst (λ (rows : List (table.Entry Made _)). Ties config before after rows (entries mid)) c.turn-turn.ensures.same.1 c.stop_part-count.ensures.ties)
