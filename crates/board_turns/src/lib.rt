@@ -5,7 +5,8 @@
 //! live calls in order, as a stop does, and makes the whole turn of a stop.
 //! `specs/Closing.antt` and `specs/Ending.antt` say when that may be done and what it tells, `specs/Stopping.antt` has the
 //! board's entry of a stop. `specs/Between.antt` says what is known of the main hand between the board's turns, and what a turn
-//! adds to its list, `specs/Acting.antt` what is known in a turn.
+//! adds to its list, `specs/Acting.antt` what is known in a turn, and `specs/Ties.antt` how the port maker's calls follow from what is
+//! added to that list.
 #![tactic(auto)]
 
 mod closing;
