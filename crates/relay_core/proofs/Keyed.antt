@@ -52,6 +52,7 @@ pub record IsInForce (config : Config) (l : List Entry) (place n : ℕ) (leg : H
   pub is_live : In answer.of (live (board_history l board.number))
   pub cell_is : place ≡ answer.of.cell
   pub says : signal_at (plan.signal (rounds (board_history l board.number) answer.of.number) answer.ask) leg.section leg.side ≡ Some s
+  pub says_so : signal_at signal leg.section leg.side ≡ Some s
 
 pub is_in_force : (config : Config) (l : List Entry) → Orderly config l → (place n : ℕ) (leg : Holder) (s : LegSignal)
     → in_force (since_end (cell_history l place n)) leg ≡ Some s → IsInForce config l place n leg s
@@ -84,6 +85,7 @@ is_in_force config l o place n leg s q =
       is_live = told.is_live;
       cell_is = sym e.at ∙ k.place_is;
       says = subst (λ x. signal_at x leg.section leg.side ≡ Some s) signals c.says;
+      says_so = c.says;
     }
 
 -- The key that a leg's signal names was drawn by an offer of that call.

@@ -15,6 +15,7 @@ pub mod Boxes
 pub mod Holders
 pub mod Generations
 pub mod Sends
+pub mod Clear
 pub mod Replies
 pub mod Safety
 pub mod Learned

@@ -15,6 +15,7 @@ use Rattle.relay_core.proofs.Keys.{keys_apart}
 use Rattle.relay_core.proofs.KeyLives.{has_key}
 use Rattle.relay_core.proofs.OneLeg.{one_leg}
 use Rattle.relay_core.proofs.Shields.{deed_is, shields_apart}
+use Rattle.relay_core.proofs.Clear.{clear}
 use Rattle.relay_core.proofs.Sends.{sent_right, sent_sends, protected_by}
 use Rattle.relay_core.proofs.Replies.{bodies_are, lines_are, replies_are, repeated, offers_answered}
 
@@ -43,6 +44,7 @@ legal_safe config l g = record {
   sent_sends = sent_sends config l g;
   shields_apart = shields_apart config l g;
   protected_by = protected_by config l g;
+  clear = clear config l g;
   keys_are_there = λ e leg s number i j q out. has_key config l g.orderly e.place e.number leg s number j q out;
 }
 

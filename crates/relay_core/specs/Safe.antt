@@ -1,5 +1,5 @@
 -- What a safe list promises.
-use Rattle.std.specs.Prelude.{◌≡◌, ℕ, suc, ◌&&◌, nat_lt, true, false, List, [], map, length, Option, Some, None, filter, filter_map, Ok, IsSome}
+use Rattle.std.specs.Prelude.{◌≡◌, ◌<◌, ℕ, suc, ◌&&◌, nat_lt, true, false, List, [], map, length, Option, Some, None, filter, filter_map, Ok, IsSome}
 use Rattle.relay_outside.specs.declared.address.Addr.{Addr}
 use Rattle.relay_outside.specs.declared.settings.Config.{Config}
 use Rattle.ng_command.specs.Said as said
@@ -7,13 +7,15 @@ use Rattle.ng_reply.specs.declared.code.ErrorCode.TheVariants.{E13, E14, E15, E1
 use Rattle.histories.specs.Words.{In, Before}
 use Rattle.port_pool.specs.declared.holder.Holder.{Holder}
 use Rattle.port_pool.specs.declared.signal.LegSignal.{LegSignal}
-use Rattle.port_pool.specs.Signals.{NewKey}
+use Rattle.port_pool.specs.declared.signal.SectionSignal.{SectionSignal}
+use Rattle.port_pool.specs.Signals.{NewKey, signal_at}
 use Rattle.port_pool.specs.Boxes.{BoxEvent, Open, Close, Take, Datagram, holder}
 use Rattle.port_pool.specs.Ports.{half_port}
 use Rattle.offer_answer.specs.Plan as plan
 use Rattle.offer_answer.specs.Rounds.{OfferAsk}
+use Rattle.offer_answer.specs.Profiles.{is_srtp_leg, profile_offered}
 use Rattle.call_cell.specs.declared.outcome.Outcome.TheVariants.{Sent}
-use Rattle.call_cell.specs.Cells.{CellEvent, CellEntry, Relay, Relayed, Sending, Shield, call, legs, opposite, in_force, keys_of, key_numbered}
+use Rattle.call_cell.specs.Cells.{CellEvent, CellEntry, Commit, Relay, Relayed, Sending, Shield, call, legs, opposite, in_force, keys_of, key_numbered}
 use Rattle.call_cell.specs.Keyed.{shield_of_relay}
 use Rattle.call_cell.specs.LegKeys.{keys_for}
 use Rattle.call_cell.specs.Learning.{endpoint}
@@ -28,7 +30,7 @@ use Rattle.call_board.specs.Asked.{Reads, asked}
 use Rattle.call_board.specs.Replies.{Fault, reply_datagram}
 use Rattle.call_board.specs.Answers.{answering_unless, offering, spelled}
 use Rattle.call_board.specs.Fits.{is_read, is_heard, Hears, answer_of}
-use Rattle.relay_core.specs.Entries.{Event, Board, Cell, Box, Entry, is_nested, history, front, box_event, board_history, cell_before, box_history, box_of}
+use Rattle.relay_core.specs.Entries.{Event, Board, Cell, Box, Entry, is_nested, history, front, box_event, board_entry, board_history, cell_before, box_history, box_of}
 use Rattle.relay_core.specs.Legal.{Legal}
 
 -- Packets that were sent.
@@ -75,6 +77,27 @@ pub record IsProtectedBy (l : List Entry) (e : Entry) (x : Relayed) (s : Shield)
   pub other : Holder
   pub is_opposite : opposite (cell_before l e) x.packet.holder ≡ Some other
   pub has_key : HasKey (cell_before l e) other s.key
+
+-- The leg by which a packet leaves was committed last by an answer after which the profile of its side isn't SRTP (RFC 3711): the answer is
+-- the act of an entry of the board, and the profile is what the call's offers and answers before that entry say
+pub record IsClear (l : List Entry) (e : Entry) (x : Relayed) : Type 0 where
+  pub other : Holder
+  pub is_opposite : opposite (cell_before l e) x.packet.holder ≡ Some other
+  pub commit : Entry
+  pub is_there : In commit l
+  pub at_cell : commit.place ≡ e.place
+  pub before : commit.number < e.number
+  pub signal : List SectionSignal
+  pub commits : commit.event ≡ Cell (Commit signal)
+  pub is_last : in_force (cell_before l e) other ≡ signal_at signal other.section other.side
+  pub board : Entry
+  pub entry : BoardEntry
+  pub board_there : In board l
+  pub board_is : board_entry board ≡ Some entry
+  pub of_board : board.number ≡ commit.board
+  pub answer : act.Answer
+  pub acts : act.act entry ≡ act.Answered answer
+  pub not_srtp : is_srtp_leg (profile_offered (rounds (board_history l board.number) answer.of.number) other.section other.side) ≡ false
 
 -- the keys that a Prepare brings
 abbrev pub keys_by : Event → List NewKey
@@ -166,6 +189,8 @@ pub record Safe (config : Config) (l : List Entry) : Type 0 where
   -- no key, source and index protects two packets
   pub shields_apart : (e f : Entry) (s : Shield) → In e l → In f l → shield_at e ≡ Some s → shield_at f ≡ Some s → e ≡ f
   pub protected_by : (e : Entry) (x : Relayed) (s : Shield) → In e l → e.event ≡ Cell (Relay x) → x.deed.shield ≡ Some s → IsProtectedBy l e x s
+  -- nothing leaves in the clear to a side that agreed on encryption
+  pub clear : (e : Entry) (x : Relayed) (w : Sending) → In e l → e.event ≡ Cell (Relay x) → x.deed.sending ≡ Some w → x.deed.shield ≡ None → IsClear l e x
   -- the key that is in force on a leg is there, so that no packet is lost for want of it
   pub keys_are_there : (e : Entry) (leg : Holder) (s : LegSignal) (number : ℕ) → In e l → In leg (legs (cell_before l e))
       → in_force (cell_before l e) leg ≡ Some s → s.outbound ≡ Some number → HasKey (cell_before l e) leg number
