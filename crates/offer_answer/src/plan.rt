@@ -150,6 +150,7 @@ impl Plan {
         requires made { WritesFrom self.old sdp.now }
         requires room { self.old.reply_len ≤ out.old.spare }
         ensures next { self.new.next ≡ self.old.next }
+        ensures demands { (asked : Demand) → PlanFor self.old asked → PlanFor self.new asked }
         ensures signal { self.new.signal ≡ self.old.signal }
         ensures offered { (config : Config) (rounds : List Round) (ask : OfferAsk) (ports : List ℕ) (keys : List NewKey) →
             OfferFilled config rounds ask ports keys self.old.next → self.old.interface ≡ config.interface → lines_of ask.sdp ≡ sdp.now →
@@ -181,6 +182,7 @@ impl Plan {
         requires first { first_key ≤ 2 ^ 63 }
         requires made { WritesFrom self.old sdp.now }
         requires room { self.old.reply_len ≤ out.old.spare }
+        ensures demands { (asked : Demand) → PlanFor self.old asked → PlanFor self.new asked }
         ensures signal { self.new.signal ≡ self.old.signal }
         ensures filled { (config : Config) (rounds : List Round) (ask : OfferAsk) → OfferPlan config rounds ask self.old →
             OfferFilled config rounds ask ports.now (numbered_keys first_key keys.now (demand rounds ask).keys) self.new.next }

@@ -1,5 +1,6 @@
 use Rattle.std.proofs.Common.{ap, sym, subst, ◌∙◌}
 use Rattle.offer_answer.specs.Plan.{demand}
+use Rattle.offer_answer.specs.Offering.{PlanFor}
 use Rattle.offer_answer.specs.Nexts.{numbered_keys}
 use Rattle.offer_answer.specs.Plans.{OfferFilled}
 use Rattle.offer_answer.specs.Widths.{WritesNext}
@@ -21,3 +22,8 @@ pub returns-clause-offered : goal.returns-clause-offered
 returns-clause-offered c = λ config rounds ask p l.
     c.write.ensures.offered config rounds ask c.args.ports.now (numbered_keys c.args.first_key c.args.keys.now (demand rounds ask).keys)
     (c.put.ensures.filled config rounds ask p.demands p.next_for) (ap (λ (plan : Plan). plan.interface) c.put.ensures.rest ∙ p.interface_is) l
+
+pub returns-clause-demands : goal.returns-clause-demands
+returns-clause-demands c = λ asked for.
+    c.write.ensures.demands asked
+    (subst (λ (plan : Plan). PlanFor plan asked) (sym c.put.ensures.rest) (record { pairs_are = for.pairs_are; keys_are = for.keys_are; drops_are = for.drops_are }))
