@@ -114,7 +114,7 @@ address_among config (lease ∷ leases) pair half have h = by (lease.pair == pai
 pub held_at_first : (config : Config) → OpensHeld config [] []
 held_at_first config pair half within = (λ o. absurd (none_at_first (port_address config pair half) o), λ h. absurd (let f = h in cc))
 
-below : (count : ℕ) (pairs : List ℕ) (p : ℕ) → AreFree count pairs → has pairs p ≡ true → p < count
+pub below : (count : ℕ) (pairs : List ℕ) (p : ℕ) → AreFree count pairs → has pairs p ≡ true → p < count
 below count [] p free h = absurd (let f = h in cc)
 below count (q ∷ pairs) p free h = by (q == p) refl h (λ more. below count pairs p free.2 more)
   where

@@ -6,3 +6,4 @@ pub mod Leased
 pub mod UpTo
 pub mod Held
 pub mod Asked
+pub mod Given

@@ -140,7 +140,7 @@ open_upto (a ∷ ats) (suc n) calls at o =
       | inr among ↦ inr (there among)
     ]
 
-in_first : (n : ℕ) (ats : List Addr) (at : Addr) → In at (take n ats) → In at ats
+pub in_first : (n : ℕ) (ats : List Addr) (at : Addr) → In at (take n ats) → In at ats
 in_first zero ats at among = elim among [ ]
 in_first (suc n) [] at among = elim among [ ]
 in_first (suc n) (a ∷ ats) at (here same) = here same
