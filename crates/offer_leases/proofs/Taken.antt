@@ -6,7 +6,7 @@ use Rattle.relay_outside.specs.Told.{Gained, WhereTold}
 use Rattle.port_pool.specs.Ports.{pair_count}
 use Rattle.port_pool.specs.Pools.{AreFree, generation}
 use Rattle.port_pool.specs.declared.pairs.Lease.{Lease}
-use Rattle.media_ports.specs.Addresses.{addresses_of, ports_of, ArePorts}
+use Rattle.media_ports.specs.Addresses.{addresses_of, ports_of, ArePorts, AreLeased}
 use Rattle.media_ports.specs.Calls.{OpensPairs, NoneOpen}
 use Rattle.media_ports.specs.Held.{OpensHeld, TellsHeld, HasBoth}
 use Rattle.media_ports.proofs.Telling.{told_less}
@@ -65,6 +65,12 @@ taken_open config board told new p leases held now can is opens tells both =
 pub taken_generations : (config : Config) (board : Board) (told : Option (List PortCall)) (p : BoardPlan) (pair : ℕ) → (can : CanLease config board told p) →
     generation board.pool pair + pairs_of_plan p ≤ 2 ^ 63
 taken_generations config board told p pair can = generations_low config board can.view pair (pairs_of_plan p) can.shows (can.generations pair)
+
+-- all of its ports are the configuration's
+pub taken_of_pairs : (config : Config) (board : Board) (told : Option (List PortCall)) (p : BoardPlan) (leases : List Lease) → (can : CanLease config board told p) →
+    leases ≡ leases_of config can.view (pairs_of_plan p) → AreLeased config leases
+taken_of_pairs config board told p leases can is =
+    subst (AreLeased config) (sym is) (front_leased config can.view (pairs_of_plan p) can.are_free)
 
 -- so many keys may be numbered once the pairs are leased
 pub taken_draws : (config : Config) (board after : Board) (told : Option (List PortCall)) (p : BoardPlan) (count : ℕ) → (can : CanLease config board told p) →

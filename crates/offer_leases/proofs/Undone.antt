@@ -7,17 +7,21 @@ use Rattle.relay_outside.specs.declared.ports.PortCall.{PortCall}
 use Rattle.relay_outside.specs.declared.settings.Config.{Config}
 use Rattle.relay_outside.specs.Ports.{IsOpen}
 use Rattle.relay_outside.specs.Told.{Gained, WhereTold}
-use Rattle.relay_outside.proofs.Telling.{gained_both}
+use Rattle.relay_outside.proofs.Telling.{gained_both, gained_less}
 use Rattle.port_pool.specs.declared.pairs.Lease.{Lease}
 use Rattle.std.specs.Prelude.{ℕ}
-use Rattle.media_ports.specs.Addresses.{addresses_of}
+use Rattle.media_ports.specs.Addresses.{addresses_of, AreLeased}
 use Rattle.media_ports.specs.Calls.{openings, OpensPairs, ClosesUncalled, NoneOpen, SameOpen, WhereBothTold}
+use Rattle.media_ports.specs.Given.{GivesBackUncalled}
 use Rattle.media_ports.specs.Held.{TellsHeld}
 use Rattle.media_ports.proofs.Telling.{both_told_where}
 use Rattle.media_ports.proofs.Closed.{closes_uncalled, still_open, open_among, open_since, open_beside, not_open}
 use Rattle.media_ports.proofs.Leased.{all_from_pairs}
 use Rattle.media_ports.proofs.Held.{held_same}
-use Rattle.offer_leases.specs.Undoing.{OpensAndCloses}
+use Rattle.media_ports.proofs.Given.{AreOfPairs, leased_of_pairs, uncalled_both, opened_uncalled, closed_uncalled, pairs_uncalled, upto_uncalled}
+use Rattle.offer_leases.specs.declared.fault.LeaseFault.{LeaseFault}
+use Rattle.offer_leases.specs.declared.fault.LeaseFault.TheVariants.{Port, Key}
+use Rattle.offer_leases.specs.Undoing.{OpensAndCloses, UndoesPorts}
 
 pub gained_closed : (interface : Ip) (leases : List Lease) (old mid new : Option (List PortCall)) → Gained old mid (OpensPairs interface leases) →
     Gained mid new (AllZip ClosesUncalled (addresses_of interface leases)) → Gained old new (OpensAndCloses (addresses_of interface leases))
@@ -51,3 +55,23 @@ pub held_after : (config : Config) (old new : Option (List PortCall)) (P : List 
 held_after config old None P pairs gained same held = tt
 held_after config None (Some now) P pairs gained same held = absurd gained
 held_after config (Some before) (Some now) P pairs gained same held = held_same config before now pairs held same
+
+-- What is given back has not been called.
+
+undone_uncalled : (config : Config) (ats : List Addr) (fault : LeaseFault) (calls : List PortCall) → AreOfPairs config ats → UndoesPorts ats fault calls → GivesBackUncalled config calls
+undone_uncalled config ats (Port opened) calls are undone = upto_uncalled config ats opened calls are undone
+undone_uncalled config ats (Key drawn) calls are undone =
+    subst (GivesBackUncalled config) (sym undone.opens)
+    (uncalled_both config (openings ats (replicate (length ats) true)) undone.closes (opened_uncalled config ats (replicate (length ats) true) are)
+    (closed_uncalled config ats undone.closes are undone.closed))
+
+pub gained_pairs_uncalled : (config : Config) (leases : List Lease) (old new : Option (List PortCall)) → AreLeased config leases → Gained old new (OpensPairs config.interface leases) →
+    Gained old new (GivesBackUncalled config)
+gained_pairs_uncalled config leases old new leased opens =
+    gained_less old new (OpensPairs config.interface leases) (GivesBackUncalled config) (λ calls these. pairs_uncalled config leases calls leased these) opens
+
+pub gained_undone_uncalled : (config : Config) (leases : List Lease) (fault : LeaseFault) (old new : Option (List PortCall)) → AreLeased config leases →
+    Gained old new (UndoesPorts (addresses_of config.interface leases) fault) → Gained old new (GivesBackUncalled config)
+gained_undone_uncalled config leases fault old new leased undone =
+    let ats = addresses_of config.interface leases in
+    gained_less old new (UndoesPorts ats fault) (GivesBackUncalled config) (λ calls these. undone_uncalled config ats fault calls (leased_of_pairs config leases leased) these) undone

@@ -7,6 +7,7 @@ ghost use Rattle.media_ports.specs.Addresses.{addresses_of};
 ghost use Rattle.media_ports.specs.Calls.{OpensPairs, SameOpen, WhereBothTold};
 ghost use Rattle.media_ports.specs.Draws.{DrawsAll};
 ghost use Rattle.media_ports.specs.Ends.{AreUncalled};
+ghost use Rattle.media_ports.specs.Given.{GivesBackUncalled};
 ghost use Rattle.media_ports.specs.Held.{TellsHeld, HasBoth};
 ghost use Rattle.call_board.specs.Boards.{Shows, KeepsCalls, KeepsReplies, leases_of, pairs_in};
 ghost use Rattle.call_board.specs.Planned.{leased};
@@ -99,6 +100,8 @@ pub fn lease_offer<P: PortMaker, K: KeySource>(
     ensures draws_before { IfErr result (λ fault. DrawsBefore fault (K.told keys.old) (K.told keys.new)) }
     ensures cause { IfErr result (λ fault. HasRisen fault (P.faults ports.old) (P.faults ports.new) (K.faults keys.old) (K.faults keys.new)) }
 
+    // Either way no end that is given back was called, and no address called for but those of the configuration.
+    ensures gives_back { Gained (P.told ports.old) (P.told ports.new) (GivesBackUncalled config.now) }
     ensures later { (P.faults ports.old ≤ P.faults ports.new) × (K.faults keys.old ≤ K.faults keys.new) }
     ensures calls { KeepsCalls board.old board.new }
     ensures replies { KeepsReplies board.old board.new }

@@ -8,8 +8,8 @@ use Rattle.call_board.specs.Views.{with_leases}
 use Rattle.call_board.specs.Boards.{Shows}
 use Rattle.offer_leases.specs.Leasing.{pairs_of_plan, keys_of_plan, with_taken}
 use Rattle.offer_leases.specs.Undoing.{UndoesPorts, ComesEarly, with_undone}
-use Rattle.offer_leases.proofs.Taken.{free_alike, taken_ports, taken_closed, taken_open, taken_generations, taken_draws, taken_out, few_before, undone_is}
-use Rattle.offer_leases.proofs.Undone.{held_after}
+use Rattle.offer_leases.proofs.Taken.{free_alike, taken_ports, taken_closed, taken_open, taken_generations, taken_of_pairs, taken_draws, taken_out, few_before, undone_is}
+use Rattle.offer_leases.proofs.Undone.{held_after, gained_pairs_uncalled, gained_undone_uncalled}
 use Rattle.offer_leases.proofs.leasing.lease_offer.Goals as goal
 
 pub lease-leases-requires-clause-generations : goal.lease-leases-requires-clause-generations
@@ -101,3 +101,21 @@ returns-in-Err-clause-still_open g c = λ held tells.
     let told = g.P.PortMaker.told in
     held_after config (told c.args.ports.now) (told c.open_and_draw.new.ports) (UndoesPorts (addresses_of config.interface c.lease-leases.result.list) c.in-Err.fault) held
     c.in-Err.ensures.closes c.in-Err.ensures.same tells
+
+pub returns-in-Ok-clause-gives_back : goal.returns-in-Ok-clause-gives_back
+returns-in-Ok-clause-gives_back g c =
+    let can = c.requires.can in
+    let config = c.args.config.now in
+    let told = g.P.PortMaker.told in
+    let is = c.lease-leases.ensures.leases config can.view can.shows can.are_free in
+    gained_pairs_uncalled config c.lease-leases.result.list (told c.args.ports.now) (told c.open_and_draw.new.ports)
+    (taken_of_pairs config c.args.board.now (told c.args.ports.now) c.args.plan c.lease-leases.result.list can is) c.in-Ok.ensures.opens
+
+pub returns-in-Err-clause-gives_back : goal.returns-in-Err-clause-gives_back
+returns-in-Err-clause-gives_back g c =
+    let can = c.requires.can in
+    let config = c.args.config.now in
+    let told = g.P.PortMaker.told in
+    let is = c.lease-leases.ensures.leases config can.view can.shows can.are_free in
+    gained_undone_uncalled config c.lease-leases.result.list c.in-Err.fault (told c.args.ports.now) (told c.open_and_draw.new.ports)
+    (taken_of_pairs config c.args.board.now (told c.args.ports.now) c.args.plan c.lease-leases.result.list can is) c.in-Err.ensures.closes
