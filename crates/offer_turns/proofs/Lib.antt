@@ -8,3 +8,4 @@ pub mod Done
 pub mod Limits
 pub mod Undone
 pub mod Accepted
+pub mod Leaving

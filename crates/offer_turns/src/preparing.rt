@@ -1,6 +1,6 @@
 //! What an accepted offer brings to its call: the boxes of its legs are opened, and the call's cell is prepared.
 ghost use Rattle.std.specs.Prelude.{◌≡◌, ◌≤◌, ◌<◌, ◌^◌, ℕ, List, [], length};
-ghost use Rattle.turn_table.specs.Hands.{IsSameHand, SameTurns};
+ghost use Rattle.turn_table.specs.Hands.{IsSameHand, SameTurns, entries};
 ghost use Rattle.offer_answer.specs.Rounds.{Round, OfferAsk, Demand};
 ghost use Rattle.offer_answer.specs.Plan.{demand};
 ghost use Rattle.offer_answer.specs.Offering.{PlanFor, pair_count, key_count};
@@ -15,6 +15,7 @@ ghost use Rattle.relay_core.specs.Turning.{GainsNested, IsAbove, made_by};
 ghost use Rattle.nested_steps.specs.Nesting.{MayNest};
 ghost use Rattle.nested_steps.specs.Bringing.{brought_keys, brought_dropped};
 ghost use Rattle.nested_steps.specs.Leaving.{AreLeasesOf};
+ghost use Rattle.board_turns.specs.Ties.{LegsLeave};
 ghost use Rattle.offer_legs.specs.Filling.{SameLegs};
 ghost use Rattle.offer_turns.specs.Offers.{IsDue, next_key, offer_of, dropped_legs, bringing_of};
 ghost use Rattle.offer_turns.specs.Brings.{HasLegRoom, HasToldRoom, HasListRoom};
@@ -120,6 +121,7 @@ pub(crate) fn prepare_offer<I: InEnd, O: OutEnd, R: Wait>(
         GainsNested nest.number nest.moment (bringing_of config.now (offer_of config.now (board_history (made_by hand.old) nest.number) id ask drawn.now.list)) hand.old hand.new }
     ensures went { (id : List ℕ) (ask : OfferAsk) → IsDue config.now (board_history (made_by hand.old) nest.number) id ask plan.now drawn.now.list →
         AreLeasesOf config.now gone.new (dropped_legs (board_history (made_by hand.old) nest.number) (offer_of config.now (board_history (made_by hand.old) nest.number) id ask drawn.now.list)) }
+    ensures leave { LegsLeave O.told gone.new (entries hand.old) (entries hand.new) }
 {
     let BringRoom {
         mut prepare,

@@ -1,5 +1,6 @@
 use Rattle.std.proofs.Common.{◌∙◌, ◌++◌, refl, sym, ap, subst, ℕ, ◌*◌, true, List, length, take, replicate, arith}
 use Rattle.std.proofs.lemmas.List.{length-map}
+use Rattle.turn_table.specs.Hands.{entries}
 use Rattle.offer_answer.specs.Offering.{pair_count, key_count}
 use Rattle.call_board.specs.declared.board_plan.BoardPlan.{BoardPlan}
 use Rattle.call_board.specs.Boards.{Shows, lease_at, leases_of, pairs_in}
@@ -12,6 +13,7 @@ use Rattle.relay_core.specs.Turning.{made_by}
 use Rattle.relay_core.proofs.Histories.{good_history}
 use Rattle.media_ports.proofs.Asked.{gained_openings_alone}
 use Rattle.board_turns.specs.Ending.{leg_pairs}
+use Rattle.board_turns.proofs.Tying.{ties_both, ties_uncalled}
 use Rattle.offer_leases.specs.Leasing.{with_taken}
 use Rattle.offer_leases.specs.Undoing.{keys_before}
 use Rattle.offer_leases.proofs.Asked.{gained_pairs, gained_undone}
@@ -147,3 +149,15 @@ returns-in-Err-clause-opens_before g c =
     let many = length-map (take pairs (free config h)) (lease_at config v.leases) ∙ enough_free config h c.args.board.now c.args.plan v turn.shows refl c.requires.planned in
     gained_undone config.interface (leases_of config v pairs) pairs (key_count c.args.plan.plan) c.in-Err.fault (told c.args.ports.now) (told c.lease_offer.new.ports) many c.in-Err.ensures.early
     (c.in-Err.ensures.closes v turn.shows)
+
+pub returns-in-Ok-clause-ties : goal.returns-in-Ok-clause-ties
+returns-in-Ok-clause-ties g c =
+    let config = c.args.config.now in
+    let told = g.P.PortMaker.told in
+    let rows = entries c.args.hand.now in
+    ties_both config (told c.args.ports.now) (told c.lease_offer.new.ports) (told c.take_in.new.ports) rows rows (entries c.take_in.new.hand)
+    (ties_uncalled config (told c.args.ports.now) (told c.lease_offer.new.ports) rows c.lease_offer.ensures.gives_back) c.take_in.ensures.ties
+
+pub returns-in-Err-clause-ties : goal.returns-in-Err-clause-ties
+returns-in-Err-clause-ties g c =
+    ties_uncalled c.args.config.now (g.P.PortMaker.told c.args.ports.now) (g.P.PortMaker.told c.lease_offer.new.ports) (entries c.args.hand.now) c.lease_offer.ensures.gives_back

@@ -1,11 +1,12 @@
-use Rattle.std.proofs.Common.{◌≡◌, ◌∙◌, ◌≤◌, ap, sym, subst, ◌++◌, List, [], length, arith}
+use Rattle.std.proofs.Common.{◌≡◌, ◌∙◌, ◌≤◌, refl, ap, sym, subst, ◌++◌, List, [], length, arith}
 use Rattle.offer_answer.specs.Offering.{PlanFor, pair_count, key_count}
 use Rattle.offer_answer.specs.declared.plan.Plan.{Plan}
 use Rattle.call_cell.specs.Preparing.{added, leg_room, key_room}
 use Rattle.nested_steps.specs.Bringing.{brought_keys, brought_dropped}
-use Rattle.relay_core.specs.Entries.{board_history}
+use Rattle.relay_core.specs.Entries.{Cell, board_history}
 use Rattle.relay_core.specs.Turning.{made_by}
 use Rattle.relay_core.proofs.Histories.{good_history}
+use Rattle.nested_steps.specs.InCells.{preparing}
 use Rattle.nested_steps.proofs.Nesting.{same_again}
 use Rattle.port_pool.specs.declared.holder.Holder.{Holder}
 use Rattle.offer_legs.specs.Opening.{leased_parts}
@@ -15,6 +16,7 @@ use Rattle.offer_turns.proofs.Targets.{cell_within, legs_are, keys_are}
 use Rattle.offer_turns.proofs.Leased.{are_leased, are_shut}
 use Rattle.offer_turns.proofs.Brought.{keys_new, can_prepare, brings}
 use Rattle.offer_turns.proofs.Dropped.{went_dropped}
+use Rattle.offer_turns.proofs.Leaving.{legs_uncalled, opened_leave}
 use Rattle.offer_turns.proofs.preparing.prepare_offer.Goals as goal
 
 pub open_legs-requires-clause-cell : goal.open_legs-requires-clause-cell
@@ -177,3 +179,15 @@ returns-clause-same g c = (
   same_again c.args.hand.now c.open_legs.new.hand c.prepare_cell.new.hand c.open_legs.ensures.same.0 c.prepare_cell.ensures.same.0,
   λ j. c.prepare_cell.ensures.same.1 j ∙ c.open_legs.ensures.same.1 j,
 )
+
+pub prepare_cell-requires-clause-uncalled : goal.prepare_cell-requires-clause-uncalled
+prepare_cell-requires-clause-uncalled g c =
+    let parts = c.bring_keys.ensures.legs.parts_are ∙ c.open_legs.ensures.parts ∙ ap (λ (xs : List _). xs ++ leased_parts c.args.leases.list c.args.opened.list) c.requires.room.0.no_parts in
+    legs_uncalled g.I.InEnd.told g.O.OutEnd.told c.bring_keys.new.prepare c.args.leases.list c.args.opened.list parts c.requires.uncalled
+
+pub returns-clause-leave : goal.returns-clause-leave
+returns-clause-leave g c =
+    let brought = c.bring_keys.new.brought in
+    opened_leave g.O.OutEnd.told c.args.config.now c.args.nest.number c.args.nest.moment c.open_legs.new.legs.list c.prepare_cell.new.gone c.cell-of_cell.result
+    (Cell (preparing c.call-of_call.result (added c.bring_keys.new.prepare) (brought_keys brought) (brought_dropped brought)))
+    c.args.hand.now c.open_legs.new.hand c.prepare_cell.new.hand refl c.open_legs.ensures.gained c.prepare_cell.ensures.row

@@ -6,13 +6,16 @@ use Rattle.call_board.specs.Pairs.{free, held}
 use Rattle.call_board.specs.Views.{view_of, at_moment, with_leases}
 use Rattle.call_board.proofs.Entries.{draws_keep}
 use Rattle.media_ports.specs.Held.{TellsHeld}
+use Rattle.turn_table.specs.Hands.{entries}
 use Rattle.relay_core.specs.Entries.{board_history}
 use Rattle.relay_core.specs.Turning.{made_by}
 use Rattle.relay_core.proofs.Histories.{good_history}
 use Rattle.nested_steps.proofs.Nesting.{same_again}
 use Rattle.board_turns.specs.Ending.{leg_pairs}
+use Rattle.board_turns.proofs.Ended.{ports_are as have_ports}
+use Rattle.board_turns.proofs.Tying.{ties_gone}
 use Rattle.board_turns.proofs.Unopened.{gone_open_none}
-use Rattle.offer_turns.specs.Offers.{leased_view, offer_of, next_key, demand_of, with_offer}
+use Rattle.offer_turns.specs.Offers.{leased_view, offer_of, dropped_legs, next_key, demand_of, with_offer}
 use Rattle.offer_turns.proofs.Targets.{pairs_count, keys_count}
 use Rattle.offer_turns.proofs.Leased.{pairs_leased}
 use Rattle.offer_turns.proofs.Taken.{ports_are, pairs_of_legs}
@@ -88,3 +91,16 @@ pub returns-clause-closes : goal.returns-clause-closes
 returns-clause-closes g c =
     gone_open_none g.P.Out.OutEnd.told c.args.config.now.interface c.prepare_offer.new.gone (g.P.PortMaker.told c.args.ports.now) (g.P.PortMaker.told c.close_legs.new.ports)
     c.close_legs.ensures.closes
+
+pub returns-clause-ties : goal.returns-clause-ties
+returns-clause-ties g c =
+    let config = c.args.config.now in
+    let told = g.P.PortMaker.told in
+    let h = board_history (made_by c.args.hand.now) c.args.nest.number in
+    let id = c.requires.due.0 in
+    let ask = c.requires.due.1 in
+    let gone = c.prepare_offer.new.gone in
+    ties_gone g.P.Out.OutEnd.told config (told c.args.ports.now) (told c.close_legs.new.ports)
+    (entries c.args.hand.now) (entries c.prepare_offer.new.hand) (entries c.close_legs.new.hand) gone
+    (have_ports config gone (dropped_legs h (offer_of config h id ask c.args.drawn.now.list)) (c.prepare_offer.ensures.went id ask c.requires.due.2))
+    c.prepare_offer.ensures.leave c.close_legs.ensures.takes c.close_legs.ensures.closes
