@@ -1,4 +1,5 @@
 use Rattle.std.proofs.Common.{◌≡◌, ◌∙◌, arith, refl, ap, subst, ℕ, ◌*◌, List}
+use Rattle.turn_table.specs.Hands.{entries}
 use Rattle.offer_answer.specs.declared.plan.Plan.{Plan}
 use Rattle.offer_answer.specs.Offering.{pair_count, AsksOffer}
 use Rattle.call_board.specs.Asked.{sdp_error}
@@ -6,6 +7,7 @@ use Rattle.call_board.specs.Replies.{Described, Fault, reply_datagram}
 use Rattle.call_board.specs.Views.{view_of, at_moment}
 use Rattle.relay_core.specs.Entries.{board_history}
 use Rattle.relay_core.specs.Turning.{made_by}
+use Rattle.board_turns.proofs.Tying.{ties_none}
 use Rattle.control_reading.specs.Bodies.{IsErrorOf}
 use Rattle.control_entries.specs.declared.gave.Gave.TheVariants as gave
 use Rattle.control_entries.proofs.Givings.{given_as, offered_given, unasked_given}
@@ -188,3 +190,12 @@ returns-clause-given g c =
     (offered_given count drawn (g.P.PortMaker.faults c.args.ports.now) (g.P.PortMaker.faults c.offer_act.new.ports) (g.K.KeySource.faults c.args.keys.now) (g.K.KeySource.faults c.offer_act.new.keys)
     (g.P.PortMaker.told c.args.ports.now) (g.P.PortMaker.told c.offer_act.new.ports) (g.K.KeySource.told c.args.keys.now) (g.K.KeySource.told c.offer_act.new.keys)
     c.in-Ok-offer_act.ensures.opens c.in-Ok-offer_act.ensures.draws)
+
+pub returns-in-Err-clause-ties : goal.returns-in-Err-clause-ties
+returns-in-Err-clause-ties g c = ties_none c.args.config.now (g.P.PortMaker.told c.args.ports.now) (entries c.args.hand.now)
+
+pub returns-in-Err-plan_offer-clause-ties : goal.returns-in-Err-plan_offer-clause-ties
+returns-in-Err-plan_offer-clause-ties g c = ties_none c.args.config.now (g.P.PortMaker.told c.args.ports.now) (entries c.args.hand.now)
+
+pub returns-in_default-clause-ties : goal.returns-in_default-clause-ties
+returns-in_default-clause-ties g c = ties_none c.args.config.now (g.P.PortMaker.told c.args.ports.now) (entries c.args.hand.now)
