@@ -4,7 +4,6 @@ use Rattle.std.specs.Prelude.{◌&&◌, All}
 use Rattle.std.specs.Cmp.Lexicographic.{bytes_decides}
 use Rattle.std.proofs.lemmas.List.{append_cancel_left}
 use Rattle.std.proofs.lemmas.List.Elements.{All-nil, All-cons, All-append}
-use Rattle.relay_outside.specs.declared.address.Addr.{Addr}
 use Rattle.relay_outside.specs.declared.address.Ip.{Ip}
 use Rattle.relay_outside.specs.declared.address.Ip.TheVariants as ip
 use Rattle.relay_outside.specs.declared.ports.InCall.{InCall}
@@ -38,6 +37,7 @@ use Rattle.media_ports.specs.Addresses.{port_at, port_address, HavePorts}
 use Rattle.media_ports.specs.Calls.{ClosesPair}
 use Rattle.media_ports.specs.Ends.{ends_told}
 use Rattle.media_ports.specs.Given.{IsOfPair, Agrees, GivesBackUncalled}
+use Rattle.media_ports.proofs.Given.{joined_to_nothing, first_joined, taken_append, sent_append, agrees_both}
 use Rattle.nested_steps.specs.Nesting.{AddsRow, ends_left, gone_left}
 use Rattle.board_turns.specs.Closing.{ClosesLegs, leases_of}
 use Rattle.board_turns.specs.Ties.{AreTakesTied, AreSendsTied, AreTied, Ties, TiesTakes, LegsLeave}
@@ -45,29 +45,9 @@ use Rattle.board_turns.specs.Ties.{AreTakesTied, AreSendsTied, AreTied, Ties, Ti
 -- Lists that are told, joined.
 
 module _ {C : Type 0} where
-  pub joined_to_nothing : (told : Option (List C)) → joined (Some []) told ≡ told
-  joined_to_nothing None = refl
-  joined_to_nothing (Some calls) = refl
-
   pub nothing_joined : (told : Option (List C)) → joined told (Some []) ≡ told
   nothing_joined None = refl
   nothing_joined (Some calls) = ap Some (append-nil calls)
-
-  pub joined_again : (a b c : Option (List C)) → joined (joined a b) c ≡ joined a (joined b c)
-  joined_again None b c = refl
-  joined_again (Some x) None c = refl
-  joined_again (Some x) (Some y) None = refl
-  joined_again (Some x) (Some y) (Some z) = ap Some (append_assoc x y z)
-
-  -- one more in front, where a test passes
-  first_joined : (b : Bool) (told some more all : Option (List C)) → all ≡ joined some more → cond b (joined told all) all ≡ joined (cond b (joined told some) some) more
-  first_joined true told some more all is = ap (λ (x : Option (List C)). joined told x) is ∙ sym (joined_again told some more)
-  first_joined false told some more all is = is
-
-  pub agrees_both : (a b x y : Option (List C)) → Agrees a x → Agrees b y → Agrees (joined a b) (joined x y)
-  agrees_both None b x y p q = tt
-  agrees_both (Some f) None x y p q = tt
-  agrees_both (Some f) (Some g) x y p q = ap (λ (z : Option (List C)). joined z y) p ∙ ap (λ (z : Option (List C)). joined (Some f) z) q
 
   pub agrees_same : (told shown : Option (List C)) → shown ≡ told → Agrees told shown
   agrees_same None shown same = tt
@@ -82,19 +62,7 @@ module _ {C : Type 0} where
       → cond a (joined x (cond b (joined y rest) rest)) (cond b (joined y rest) rest) ≡ cond b (joined y rest) rest
   second_alone a b x y rest fails = ap (λ (c : Bool). cond c (joined x (cond b (joined y rest) rest)) (cond b (joined y rest) rest)) fails
 
--- What calls and rows say, one after the other.
-
-pub taken_append : (xs ys : List PortCall) (at : Addr) → taken_at (xs ++ ys) at ≡ joined (taken_at xs at) (taken_at ys at)
-taken_append [] ys at = sym (joined_to_nothing (taken_at ys at))
-taken_append (port.Open place done ∷ xs) ys at = taken_append xs ys at
-taken_append (port.Close place taken sent ∷ xs) ys at =
-    first_joined (same_addr place at) taken (taken_at xs at) (taken_at ys at) (taken_at (xs ++ ys) at) (taken_append xs ys at)
-
-pub sent_append : (xs ys : List PortCall) (at : Addr) → sent_at (xs ++ ys) at ≡ joined (sent_at xs at) (sent_at ys at)
-sent_append [] ys at = sym (joined_to_nothing (sent_at ys at))
-sent_append (port.Open place done ∷ xs) ys at = sent_append xs ys at
-sent_append (port.Close place taken sent ∷ xs) ys at =
-    first_joined (same_addr place at) sent (sent_at xs at) (sent_at ys at) (sent_at (xs ++ ys) at) (sent_append xs ys at)
+-- What rows say, one after the other.
 
 module _ {T : Type 0} where
   pub ins_append : (rows more : List (table.Entry Made T)) (place : ℕ) (half : Half)

@@ -33,7 +33,8 @@ pub joined_to_nothing : {C : Type 0} (told : Option (List C)) → joined (Some [
 joined_to_nothing None = refl
 joined_to_nothing (Some calls) = refl
 
-first_joined : {C : Type 0} (b : Bool) (one first more all : Option (List C)) → all ≡ joined first more → cond b (joined one all) all ≡ joined (cond b (joined one first) first) more
+-- one more in front, where a test passes
+pub first_joined : {C : Type 0} (b : Bool) (one first more all : Option (List C)) → all ≡ joined first more → cond b (joined one all) all ≡ joined (cond b (joined one first) first) more
 first_joined true one first more all is = ap (joined one) is ∙ sym (joined_again one first more)
 first_joined false one first more all is = is
 

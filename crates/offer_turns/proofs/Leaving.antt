@@ -18,6 +18,7 @@ use Rattle.call_cell.specs.Ending.{parts_of}
 use Rattle.call_cell.specs.Preparing.{parts_added}
 use Rattle.media_ports.specs.declared.ends.PairEnds.{PairEnds}
 use Rattle.media_ports.specs.Ends as ends
+use Rattle.media_ports.proofs.Given.{joined_to_nothing}
 use Rattle.relay_core.specs.Entries.{Event}
 use Rattle.relay_core.specs.Made.{Made, entry_of, list_of}
 use Rattle.relay_core.specs.Scripts.{Owed, owed_by, opening}
@@ -26,7 +27,7 @@ use Rattle.relay_core.specs.Told.{is_parting, ins_told, outs_told}
 use Rattle.relay_core.specs.Turning.{GainsNested}
 use Rattle.nested_steps.specs.Nesting.{AddsRow, gone_left}
 use Rattle.board_turns.specs.Ties.{LegsLeave}
-use Rattle.board_turns.proofs.Tying.{NothingLeaves, NothingLeft, none_left, row_left, both_left, ins_append, outs_append, joined_to_nothing, legs_leave}
+use Rattle.board_turns.proofs.Tying.{NothingLeaves, NothingLeft, none_left, row_left, both_left, ins_append, outs_append, legs_leave}
 use Rattle.offer_legs.specs.Opening.{leased_parts}
 
 module _ {I O : Type 0} (taken : I → Option (List InCall)) (sent : O → Option (List OutCall)) where
