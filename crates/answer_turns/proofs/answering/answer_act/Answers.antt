@@ -1,6 +1,7 @@
-use Rattle.std.proofs.Common.{◌≡◌, ◌∙◌, refl, ap, sym, subst, ℕ, List, arith}
+use Rattle.std.proofs.Common.{◌≡◌, ◌∙◌, refl, ap, sym, subst, ℕ, List, filter, arith}
 use Rattle.turn_table.specs.Hands.{entries}
 use Rattle.port_pool.specs.declared.signal.SectionSignal.{SectionSignal}
+use Rattle.port_pool.specs.Signals.{is_rejected}
 use Rattle.call_cell.specs.Cells.{Commit, since_end}
 use Rattle.call_cell.specs.Committing.{NamesKeys}
 use Rattle.offer_answer.specs.Rounds.{AnswerAsk}
@@ -11,15 +12,18 @@ use Rattle.call_board.specs.Views.{View, view_of, at_moment}
 use Rattle.call_board.specs.Whole.{with_more}
 use Rattle.call_board.specs.declared.board_plan.BoardPlan.{BoardPlan}
 use Rattle.call_board.proofs.Cells.{live_cell}
-use Rattle.relay_core.specs.Entries.{board_history, cell_history}
+use Rattle.relay_core.specs.Entries.{Cell, board_history, cell_history}
 use Rattle.relay_core.specs.Turning.{IsAbove, made_by}
 use Rattle.relay_core.proofs.Coming.{answer_names}
 use Rattle.relay_core.proofs.Histories.{good_history}
 use Rattle.relay_core.proofs.KeysOnce.{keys_once}
 use Rattle.nested_steps.specs.InCells.{in_cell_of}
+use Rattle.nested_steps.specs.Leaving.{legs_in}
 use Rattle.nested_steps.proofs.Nesting.{above_rows}
 use Rattle.board_turns.specs.Ending.{leg_pairs}
 use Rattle.board_turns.proofs.CloseAfter.{can_close_after}
+use Rattle.board_turns.proofs.Ended.{ports_are}
+use Rattle.board_turns.proofs.Tying.{legs_leave, ties_gone}
 use Rattle.board_turns.proofs.Unopened.{gone_open_none}
 use Rattle.answer_turns.specs.Due.{answer_of}
 use Rattle.answer_turns.proofs.Taken.{no_pairs, no_keys, may_apply, takes_in, taken_with}
@@ -137,3 +141,18 @@ pub returns-clause-closes : goal.returns-clause-closes
 returns-clause-closes g c =
     gone_open_none g.P.Out.OutEnd.told c.args.config.now.interface c.commit_cell.new.gone (g.P.PortMaker.told c.args.ports.now) (g.P.PortMaker.told c.close_legs.new.ports)
     c.close_legs.ensures.closes
+
+pub returns-clause-ties : goal.returns-clause-ties
+returns-clause-ties g c =
+    let config = c.args.config.now in
+    let sent = g.P.Out.OutEnd.told in
+    let gone = c.commit_cell.new.gone in
+    let cell = c.cell-cell.result in
+    let signal = c.signal.result.now in
+    let was = c.commit_cell.ensures.committed.was in
+    let rows = entries c.args.hand.now in
+    let went = c.commit_cell.ensures.went was.number (above_rows rows cell was.number was.given.above) in
+    let rejected = filter (λ leg. is_rejected signal leg.section) (legs_in (made_by c.args.hand.now) cell was.number) in
+    ties_gone sent config (g.P.PortMaker.told c.args.ports.now) (g.P.PortMaker.told c.close_legs.new.ports) rows (entries c.commit_cell.new.hand) (entries c.close_legs.new.hand) gone
+    (ports_are config gone rejected went) (legs_leave sent gone cell (Cell (Commit signal)) c.args.hand.now c.commit_cell.new.hand refl c.commit_cell.ensures.row)
+    c.close_legs.ensures.takes c.close_legs.ensures.closes
