@@ -1,4 +1,5 @@
 use Rattle.std.proofs.Common.{◌∙◌, refl, sym}
+use Rattle.turn_table.specs.Hands.{entries}
 use Rattle.media_ports.proofs.Asked.{gained_no_opening}
 use Rattle.ng_command.specs.Said.{list_of}
 use Rattle.call_board.specs.Views.{call_view, view_of, at_moment}
@@ -6,6 +7,7 @@ use Rattle.call_board.proofs.Found.{found_is_live}
 use Rattle.relay_core.specs.Entries.{board_history}
 use Rattle.relay_core.specs.Turning.{made_by}
 use Rattle.relay_core.proofs.Histories.{good_history}
+use Rattle.board_turns.proofs.Tying.{ties_none}
 use Rattle.control_entries.proofs.Tellings.{is_short_carries}
 use Rattle.delete_command.proofs.FoundCalls.{found_call, called, no_call}
 use Rattle.delete_command.proofs.Missed.{unknown_carries, stranger_carries}
@@ -92,3 +94,12 @@ returns-then-not-names_side-clause-closes g c = gained_no_opening (g.P.PortMaker
 
 pub returns-in_default-done_datagram-clause-closes : goal.returns-in_default-done_datagram-clause-closes
 returns-in_default-done_datagram-clause-closes g c = gained_no_opening (g.P.PortMaker.told c.args.ports.now)
+
+pub returns-in_default-clause-ties : goal.returns-in_default-clause-ties
+returns-in_default-clause-ties g c = ties_none c.args.config.now (g.P.PortMaker.told c.args.ports.now) (entries c.args.hand.now)
+
+pub returns-then-not-names_side-clause-ties : goal.returns-then-not-names_side-clause-ties
+returns-then-not-names_side-clause-ties g c = ties_none c.args.config.now (g.P.PortMaker.told c.args.ports.now) (entries c.args.hand.now)
+
+pub returns-in_default-done_datagram-clause-ties : goal.returns-in_default-done_datagram-clause-ties
+returns-in_default-done_datagram-clause-ties g c = ties_none c.args.config.now (g.P.PortMaker.told c.args.ports.now) (entries c.args.hand.now)
