@@ -1,6 +1,7 @@
 use Rattle.std.proofs.Common.{◌∙◌, refl, sym, ap, subst, arith, ℕ, List, Option, length}
 use Rattle.std.specs.Prelude.{option_map}
 use Rattle.media_ports.proofs.Asked.{gained_no_opening}
+use Rattle.turn_table.specs.Hands.{entries}
 use Rattle.offer_answer.specs.declared.plan.Plan.{Plan}
 use Rattle.call_board.specs.declared.board.Board.{Board}
 use Rattle.call_board.specs.Acts.{Call}
@@ -12,6 +13,7 @@ use Rattle.call_board.proofs.Found.{found_by_id}
 use Rattle.relay_core.specs.Entries.{board_history}
 use Rattle.relay_core.specs.Turning.{made_by}
 use Rattle.board_turns.specs.Acting.{InTurn}
+use Rattle.board_turns.proofs.Tying.{ties_none}
 use Rattle.control_reading.specs.Bodies.{IsErrorOf}
 use Rattle.control_entries.specs.declared.gave.Gave.TheVariants.{Nothing}
 use Rattle.control_entries.specs.Controls.{entry_with}
@@ -124,3 +126,12 @@ returns-clause-carries g c pairs asking =
     (g.P.PortMaker.told c.answer_act.new.ports) asks planned (c.answer_act.ensures.does e d.of ask is)
     (c.write_described.ensures config
     ∙ ap (λ (bytes : List ℕ). reply_datagram config request.cookie.now (Described bytes)) (c.as_slice-3.ensures ∙ c.answer_act.ensures.text e d.of ask is))
+
+pub returns-in-Err-clause-ties : goal.returns-in-Err-clause-ties
+returns-in-Err-clause-ties g c = ties_none c.args.config.now (g.P.PortMaker.told c.args.ports.now) (entries c.args.hand.now)
+
+pub returns-in-Err-plan_answer-clause-ties : goal.returns-in-Err-plan_answer-clause-ties
+returns-in-Err-plan_answer-clause-ties g c = ties_none c.args.config.now (g.P.PortMaker.told c.args.ports.now) (entries c.args.hand.now)
+
+pub returns-in_default-clause-ties : goal.returns-in_default-clause-ties
+returns-in_default-clause-ties g c = ties_none c.args.config.now (g.P.PortMaker.told c.args.ports.now) (entries c.args.hand.now)
