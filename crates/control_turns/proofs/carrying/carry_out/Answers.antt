@@ -1,6 +1,8 @@
 use Rattle.std.proofs.Common.{ap, Bool, None}
+use Rattle.turn_table.specs.Hands.{entries}
 use Rattle.call_board.specs.Asked.{command_in}
 use Rattle.ng_reply.specs.declared.code.ErrorCode.TheVariants.{E18}
+use Rattle.board_turns.proofs.Tying.{ties_none}
 use Rattle.control_entries.proofs.Givings.{unasked_given}
 use Rattle.control_entries.proofs.Tellings.{is_short_carries}
 use Rattle.control_turns.proofs.Commands.{faulty_carries}
@@ -27,3 +29,9 @@ pub returns-in_default-clause-given : goal.returns-in_default-clause-given
 returns-in_default-clause-given g c =
     unasked_given c.short.result.gave (g.P.PortMaker.faults c.args.ports.now) (g.P.PortMaker.faults c.args.ports.now) (g.K.KeySource.faults c.args.keys.now) (g.K.KeySource.faults c.args.keys.now)
     (g.P.PortMaker.told c.args.ports.now) (g.K.KeySource.told c.args.keys.now) c.short.ensures.unasked
+
+pub returns-then-request-clause-ties : goal.returns-then-request-clause-ties
+returns-then-request-clause-ties g c = ties_none c.args.config.now (g.P.PortMaker.told c.args.ports.now) (entries c.args.hand.now)
+
+pub returns-in_default-clause-ties : goal.returns-in_default-clause-ties
+returns-in_default-clause-ties g c = ties_none c.args.config.now (g.P.PortMaker.told c.args.ports.now) (entries c.args.hand.now)

@@ -1,11 +1,13 @@
-use Rattle.std.proofs.Common.{◌≡◌, ◌∙◌, ap, Bool, false, Ok}
+use Rattle.std.proofs.Common.{◌∙◌, ap, Bool, Ok}
+use Rattle.turn_table.specs.Hands.{entries}
 use Rattle.ng_command.specs.Said.{said}
 use Rattle.ng_command.specs.declared.command.Command.{Command}
 use Rattle.call_board.specs.Asked.{command_in}
 use Rattle.call_board.specs.Replies.{Pong, reply_datagram}
+use Rattle.board_turns.proofs.Tying.{ties_none}
 use Rattle.control_reading.specs.Bodies.{said_by}
 use Rattle.control_entries.proofs.Givings.{unasked_given, closing_given}
-use Rattle.control_turns.proofs.Commands.{faulty_carries, no_list, no_query, ping_carries}
+use Rattle.control_turns.proofs.Commands.{faulty_carries, ping_carries}
 use Rattle.control_turns.proofs.carrying.carry_out_command.Goals as goal
 
 pub returns-in-Err-clause-carries : goal.returns-in-Err-clause-carries
@@ -40,3 +42,9 @@ pub returns-in-Delete-clause-given : goal.returns-in-Delete-clause-given
 returns-in-Delete-clause-given g c =
     closing_given c.delete.result.gave (g.P.PortMaker.faults c.args.ports.now) (g.P.PortMaker.faults c.delete.new.ports) (g.K.KeySource.faults c.args.keys.now) (g.K.KeySource.faults c.args.keys.now)
     (g.P.PortMaker.told c.args.ports.now) (g.P.PortMaker.told c.delete.new.ports) (g.K.KeySource.told c.args.keys.now) c.delete.ensures.closes c.delete.ensures.unasked
+
+pub returns-in-Err-clause-ties : goal.returns-in-Err-clause-ties
+returns-in-Err-clause-ties g c = ties_none c.args.config.now (g.P.PortMaker.told c.args.ports.now) (entries c.args.hand.now)
+
+pub returns-in-Ping-clause-ties : goal.returns-in-Ping-clause-ties
+returns-in-Ping-clause-ties g c = ties_none c.args.config.now (g.P.PortMaker.told c.args.ports.now) (entries c.args.hand.now)

@@ -1,6 +1,8 @@
 use Rattle.std.proofs.Common.{sym, subst, ℕ, List}
+use Rattle.turn_table.specs.Hands.{entries}
 use Rattle.relay_core.specs.Entries.{board_history}
 use Rattle.relay_core.specs.Turning.{made_by}
+use Rattle.board_turns.proofs.Tying.{ties_none}
 use Rattle.control_reading.specs.Bodies.{pairs_if}
 use Rattle.control_entries.proofs.Givings.{unasked_given}
 use Rattle.control_turns.specs.Sending.{Sends}
@@ -53,3 +55,9 @@ pub returns-in_default-clause-given : goal.returns-in_default-clause-given
 returns-in_default-clause-given g c =
     unasked_given c.answer_short-in_default.result.dealt.gave (g.P.PortMaker.faults c.args.ports.now) (g.P.PortMaker.faults c.args.ports.now) (g.K.KeySource.faults c.args.keys.now) (g.K.KeySource.faults c.args.keys.now)
     (g.P.PortMaker.told c.args.ports.now) (g.K.KeySource.told c.args.keys.now) c.answer_short-in_default.ensures.unasked
+
+pub returns-then-is_err-clause-ties : goal.returns-then-is_err-clause-ties
+returns-then-is_err-clause-ties g c = ties_none c.args.config.now (g.P.PortMaker.told c.args.ports.now) (entries c.args.hand.now)
+
+pub returns-in_default-clause-ties : goal.returns-in_default-clause-ties
+returns-in_default-clause-ties g c = ties_none c.args.config.now (g.P.PortMaker.told c.args.ports.now) (entries c.args.hand.now)

@@ -1,7 +1,9 @@
 use Rattle.std.proofs.Common.{sym, subst, ℕ, List, Some, None}
+use Rattle.turn_table.specs.Hands.{entries}
 use Rattle.call_board.specs.Views.{view_of, at_moment}
 use Rattle.relay_core.specs.Entries.{board_history}
 use Rattle.relay_core.specs.Turning.{made_by}
+use Rattle.board_turns.proofs.Tying.{ties_none}
 use Rattle.control_entries.specs.declared.gave.Gave.TheVariants.{Nothing}
 use Rattle.control_entries.proofs.Givings.{unasked_given}
 use Rattle.control_turns.specs.Sending.{Sends}
@@ -42,3 +44,6 @@ pub returns-in-Some-clause-given : goal.returns-in-Some-clause-given
 returns-in-Some-clause-given g c =
     unasked_given Nothing (g.P.PortMaker.faults c.args.ports.now) (g.P.PortMaker.faults c.args.ports.now) (g.K.KeySource.faults c.args.keys.now)
     (g.K.KeySource.faults c.args.keys.now) (g.P.PortMaker.told c.args.ports.now) (g.K.KeySource.told c.args.keys.now) tt
+
+pub returns-in-Some-clause-ties : goal.returns-in-Some-clause-ties
+returns-in-Some-clause-ties g c = ties_none c.args.config.now (g.P.PortMaker.told c.args.ports.now) (entries c.args.hand.now)

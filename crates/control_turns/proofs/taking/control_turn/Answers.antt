@@ -1,5 +1,7 @@
 use Rattle.std.proofs.Common.{◌∙◌, ap}
 use Rattle.std.specs.Prelude.{Ok}
+use Rattle.turn_table.specs.Hands.{entries}
+use Rattle.board_turns.proofs.Tying.{ties_none}
 use Rattle.control_turns.proofs.Taken.{took, took_nothing, took_end, take_failed}
 use Rattle.control_turns.proofs.taking.control_turn.Goals as goal
 
@@ -19,3 +21,12 @@ returns-in-Ok-End-clause-turned g c =
 pub returns-in-Err-clause-turned : goal.returns-in-Err-clause-turned
 returns-in-Err-clause-turned g c =
     take_failed c.args.config.now c.args.hand.now c.args.now _ _ _ _ _ _ _ _ _ c.take.result _ c.in-Err.field-0 c.requires.room c.in-Err.is c.take.ensures.told
+
+pub returns-in-Ok-Nothing-clause-ties : goal.returns-in-Ok-Nothing-clause-ties
+returns-in-Ok-Nothing-clause-ties g c = ties_none c.args.config.now (g.P.PortMaker.told c.args.ports.now) (entries c.args.hand.now)
+
+pub returns-in-Ok-End-clause-ties : goal.returns-in-Ok-End-clause-ties
+returns-in-Ok-End-clause-ties g c = ties_none c.args.config.now (g.P.PortMaker.told c.args.ports.now) (entries c.args.hand.now)
+
+pub returns-in-Err-clause-ties : goal.returns-in-Err-clause-ties
+returns-in-Err-clause-ties g c = ties_none c.args.config.now (g.P.PortMaker.told c.args.ports.now) (entries c.args.hand.now)

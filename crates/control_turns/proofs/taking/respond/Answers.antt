@@ -2,6 +2,8 @@ use Rattle.std.proofs.Common.{refl, sym, ap}
 use Rattle.std.specs.Prelude.{Result}
 use Rattle.relay_outside.specs.declared.answers.Failed.{Failed}
 use Rattle.relay_outside.specs.Told.{is_done}
+use Rattle.turn_table.specs.Hands.{entries}
+use Rattle.board_turns.proofs.Tying.{ties_none}
 use Rattle.control_turns.specs.declared.taking.ControlTurn.TheVariants as turn
 use Rattle.control_turns.specs.Taking.{turn_after}
 use Rattle.control_turns.proofs.Taken.{responded, silent}
@@ -22,3 +24,6 @@ returns-in-Err-clause-responded g c =
     responded c.args.config.now c.args.hand.now c.answer_datagram.new.hand c.args.now c.args.from c.args.datagram.now _ turn.ReplyFault c.answer_datagram.result _ _ _ _ _ _ _ _
     (g.N.ControlLink.told c.args.link.now) (g.N.ControlLink.told c.answer_datagram.new.link) c.in-Some.ensures.frame refl refl
     (sym (ap (λ (r : Result (Unit {0}) Failed). turn_after (is_done r)) c.in-Err.is)) c.answer_datagram.ensures.answers
+
+pub returns-in_default-clause-ties : goal.returns-in_default-clause-ties
+returns-in_default-clause-ties g c = ties_none c.args.config.now (g.P.PortMaker.told c.args.ports.now) (entries c.args.hand.now)

@@ -1,16 +1,20 @@
 use Rattle.std.proofs.Common.{refl, sym, subst, ℕ, List, ◌∷◌}
-use Rattle.turn_table.specs.Hands.{front_of, state_of, taken_of}
+use Rattle.turn_table.specs.declared.machine.Entry as table
+use Rattle.turn_table.specs.Hands.{entries, front_of, place_of, state_of, taken_of}
 use Rattle.call_board.specs.Acts.{BoardEntry}
 use Rattle.call_board.specs.Pairs.{held}
 use Rattle.media_ports.specs.Held.{TellsHeld}
 use Rattle.relay_core.specs.Entries.{board_history}
+use Rattle.relay_core.specs.Made.{Made}
 use Rattle.relay_core.specs.Turning.{made_by}
 use Rattle.board_turns.specs.Between.{board_of}
 use Rattle.board_turns.specs.Ending.{leg_pairs}
+use Rattle.board_turns.specs.Ties.{Ties}
 use Rattle.board_turns.proofs.Betweens.{between_may, turn_begins, begins_whole}
 use Rattle.board_turns.proofs.Grown.{makes_history}
 use Rattle.board_turns.proofs.StopTurns.{moved}
-use Rattle.control_entries.specs.Controls.{control_of, entry_at, moment_at}
+use Rattle.board_turns.proofs.Tying.{ties_ended}
+use Rattle.control_entries.specs.Controls.{control_made, control_of, entry_at, moment_at}
 use Rattle.control_turns.specs.Dealing.{hearing_of}
 use Rattle.control_turns.specs.Sending.{Sends}
 use Rattle.control_turns.proofs.Turns.{control_relates, is_taken, deals_turn, control_history, control_ends}
@@ -104,3 +108,15 @@ returns-clause-answers g c =
           c.deal_part-answered.result.sent (g.N.ControlLink.told c.args.link.now) (g.N.ControlLink.told c.deal_part-answered.new.link)) c.front-number.ensures
           c.deal_part-answered.ensures.sent);
     }
+
+pub returns-clause-ties : goal.returns-clause-ties
+returns-clause-ties g c =
+    let config = c.args.config.now in
+    let nested = c.deal_part-answered.new.hand in
+    let n = front_of c.turn-turn.result in
+    let x = hearing_of c.args.request.now c.deal_part-answered.result.dealt in
+    let told = g.P.PortMaker.told c.args.ports.now in
+    let told_now = g.P.PortMaker.told c.deal_part-answered.new.ports in
+    ties_ended config told told_now (entries c.args.hand.now) (place_of c.turn-turn.result) n (control_made config (board_history (made_by nested) n) c.args.now x) tt nested
+    c.put_control.new.hand refl refl c.put_control.ensures.entry
+    (subst (λ (rows : List (table.Entry Made (Unit {0}))). Ties config told told_now rows (entries nested)) c.turn-turn.ensures.same.1 c.deal_part-answered.ensures.ties)
