@@ -1,8 +1,12 @@
 mod Counts
+mod Ends
 mod Loops
 pub mod MediaThreads
 mod Options
+mod Orders
 mod Rounds
 mod Runs
+mod Shut
+mod Tied
 mod Values
 pub mod Wholes

@@ -18,6 +18,7 @@ use Rattle.relay_core.specs.Made.{Made, list_of}
 use Rattle.relay_core.specs.Turning.{made_by}
 use Rattle.media_lane.specs.Visits.{Row}
 use Rattle.board_turns.specs.Between.{board_of, IsBetween}
+use Rattle.board_turns.specs.Ties.{AreTied, Ties}
 use Rattle.control_entries.specs.Controls.{Hearing}
 use Rattle.control_entries.specs.Giving.{IsGivenBy}
 use Rattle.control_turns.specs.declared.taking.ControlTurn.{ControlTurn}
@@ -29,7 +30,8 @@ use Rattle.relay_app.specs.Rounds.{Round, status_after, entry_due, with_entry, h
 use Rattle.relay_app.specs.Served.{Outside, Gave, IsCaused, HaveCauses, given_in, openings, draws, counts_of, turn_counts, sum_of, counts_in, Counted, AreExchanges, AreCalls, last_take, HasEnded}
 use Rattle.relay_app.specs.Turned.{Running, AddsSweep, DidTurns}
 use Rattle.relay_app.proofs.Counts.{calls_counted, sum_none, not_answered, ends_uncounted, ends_below, ends_with, one_take}
-use Rattle.relay_app.proofs.Rounds.{AddsTurn, turn_rows, turn_heard, one_more, no_rounds, board_after}
+use Rattle.relay_app.proofs.Rounds.{AddsTurn, turn_rows, turn_heard, one_more, no_rows, no_rounds, board_after}
+use Rattle.relay_app.proofs.Tied.{none_tied, more_tied, sweep_tied}
 
 -- what a device gave, and then more
 gave_more : {C : Type 0} (first second third : Option (List C)) (some more : List C) → Gave first second some → Gave second third more → Gave first third (some ++ more)
@@ -95,6 +97,7 @@ begins config threads range rows outside none board link timer opened drew = rec
   link = subst (λ (l : Option (List LinkCall)). Gained outside.link l (AreExchanges config [])) link (gained_none outside.link (AreExchanges config []) refl);
   timer = subst (λ (t : Option (List ℕ)). Gave outside.timer t []) timer (gained_none outside.timer (λ more. more ≡ []) refl);
   ports = subst (λ (o : Option (List PortCall)). Gained outside.opened o OpensNone) opened (gained_no_opening outside.opened);
+  tied = none_tied config outside.opened outside.opened_now rows (no_rows rows none) opened;
   keys = subst (λ (k : Option (List KeyCall)). Gave outside.drew k []) drew (gained_none outside.drew (λ more. more ≡ []) refl);
   causes = λ entry given i. elim i [ ];
 }
@@ -114,6 +117,7 @@ module _ {M I O : Type 0} {g : _} where
       (running : Running config threads range (entries old) counts
       (record { link = l0; link_now = l1; timer = t0; timer_now = t1; opened = o0; opened_now = o1; drew = k0; drew_now = k1; port_faults = p0; port_faults_now = p1; key_faults = q0; key_faults_now = q1 }))
       (asked : Gains t1 t2 now) (turned : Turned config old mid now answer p1 p2 q1 q2 o1 o2 k1 k2 l1 l2)
+      (ties : Ties config o1 o2 (entries old) (entries mid))
       (p_low : p0 ≤ p1) (q_low : q0 ≤ q1) (p_later : p1 ≤ p2) (q_later : q1 ≤ q2) where
     abbrev h : List BoardEntry
     h = history_after config running.rounds
@@ -147,6 +151,9 @@ module _ {M I O : Type 0} {g : _} where
     ports : Gained o0 o2 (OpensWith (openings h2))
     ports = opened_for config h now made p1 p2 q1 q2 o0 o1 o2 k1 k2 running.ports turned.given
 
+    tied : Gained o0 o2 (AreTied config (entries mid))
+    tied = more_tied config o0 o1 o2 (entries old) (entries mid) running.tied ties
+
     keys : Gave k0 k2 (draws h2)
     keys = drew_for config h now made p1 p2 q1 q2 o1 o2 k0 k1 k2 running.keys turned.given
 
@@ -172,6 +179,7 @@ module _ {M I O : Type 0} {g : _} where
               (λ xs ys x y. (xs, ys, refl, x, y)) running.link did;
           timer = timer;
           ports = ports;
+          tied = sweep_tied config threads range o0 o2 (entries mid) (entries new) sweep tied;
           keys = keys;
           causes = causes;
         }
@@ -211,6 +219,7 @@ module _ {M I O : Type 0} {g : _} where
           keys = subst (λ (m : Option Hearing). Gave k0 k2 (draws (with_entry h (entry_due config h now m)))) idle.0 keys;
           causes = subst (λ (m : Option Hearing). HaveCauses out (with_entry h (entry_due config h now m))) idle.0 causes;
         };
+        tied = tied;
       }
 
 -- all turns were made
@@ -239,4 +248,5 @@ turns_spent config threads range rows counts outside limit spent running = recor
     keys = running.keys;
     causes = running.causes;
   };
+  tied = running.tied;
 }

@@ -43,7 +43,7 @@ pub one_more : (config : Config) (threads : ℕ) (range : Option (ℕ × ℕ)) (
 one_more config threads range rounds r before between after goes heard are t s =
     (before, t.rows, s.rows, s.are ∙ ap (λ (xs : List Row). xs ++ s.rows) t.are, goes, heard, are, t.makes, s.alone)
 
-no_rows : (rows : List Row) → list_of rows ≡ [] → rows ≡ []
+pub no_rows : (rows : List Row) → list_of rows ≡ [] → rows ≡ []
 no_rows [] none = refl
 no_rows (row ∷ rows) none = absurd (let k = none in cc)
 
@@ -132,27 +132,32 @@ module _ {M I O : Type 0} {g : _} where
         (subst (λ (xs : List Row). IsBoardTurn config xs (stop_entry (board_of (made_by swept))) stop) s.are
         (record { nested = makes.rows; last = makes.row; rows_are = refl; turn = makes.turn; is = makes.is }))
 
-    pub whole_run : IsWhole config threads range rounds totals
-    whole_run = record {
-      in_rounds = entries first;
-      last_sweep = s.rows;
-      stop = stop;
-      beside = beside;
-      are_rounds = are;
-      is_sweep = s.alone;
-      is_stop = stopped;
-      as_many = as_many;
-      are_threads = are_threads;
-      timed = subst (λ (xs : List Row). AreTimed xs) rows_are timed;
-      list = closed.0;
-      told_is = closed.1 ∙ ap (λ (xs : List Row). list_of xs) rows_are;
-      legal = closed.2;
-      safe = closed.3;
-      board_is =
-          sym (told_board closed.0) ∙ ap board_of closed.1
-          ∙ ap (λ (xs : List Row). board_of (list_of xs)) joined_is
-          ∙ lanes_board (entries last) (all_of beside) (λ row i. lane_no_boards row.event.event (of_lanes row i))
-          ∙ makes_history config turns swept last (stop_entry (board_of (made_by swept))) before after makes
-          ∙ ap (λ (h : List BoardEntry). stop_entry h ∷ h) history;
-      totals_are = told_totals closed.0 totals (subst (λ (l : List Entry). HasTotals l totals) (sym closed.1) counts);
-    }
+    pub whole_run : (whole : IsWhole config threads range rounds totals) × (whole.rows ≡ entries all)
+    whole_run = (
+      record {
+        in_rounds = entries first;
+        last_sweep = s.rows;
+        stop = stop;
+        beside = beside;
+        are_rounds = are;
+        is_sweep = s.alone;
+        is_stop = stopped;
+        as_many = as_many;
+        are_threads = are_threads;
+        rows = entries all;
+        rows_are = rows_are;
+        timed = timed;
+        list = closed.0;
+        told_is = closed.1;
+        legal = closed.2;
+        safe = closed.3;
+        board_is =
+            sym (told_board closed.0) ∙ ap board_of closed.1
+            ∙ ap (λ (xs : List Row). board_of (list_of xs)) joined_is
+            ∙ lanes_board (entries last) (all_of beside) (λ row i. lane_no_boards row.event.event (of_lanes row i))
+            ∙ makes_history config turns swept last (stop_entry (board_of (made_by swept))) before after makes
+            ∙ ap (λ (h : List BoardEntry). stop_entry h ∷ h) history;
+        totals_are = told_totals closed.0 totals (subst (λ (l : List Entry). HasTotals l totals) (sym closed.1) counts);
+      },
+      refl,
+    )

@@ -104,6 +104,8 @@ module _ (l0 l1 l2 : Option (List LinkCall)) (t0 t1 : Option (List ℕ)) (o0 o1 
       keys = served.told.keys;
       causes = λ entry given i is. (let c = served.told.causes entry given i is in record { port_fault = c.port_fault; key_fault = c.key_fault });
     };
+    ends = served.ends;
+    opens_same = served.opens_same;
   }
 
   -- with the line of totals, which the sink took or not

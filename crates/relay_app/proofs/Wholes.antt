@@ -1,23 +1,27 @@
 -- The end of a run: the stop of all calls, and the close of the table.
-use Rattle.std.proofs.Common.{◌≡◌, refl, sym, subst, ℕ, ◌≤◌, ◌<◌, ◌^◌, arith, List, [], Option, Some, None}
+use Rattle.std.proofs.Common.{◌≡◌, refl, sym, subst, ℕ, ◌≤◌, ◌<◌, ◌^◌, arith, List, [], ◌++◌, Option, Some, None, All}
 use Rattle.relay_outside.specs.declared.ports.PortCall.{PortCall}
 use Rattle.relay_outside.specs.declared.keys.KeyCall.{KeyCall}
 use Rattle.relay_outside.specs.declared.link.LinkCall.{LinkCall}
 use Rattle.relay_outside.specs.declared.settings.Config.{Config}
 use Rattle.relay_outside.specs.Told.{Gained}
+use Rattle.relay_outside.proofs.Telling.{gained_less}
 use Rattle.turn_table.specs.declared.hands.Turns.{Turns}
 use Rattle.turn_table.specs.declared.hands.Hand.{Hand}
 use Rattle.call_board.specs.Acts.{BoardEntry}
 use Rattle.relay_core.specs.declared.part.Part.{Part}
 use Rattle.relay_core.specs.Entries.{Entry}
-use Rattle.relay_core.specs.Made.{Made}
+use Rattle.relay_core.specs.Made.{Made, list_of}
+use Rattle.relay_core.specs.Told.{InOrder, InsAreTold}
 use Rattle.relay_core.specs.Turning.{made_by}
+use Rattle.media_ports.specs.Given.{IsOfPair}
 use Rattle.media_ports.specs.Held.{TellsHeld}
 use Rattle.media_ports.specs.Asked as asked
 use Rattle.media_ports.proofs.Asked.{gained_openings_alone}
 use Rattle.media_lane.specs.declared.answers.Totals.{Totals}
 use Rattle.media_lane.specs.Visits.{Row, AreTotals}
 use Rattle.board_turns.specs.Between.{IsBetween}
+use Rattle.board_turns.specs.Ties.{AreTied, Ties}
 use Rattle.board_turns.proofs.Firsts.{first_board, none_open}
 use Rattle.main_sweeps.specs.Totals.{HasTotals}
 use Rattle.ng_server.specs.Servers.{OpensJust}
@@ -28,7 +32,10 @@ use Rattle.relay_app.specs.Rounds.{history_after, IsWhole}
 use Rattle.relay_app.specs.Run.{OpensNone, TellsNone}
 use Rattle.relay_app.specs.Served.{Outside, HaveCauses, openings, DidServe}
 use Rattle.relay_app.specs.declared.serve.Looped.{Looped}
-use Rattle.relay_app.specs.Turned.{DidTurns, CanWork, DidWork, MadeTurns}
+use Rattle.relay_app.specs.Turned.{AddsSweep, DidTurns, CanWork, DidWork, MadeTurns}
+use Rattle.relay_app.proofs.Ends.{whole_ends, opens_same}
+use Rattle.relay_app.proofs.Orders.{AreOfLane, whole_in_order}
+use Rattle.relay_app.proofs.Tied.{run_tied}
 
 -- the same hand, by another name of its table and its configuration
 pub moved_between : {M I O T : Type 0} {g : _} (config same : Config) (turns like : Turns M (Part I O) Made T) (hand : Hand M (Part I O) Made T g) → config ≡ same → turns ≡ like
@@ -67,29 +74,39 @@ stopped_causes history then later p q port key causes entry given i is =
 
 -- so the turns are those of a whole run
 pub ran_whole : (limit : ℕ) (config : Config) (threads : ℕ) (range : Option (ℕ × ℕ)) (l0 l1 : Option (List LinkCall)) (t0 t1 : Option (List ℕ)) (o0 o1 o2 : Option (List PortCall)) (k0 k1 : Option (List KeyCall))
-    (p0 p1 p2 q0 q1 : ℕ) (ended : Status) (counts : Counts) (totals : Totals) (rows : List Row) → p1 ≤ p2 → Gained o1 o2 asked.OpensNone
+    (p0 p1 p2 q0 q1 : ℕ) (ended : Status) (counts : Counts) (totals : Totals) (rows swept last beside all : List Row) → p1 ≤ p2 → Gained o1 o2 asked.OpensNone
     → (turns : DidTurns limit config threads range
     (record { link = l0; link_now = l1; timer = t0; timer_now = t1; opened = o0; opened_now = o1; drew = k0; drew_now = k1; port_faults = p0; port_faults_now = p1; key_faults = q0; key_faults_now = q1 })
     ended counts rows)
-    → IsWhole config threads range turns.rounds totals
+    → (whole : IsWhole config threads range turns.rounds totals) × (whole.rows ≡ all) → AddsSweep config threads range rows swept → Ties config o1 o2 swept last
+    → AreOfLane beside → all ≡ last ++ beside → (InOrder (list_of all) → InsAreTold config all) → TellsHeld config o0 [] → TellsHeld config o2 []
     → DidServe [] limit config threads range
     (record { link = l0; link_now = l1; timer = t0; timer_now = t1; opened = o0; opened_now = o2; drew = k0; drew_now = k1; port_faults = p0; port_faults_now = p2; key_faults = q0; key_faults_now = q1 })
     ended counts totals
-ran_whole limit config threads range l0 l1 t0 t1 o0 o1 o2 k0 k1 p0 p1 p2 q0 q1 ended counts totals rows later closes turns whole = record {
-  rounds = turns.rounds;
-  last = turns.last;
-  whole = whole;
-  counts_are = turns.counts_are;
-  has_ended = turns.has_ended;
-  last_is = turns.last_is;
-  told = record {
-    link = turns.told.link;
-    timer = turns.told.timer;
-    ports = gained_openings_alone (openings (history_after config turns.rounds)) o0 o1 o2 turns.told.ports closes;
-    keys = turns.told.keys;
-    causes = stopped_causes (history_after config turns.rounds) _ _ refl refl later refl turns.told.causes;
-  };
-}
+ran_whole limit config threads range l0 l1 t0 t1 o0 o1 o2 k0 k1 p0 p1 p2 q0 q1 ended counts totals rows swept last beside all later closes turns whole sweep stop lanes joined ins shut shut_again =
+    let run = whole.0 in
+    let tied : Gained o0 o2 (AreTied config run.rows) =
+    subst (λ (xs : List Row). Gained o0 o2 (AreTied config xs)) (sym whole.1)
+    (run_tied config threads range o0 o1 o2 rows swept last beside all turns.tied sweep stop lanes joined) in
+    let in_ends : InsAreTold config run.rows =
+    subst (λ (xs : List Row). InOrder (list_of xs) → InsAreTold config xs) (sym whole.1) ins (whole_in_order config threads range turns.rounds totals run) in
+    record {
+      rounds = turns.rounds;
+      last = turns.last;
+      whole = run;
+      counts_are = turns.counts_are;
+      has_ended = turns.has_ended;
+      last_is = turns.last_is;
+      told = record {
+        link = turns.told.link;
+        timer = turns.told.timer;
+        ports = gained_openings_alone (openings (history_after config turns.rounds)) o0 o1 o2 turns.told.ports closes;
+        keys = turns.told.keys;
+        causes = stopped_causes (history_after config turns.rounds) _ _ refl refl later refl turns.told.causes;
+      };
+      ends = whole_ends config threads range turns.rounds totals run in_ends o0 o2 tied;
+      opens_same = opens_same config o0 o2 (gained_less o0 o2 (AreTied config run.rows) (λ calls. All (IsOfPair config) calls) (λ calls these. these.of_pairs) tied) shut shut_again;
+    }
 
 -- of a port maker that was not called no port is open
 pub opens_none : (settings : Option Settings) → OpensNone settings []

@@ -127,9 +127,12 @@ pub record IsWhole (config : Config) (threads : ℕ) (range : Option (ℕ × ℕ
   pub is_stop : IsBoardTurn config (in_rounds ++ last_sweep) (stop_entry (history_after config rounds)) stop
   pub as_many : length beside ≡ threads
   pub are_threads : AreThreads config 0 threads range beside
-  pub timed : AreTimed (((in_rounds ++ last_sweep) ++ stop) ++ all_of beside)
+  -- all of them, those of the threads behind those of the main hand
+  pub rows : List Row
+  pub rows_are : rows ≡ ((in_rounds ++ last_sweep) ++ stop) ++ all_of beside
+  pub timed : AreTimed rows
   pub list : List Entry
-  pub told_is : map told list ≡ list_of (((in_rounds ++ last_sweep) ++ stop) ++ all_of beside)
+  pub told_is : map told list ≡ list_of rows
   pub legal : Legal config list
   pub safe : Safe config list
   pub board_is : board_of list ≡ stop_entry (history_after config rounds) ∷ history_after config rounds

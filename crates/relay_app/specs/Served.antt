@@ -19,6 +19,7 @@ use Rattle.media_lane.specs.declared.answers.Totals.{Totals}
 use Rattle.relay_app.specs.declared.status.Status.{Status}
 use Rattle.relay_app.specs.declared.status.Status.TheVariants as status
 use Rattle.relay_app.specs.declared.totals.Counts.{Counts}
+use Rattle.relay_app.specs.Ends.{AreEnds, OpensSame}
 use Rattle.relay_app.specs.Rounds.{Round, history_after, moments, IsWhole}
 
 -- What the devices told before a run and tell after it, and how many faults of ports and of keys were counted
@@ -157,7 +158,7 @@ pub record AreTold (config : Config) (first : List LinkCall) (rounds : List Roun
   pub causes : HaveCauses outside (history_after config rounds)
 
 -- A run whose control turns ended with this status, and in which the link was called so before them: its rounds, with all its steps, and what
--- the devices told of them
+-- the devices told of them, the port maker also of the ends that it was given back
 pub record DidServe (first : List LinkCall) (limit : ℕ) (config : Config) (threads : ℕ) (range : Option (ℕ × ℕ)) (outside : Outside) (ended : Status) (counts : Counts) (totals : Totals) : Type 0 where
   pub rounds : List Round
   -- the moment of the take that ended them
@@ -167,6 +168,8 @@ pub record DidServe (first : List LinkCall) (limit : ℕ) (config : Config) (thr
   pub has_ended : HasEnded ended limit counts.turns
   pub last_is : length last ≡ length (last_take ended)
   pub told : AreTold config first rounds last ended outside
+  pub ends : Gained outside.opened outside.opened_now (AreEnds config whole.rows whole.list)
+  pub opens_same : OpensSame outside.opened outside.opened_now
 
 -- The line of totals, for these numbers of turns, datagrams and replies, and these counts of relays by their outcome
 abbrev pub totals_line : Counts → Totals → List ℕ

@@ -12,6 +12,7 @@ use Rattle.relay_core.specs.Made.{Made, list_of}
 use Rattle.relay_core.specs.Turning.{made_by}
 use Rattle.media_lane.specs.Visits.{Row}
 use Rattle.board_turns.specs.Between.{board_of, IsBetween}
+use Rattle.board_turns.specs.Ties.{AreTied}
 use Rattle.main_sweeps.specs.Totals.{HasTotals}
 use Rattle.ng_server.specs.Servers.{OpensJust, history_of}
 use Rattle.relay_app.specs.declared.status.Status.{Status}
@@ -31,6 +32,7 @@ pub record Running (config : Config) (threads : ℕ) (range : Option (ℕ × ℕ
   pub link : Gained outside.link outside.link_now (AreExchanges config rounds)
   pub timer : Gave outside.timer outside.timer_now (moments rounds)
   pub ports : Gained outside.opened outside.opened_now (OpensWith (openings (history_after config rounds)))
+  pub tied : Gained outside.opened outside.opened_now (AreTied config rows)
   pub keys : Gave outside.drew outside.drew_now (draws (history_after config rounds))
   pub causes : HaveCauses outside (history_after config rounds)
 
@@ -44,6 +46,7 @@ pub record DidTurns (limit : ℕ) (config : Config) (threads : ℕ) (range : Opt
   pub has_ended : HasEnded ended limit counts.turns
   pub last_is : length last ≡ length (last_take ended)
   pub told : AreTold config [] rounds last ended outside
+  pub tied : Gained outside.opened outside.opened_now (AreTied config rows)
 
 -- what stands behind a turn after which the run goes on, and behind the last one: a sweep, where no thread relays media
 pub record AddsSweep (config : Config) (threads : ℕ) (range : Option (ℕ × ℕ)) (before after : List Row) : Type 0 where

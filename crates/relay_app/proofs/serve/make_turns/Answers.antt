@@ -30,7 +30,7 @@ turns-preserved g c = record {
   opens = opens_again _ _ _ _ c.sweep_alone-hand.ensures.history c.control_turn-turn.ensures.open;
   running =
       turn_goes _ _ _ _ c.turns.hand c.control_turn-turn.new.hand c.turns.counts c.with-counts.result _ c.control_turn-turn.result _ _ _ _ _ _ _ _ _ _ _ _ _ _ _ _ _ _
-      c.with-counts.ensures.sum c.turns.invariant.between c.control_turn-turn.ensures.between c.turns.invariant.running c.now-now.ensures c.control_turn-turn.ensures.turned
+      c.with-counts.ensures.sum c.turns.invariant.between c.control_turn-turn.ensures.between c.turns.invariant.running c.now-now.ensures c.control_turn-turn.ensures.turned c.control_turn-turn.ensures.ties
       c.turns.invariant.port_later c.turns.invariant.key_later c.control_turn-turn.ensures.later.1 c.control_turn-turn.ensures.later.2
       c.sweep_alone-hand.result c.in_default.ensures.answer c.sweep_alone-hand.ensures.history c.sweep_alone-hand.ensures.swept;
   totals =
@@ -51,7 +51,7 @@ returns-in-Some-clause-same g c = same_again c.args.hand c.turns.hand c.control_
 pub returns-in-Some-clause-did : goal.returns-in-Some-clause-did
 returns-in-Some-clause-did g c =
     turn_ends _ _ _ _ c.turns.hand c.control_turn-turn.new.hand c.turns.counts c.with-counts.result _ c.control_turn-turn.result _ _ _ _ _ _ _ _ _ _ _ _ _ _ _ _ _ _
-    c.with-counts.ensures.sum c.turns.invariant.between c.control_turn-turn.ensures.between c.turns.invariant.running c.now-now.ensures c.control_turn-turn.ensures.turned
+    c.with-counts.ensures.sum c.turns.invariant.between c.control_turn-turn.ensures.between c.turns.invariant.running c.now-now.ensures c.control_turn-turn.ensures.turned c.control_turn-turn.ensures.ties
     c.turns.invariant.port_later c.turns.invariant.key_later c.control_turn-turn.ensures.later.1 c.control_turn-turn.ensures.later.2
     c.args.settings.now.turns c.in-Some.status c.in-Some.ensures.answer c.turns-test.true
 

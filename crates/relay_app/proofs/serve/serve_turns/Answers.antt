@@ -5,6 +5,7 @@ use Rattle.relay_core.specs.Made.{list_of}
 use Rattle.board_turns.proofs.Betweens.{between_sound}
 use Rattle.main_sweeps.specs.Totals.{HasTotals}
 use Rattle.main_sweeps.proofs.Counts.{turn_totals}
+use Rattle.relay_app.specs.Rounds.{all_of}
 use Rattle.relay_app.specs.Threads.{rows_of}
 use Rattle.relay_app.proofs.MediaThreads.{are_done, are_hands, as_many, may_join, all_threads, all_of_lane, all_sound, all_totals}
 use Rattle.relay_app.proofs.Rounds.{whole_run}
@@ -45,7 +46,8 @@ returns-clause-did g c =
     let did = made.did in
     let done = are_done c.args.server.config c.args.settings.now.config c.args.server.turns c.turns.result.now c.args.settings.now.threads (g.C.Clock.range c.args.clock.now) c.make_threads-threads.result.items c.run_beside.new.threads.items (sym c.requires.config) c.turns.ensures c.run_beside.ensures.as_many c.make_threads-threads.ensures.as_many c.make_threads-threads.ensures.fresh c.run_beside.ensures.threads in
     ran_whole c.args.settings.now.turns c.args.server.config c.args.settings.now.threads _ _ _ _ _ _ _ _ _ _ _ _ _ _ _ c.run_beside.new.control.looped.status
-    c.run_beside.new.control.looped.counts c.join_threads.new.totals _ c.stop.ensures.later c.stop.ensures.closes did
+    c.run_beside.new.control.looped.counts c.join_threads.new.totals (entries c.in-Some.hand) (entries c.sweep_alone-hand.result) (entries c.stop.new.hand)
+    (all_of (map (λ thread. rows_of thread) c.run_beside.new.threads.items)) (entries c.join_threads.new.hand) c.stop.ensures.later c.stop.ensures.closes did
     (whole_run c.args.server.config c.args.settings.now.threads (g.C.Clock.range c.args.clock.now) did.rounds c.join_threads.new.totals c.args.server.turns c.in-Some.hand
     c.sweep_alone-hand.result c.stop.new.hand c.join_threads.new.hand (map (λ thread. rows_of thread) c.run_beside.new.threads.items) did.are_rounds did.board_is
     c.sweep_alone-hand.ensures.history c.sweep_alone-hand.ensures.swept c.sweep_alone-hand.ensures.between c.stop.ensures.between c.stop.ensures.makes
@@ -56,3 +58,6 @@ returns-clause-did g c =
     (turn_totals c.args.server.config c.sweep_alone-hand.result c.stop.new.hand _ c.sweep_alone-hand.new.totals c.sweep_alone-hand.ensures.between.orderly c.stop.ensures.makes
     (c.sweep_alone-hand.ensures.totals made.totals))))
     c.close_table.ensures.legal c.close_table.ensures.timed)
+    c.sweep_alone-hand.ensures.swept c.stop.ensures.ties
+    (all_of_lane c.args.server.config c.args.server.turns c.args.settings.now.threads (g.C.Clock.range c.args.clock.now) 0 c.run_beside.new.threads.items done)
+    c.join_threads.ensures.list c.close_table.ensures.ins c.requires.open c.stop.ensures.shut
