@@ -128,5 +128,5 @@ clear config l g e x w i q t none =
       of_board = f.of_board;
       answer = f.answer;
       acts = f.acts;
-      not_srtp = unsecured _ c.signal secured c.none;
+      not_srtp = unsecured (is_srtp_leg (profile_offered (rounds (board_history l f.board.number) f.answer.of.number) c.other.section c.other.side)) c.signal secured c.none;
     }
