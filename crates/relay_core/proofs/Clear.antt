@@ -10,6 +10,7 @@ use Rattle.port_pool.specs.declared.holder.Holder.{Holder}
 use Rattle.port_pool.specs.declared.signal.LegSignal.{LegSignal}
 use Rattle.port_pool.specs.Signals.{NewKey}
 use Rattle.offer_answer.specs.Laws.{IsSecured}
+use Rattle.offer_answer.specs.Profiles.{is_srtp_leg, profile_offered}
 use Rattle.offer_answer.proofs.Committing.{secures_legs}
 use Rattle.call_cell.specs.Cells.{CellEntry, Receipt, Shield, Sending, Deed, Relay, Relayed, opposite, in_force, key_numbered}
 use Rattle.call_cell.specs.Keyed.{protected, Wrapped, Held, Leaves, lost_by, wrapped_rtp, wrapped_rtcp, wrapped_with, wrapped_under}
