@@ -11,7 +11,7 @@ ghost use Rattle.relay_core.specs.Turning.{made_by};
 ghost use Rattle.relay_core.specs.Beginning.{AreParts};
 ghost use Rattle.relay_core.specs.Joining.{IsSound, AreStanding};
 ghost use Rattle.relay_core.specs.Timed.{AreTimed};
-ghost use Rattle.relay_core.specs.Told.{InOrder, InsAreTold};
+ghost use Rattle.relay_core.specs.Told.{InOrder, InsAreTold, OutsAreTold};
 ghost use Rattle.media_ports.specs.Asked.{OpensNone};
 ghost use Rattle.media_ports.specs.Held.{TellsHeld};
 ghost use Rattle.board_turns.specs.Between.{IsBetween, MakesTurn};
@@ -157,7 +157,7 @@ impl<P: PortMaker> Server<P> {
         requires sound { IsSound self.config (entries hand) }
         ensures length { length result.items ≡ length (starts hand) }
         ensures states { AreStanding self.config result.items (made_by hand) }
-        ensures legal { (l : List Entry) × (map told l ≡ made_by hand) × Legal self.config l × Safe self.config l }
+        ensures legal { (l : List Entry) × (map told l ≡ made_by hand) × Legal self.config l × Safe self.config l × OutsAreTold (entries hand) l }
         ensures ins { InOrder (made_by hand) → InsAreTold self.config (entries hand) }
         ensures timed { AreTimed (entries hand) }
     {

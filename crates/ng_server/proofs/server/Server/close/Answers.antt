@@ -6,9 +6,7 @@ returns-clause-states g c =
     (c.requires.sound.recorded c.close_relay.ensures.numbered)
 
 pub returns-clause-legal : goal.returns-clause-legal
-returns-clause-legal g c =
-    let legal = c.close_relay.ensures.legal c.args.self.config c.requires.starts c.requires.sound in
-    (legal.0, legal.1, legal.2, legal.3)
+returns-clause-legal g c = c.close_relay.ensures.legal c.args.self.config c.requires.starts c.requires.sound
 
 pub returns-clause-ins : goal.returns-clause-ins
 returns-clause-ins g c = c.close_relay.ensures.ins c.args.self.config c.requires.starts c.requires.sound
