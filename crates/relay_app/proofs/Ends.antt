@@ -8,7 +8,7 @@ use Rattle.relay_outside.specs.declared.ports.InCall.{InCall}
 use Rattle.relay_outside.specs.declared.ports.PortCall.{PortCall}
 use Rattle.relay_outside.specs.declared.ports.PortCall.TheVariants as port
 use Rattle.relay_outside.specs.declared.settings.Config.{Config}
-use Rattle.relay_outside.specs.Ports.{IsOpen, ClosesNot, taken_at}
+use Rattle.relay_outside.specs.Ports.{IsOpen, ClosesNot, taken_at, sent_at}
 use Rattle.relay_outside.specs.Told.{Gained, WhereTold}
 use Rattle.relay_outside.proofs.Telling.{gained_less}
 use Rattle.rtp_packet.specs.declared.head.Half.{Half}
@@ -17,7 +17,7 @@ use Rattle.port_pool.specs.Boxes.{holder}
 use Rattle.port_pool.specs.Ports.{pair_count}
 use Rattle.relay_core.specs.Entries.{Event, Board, Cell, Box, Entry, is_at, history, box_in, box_event, box_history, front, box_of}
 use Rattle.relay_core.specs.Made.{list_of, told, told_event}
-use Rattle.relay_core.specs.Told.{ins_told, takes_of, takes_at, InsAreTold}
+use Rattle.relay_core.specs.Told.{ins_told, outs_told, takes_of, takes_at, InsAreTold, OutsAreTold}
 use Rattle.relay_core.proofs.Refilling.{filter_mapped, picked_mapped}
 use Rattle.media_lane.specs.declared.answers.Totals.{Totals}
 use Rattle.media_ports.specs.Addresses.{port_address}
@@ -25,8 +25,9 @@ use Rattle.media_ports.specs.Given.{address_in, IsOfPair, Agrees}
 use Rattle.media_ports.specs.Held.{TellsHeld}
 use Rattle.media_ports.proofs.Opened.{open_still, open_before}
 use Rattle.board_turns.specs.Ties.{AreTied}
-use Rattle.relay_app.specs.Ends.{AreTakes, AreEnds, OpensSame}
+use Rattle.relay_app.specs.Ends.{AreTakes, AreSends, sends_at, AreEnds, OpensSame}
 use Rattle.relay_app.specs.Rounds.{Round, history_after, IsWhole}
+use Rattle.relay_app.proofs.Sends.{outs_sent}
 use Rattle.relay_app.proofs.Shut.{boxes_shut}
 
 -- What is recorded of a list has the same histories of boxes.
@@ -80,11 +81,16 @@ module _ (config : Config) (threads : ℕ) (range : Option (ℕ × ℕ)) (rounds
       (agreed (taken_at calls (port_address config pair half)) (ins_told whole.rows place half) (takes_at (list_of whole.rows) place half) (tied.takes pair half low)
       (ins pair half low shut))
 
-  pub whole_ends : InsAreTold config whole.rows → (before now : Option (List PortCall)) → Gained before now (AreTied config whole.rows)
-      → Gained before now (AreEnds config whole.rows whole.list)
-  whole_ends ins before now tied =
-      gained_less before now (AreTied config whole.rows) (AreEnds config whole.rows whole.list)
-      (λ calls these. record { of_pairs = these.of_pairs; takes = takes ins calls these; sends = these.sends }) tied
+  sends : OutsAreTold whole.rows whole.list → (calls : List PortCall) → AreTied config whole.rows calls → AreSends config whole.list calls
+  sends outs calls tied pair half low =
+      agreed (sent_at calls (port_address config pair half)) (outs_told whole.rows pair half) (sends_at whole.list pair half) (tied.sends pair half low)
+      (outs_sent whole.list whole.rows whole.told_is outs pair half)
+
+  pub whole_ends : InsAreTold config whole.rows → OutsAreTold whole.rows whole.list → (before now : Option (List PortCall)) → Gained before now (AreTied config whole.rows)
+      → Gained before now (AreEnds config whole.list)
+  whole_ends ins outs before now tied =
+      gained_less before now (AreTied config whole.rows) (AreEnds config whole.list)
+      (λ calls these. record { of_pairs = these.of_pairs; takes = takes ins calls these; sends = sends outs calls these }) tied
 
 -- Which addresses are open.
 

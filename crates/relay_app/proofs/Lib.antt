@@ -6,6 +6,7 @@ mod Options
 mod Orders
 mod Rounds
 mod Runs
+mod Sends
 mod Shut
 mod Tied
 mod Values

@@ -1,5 +1,5 @@
 -- The nested entries of a run stand at each place in the order of their numbers.
-use Rattle.std.proofs.Common.{◌≡◌, ◌∙◌, refl, sym, ap, subst, ℕ, zero, suc, ◌+◌, ◌<◌, ◌⊎◌, inl, inr, Bool, true, false, List, [], ◌∷◌, ◌++◌, Option, None, Some, arith}
+use Rattle.std.proofs.Common.{◌≡◌, ◌∙◌, refl, sym, ap, subst, ℕ, zero, suc, ◌+◌, ◌<◌, ◌⊎◌, inl, inr, true, false, List, [], ◌∷◌, ◌++◌, Option, None, Some, arith}
 use Rattle.std.proofs.lemmas.List.{map-append}
 use Rattle.relay_outside.specs.declared.settings.Config.{Config}
 use Rattle.turn_table.specs.Histories as table_lists
@@ -17,7 +17,7 @@ use Rattle.relay_core.proofs.Own.{in_rows}
 use Rattle.relay_core.proofs.Turns.{before_left, before_right}
 use Rattle.media_lane.specs.declared.answers.Totals.{Totals}
 use Rattle.media_lane.specs.Looping.{visits_of}
-use Rattle.media_lane.specs.Visits.{Row, all_rows}
+use Rattle.media_lane.specs.Visits.{Row}
 use Rattle.main_sweeps.proofs.Sweeps.{rows_in}
 use Rattle.relay_app.specs.Rounds.{Round, history_after, entry_due, IsBoardTurn, MakesEntry, SweepsAlone, AreRounds, AreThreads, all_of, IsWhole}
 

@@ -12,6 +12,7 @@ use Rattle.relay_core.specs.Legal.{Legal}
 use Rattle.relay_core.specs.Safe.{Safe}
 use Rattle.relay_core.specs.Made.{Made, list_of, told}
 use Rattle.relay_core.specs.Timed.{AreTimed}
+use Rattle.relay_core.specs.Told.{OutsAreTold}
 use Rattle.relay_core.specs.Turning.{IsOfLane, made_by}
 use Rattle.relay_core.proofs.Recording.{lane_no_boards}
 use Rattle.media_lane.specs.declared.answers.Totals.{Totals}
@@ -113,7 +114,7 @@ module _ {M I O : Type 0} {g : _} where
       (as_many : length beside ≡ threads) (are_threads : AreThreads config 0 threads range beside)
       (of_lanes : (row : Row) → table_lists.In row (all_of beside) → IsOfLane row.event.event) (joined_is : entries all ≡ entries last ++ all_of beside)
       (counts : HasTotals (made_by all) totals)
-      (closed : (l : List Entry) × (map told l ≡ made_by all) × Legal config l × Safe config l) (timed : AreTimed (entries all)) where
+      (closed : (l : List Entry) × (map told l ≡ made_by all) × Legal config l × Safe config l × OutsAreTold (entries all) l) (timed : AreTimed (entries all)) where
     history : board_of (made_by swept) ≡ history_after config rounds
     history = same ∙ history_is
 
@@ -132,7 +133,7 @@ module _ {M I O : Type 0} {g : _} where
         (subst (λ (xs : List Row). IsBoardTurn config xs (stop_entry (board_of (made_by swept))) stop) s.are
         (record { nested = makes.rows; last = makes.row; rows_are = refl; turn = makes.turn; is = makes.is }))
 
-    pub whole_run : (whole : IsWhole config threads range rounds totals) × (whole.rows ≡ entries all)
+    pub whole_run : (whole : IsWhole config threads range rounds totals) × (whole.rows ≡ entries all) × OutsAreTold whole.rows whole.list
     whole_run = (
       record {
         in_rounds = entries first;
@@ -160,4 +161,5 @@ module _ {M I O : Type 0} {g : _} where
         totals_are = told_totals closed.0 totals (subst (λ (l : List Entry). HasTotals l totals) (sym closed.1) counts);
       },
       refl,
+      closed.4,
     )

@@ -1,5 +1,5 @@
 -- Each box is shut when the relay has stopped.
-use Rattle.std.proofs.Common.{◌≡◌, ◌∙◌, sym, ap, subst, ℕ, ◌⊎◌, inl, inr, Bool, true, false, List, ◌∷◌, Option, Some, None, map}
+use Rattle.std.proofs.Common.{◌≡◌, ◌∙◌, sym, ap, subst, ℕ, ◌⊎◌, inl, inr, Bool, true, false, List, ◌∷◌, None, map}
 use Rattle.std.specs.Prelude.{if◌then◌else◌}
 use Rattle.relay_outside.specs.declared.settings.Config.{Config}
 use Rattle.histories.specs.Words.{In, has}
@@ -11,7 +11,7 @@ use Rattle.call_board.specs.Calls.{live}
 use Rattle.call_board.specs.Fits.{IsFitting}
 use Rattle.call_board.specs.Pairs.{held, legs_of_act, closes_leg, closes_leg_act}
 use Rattle.call_board.proofs.Held.{held_live, held_split}
-use Rattle.relay_core.specs.Entries.{Entry, front, board_history, box_history, box_of}
+use Rattle.relay_core.specs.Entries.{Entry, front, box_history, box_of}
 use Rattle.relay_core.specs.Legal.{Legal}
 use Rattle.relay_core.specs.Safe.{box_before}
 use Rattle.relay_core.proofs.Boxes.{below_front}

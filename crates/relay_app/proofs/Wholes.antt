@@ -12,7 +12,7 @@ use Rattle.call_board.specs.Acts.{BoardEntry}
 use Rattle.relay_core.specs.declared.part.Part.{Part}
 use Rattle.relay_core.specs.Entries.{Entry}
 use Rattle.relay_core.specs.Made.{Made, list_of}
-use Rattle.relay_core.specs.Told.{InOrder, InsAreTold}
+use Rattle.relay_core.specs.Told.{InOrder, InsAreTold, OutsAreTold}
 use Rattle.relay_core.specs.Turning.{made_by}
 use Rattle.media_ports.specs.Given.{IsOfPair}
 use Rattle.media_ports.specs.Held.{TellsHeld}
@@ -78,7 +78,7 @@ pub ran_whole : (limit : ℕ) (config : Config) (threads : ℕ) (range : Option 
     → (turns : DidTurns limit config threads range
     (record { link = l0; link_now = l1; timer = t0; timer_now = t1; opened = o0; opened_now = o1; drew = k0; drew_now = k1; port_faults = p0; port_faults_now = p1; key_faults = q0; key_faults_now = q1 })
     ended counts rows)
-    → (whole : IsWhole config threads range turns.rounds totals) × (whole.rows ≡ all) → AddsSweep config threads range rows swept → Ties config o1 o2 swept last
+    → (whole : IsWhole config threads range turns.rounds totals) × (whole.rows ≡ all) × OutsAreTold whole.rows whole.list → AddsSweep config threads range rows swept → Ties config o1 o2 swept last
     → AreOfLane beside → all ≡ last ++ beside → (InOrder (list_of all) → InsAreTold config all) → TellsHeld config o0 [] → TellsHeld config o2 []
     → DidServe [] limit config threads range
     (record { link = l0; link_now = l1; timer = t0; timer_now = t1; opened = o0; opened_now = o2; drew = k0; drew_now = k1; port_faults = p0; port_faults_now = p2; key_faults = q0; key_faults_now = q1 })
@@ -104,7 +104,7 @@ ran_whole limit config threads range l0 l1 t0 t1 o0 o1 o2 k0 k1 p0 p1 p2 q0 q1 e
         keys = turns.told.keys;
         causes = stopped_causes (history_after config turns.rounds) _ _ refl refl later refl turns.told.causes;
       };
-      ends = whole_ends config threads range turns.rounds totals run in_ends o0 o2 tied;
+      ends = whole_ends config threads range turns.rounds totals run in_ends whole.2 o0 o2 tied;
       opens_same = opens_same config o0 o2 (gained_less o0 o2 (AreTied config run.rows) (λ calls. All (IsOfPair config) calls) (λ calls these. these.of_pairs) tied) shut shut_again;
     }
 

@@ -168,7 +168,7 @@ pub record DidServe (first : List LinkCall) (limit : ℕ) (config : Config) (thr
   pub has_ended : HasEnded ended limit counts.turns
   pub last_is : length last ≡ length (last_take ended)
   pub told : AreTold config first rounds last ended outside
-  pub ends : Gained outside.opened outside.opened_now (AreEnds config whole.rows whole.list)
+  pub ends : Gained outside.opened outside.opened_now (AreEnds config whole.list)
   pub opens_same : OpensSame outside.opened outside.opened_now
 
 -- The line of totals, for these numbers of turns, datagrams and replies, and these counts of relays by their outcome

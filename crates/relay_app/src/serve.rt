@@ -9,7 +9,7 @@ ghost use Rattle.relay_core.specs.Beginning.{AreParts};
 ghost use Rattle.relay_core.specs.Joining.{IsSound};
 ghost use Rattle.relay_core.specs.Made.{told};
 ghost use Rattle.relay_core.specs.Timed.{AreTimed};
-ghost use Rattle.relay_core.specs.Told.{InOrder, InsAreTold};
+ghost use Rattle.relay_core.specs.Told.{InOrder, InsAreTold, OutsAreTold};
 ghost use Rattle.relay_core.specs.Turning.{made_by};
 ghost use Rattle.media_ports.specs.Held.{TellsHeld};
 ghost use Rattle.board_turns.specs.Between.{IsBetween};
@@ -269,7 +269,7 @@ where
     requires idle { HasNoTurn hand }
     requires starts { AreParts server.config (starts hand) }
     requires sound { IsSound server.config (entries hand) }
-    ensures legal { (l : List Entry) × (map told l ≡ made_by hand) × Legal server.config l × Safe server.config l }
+    ensures legal { (l : List Entry) × (map told l ≡ made_by hand) × Legal server.config l × Safe server.config l × OutsAreTold (entries hand) l }
     ensures ins { InOrder (made_by hand) → InsAreTold server.config (entries hand) }
     ensures timed { AreTimed (entries hand) }
 {
