@@ -174,6 +174,15 @@ impl Board {
         self.calls[index].number
     }
 
+    /// The cell of a live call, from 1, by the place of the call in the order of creation, from 0.
+    pub fn cell_at(&self, index: usize) -> u32
+        requires { index < length self.now.calls.items }
+        ensures { (config : Config) (v : View) → Shows config self.now v →
+            slice_get (map (λ (c : CallView). c.of.cell) v.calls) index ≡ Some result }
+    {
+        self.calls[index].cell
+    }
+
     /// The place of a live call.
     pub(crate) fn place(&self, call: u64) -> usize
         requires { IsLive self.now call }
