@@ -13,3 +13,7 @@ pub mod Firsts
 pub mod StopTurns
 pub mod Grown
 pub mod Tying
+pub mod Answered
+pub mod Expiring
+pub mod Ticked
+pub mod TickTurns

@@ -52,7 +52,7 @@ closed_pairs h e calls = leg_pairs (flat_map (closed_of h e) calls)
 
 -- What the ends of other calls leave.
 
-cell_case : (config : Config) (h : List BoardEntry) (e : BoardEntry) (gone : List Call) (of d : Call) → IsFitting config h → In of (live h) → In d gone → In d (live h) →
+pub cell_case : (config : Config) (h : List BoardEntry) (e : BoardEntry) (gone : List Call) (of d : Call) → IsFitting config h → In of (live h) → In d gone → In d (live h) →
     (In of.number (numbers_of gone) → ⊥) → (w : Owed) → In w (ending config h e d) → w.place ≡ of.cell → ⊥
 cell_case config h e gone of d fits alive i living out w (here q) at =
     let cell : d.cell ≡ of.cell = sym (ap (λ (v : Owed). v.place) q) ∙ at in
@@ -63,7 +63,7 @@ cell_case config h e gone of d fits alive i living out w (there j) at =
     let place : box_of config m.from.pair ≡ of.cell = ap (λ (v : Owed). v.place) m.makes ∙ at in
     let high = (live_cell config h of fits alive).1 in omega (arith, place, high)
 
-box_case : (config : Config) (l : List Entry) → Orderly config l → (n : ℕ) (e : BoardEntry) (gone : List Call) (of d : Call) (leg : Holder) → In d gone →
+pub box_case : (config : Config) (l : List Entry) → Orderly config l → (n : ℕ) (e : BoardEntry) (gone : List Call) (of d : Call) (leg : Holder) → In d gone →
     In d (live (board_history l n)) → (In of.number (numbers_of gone) → ⊥) → In leg (closed_of (board_history l n) e of) → (w : Owed) → In w (ending config (board_history l n) e d) →
     w.place ≡ box_of config leg.pair → ⊥
 box_case config l o n e gone of d leg i living out k w (here q) at =
@@ -90,23 +90,20 @@ is_not : (b : Bool) → (b ≡ true → ⊥) → not b ≡ true
 is_not true no_way = absurd (no_way refl)
 is_not false no_way = refl
 
--- Calls end one after the other in the turn of the entry, which the list did not have before: these have ended, and are in the
--- list. Then the next one may be ended
-pub next_can : (config : Config) (l ns : List Entry) → Orderly config l → (n : ℕ) (e : BoardEntry) (gone : List Call) (of : Call) (board : Board) (told : Option (List PortCall)) →
-    IsAbove l 0 n → In of (live (board_history l n)) → In of (ended_by e) → (In of.number (numbers_of gone) → ⊥) → ((d : Call) → In d gone → In d (live (board_history l n))) →
-    map owed_by ns ≡ flat_map (ending config (board_history l n) e) gone →
+-- Calls end one after the other in the turn of the entry, which the list did not have before: these have ended. Where what came meanwhile
+-- stands elsewhere, the next one may be ended
+pub next_among : (config : Config) (l ns : List Entry) → Orderly config l → (n : ℕ) (e : BoardEntry) (gone : List Call) (of : Call) (board : Board) (told : Option (List PortCall)) →
+    IsAbove l 0 n → In of (live (board_history l n)) → In of (ended_by e) → (In of.number (numbers_of gone) → ⊥) →
+    ((x : Entry) → In x ns → x.place ≡ of.cell → ⊥) →
+    ((leg : Holder) → In leg (closed_of (board_history l n) e of) → (x : Entry) → In x ns → x.place ≡ box_of config leg.pair → ⊥) →
     (v : View) → v.calls ≡ map (call_view (board_history l n)) (live (board_history l n)) → v.free ≡ (view_of config (board_history l n)).free → v.leases ≡ (view_of config (board_history l n)).leases →
     Shows config board (with_ended (board_history l n) e gone v) →
     WhereTold told (λ calls. OpensHeld config calls (pairs_left (closed_pairs (board_history l n) e gone) (leg_pairs (held (board_history l n))))) →
     CanEnd config (l ++ ns) board told of.number of (closed_of (board_history l n) e of)
-next_can config l ns o n e gone of board told above alive ends out living owes v calls_are free_is leases_are shows opens =
+next_among config l ns o n e gone of board told above alive ends out cell_apart box_apart v calls_are free_is leases_are shows opens =
     let h = board_history l n in
     let fits = good_history config l o n in
     let cell = live_cell config h of fits alive in
-    let cell_apart = placed_by (flat_map (ending config h e) gone) ns of.cell owes
-    (λ w i. let s = spread (ending config h e) gone i in cell_case config h e gone of s.from fits alive s.is_in (living s.from s.is_in) out w s.has_it) in
-    let box_apart = λ (leg : Holder) (k : In leg (closed_of h e of)). placed_by (flat_map (ending config h e) gone) ns (box_of config leg.pair) owes
-    (λ w i. let s = spread (ending config h e) gone i in box_case config l o n e gone of s.from leg s.is_in (living s.from s.is_in) out k w s.has_it) in
     let same_cell = λ (m : ℕ). ap (filter_map cell_entry) (same_history l ns of.cell m cell_apart) in
     let before = λ (place m : ℕ) (a : IsAbove (l ++ ns) place m). let b : IsAbove l place m = (λ x i p. a x (in_left l ns i) p) in b in
     record {
@@ -131,3 +128,21 @@ next_can config l ns o n e gone of board told above alive ends out living owes v
           (is_not (has (closed_pairs h e gone) leg.pair) (λ t. pair_case config l o n e gone of leg out k (has_it leg.pair (closed_pairs h e gone) t)))
           ∙ it_has leg.pair (leg_pairs (held h)) (maps (λ (x : Holder). x.pair) (held h) (closed_of_held h e of leg k).0);
     }
+
+-- the same where the calls that have ended are in the list with their closings, and nothing else is
+pub next_can : (config : Config) (l ns : List Entry) → Orderly config l → (n : ℕ) (e : BoardEntry) (gone : List Call) (of : Call) (board : Board) (told : Option (List PortCall)) →
+    IsAbove l 0 n → In of (live (board_history l n)) → In of (ended_by e) → (In of.number (numbers_of gone) → ⊥) → ((d : Call) → In d gone → In d (live (board_history l n))) →
+    map owed_by ns ≡ flat_map (ending config (board_history l n) e) gone →
+    (v : View) → v.calls ≡ map (call_view (board_history l n)) (live (board_history l n)) → v.free ≡ (view_of config (board_history l n)).free → v.leases ≡ (view_of config (board_history l n)).leases →
+    Shows config board (with_ended (board_history l n) e gone v) →
+    WhereTold told (λ calls. OpensHeld config calls (pairs_left (closed_pairs (board_history l n) e gone) (leg_pairs (held (board_history l n))))) →
+    CanEnd config (l ++ ns) board told of.number of (closed_of (board_history l n) e of)
+next_can config l ns o n e gone of board told above alive ends out living owes v calls_are free_is leases_are shows opens =
+    let h = board_history l n in
+    let fits = good_history config l o n in
+    next_among config l ns o n e gone of board told above alive ends out
+    (placed_by (flat_map (ending config h e) gone) ns of.cell owes
+    (λ w i. let s = spread (ending config h e) gone i in cell_case config h e gone of s.from fits alive s.is_in (living s.from s.is_in) out w s.has_it))
+    (λ leg k. placed_by (flat_map (ending config h e) gone) ns (box_of config leg.pair) owes
+    (λ w i. let s = spread (ending config h e) gone i in box_case config l o n e gone of s.from leg s.is_in (living s.from s.is_in) out k w s.has_it))
+    v calls_are free_is leases_are shows opens

@@ -53,7 +53,7 @@ in_taken (suc k) [] i = i
 in_taken (suc k) (y ∷ ys) (here q) = here q
 in_taken (suc k) (y ∷ ys) (there i) = there (in_taken k ys i)
 
-get_map : {A B : Type 0} (f : A → B) (xs : List A) (i : ℕ) (x : A) → slice_get xs i ≡ Some x → slice_get (map f xs) i ≡ Some (f x)
+pub get_map : {A B : Type 0} (f : A → B) (xs : List A) (i : ℕ) (x : A) → slice_get xs i ≡ Some x → slice_get (map f xs) i ≡ Some (f x)
 get_map f [] i x at = absurd (let q = at in cc)
 get_map f (y ∷ ys) zero x at = ap (λ z. Some (f z)) (let q : Some y ≡ Some x = at in let e : y ≡ x = cc in e)
 get_map f (y ∷ ys) (suc i) x at = get_map f ys i x at
@@ -62,7 +62,7 @@ pub spread_more : {A B : Type 0} (f : A → List B) (xs : List A) (x : A) → fl
 spread_more f [] x = append-nil (f x)
 spread_more f (y ∷ ys) x = ap (λ zs. f y ++ zs) (spread_more f ys x) ∙ sym (append_assoc (f y) (flat_map f ys) (f x))
 
-calls_long : (config : Config) (calls : List LiveCall) (cs : List CallView) → CallsFor config calls cs → length calls ≡ length cs
+pub calls_long : (config : Config) (calls : List LiveCall) (cs : List CallView) → CallsFor config calls cs → length calls ≡ length cs
 calls_long config [] [] for = refl
 calls_long config [] (c ∷ cs) for = absurd for
 calls_long config (call ∷ calls) [] for = absurd for
@@ -73,7 +73,7 @@ calls_long config (call ∷ calls) (c ∷ cs) for = ap suc (calls_long config ca
 abbrev number_of : Call → ℕ
 number_of c = c.number
 
-views_numbers : (h : List BoardEntry) (cs : List Call) → map (λ (c : CallView). c.of.number) (map (call_view h) cs) ≡ map number_of cs
+pub views_numbers : (h : List BoardEntry) (cs : List Call) → map (λ (c : CallView). c.of.number) (map (call_view h) cs) ≡ map number_of cs
 views_numbers h [] = refl
 views_numbers h (c ∷ cs) = ap (λ (ns : List ℕ). c.number ∷ ns) (views_numbers h cs)
 
@@ -109,7 +109,7 @@ out_case : (b : Bool) → not b ≡ true → b ≡ true → ⊥
 out_case true left is = let f = left in cc
 out_case false left is = let f = is in cc
 
-not_yet : (config : Config) (h : List BoardEntry) (i : ℕ) (of : Call) → IsFitting config h → slice_get (live h) i ≡ Some of → In of.number (map number_of (take i (live h))) → ⊥
+pub not_yet : (config : Config) (h : List BoardEntry) (i : ℕ) (of : Call) → IsFitting config h → slice_get (live h) i ≡ Some of → In of.number (map number_of (take i (live h))) → ⊥
 not_yet config h i of fits at among =
     let nums = map number_of (live h) in
     let rest = without_taken i nums (live_once config h fits) ∙ drop_next nums i of.number (get_map number_of (live h) i of at) in

@@ -3,4 +3,5 @@ pub mod Between
 pub mod Closing
 pub mod Ending
 pub mod Stopping
+pub mod Ticking
 pub mod Ties

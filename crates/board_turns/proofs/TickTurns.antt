@@ -1,0 +1,148 @@
+-- The turn of a tick.
+use Rattle.std.proofs.Common.{◌≡◌, ◌∙◌, refl, sym, ap, subst, ℕ, max, Bool, true, false, not, List, [], ◌∷◌, Option, map, filter}
+use Rattle.relay_outside.specs.declared.ports.InCall.{InCall}
+use Rattle.relay_outside.specs.declared.ports.OutCall.{OutCall}
+use Rattle.relay_outside.specs.declared.ports.PortCall.{PortCall}
+use Rattle.relay_outside.specs.declared.settings.Config.{Config}
+use Rattle.turn_table.specs.declared.machine.Entry as table
+use Rattle.turn_table.specs.declared.hands.Turns.{Turns}
+use Rattle.turn_table.specs.declared.hands.Hand.{Hand}
+use Rattle.turn_table.specs.declared.hands.Turn.{Turn}
+use Rattle.turn_table.specs.Hands.{IsSameHand, SameTurns, GainsTurn, EndsTurn, place_of, front_of, entries}
+use Rattle.histories.specs.Words.{In, has}
+use Rattle.histories.proofs.Lists.{keeps, filtered, maps, mapped, it_has, has_it}
+use Rattle.call_board.specs.declared.live_call.LiveCall.{LiveCall}
+use Rattle.call_board.specs.Acts.{Call, Tick, BoardEntry}
+use Rattle.call_board.specs.Boards.{CallsFor}
+use Rattle.call_board.specs.Calls.{live}
+use Rattle.call_board.specs.Fits.{IsFitting, named_live}
+use Rattle.call_board.specs.Views.{CallView, call_view, last_moment}
+use Rattle.call_board.proofs.Calls.{live_numbers}
+use Rattle.call_board.proofs.Cells.{live_step}
+use Rattle.call_board.proofs.Sieves.{filter_alike}
+use Rattle.relay_core.specs.declared.part.Part.{Part}
+use Rattle.relay_core.specs.declared.part.Part.TheVariants as part
+use Rattle.relay_core.specs.Entries.{board_history}
+use Rattle.relay_core.specs.Made.{Made, list_of}
+use Rattle.relay_core.specs.Standing.{BoardIs}
+use Rattle.relay_core.specs.Steps.{Relates}
+use Rattle.relay_core.specs.Turning.{made_by}
+use Rattle.relay_core.proofs.Histories.{good_history}
+use Rattle.relay_core.proofs.Turns.{nothing_more}
+use Rattle.board_turns.specs.Between.{board_of, IsBetween}
+use Rattle.board_turns.specs.Ticking.{EndsDue, tick_entry, tick_made, AreDue, IsDueBy}
+use Rattle.board_turns.proofs.Stopped.{views_numbers}
+use Rattle.board_turns.proofs.Ticked.{same_truth}
+use Rattle.board_turns.proofs.Betweens.{Begins, Ended, begins_whole, nested_history, relates_put, turn_ends}
+
+-- Which calls ended, by the board that the turn leaves: the live ones that it no longer has.
+
+abbrev board_numbers : {I O : Type 0} → Part I O → List ℕ
+board_numbers (part.Board b) = map (λ (call : LiveCall). call.number) b.calls.items
+board_numbers _ = []
+
+abbrev pub calls_gone : {I O : Type 0} → List BoardEntry → Part I O → List Call
+calls_gone h x = filter (λ (c : Call). not (has (board_numbers x) c.number)) (live h)
+
+numbers_shown : (config : Config) (calls : List LiveCall) (cs : List CallView) → CallsFor config calls cs
+    → map (λ (call : LiveCall). call.number) calls ≡ map (λ (c : CallView). c.of.number) cs
+numbers_shown config [] [] for = refl
+numbers_shown config [] (c ∷ cs) for = absurd for
+numbers_shown config (call ∷ calls) [] for = absurd for
+numbers_shown config (call ∷ calls) (c ∷ cs) for =
+    let first = for.0.number_is in
+    let rest = numbers_shown config calls cs for.1 in
+    λ i. first i ∷ rest i
+
+-- a live call is among those that pass where its number is among theirs
+kept_is : (config : Config) (h : List BoardEntry) (q : Call → Bool) → IsFitting config h → (c : Call) → In c (live h)
+    → has (map (λ (d : Call). d.number) (filter q (live h))) c.number ≡ q c
+kept_is config h q fits c i =
+    same_truth (has (map (λ (d : Call). d.number) (filter q (live h))) c.number) (q c)
+    (λ t. let m = mapped (λ (d : Call). d.number) (filter q (live h)) (has_it c.number (map (λ (d : Call). d.number) (filter q (live h))) t) in
+    let f = filtered q (live h) m.is_in in
+    subst (λ (d : Call). q d ≡ true) (live_numbers config h m.from c fits f.0 i m.makes) f.1)
+    (λ t. it_has c.number (map (λ (d : Call). d.number) (filter q (live h))) (maps (λ (d : Call). d.number) (filter q (live h)) (keeps q (live h) i t)))
+
+twice : (b : Bool) → not (not b) ≡ b
+twice true = refl
+twice false = refl
+
+-- they are those that the tick ended
+pub gone_are : {I O : Type 0} (config : Config) (h : List BoardEntry) (now : ℕ) (calls : List Call) (x : Part I O) → IsFitting config h → calls ≡ named_live h calls
+    → BoardIs config x (tick_entry h now calls ∷ h) → calls_gone h x ≡ calls
+gone_are config h now calls (part.Board b) fits is stands =
+    let e = tick_entry h now calls in
+    let left : Call → Bool = λ (c : Call). not (has (map (λ (d : Call). d.number) calls) c.number) in
+    let still : live (e ∷ h) ≡ filter left (live h) = live_step h e ∙ nothing_more (filter left (live h)) in
+    let numbers : map (λ (call : LiveCall). call.number) b.calls.items ≡ map (λ (c : Call). c.number) (filter left (live h)) =
+    numbers_shown config b.calls.items (map (call_view (e ∷ h)) (live (e ∷ h))) stands.1.calls_for ∙ views_numbers (e ∷ h) (live (e ∷ h))
+    ∙ ap (map (λ (c : Call). c.number)) still in
+    filter_alike (λ (c : Call). not (has (map (λ (call : LiveCall). call.number) b.calls.items) c.number)) (λ (c : Call). has (map (λ (d : Call). d.number) calls) c.number) (live h)
+    (λ c i. ap (λ (ns : List ℕ). not (has ns c.number)) numbers ∙ ap not (kept_is config h left fits c i) ∙ twice (has (map (λ (d : Call). d.number) calls) c.number))
+    ∙ sym is
+gone_are config h now calls (part.Cell b) fits is stands = absurd stands
+gone_are config h now calls (part.Pair b) fits is stands = absurd stands
+
+-- The turn.
+
+module _ {M I O T : Type 0} {g : _} where
+  -- what the table records of the tick, by what the turn leaves
+  abbrev pub made_after : Hand M (Part I O) Made T g → ℕ → ℕ → Part I O → Made
+  made_after nested n now x = tick_made (board_history (made_by nested) n) now (calls_gone (board_history (made_by nested) n) x)
+
+  module _ (config : Config) (turns : Turns M (Part I O) Made T) (mid nested : Hand M (Part I O) Made T g) (turn : Turn M (Part I O) Made T) (now count : ℕ) (x : Part I O)
+      (told : Option (List PortCall)) (calls : List Call) (begins : Begins config turns mid turn)
+      (ends : EndsDue config (board_history (made_by mid) (front_of turn)) (front_of turn) (max now (last_moment (board_history (made_by mid) (front_of turn)))) mid nested count told calls)
+      (stands : BoardIs config x (tick_entry (board_history (made_by mid) (front_of turn)) now calls ∷ board_history (made_by mid) (front_of turn))) where
+    -- the nested entries of a tick change nothing of the board's history
+    same_history : board_history (made_by nested) (front_of turn) ≡ board_history (made_by mid) (front_of turn)
+    same_history =
+        let h = board_history (made_by mid) (front_of turn) in
+        nested_history config mid nested (front_of turn) (max now (last_moment h)) (front_of turn) (tick_entry h now calls) begins.orderly ends.named ends.gained
+
+    pub made_is : made_after nested (front_of turn) now x ≡ tick_made (board_history (made_by mid) (front_of turn)) now calls
+    made_is =
+        let h = board_history (made_by mid) (front_of turn) in
+        ap (λ (k : List BoardEntry). tick_made k now (calls_gone k x)) same_history
+        ∙ ap (tick_made h now) (gone_are config h now calls x (good_history config (made_by mid) begins.orderly (front_of turn)) ends.named stands)
+
+    -- the board that was taken relates to the one that ended the calls that were due
+    pub tick_relates : (it : I → Option (List InCall)) (ic : I → ℕ) (ot : O → Option (List OutCall)) (oc : O → ℕ) (old : Part I O)
+        → BoardIs config old (board_history (made_by mid) (front_of turn)) → Relates it ic ot oc old (made_after nested (front_of turn) now x) x
+    tick_relates it ic ot oc old was =
+        let h = board_history (made_by mid) (front_of turn) in
+        subst (λ (m : Made). Relates it ic ot oc old m x) (sym made_is)
+        (relates_put it ic ot oc config h old x (tick_made h now calls) (Tick calls) refl refl was refl ends.named stands)
+
+    -- the tick's entry was put
+    pub tick_ends : (old new : Hand M (Part I O) Made T g) (outcome : T) → IsBetween config turns old → IsSameHand old mid × (entries mid ≡ entries old) → GainsTurn 0 turn old mid
+        → IsSameHand mid nested × SameTurns mid nested → IsSameHand nested new
+        → EndsTurn (place_of turn) (front_of turn) (made_after nested (front_of turn) now x) outcome nested new
+        → Ended config turns old new (tick_entry (board_of (made_by old)) now calls)
+    tick_ends old new outcome b same turned sames again ended =
+        let h = board_history (made_by mid) (front_of turn) in
+        subst (λ (k : List BoardEntry). Ended config turns old new (tick_entry k now calls)) (begins_whole config turns old mid turn same.1 begins)
+        (turn_ends config turns old mid nested new turn (tick_made h now calls) outcome (Tick calls) (max now (last_moment h)) b same turned begins.above sames ends.gained refl refl refl
+        ends.named again (subst (λ (m : Made). EndsTurn (place_of turn) (front_of turn) m outcome nested new) made_is ended))
+
+  -- at the same number
+  pub at_front : (config : Config) (mid nested : Hand M (Part I O) Made T g) (number n now count : ℕ) (x : Part I O) (told : Option (List PortCall)) → number ≡ n
+      → (calls : List Call) × EndsDue config (board_history (made_by mid) number) number (max now (last_moment (board_history (made_by mid) number))) mid nested count told calls
+      × BoardIs config x (tick_entry (board_history (made_by mid) number) now calls ∷ board_history (made_by mid) number)
+      → (calls : List Call) × EndsDue config (board_history (made_by mid) n) n (max now (last_moment (board_history (made_by mid) n))) mid nested count told calls
+      × BoardIs config x (tick_entry (board_history (made_by mid) n) now calls ∷ board_history (made_by mid) n)
+  at_front config mid nested number n now count x told is ends =
+      subst (λ (k : ℕ). (calls : List Call)
+      × EndsDue config (board_history (made_by mid) k) k (max now (last_moment (board_history (made_by mid) k))) mid nested count told calls
+      × BoardIs config x (tick_entry (board_history (made_by mid) k) now calls ∷ board_history (made_by mid) k)) is ends
+
+  -- which calls are due is said of the hand before its turn
+  pub due_before_turn : (config : Config) (old mid : Hand M (Part I O) Made T g) (n now : ℕ) (calls : List Call) → IsSameHand old mid → entries mid ≡ entries old
+      → board_history (made_by mid) n ≡ board_of (made_by old)
+      → AreDue config (board_history (made_by mid) n) (max now (last_moment (board_history (made_by mid) n))) mid calls
+      → AreDue config (board_of (made_by old)) (max now (last_moment (board_of (made_by old)))) old calls
+  due_before_turn config old mid n now calls same list whole due all c i =
+      let moment = max now (last_moment (board_of (made_by old))) in
+      let by = subst (λ (h : List BoardEntry). AreDue config h (max now (last_moment h)) mid calls) whole due in
+      subst (λ (rows : List (table.Entry Made T)). IsDueBy config (list_of rows) c.cell moment (has (map (λ (d : Call). d.number) calls) c.number)) list (by (same.2 ∙ all) c i)

@@ -1,0 +1,6 @@
+use Rattle.turn_table.specs.Hands.{front_of, state_of}
+use Rattle.board_turns.proofs.TickTurns.{made_after}
+use Rattle.board_turns.proofs.ticking.tick_turn.Given as goal
+
+abbrev pub ghosts-put_tick : goal.ghosts-put_tick
+ghosts-put_tick g a = record { made = made_after a.hand.now (front_of a.turn) a.now (state_of a.turn) }

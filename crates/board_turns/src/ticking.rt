@@ -1,0 +1,219 @@
+//! The live calls that are due, ended in order, and the turn of the board in which a tick does so.
+ghost use Rattle.std.specs.Prelude.{◌≡◌, ◌≤◌, ◌<◌, ◌^◌, ℕ, max, List, [], ◌∷◌, if◌then◌else◌};
+ghost use Rattle.relay_outside.specs.declared.settings.Config.{Config};
+ghost use Rattle.relay_outside.specs.Told.{Gained, WhereTold};
+ghost use Rattle.turn_table.specs.Hands.{IsHandOf, IsMain, HasTurn, IsSameHand, SameTurns, EndsTurn, place_of, front_of, state_of, taken_of, entries, parts};
+ghost use Rattle.port_pool.specs.declared.holder.Holder.{Holder};
+ghost use Rattle.call_board.specs.Acts.{Call};
+ghost use Rattle.call_board.specs.Boards.{BoardFor, Shows, KeepsReplies, CellsApart};
+ghost use Rattle.call_board.specs.Pairs.{held};
+ghost use Rattle.call_board.specs.Views.{View, last_moment};
+ghost use Rattle.relay_core.specs.Entries.{board_history};
+ghost use Rattle.relay_core.specs.Legal.{Orderly};
+ghost use Rattle.relay_core.specs.Standing.{BoardIs};
+ghost use Rattle.relay_core.specs.Steps.{Relates};
+ghost use Rattle.relay_core.specs.Turning.{GainsNested, IsAbove, made_by};
+ghost use Rattle.media_ports.specs.Asked.{OpensNone};
+ghost use Rattle.media_ports.specs.Held.{OpensHeld, TellsHeld};
+ghost use Rattle.nested_steps.specs.Nesting.{MayNest};
+ghost use Rattle.board_turns.specs.Acting.{InTurn};
+ghost use Rattle.board_turns.specs.Between.{IsBetween, board_of};
+ghost use Rattle.board_turns.specs.Closing.{pairs_left};
+ghost use Rattle.board_turns.specs.Ending.{leg_pairs};
+ghost use Rattle.board_turns.specs.Ticking.{CanExpire, EndsDue, IsDueBy, Ticks, asking_of, tick_at, tick_entry, with_asked};
+ghost use Rattle.board_turns.specs.Ties.{Ties};
+
+use crate::ending::end_call;
+use crate::putting::put_entry;
+use call_board::Board;
+use call_cell::Gone;
+use nested_steps::{Nest, expire_cell};
+use relay_core::{Part, Relay, Says};
+use relay_outside::{Config, InEnd, OutEnd, PortMaker};
+use std::marker::Brand;
+use std::sync::Wait;
+use turn_table::{Hand, Turn, Turns};
+
+/// Asks the call at this place among the live ones, in order of their creation from 0, whether it is due, and ends it where it is.
+/// Whether it was due is answered.
+fn expire_call<P: PortMaker, R: Wait>(
+    rt: &R,
+    turns: &Turns<Relay<P::In, P::Out>>,
+    hand: &mut Hand<Relay<P::In, P::Out>>,
+    config: &Config,
+    nest: Nest,
+    board: &mut Board,
+    ports: &mut P,
+    gone: &mut Gone<P::Out>,
+    index: usize,
+) -> bool
+    requires may { MayNest config.now turns.now hand.old }
+    requires can { (of : Call) × (legs : List Holder) × CanExpire config.now (made_by hand.old) board.old (P.told ports.old) index of legs }
+    requires empty { gone.old ≡ [] }
+    ensures same { IsSameHand hand.old hand.new × SameTurns hand.old hand.new }
+    ensures may { MayNest config.now turns.now hand.new }
+    ensures gained { (of : Call) (legs : List Holder) → CanExpire config.now (made_by hand.old) board.old (P.told ports.old) index of legs →
+        GainsNested nest.number nest.moment (asking_of config.now of legs result) hand.old hand.new }
+    ensures asked { (of : Call) (legs : List Holder) → CanExpire config.now (made_by hand.old) board.old (P.told ports.old) index of legs →
+        (config : Config) (v : View) → Shows config board.old v → CellsApart v.calls → Shows config board.new (with_asked v of.number legs result) }
+    ensures open { (of : Call) (legs : List Holder) → CanExpire config.now (made_by hand.old) board.old (P.told ports.old) index of legs →
+        (held : List ℕ) → WhereTold (P.told ports.old) (λ calls. OpensHeld config.now calls held) →
+        WhereTold (P.told ports.new) (λ calls. OpensHeld config.now calls (if result then pairs_left (leg_pairs legs) held else held)) }
+    ensures due { (of : Call) (legs : List Holder) → CanExpire config.now (made_by hand.old) board.old (P.told ports.old) index of legs →
+        parts hand.old ≡ 1024 → IsDueBy config.now (made_by hand.old) of.cell nest.moment result }
+    ensures replies { KeepsReplies board.old board.new }
+    ensures closes { Gained (P.told ports.old) (P.told ports.new) OpensNone }
+    ensures ties { Ties config.now (P.told ports.old) (P.told ports.new) (entries hand.old) (entries hand.new) }
+    ensures later { P.faults ports.old ≤ P.faults ports.new }
+    ensures empty { gone.new ≡ [] }
+{
+    let call = board.call_at(index);
+    let cell = board.cell_at(index);
+    if !expire_cell(rt, turns, hand, config, nest, cell) {
+        return false;
+    }
+    end_call(rt, turns, hand, config, nest, board, ports, gone, call);
+    true
+}
+
+/// Asks each live call, in order of their creation, whether it is due at the moment of the board's turn, ends each that is, and answers
+/// how many: the board then stands for its history with the tick that ended these. `gone` is empty before and after. It takes no
+/// memory, and its work is linear in the live calls, but for what ending a call costs.
+pub fn expire_live<P: PortMaker, R: Wait>(
+    rt: &R,
+    turns: &Turns<Relay<P::In, P::Out>>,
+    hand: &mut Hand<Relay<P::In, P::Out>>,
+    config: &Config,
+    nest: Nest,
+    board: &mut Board,
+    ports: &mut P,
+    gone: &mut Gone<P::Out>,
+) -> usize
+    requires turn { InTurn config.now turns.now hand.old nest board.old (P.told ports.old) }
+    requires empty { gone.old ≡ [] }
+    ensures same { IsSameHand hand.old hand.new × SameTurns hand.old hand.new }
+    ensures may { MayNest config.now turns.now hand.new }
+    ensures ends { let h = board_history (made_by hand.old) nest.number in
+        (calls : List Call) × EndsDue config.now h nest.number nest.moment hand.old hand.new result (P.told ports.new) calls × BoardFor config.now board.new (tick_at nest.moment calls ∷ h) }
+    ensures replies { KeepsReplies board.old board.new }
+    ensures closes { Gained (P.told ports.old) (P.told ports.new) OpensNone }
+    ensures ties { Ties config.now (P.told ports.old) (P.told ports.new) (entries hand.old) (entries hand.new) }
+    ensures later { P.faults ports.old ≤ P.faults ports.new }
+    ensures empty { gone.new ≡ [] }
+{
+    let count = board.live_count();
+    let mut ended = 0;
+    for asked in 0..count {
+        if expire_call(
+            rt,
+            turns,
+            hand,
+            config,
+            nest,
+            board,
+            ports,
+            gone,
+            asked - ended,
+        ) {
+            ended += 1;
+        }
+    }
+    ended
+}
+
+/// Ends the live calls that are due on the board of the place, in the turn of the board with this number.
+fn tick_part<P: PortMaker, R: Wait>(
+    rt: &R,
+    turns: &Turns<Relay<P::In, P::Out>>,
+    hand: &mut Hand<Relay<P::In, P::Out>>,
+    config: &Config,
+    number: u64,
+    part: &mut Part<P::In, P::Out>,
+    ports: &mut P,
+    gone: &mut Gone<P::Out>,
+    now: u64,
+) -> usize
+    requires may { MayNest config.now turns.now hand.old }
+    requires above { IsAbove (made_by hand.old) 0 number }
+    requires low { number < 2 ^ 56 }
+    requires orderly { Orderly config.now (made_by hand.old) }
+    requires board { BoardIs config.now part.old (board_history (made_by hand.old) number) }
+    requires open { TellsHeld config.now (P.told ports.old) (leg_pairs (held (board_history (made_by hand.old) number))) }
+    requires empty { gone.old ≡ [] }
+    ensures same { IsSameHand hand.old hand.new × SameTurns hand.old hand.new }
+    ensures may { MayNest config.now turns.now hand.new }
+    ensures ends { let h = board_history (made_by hand.old) number in
+        (calls : List Call) × EndsDue config.now h number (max now (last_moment h)) hand.old hand.new result (P.told ports.new) calls × BoardIs config.now part.new (tick_entry h now calls ∷ h) }
+    ensures closes { Gained (P.told ports.old) (P.told ports.new) OpensNone }
+    ensures ties { Ties config.now (P.told ports.old) (P.told ports.new) (entries hand.old) (entries hand.new) }
+    ensures later { P.faults ports.old ≤ P.faults ports.new }
+    ensures empty { gone.new ≡ [] }
+{
+    match part {
+        Part::Board(board) => {
+            let moment = board.advance(now);
+            let nest = Nest { number, moment };
+            expire_live(rt, turns, hand, config, nest, board, ports, gone)
+        }
+        Part::Cell(_) => unreachable!(),
+        Part::Pair(_) => unreachable!(),
+    }
+}
+
+/// Ends the board's turn with the step that X says, which was handed this moment.
+fn put_tick<I: InEnd, O: OutEnd, X: Says>(
+    turns: &Turns<Relay<I, O>>,
+    hand: &mut Hand<Relay<I, O>>,
+    turn: Turn<Relay<I, O>>,
+    now: u64,
+)
+    requires table { IsHandOf turns.now hand.old × IsMain hand.old }
+    requires turn { HasTurn hand.old turn }
+    requires step { Relates I.told I.faults O.told O.faults (taken_of turn) X.made (state_of turn) }
+    requires handed { X.made.handed ≡ now }
+    ensures same { IsSameHand hand.old hand.new }
+    ensures entry { EndsTurn (place_of turn) (front_of turn) X.made tt hand.old hand.new }
+{
+    put_entry::<I, O, X>(turns, hand, turn);
+}
+
+/// Makes a tick in a turn of the board: each live call is asked, in order of their creation, whether it is due, and ends where it is; then
+/// the board's entry of the tick is made. It answers how many calls ended. `now` is in milliseconds; a moment before that of the board's
+/// last entry counts as that one. `gone` is empty before and after. Between its steps the main hand waits for lanes; it takes no memory.
+pub fn tick_turn<P: PortMaker, R: Wait>(
+    rt: &R,
+    turns: &Turns<Relay<P::In, P::Out>>,
+    hand: &mut Hand<Relay<P::In, P::Out>>,
+    config: &Config,
+    ports: &mut P,
+    gone: &mut Gone<P::Out>,
+    now: u64,
+) -> usize
+    requires between { IsBetween config.now turns.now hand.old }
+    requires open { TellsHeld config.now (P.told ports.old) (leg_pairs (held (board_of (made_by hand.old)))) }
+    requires empty { gone.old ≡ [] }
+    ensures same { IsSameHand hand.old hand.new }
+    ensures between { IsBetween config.now turns.now hand.new }
+    ensures ticks { Ticks config.now hand.old hand.new now result }
+    ensures open { TellsHeld config.now (P.told ports.new) (leg_pairs (held (board_of (made_by hand.new)))) }
+    ensures closes { Gained (P.told ports.old) (P.told ports.new) OpensNone }
+    ensures ties { Ties config.now (P.told ports.old) (P.told ports.new) (entries hand.old) (entries hand.new) }
+    ensures later { P.faults ports.old ≤ P.faults ports.new }
+    ensures empty { gone.new ≡ [] }
+{
+    let mut turn = turns.turn(rt, hand, 0);
+    let number = turn.front();
+    let ended = tick_part(
+        rt,
+        turns,
+        hand,
+        config,
+        number,
+        turn.state(),
+        ports,
+        gone,
+        now,
+    );
+    put_tick::<P::In, P::Out, Brand>(turns, hand, turn, now);
+    ended
+}
