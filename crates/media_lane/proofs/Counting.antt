@@ -206,6 +206,13 @@ module _ {I O : Type 0} {gi : _} {go : _} {gm : _} where
           ∙ ap (λ (index : ℕ). one_if (is_own (config_of a) index (lanes_of b) pair)) first.same.index_is
           ∙ ap (λ (lanes : ℕ). one_if (is_own (config_of a) (index_of a) lanes pair)) first.same.lanes_is
 
+  -- the same lane and the same progress
+  pub covers_is : (range : Option (ℕ × ℕ)) (old mid new : Lane I O gi go gm) (before after progress : Progress) → new ≡ mid → progress ≡ after
+      → Covers range old mid before after → Covers range old new before progress
+  covers_is range old mid new before after progress lane_is progress_is c =
+      subst (λ (lane : Lane I O gi go gm). Covers range old lane before progress) (sym lane_is)
+      (subst (λ (p : Progress). Covers range old mid before p) (sym progress_is) c)
+
   -- what is marked stays so
   pub stays_marked : (range : Option (ℕ × ℕ)) (old new : Lane I O gi go gm) (before after : Progress) (pair : ℕ) (half : Half) → Covers range old new before after
       → is_marked before.visited pair half ≡ true → is_marked after.visited pair half ≡ true

@@ -1,5 +1,5 @@
 //! The part of a sweep that goes by hints: where datagrams stand, first.
-ghost use Rattle.std.specs.Prelude.{◌≡◌, ◌<◌, ◌≤◌, ◌%◌, ℕ, MatchOption};
+ghost use Rattle.std.specs.Prelude.{◌≡◌, ◌<◌, ◌≤◌, ◌%◌, ◌*◌, ◌+◌, ◌/◌, ℕ, MatchOption};
 ghost use Rattle.rtp_packet.specs.declared.head.Half.{Half};
 ghost use Rattle.port_pool.specs.Ports as ports;
 ghost use Rattle.port_pool.specs.Ports.{pair_count, half_port};
@@ -8,6 +8,7 @@ ghost use Rattle.media_lane.specs.Lanes.{hand_of, config_of, index_of, lanes_of}
 ghost use Rattle.media_lane.specs.Covering.{Covers};
 
 use crate::lane::Lane;
+use crate::order::Order;
 use crate::sweeping::Progress;
 use relay_core::Relay;
 use relay_outside::{Clock, Config, Gate, InEnd, OutEnd};
@@ -15,12 +16,12 @@ use rtp_packet::Half;
 use std::sync::Wait;
 use turn_table::Turns;
 
-/// For how many milliseconds a sweep goes by hints. All halves that no hint names wait so long at the most, and so does a thread that
-/// is told to stop: a lost or a wrong hint costs time and nothing else.
-const LONGEST_MILLIS: u64 = 200;
+/// How often a sweep looks for hints at the most. It visits a half each time, or as many cold ones as follow: with a half for each port
+/// it never looks so often.
+const MOST_LOOKS: u32 = 131_072;
 
-/// How many halves there are at the most, one for each port: a sweep visits no half twice, so it asks no more often.
-const MOST_HALVES: u32 = 65_536;
+/// How many halves are looked at in one pause, for cold ones: a packet that comes meanwhile waits for so many visits at the most.
+const COLD_HALVES: u32 = 64;
 
 /// The first even port of the range.
 fn first_port(config: &Config) -> u32
@@ -58,8 +59,26 @@ impl<I: InEnd, O: OutEnd> Lane<I, O> {
         Some((pair, half))
     }
 
+    /// The lane's own half with this number, from the lowest pair upwards, its half for RTP first; `None` behind the last.
+    fn own_half(&self, number: u32) -> Option<(u32, Half)>
+        ensures { MatchOption result
+            (pair_count (config_of self.now) ≤ index_of self.now + lanes_of self.now * (number / 2))
+            (λ at. (at.0 < pair_count (config_of self.now)) × (at.0 < 32768) × (at.0 ≡ index_of self.now + lanes_of self.now * (number / 2)) × (at.0 % lanes_of self.now ≡ index_of self.now)) }
+    {
+        let pair = u64::from(self.index) + u64::from(self.lanes) * u64::from(number / 2);
+        if pair >= u64::from(count_pairs(&self.config)) {
+            return None;
+        }
+        let half = if number % 2 == 0 {
+            Half::Rtp
+        } else {
+            Half::Rtcp
+        };
+        Some((pair as u32, half))
+    }
+
     /// Visits the halves with these ports in turn, up to the first port that isn't of an own pair or whose half was visited before.
-    /// Answers whether there was no such port.
+    /// Answers whether there was no such port, and halves may be left.
     fn visit_ports<W: Wait, G: Gate, C: Clock>(
         &mut self,
         rt: &W,
@@ -67,6 +86,7 @@ impl<I: InEnd, O: OutEnd> Lane<I, O> {
         gate: &G,
         clock: &C,
         ports: &[u16],
+        order: &mut Order,
         progress: &mut Progress,
     ) -> bool
         requires { IsHandOf turns.now (hand_of self.old) }
@@ -79,39 +99,70 @@ impl<I: InEnd, O: OutEnd> Lane<I, O> {
             if !self.visit_once(rt, turns, gate, clock, pair, half, progress) {
                 return false;
             }
+            order.note(pair, half);
+        }
+        !order.is_over()
+    }
+
+    /// Visits the cold ones among the next own halves. Answers whether halves may be left.
+    fn visit_cold<W: Wait, G: Gate, C: Clock>(
+        &mut self,
+        rt: &W,
+        turns: &Turns<Relay<I, O>>,
+        gate: &G,
+        clock: &C,
+        order: &mut Order,
+        progress: &mut Progress,
+    ) -> bool
+        requires { IsHandOf turns.now (hand_of self.old) }
+        ensures { Covers (C.range clock.now) self.old self.new progress.old progress.new }
+    {
+        for _ in 0..COLD_HALVES {
+            let Some((pair, half)) = self.own_half(order.look()) else {
+                order.warm(clock.now());
+                return !order.is_over();
+            };
+            if !order.is_hot(pair, half) {
+                self.visit_once(rt, turns, gate, clock, pair, half, progress);
+            } else if !progress.visited.has(pair, half) {
+                order.leave();
+            }
         }
         true
     }
 
-    /// Visits halves in the order in which the clock hints that datagrams stand at their ports, and waits for such hints.
+    /// Visits halves in the order in which the clock hints that datagrams stand at their ports, and cold halves in the pauses between,
+    /// once there was a hint; waits for hints. Halves may be left.
     ///
     /// A hint is never trusted: it only chooses which half is visited next. A port that isn't of an own pair ends this part. So does
     /// one whose half this sweep has visited: each half is visited once a sweep, so the sooner this sweep ends, the sooner that half
-    /// is visited again. A clock that knows nothing hints at nothing, and ends it at once.
+    /// is visited again. By then few are left where the halves are hinted in turn: their datagrams don't wait for visits of the others,
+    /// as these were made in the pauses. A clock that knows nothing hints at nothing, and ends this part at once.
     pub(crate) fn visit_hinted<W: Wait, G: Gate, C: Clock>(
         &mut self,
         rt: &W,
         turns: &Turns<Relay<I, O>>,
         gate: &G,
         clock: &C,
+        order: &mut Order,
         progress: &mut Progress,
     )
         requires { IsHandOf turns.now (hand_of self.old) }
         ensures { Covers (C.range clock.now) self.old self.new progress.old progress.new }
     {
-        let begun = clock.now();
         let mut ports = [0; 64];
-        for _ in 0..MOST_HALVES {
-            let gone = clock.now().saturating_sub(begun);
-            if gone >= LONGEST_MILLIS {
+        for _ in 0..MOST_LOOKS {
+            let wait = order.wait_millis(clock.now());
+            let count = clock.ready(self.index, wait, &mut ports).min(ports.len());
+            if count == 0 && order.is_idle() {
                 return;
             }
-            let left = (LONGEST_MILLIS - gone) as u32;
-            let count = clock.ready(self.index, left, &mut ports).min(ports.len());
-            if count == 0 {
-                return;
-            }
-            if !self.visit_ports(rt, turns, gate, clock, &ports[..count], progress) {
+            let goes_on = if count == 0 {
+                self.visit_cold(rt, turns, gate, clock, order, progress)
+            } else {
+                self.visit_ports(rt, turns, gate, clock, &ports[..count], order, progress)
+            };
+            if !goes_on {
                 return;
             }
         }

@@ -6,8 +6,8 @@
 //!
 //! Module `receipt` has what a take gave, `answers` what the calls answer, `lane` the lane, `receiving` and `relaying` its two
 //! steps, `sweeping` a round over its pairs, which may wait and keeps each datagram in the lane's room, `hinted` its part that goes
-//! by the clock's hints, `visited` the halves that it was at, `looping` sweep after sweep until the lane is told to end, `puts` the
-//! way to put each kind of turn, `laws` what callers know.
+//! by the clock's hints, `order` when that visits what, and how long it waits, `visited` the halves that it was at, `looping` sweep
+//! after sweep until the lane is told to end, `puts` the way to put each kind of turn, `laws` what callers know.
 //!
 //! `specs/Starts.antt` says what the places of a lane's table begin as, `specs/Lanes.antt` what contracts see in a lane,
 //! `specs/Receipts.antt` what a receipt of a hand's list is, `specs/Busy.antt` what a busy call does, `specs/Taking.antt` and
@@ -20,6 +20,7 @@ mod hinted;
 mod lane;
 mod laws;
 mod looping;
+mod order;
 mod puts;
 mod receipt;
 mod receiving;

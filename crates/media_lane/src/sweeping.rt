@@ -13,6 +13,7 @@ ghost use Rattle.media_lane.specs.Sweeping.{VisitsOnce, Sweeps};
 use crate::answers::Totals;
 use crate::hinted::count_pairs;
 use crate::lane::Lane;
+use crate::order::Order;
 use crate::receiving::packet_in;
 use crate::visited::Visited;
 use call_cell::Outcome;
@@ -137,7 +138,7 @@ impl<I: InEnd, O: OutEnd> Lane<I, O> {
     /// the clock's hints, 200 milliseconds at the most.
     ///
     /// The halves at whose ports the clock hints come first, in the order of its hints, and then all others, from the lowest pair
-    /// upwards.
+    /// upwards; some of these before, where the hints pause.
     pub fn sweep<W: Wait, G: Gate, C: Clock>(
         &mut self,
         rt: &W,
@@ -150,11 +151,29 @@ impl<I: InEnd, O: OutEnd> Lane<I, O> {
         ensures swept { Sweeps (config_of self.old) (index_of self.old) (lanes_of self.old) (C.range clock.now) (hand_of self.old) (hand_of self.new) result }
         ensures list { KeepsList (config_of self.old) (list_of self.old) (list_of self.new) }
     {
+        self.sweep_in(rt, turns, gate, clock, &mut Order::new())
+    }
+
+    /// Does what `sweep` does, and keeps for the next sweep what order this one had.
+    pub(crate) fn sweep_in<W: Wait, G: Gate, C: Clock>(
+        &mut self,
+        rt: &W,
+        turns: &Turns<Relay<I, O>>,
+        gate: &G,
+        clock: &C,
+        order: &mut Order,
+    ) -> Totals
+        requires { IsHandOf turns.now (hand_of self.old) }
+        ensures same { IsSameLane self.old self.new }
+        ensures swept { Sweeps (config_of self.old) (index_of self.old) (lanes_of self.old) (C.range clock.now) (hand_of self.old) (hand_of self.new) result }
+        ensures list { KeepsList (config_of self.old) (list_of self.old) (list_of self.new) }
+    {
+        order.begin(clock.now());
         let mut progress = Progress {
             visited: Visited::none(),
             totals: Totals::none(),
         };
-        self.visit_hinted(rt, turns, gate, clock, &mut progress);
+        self.visit_hinted(rt, turns, gate, clock, order, &mut progress);
         self.visit_rest(rt, turns, gate, clock, &mut progress);
         progress.totals
     }

@@ -1,15 +1,30 @@
-use Rattle.media_lane.proofs.Counting.{covers_nothing, covers_both}
+use Rattle.media_lane.proofs.Counting.{covers_nothing, covers_both, covers_is}
 use Rattle.media_lane.proofs.lane.Lane.visit_hinted.Goals as goal
+use Rattle.media_lane.proofs.lane.Lane.visit_hinted.Goals.{then-count-eq0-2, else-count-eq0-2}
 
 pub loop-init : goal.loop-init
 loop-init g c = covers_nothing (g.C.Clock.range c.args.clock.now) c.args.self.now c.args.progress.now
 
-pub returns-then-not-visit_ports : goal.returns-then-not-visit_ports
-returns-then-not-visit_ports g c =
-    covers_both (g.C.Clock.range c.args.clock.now) c.args.self.now c.loop.self c.visit_ports.new.self c.args.progress.now c.loop.progress c.visit_ports.new.progress
-    c.loop.invariant c.visit_ports.ensures
+pub returns-then-not-goes_on : goal.returns-then-not-goes_on
+returns-then-not-goes_on g c =
+    let range = g.C.Clock.range c.args.clock.now in
+    let lane = c.args.self.now in
+    let progress = c.args.progress.now in
+    elim c.if-count-eq0-2.branch [
+      | then-count-eq0-2 w ↦ covers_is range lane w.visit_cold-goes_on.new.self _ progress w.visit_cold-goes_on.new.progress _ w.self-is w.progress-is
+          (covers_both range lane c.loop.self w.visit_cold-goes_on.new.self progress c.loop.progress w.visit_cold-goes_on.new.progress c.loop.invariant w.visit_cold-goes_on.ensures)
+      | else-count-eq0-2 w ↦ covers_is range lane w.visit_ports-goes_on.new.self _ progress w.visit_ports-goes_on.new.progress _ w.self-is w.progress-is
+          (covers_both range lane c.loop.self w.visit_ports-goes_on.new.self progress c.loop.progress w.visit_ports-goes_on.new.progress c.loop.invariant w.visit_ports-goes_on.ensures)
+    ]
 
 pub loop-preserved : goal.loop-preserved
 loop-preserved g c =
-    covers_both (g.C.Clock.range c.args.clock.now) c.args.self.now c.loop.self c.visit_ports.new.self c.args.progress.now c.loop.progress c.visit_ports.new.progress
-    c.loop.invariant c.visit_ports.ensures
+    let range = g.C.Clock.range c.args.clock.now in
+    let lane = c.args.self.now in
+    let progress = c.args.progress.now in
+    elim c.if-count-eq0-2.branch [
+      | then-count-eq0-2 w ↦ covers_is range lane w.visit_cold-goes_on.new.self _ progress w.visit_cold-goes_on.new.progress _ w.self-is w.progress-is
+          (covers_both range lane c.loop.self w.visit_cold-goes_on.new.self progress c.loop.progress w.visit_cold-goes_on.new.progress c.loop.invariant w.visit_cold-goes_on.ensures)
+      | else-count-eq0-2 w ↦ covers_is range lane w.visit_ports-goes_on.new.self _ progress w.visit_ports-goes_on.new.progress _ w.self-is w.progress-is
+          (covers_both range lane c.loop.self w.visit_ports-goes_on.new.self progress c.loop.progress w.visit_ports-goes_on.new.progress c.loop.invariant w.visit_ports-goes_on.ensures)
+    ]

@@ -2,7 +2,7 @@ use Rattle.std.proofs.Common.{sym, ◌∙◌, ap, subst, ℕ, ◌%◌, ◌<◌}
 use Rattle.relay_outside.specs.declared.settings.Config.{Config}
 use Rattle.port_pool.specs.Ports.{pair_count}
 use Rattle.media_lane.proofs.Counting.{covers_both, sweeps_all}
-use Rattle.media_lane.proofs.lane.Lane.sweep.Goals as goal
+use Rattle.media_lane.proofs.lane.Lane.sweep_in.Goals as goal
 
 pub returns : goal.returns
 returns g c =

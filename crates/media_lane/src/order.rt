@@ -1,0 +1,161 @@
+//! In which order a lane's sweeps visit its halves, and for how long each waits for hints.
+ghost use Rattle.std.specs.Prelude.{◌≡◌, ◌<◌, ◌||◌};
+ghost use Rattle.media_lane.specs.Visited.{is_marked};
+
+use crate::visited::Visited;
+use rtp_packet::Half;
+use std::mem;
+
+/// For how many milliseconds a sweep waits for hints. All halves that no hint names wait so long at the most from one sweep to the next,
+/// and so does a thread that is told to stop: a lost or a wrong hint costs time and nothing else.
+const LONGEST_MILLIS: u32 = 200;
+
+/// For how many milliseconds hints alone tell what is visited. Streams send every 20 milliseconds, some every 10: the visits of cold
+/// halves that follow are over before the first half is hinted a second time.
+const HINTS_MILLIS: u32 = 5;
+
+/// How far a sweep has come in its order.
+#[derive(Drop)]
+enum Stage {
+    /// No half was hinted.
+    Quiet,
+    /// Hinted halves alone were visited.
+    Hinted,
+    /// Cold halves are visited too, a few at a time, wherever the clock has no hint.
+    Cold,
+    /// All cold halves were visited.
+    Warm,
+}
+
+/// The order of a lane's sweeps: hot halves are those that were hinted of late, and are left to their hints; all others are cold. It
+/// takes no memory, and nothing but time rests on it.
+#[derive(Drop)]
+pub(crate) struct Order {
+    /// The halves that were hinted since they were last set aside.
+    newer: Visited,
+    /// Those that were hinted in the time before.
+    older: Visited,
+    /// When the newer ones were last set aside, in the clock's milliseconds.
+    aside: u64,
+    /// When this sweep began.
+    begun: u64,
+    /// When all cold halves had been visited last.
+    warmed: u64,
+    stage: Stage,
+    /// Whether the last sweep was hinted at halves.
+    was_hinted: bool,
+    /// Whether this one was.
+    is_hinted: bool,
+    /// How many of the lane's own halves were looked at for a cold one.
+    looked: u32,
+    /// How many hot ones among them wait for their hints.
+    left: u32,
+}
+
+// How many milliseconds have gone since this moment.
+fn gone(since: u64, now: u64) -> u32 {
+    u32::try_from(now.saturating_sub(since)).unwrap_or(u32::MAX)
+}
+
+impl Order {
+    /// The order of a lane that knows of no hint.
+    pub(crate) fn new() -> Order {
+        Order {
+            newer: Visited::none(),
+            older: Visited::none(),
+            aside: 0,
+            begun: 0,
+            warmed: 0,
+            stage: Stage::Quiet,
+            was_hinted: false,
+            is_hinted: false,
+            looked: 0,
+            left: 0,
+        }
+    }
+
+    /// A sweep begins. Hints that are older than two waits are forgotten.
+    pub(crate) fn begin(&mut self, now: u64) {
+        if gone(self.aside, now) >= LONGEST_MILLIS {
+            self.older = mem::replace(&mut self.newer, Visited::none());
+            self.aside = now;
+        }
+        match self.stage {
+            Stage::Warm => {}
+            // (the end of that sweep visited them)
+            _ => self.warmed = now,
+        }
+        self.begun = now;
+        self.stage = Stage::Quiet;
+        self.was_hinted = self.is_hinted;
+        self.is_hinted = false;
+        self.looked = 0;
+        self.left = 0;
+    }
+
+    /// For how many milliseconds the sweep waits for the next hint.
+    ///
+    /// Cold halves are visited from 5 milliseconds after the sweep's begin. But where the last sweep had no hint, it isn't known
+    /// which halves are hot: then they are visited in a pause of 5 milliseconds, so that this sweep hears of many hot ones before.
+    pub(crate) fn wait_millis(&self, now: u64) -> u32 {
+        let rest = LONGEST_MILLIS.saturating_sub(gone(self.begun.min(self.warmed), now));
+        match self.stage {
+            Stage::Quiet | Stage::Warm => rest,
+            Stage::Hinted if self.was_hinted => {
+                HINTS_MILLIS.saturating_sub(gone(self.begun, now)).min(rest)
+            }
+            Stage::Hinted => HINTS_MILLIS.min(rest),
+            Stage::Cold => 0,
+        }
+    }
+
+    /// Whether this half was hinted of late.
+    pub(crate) fn is_hot(&self, pair: u32, half: Half) -> bool
+        requires { pair < 32768 }
+        ensures { result ≡ (is_marked self.now.newer pair half || is_marked self.now.older pair half) }
+    {
+        self.newer.has(pair, half) || self.older.has(pair, half)
+    }
+
+    /// A half was visited since it was hinted.
+    pub(crate) fn note(&mut self, pair: u32, half: Half)
+        requires { pair < 32768 }
+    {
+        self.newer.mark(pair, half);
+        self.is_hinted = true;
+        match self.stage {
+            Stage::Quiet => self.stage = Stage::Hinted,
+            Stage::Warm => self.left = self.left.saturating_sub(1),
+            Stage::Hinted | Stage::Cold => {}
+        }
+    }
+
+    /// Whether the sweep has nothing to do in a pause: it had no hint at all, or has visited all cold halves.
+    pub(crate) fn is_idle(&self) -> bool {
+        matches!(self.stage, Stage::Quiet | Stage::Warm)
+    }
+
+    /// Whether no half is known to be left.
+    pub(crate) fn is_over(&self) -> bool {
+        matches!(self.stage, Stage::Warm) && self.left == 0
+    }
+
+    /// The number of the next of the lane's own halves that is looked at for a cold one, from 0.
+    pub(crate) fn look(&mut self) -> u32 {
+        let number = self.looked;
+        self.looked = number.saturating_add(1);
+        self.stage = Stage::Cold;
+        number
+    }
+
+    /// A hot half that wasn't visited is left to its hint.
+    pub(crate) fn leave(&mut self) {
+        self.left = self.left.saturating_add(1);
+    }
+
+    /// All cold halves were visited.
+    pub(crate) fn warm(&mut self, now: u64) {
+        self.stage = Stage::Warm;
+        self.warmed = now;
+    }
+}
