@@ -11,7 +11,7 @@ use Rattle.media_lane.specs.declared.answers.Totals.{Totals}
 use Rattle.media_lane.specs.Receipts.{KeepsList}
 use Rattle.media_lane.specs.Visits.{Row, Visit, rows_of, all_rows, has_packet, ends_with, is_sent, is_refused, is_lost, count, AreTotals}
 use Rattle.media_lane.specs.Sweeping.{Sweeps}
-use Rattle.media_lane.specs.Looping.{sum_of, AddsTotals, IsSweep, visits_of, MakesSweeps}
+use Rattle.media_lane.specs.Looping.{sum_of, AddsTotals, visits_of, MakesSweeps}
 use Rattle.media_lane.proofs.Visiting.{keeps_both, list_append}
 
 rows_both : (config : Config) (vs ws : List Visit) → all_rows config (vs ++ ws) ≡ all_rows config vs ++ all_rows config ws

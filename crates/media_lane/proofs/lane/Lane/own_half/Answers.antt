@@ -7,14 +7,13 @@ pub returns : goal.returns
 returns g c =
     let lane = c.args.self.now in
     let pair_is : c.from.result + c.from-2.result * c.from-3.result ≡ index_of lane + lanes_of lane * (c.args.number / 2) =
-        ap (λ (n : ℕ). n + c.from-2.result * c.from-3.result) c.from.ensures
-        ∙ ap (λ (n : ℕ). index_of lane + n * c.from-3.result) c.from-2.ensures
-        ∙ ap (λ (n : ℕ). index_of lane + lanes_of lane * n) c.from-3.ensures in
+    ap (λ (n : ℕ). n + c.from-2.result * c.from-3.result) c.from.ensures
+    ∙ ap (λ (n : ℕ). index_of lane + n * c.from-3.result) c.from-2.ensures
+    ∙ ap (λ (n : ℕ). index_of lane + lanes_of lane * n) c.from-3.ensures in
     let below = c.if-pair-from.false in
     let counted = c.from-4.ensures in
     let count = c.count_pairs.ensures.count in
-    let within = c.count_pairs.ensures.within in
-    (
+    let within = c.count_pairs.ensures.within in (
       omega (arith, below, counted, count),
       omega (arith, below, counted, within),
       pair_is,
