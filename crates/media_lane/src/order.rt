@@ -10,9 +10,8 @@ use std::mem;
 /// and so does a thread that is told to stop: a lost or a wrong hint costs time and nothing else.
 const LONGEST_MILLIS: u32 = 200;
 
-/// For how many milliseconds hints alone tell what is visited. Streams send every 20 milliseconds, some every 10: the visits of cold
-/// halves that follow are over before the first half is hinted a second time.
-const HINTS_MILLIS: u32 = 5;
+/// How long a pause must be for visits of cold halves, where it isn't known which halves are hot, in milliseconds.
+const PAUSE_MILLIS: u32 = 5;
 
 /// How far a sweep has come in its order.
 #[derive(Drop)]
@@ -95,17 +94,15 @@ impl Order {
 
     /// For how many milliseconds the sweep waits for the next hint.
     ///
-    /// Cold halves are visited from 5 milliseconds after the sweep's begin. But where the last sweep had no hint, it isn't known
-    /// which halves are hot: then they are visited in a pause of 5 milliseconds, so that this sweep hears of many hot ones before.
+    /// Once there was one, a sweep only looks for hints, and visits cold halves where it finds none. But where the last sweep had no
+    /// hint, it isn't known which halves are hot: then cold ones are visited from the first pause of 5 milliseconds on, so that this
+    /// sweep hears of many hot ones before.
     pub(crate) fn wait_millis(&self, now: u64) -> u32 {
         let rest = LONGEST_MILLIS.saturating_sub(gone(self.begun.min(self.warmed), now));
         match self.stage {
             Stage::Quiet | Stage::Warm => rest,
-            Stage::Hinted if self.was_hinted => {
-                HINTS_MILLIS.saturating_sub(gone(self.begun, now)).min(rest)
-            }
-            Stage::Hinted => HINTS_MILLIS.min(rest),
-            Stage::Cold => 0,
+            Stage::Hinted if !self.was_hinted => PAUSE_MILLIS.min(rest),
+            Stage::Hinted | Stage::Cold => 0,
         }
     }
 
