@@ -1,4 +1,5 @@
 mod Counts
+mod Departures
 mod Ends
 mod Loops
 pub mod MediaThreads

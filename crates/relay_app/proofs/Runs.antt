@@ -105,6 +105,7 @@ module _ (l0 l1 l2 : Option (List LinkCall)) (t0 t1 : Option (List ℕ)) (o0 o1 
       causes = λ entry given i is. (let c = served.told.causes entry given i is in record { port_fault = c.port_fault; key_fault = c.key_fault });
     };
     ends = served.ends;
+    all_sent = served.all_sent;
     opens_same = served.opens_same;
   }
 

@@ -33,6 +33,7 @@ use Rattle.relay_app.specs.Run.{OpensNone, TellsNone}
 use Rattle.relay_app.specs.Served.{Outside, HaveCauses, openings, DidServe}
 use Rattle.relay_app.specs.declared.serve.Looped.{Looped}
 use Rattle.relay_app.specs.Turned.{AddsSweep, DidTurns, CanWork, DidWork, MadeTurns}
+use Rattle.relay_app.proofs.Departures.{is_sent}
 use Rattle.relay_app.proofs.Ends.{whole_ends, opens_same}
 use Rattle.relay_app.proofs.Orders.{AreOfLane, whole_in_order}
 use Rattle.relay_app.proofs.Tied.{run_tied}
@@ -105,6 +106,7 @@ ran_whole limit config threads range l0 l1 t0 t1 o0 o1 o2 k0 k1 p0 p1 p2 q0 q1 e
         causes = stopped_causes (history_after config turns.rounds) _ _ refl refl later refl turns.told.causes;
       };
       ends = whole_ends config threads range turns.rounds totals run in_ends whole.2 o0 o2 tied;
+      all_sent = λ e x w i is sending. is_sent config run.list (history_after config turns.rounds) run.legal run.safe run.board_is e x w i is sending;
       opens_same = opens_same config o0 o2 (gained_less o0 o2 (AreTied config run.rows) (λ calls. All (IsOfPair config) calls) (λ calls these. these.of_pairs) tied) shut shut_again;
     }
 

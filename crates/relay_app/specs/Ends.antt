@@ -2,16 +2,18 @@
 use Rattle.std.specs.Prelude.{◌≡◌, ◌↔◌, ◌<◌, ◌==◌, ℕ, All, List, [], ◌∷◌, ◌++◌, Option, Some, None, if◌then◌else◌}
 use Rattle.relay_outside.specs.declared.address.Addr.{Addr}
 use Rattle.relay_outside.specs.declared.ports.OutCall.{OutCall}
+use Rattle.relay_outside.specs.declared.ports.OutCall.TheVariants as out
 use Rattle.relay_outside.specs.declared.ports.PortCall.{PortCall}
 use Rattle.relay_outside.specs.declared.settings.Config.{Config}
 use Rattle.relay_outside.specs.Ports.{IsOpen, taken_at, sent_at}
 use Rattle.relay_outside.specs.Told.{WhereTold}
 use Rattle.rtp_packet.specs.declared.head.Half.{Half}
+use Rattle.histories.specs.Words.{In}
 use Rattle.port_pool.specs.declared.holder.Holder.{Holder}
 use Rattle.port_pool.specs.Ports.{pair_count}
 use Rattle.media_ports.specs.Addresses.{port_address}
 use Rattle.media_ports.specs.Given.{IsOfPair}
-use Rattle.call_cell.specs.Cells.{CellEntry}
+use Rattle.call_cell.specs.Cells.{CellEntry, Sending, Relay, Relayed}
 use Rattle.relay_core.specs.Entries.{Event, Board, Cell, Box, Entry, cell_before, box_of}
 use Rattle.relay_core.specs.Told.{is_parting, takes_at, sends_since, legs_going}
 
@@ -52,6 +54,12 @@ sends_at l pair half = sends_in l pair half l
 abbrev pub AreSends : Config → List Entry → List PortCall → Type 0
 AreSends config l calls =
     (pair : ℕ) (half : Half) → pair < pair_count config → WhereTold (sent_at calls (port_address config pair half)) (λ told. told ≡ sends_at l pair half)
+
+-- each send that a relay of the list made is among those of the pair and half by which it left
+abbrev pub HasAllSends : List Entry → Type 0
+HasAllSends l =
+    (e : Entry) (x : Relayed) (w : Sending) → In e l → e.event ≡ Cell (Relay x) → x.deed.sending ≡ Some w
+    → In (out.Send w.to w.bytes x.sent_ok) (sends_at l w.pair w.half)
 
 -- The calls in a run with this list: no address but those of the pairs was ever called, and what the ends told is what the list has of their
 -- takes and of their sends

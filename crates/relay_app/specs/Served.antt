@@ -19,7 +19,7 @@ use Rattle.media_lane.specs.declared.answers.Totals.{Totals}
 use Rattle.relay_app.specs.declared.status.Status.{Status}
 use Rattle.relay_app.specs.declared.status.Status.TheVariants as status
 use Rattle.relay_app.specs.declared.totals.Counts.{Counts}
-use Rattle.relay_app.specs.Ends.{AreEnds, OpensSame}
+use Rattle.relay_app.specs.Ends.{HasAllSends, AreEnds, OpensSame}
 use Rattle.relay_app.specs.Rounds.{Round, history_after, moments, IsWhole}
 
 -- What the devices told before a run and tell after it, and how many faults of ports and of keys were counted
@@ -169,6 +169,7 @@ pub record DidServe (first : List LinkCall) (limit : ℕ) (config : Config) (thr
   pub last_is : length last ≡ length (last_take ended)
   pub told : AreTold config first rounds last ended outside
   pub ends : Gained outside.opened outside.opened_now (AreEnds config whole.list)
+  pub all_sent : HasAllSends whole.list
   pub opens_same : OpensSame outside.opened outside.opened_now
 
 -- The line of totals, for these numbers of turns, datagrams and replies, and these counts of relays by their outcome
