@@ -10,6 +10,7 @@ use Rattle.rtp_packet.specs.declared.head.Half.TheVariants.{Rtp, Rtcp}
 use Rattle.histories.specs.Words.{In, here, there, has}
 use Rattle.histories.proofs.Lists.{in_left, in_right, keeps, maps, equal, it_has}
 use Rattle.port_pool.specs.declared.holder.Holder.{Holder}
+use Rattle.port_pool.specs.Ports.{pair_count}
 use Rattle.port_pool.specs.Signals.{same_leg, is_rejected, NewKey}
 use Rattle.call_cell.specs.Cells.{CellEvent, CellEntry, Sending, Relayed, Deed, Prepare, Commit, Relay, Expire, Read, End, ends, legs, legs_of, takes_away, since_end}
 use Rattle.call_cell.specs.Deeds.{found}
@@ -21,7 +22,8 @@ use Rattle.call_cell.proofs.Sends.{sends}
 use Rattle.call_board.specs.Acts.{Call, BoardEntry, act}
 use Rattle.call_board.specs.Calls.{live, begun_by_act}
 use Rattle.call_board.proofs.Calls.{live_before}
-use Rattle.relay_core.specs.Entries.{Event, Cell, Entry, cell_entry, cell_history, cell_before, front}
+use Rattle.call_board.proofs.Free.{free_below, new_leg_free}
+use Rattle.relay_core.specs.Entries.{Event, Cell, Entry, board_history, cell_entry, cell_history, cell_before, front}
 use Rattle.relay_core.specs.Legal.{Orderly, Legal}
 use Rattle.relay_core.specs.Safe.{Safe}
 use Rattle.relay_core.specs.Told.{is_parting, behind, sent_of, sent_by, sends_since, legs_going}
@@ -30,7 +32,7 @@ use Rattle.relay_core.proofs.Boxes.{below_front}
 use Rattle.relay_core.proofs.Commits.{event_of, entry_of}
 use Rattle.relay_core.proofs.Fronts.{front_follows}
 use Rattle.relay_core.proofs.Generations.{leg_leased, lease_once}
-use Rattle.relay_core.proofs.Histories.{More, same, added, more, same_at}
+use Rattle.relay_core.proofs.Histories.{More, same, added, more, same_at, good_history}
 use Rattle.relay_core.proofs.Keys.{prepare_of}
 use Rattle.relay_core.proofs.Lasting.{lasting}
 use Rattle.relay_core.proofs.LegStays.{IsAdded, is_added, other_section}
@@ -246,6 +248,14 @@ no_legs config l h o stopped place =
     follows.none_is (λ of i at. none_live h of (subst (λ (b : List BoardEntry). In of (live b)) stopped i)) in
     (same_lasting (since_end (cell_history l place k)) [] (ap (map (λ (c : CellEntry). c.event)) (kept_since (cell_history l place k) ∙ none))).legs_are
 
+-- A leg of a cell has one of the configuration's pairs.
+pair_low : (config : Config) (l : List Entry) → Orderly config l → (place n : ℕ) (leg : Holder) → In leg (legs (since_end (cell_history l place n))) → leg.pair < pair_count config
+pair_low config l o place n leg i =
+    let s = leg_leased config l o place n leg i in
+    let h = board_history l s.board.number in
+    free_below config h leg.pair (good_history config l o s.board.number)
+    (new_leg_free config h s.entry s.offer leg (o.board_fits s.board s.entry s.is_in s.is).1 s.acts s.has_leg)
+
 -- The relay.
 
 module _ (config : Config) (l : List Entry) (h : List BoardEntry) (legal : Legal config l) (safe : Safe config l) (stopped : board_of l ≡ stop_entry h ∷ h)
@@ -287,13 +297,16 @@ module _ (config : Config) (l : List Entry) (h : List BoardEntry) (legal : Legal
             (in_right (sends_since other w.half b) (call ∷ []) (here refl)),
       )
 
-  pub is_sent : In call (sends_at l w.pair w.half)
+  pub is_sent : (w.pair < pair_count config) × In call (sends_at l w.pair w.half)
   is_sent =
       let s = sends config b x.packet x.sent_ok w (ap (λ (d : Deed). d.sending) (sym (safe.deeds_are e x i is)) ∙ sending) in
-      let start = begins s.other s.leg s.is_found s.is_opposite (opposite_is b s.leg s.other s.is_opposite).is_leg (more cell_entry l o.numbered e.place e.number) in
+      let is_leg = (opposite_is b s.leg s.other s.is_opposite).is_leg in
+      let start = begins s.other s.leg s.is_found s.is_opposite is_leg (more cell_entry l o.numbered e.place e.number) in
       let k = front l e.place in
-      subst (λ (p : ℕ). In call (sends_at l p w.half)) (sym s.from_pair)
-      (at_end s.other (later config l o e.place s.other w.half call k (suc e.number) (let low = below_front l e e.place i refl in omega (arith, low)) start))
+      subst (λ (p : ℕ). (p < pair_count config) × In call (sends_at l p w.half)) (sym s.from_pair) (
+        pair_low config l o e.place e.number s.other is_leg,
+        at_end s.other (later config l o e.place s.other w.half call k (suc e.number) (let low = below_front l e e.place i refl in omega (arith, low)) start),
+      )
     where
       at_end : (other : Holder) → Has config l o e.place other w.half call (since_end (cell_history l e.place (front l e.place))) ⊎ Went config l o e.place other w.half call
           → In call (sends_at l other.pair w.half)

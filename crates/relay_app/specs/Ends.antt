@@ -55,11 +55,11 @@ abbrev pub AreSends : Config → List Entry → List PortCall → Type 0
 AreSends config l calls =
     (pair : ℕ) (half : Half) → pair < pair_count config → WhereTold (sent_at calls (port_address config pair half)) (λ told. told ≡ sends_at l pair half)
 
--- each send that a relay of the list made is among those of the pair and half by which it left
-abbrev pub HasAllSends : List Entry → Type 0
-HasAllSends l =
+-- each send that a relay of the list made is among those of the half by which it left, of one of the configuration's pairs
+abbrev pub HasAllSends : Config → List Entry → Type 0
+HasAllSends config l =
     (e : Entry) (x : Relayed) (w : Sending) → In e l → e.event ≡ Cell (Relay x) → x.deed.sending ≡ Some w
-    → In (out.Send w.to w.bytes x.sent_ok) (sends_at l w.pair w.half)
+    → (w.pair < pair_count config) × In (out.Send w.to w.bytes x.sent_ok) (sends_at l w.pair w.half)
 
 -- The calls in a run with this list: no address but those of the pairs was ever called, and what the ends told is what the list has of their
 -- takes and of their sends

@@ -169,7 +169,7 @@ pub record DidServe (first : List LinkCall) (limit : ℕ) (config : Config) (thr
   pub last_is : length last ≡ length (last_take ended)
   pub told : AreTold config first rounds last ended outside
   pub ends : Gained outside.opened outside.opened_now (AreEnds config whole.list)
-  pub all_sent : HasAllSends whole.list
+  pub all_sent : HasAllSends config whole.list
   pub opens_same : OpensSame outside.opened outside.opened_now
 
 -- The line of totals, for these numbers of turns, datagrams and replies, and these counts of relays by their outcome
