@@ -1,5 +1,7 @@
 -- The control turns of a run, one after another, as the rows grow and the lists of the devices gain their calls.
-use Rattle.std.proofs.Common.{◌≡◌, ◌∙◌, ap, refl, subst, sym, ℕ, ◌<◌, ◌≤◌, List, [], ◌∷◌, ◌++◌, append-nil, Option, Some, None, true, false, arith}
+use Rattle.std.specs.Prelude.{is_some, unwrap_or}
+use Rattle.std.specs.Option.{option_map}
+use Rattle.std.proofs.Common.{◌≡◌, ◌∙◌, ap, refl, subst, sym, ℕ, ◌<◌, ◌≤◌, List, [], ◌∷◌, ◌++◌, append-nil, Option, Some, None, Bool, true, false, cond, arith}
 use Rattle.relay_outside.specs.Told.{Gains, Gained}
 use Rattle.relay_outside.specs.declared.keys.KeyCall.{KeyCall}
 use Rattle.relay_outside.specs.declared.link.LinkCall.{LinkCall}
@@ -8,17 +10,18 @@ use Rattle.relay_outside.specs.declared.settings.Config.{Config}
 use Rattle.relay_outside.proofs.Telling.{gained_none, gained_one, gained_both, gained_less}
 use Rattle.histories.specs.Words.{here, there}
 use Rattle.media_ports.specs.Asked.{OpensWith, OpensNone}
-use Rattle.media_ports.proofs.Asked.{opens_with_both, gained_no_opening}
+use Rattle.media_ports.proofs.Asked.{opens_with_both, gained_no_opening, gained_openings_alone}
 use Rattle.turn_table.specs.declared.hands.Turns.{Turns}
 use Rattle.turn_table.specs.declared.hands.Hand.{Hand}
 use Rattle.turn_table.specs.Hands.{entries}
-use Rattle.call_board.specs.Acts.{Given, BoardEntry}
+use Rattle.call_board.specs.Acts.{Call, Given, BoardEntry}
 use Rattle.relay_core.specs.declared.part.Part.{Part}
 use Rattle.relay_core.specs.Made.{Made, list_of}
 use Rattle.relay_core.specs.Turning.{made_by}
 use Rattle.media_lane.specs.Visits.{Row}
 use Rattle.board_turns.specs.Between.{board_of, IsBetween}
 use Rattle.board_turns.specs.Ties.{AreTied, Ties}
+use Rattle.ng_server.specs.Ticking.{tick_entry}
 use Rattle.control_entries.specs.Controls.{Hearing}
 use Rattle.control_entries.specs.Giving.{IsGivenBy}
 use Rattle.control_turns.specs.declared.taking.ControlTurn.{ControlTurn}
@@ -26,11 +29,11 @@ use Rattle.control_turns.specs.Taking.{Follows, GaveFor, DidTurn, Turned}
 use Rattle.relay_app.specs.declared.status.Status.{Status}
 use Rattle.relay_app.specs.declared.status.Status.TheVariants as status
 use Rattle.relay_app.specs.declared.totals.Counts.{Counts}
-use Rattle.relay_app.specs.Rounds.{Round, status_after, entry_due, with_entry, history_after, moments, AreRounds}
+use Rattle.relay_app.specs.Rounds.{Round, status_after, entry_due, with_entry, history_after, moments, counted_from, is_second_later, AreRounds}
 use Rattle.relay_app.specs.Served.{Outside, Gave, IsCaused, HaveCauses, given_in, openings, draws, counts_of, turn_counts, sum_of, counts_in, Counted, AreExchanges, AreCalls, last_take, HasEnded}
-use Rattle.relay_app.specs.Turned.{Running, AddsSweep, DidTurns}
+use Rattle.relay_app.specs.Turned.{Running, AddsSweep, TicksWhenDue, DidTurns}
 use Rattle.relay_app.proofs.Counts.{calls_counted, sum_none, not_answered, ends_uncounted, ends_below, ends_with, one_take}
-use Rattle.relay_app.proofs.Rounds.{AddsTurn, turn_rows, turn_heard, one_more, no_rows, no_rounds, board_after}
+use Rattle.relay_app.proofs.Rounds.{AddsTurn, turn_rows, turn_heard, tick_rows, one_more, counted_next, no_rows, no_rounds, board_after, board_ticked}
 use Rattle.relay_app.proofs.Tied.{none_tied, more_tied, sweep_tied}
 
 -- what a device gave, and then more
@@ -86,14 +89,35 @@ module _ (config : Config) (history : List BoardEntry) (now : ℕ) (then later :
       subst (λ (y : Given). IsCaused later y) (sym equal) (caused_now x gave)
   causes_for (Some x) gave entry given (there i) is = caused_later then later given p q port key (causes entry given i is)
 
+-- A tick opens no port, draws no key, and has no cause.
+
+abbrev with_ticked : List BoardEntry → ℕ → Option (List Call) → List BoardEntry
+with_ticked history now ticked = with_entry history (option_map (tick_entry history now) ticked)
+
+ticked_openings : (history : List BoardEntry) (now : ℕ) (ticked : Option (List Call)) → openings (with_ticked history now ticked) ≡ openings history
+ticked_openings history now None = refl
+ticked_openings history now (Some calls) = append-nil (openings history)
+
+ticked_draws : (history : List BoardEntry) (now : ℕ) (ticked : Option (List Call)) → draws (with_ticked history now ticked) ≡ draws history
+ticked_draws history now None = refl
+ticked_draws history now (Some calls) = append-nil (draws history)
+
+ticked_causes : (history : List BoardEntry) (now : ℕ) (then later : Outside) → HaveCauses then history → then.port_faults ≡ later.port_faults → then.key_faults ≡ later.key_faults
+    → then.port_faults_now ≤ later.port_faults_now → then.key_faults_now ≤ later.key_faults_now → (ticked : Option (List Call)) → HaveCauses later (with_ticked history now ticked)
+ticked_causes history now then later causes p q port key None entry given i is = caused_later then later given p q port key (causes entry given i is)
+ticked_causes history now then later causes p q port key (Some calls) entry given (here same) is =
+    absurd (let told : Some given ≡ None = sym is ∙ ap (λ (e : BoardEntry). given_in e.event) same in cc)
+ticked_causes history now then later causes p q port key (Some calls) entry given (there i) is = caused_later then later given p q port key (causes entry given i is)
+
 -- no turn yet
 pub begins : (config : Config) (threads : ℕ) (range : Option (ℕ × ℕ)) (rows : List Row) (outside : Outside) → list_of rows ≡ [] → board_of (list_of rows) ≡ [] → outside.link ≡ outside.link_now
-    → outside.timer ≡ outside.timer_now → outside.opened ≡ outside.opened_now → outside.drew ≡ outside.drew_now → Running config threads range rows (counts_of 0 0 0) outside
+    → outside.timer ≡ outside.timer_now → outside.opened ≡ outside.opened_now → outside.drew ≡ outside.drew_now → Running config threads range rows (counts_of 0 0 0) None outside
 begins config threads range rows outside none board link timer opened drew = record {
   rounds = [];
   are_rounds = no_rounds config threads range rows none;
   board_is = board;
   counts_are = refl;
+  since_is = refl;
   link = subst (λ (l : Option (List LinkCall)). Gained outside.link l (AreExchanges config [])) link (gained_none outside.link (AreExchanges config []) refl);
   timer = subst (λ (t : Option (List ℕ)). Gave outside.timer t []) timer (gained_none outside.timer (λ more. more ≡ []) refl);
   ports = subst (λ (o : Option (List PortCall)). Gained outside.opened o OpensNone) opened (gained_no_opening outside.opened);
@@ -111,10 +135,10 @@ module _ {M I O : Type 0} {g : _} where
       absurd (let k : true ≡ false = sym follows.0 ∙ not_answered answer ended ends in cc)
 
   module _ (config : Config) (threads : ℕ) (range : Option (ℕ × ℕ)) (turns : Turns M (Part I O) Made (Unit {0})) (old mid : Hand M (Part I O) Made (Unit {0}) g) (counts next : Counts) (now : ℕ)
-      (answer : ControlTurn)
+      (answer : ControlTurn) (since : Option ℕ)
       (l0 l1 l2 : Option (List LinkCall)) (t0 t1 t2 : Option (List ℕ)) (o0 o1 o2 : Option (List PortCall)) (k0 k1 k2 : Option (List KeyCall)) (p0 p1 p2 q0 q1 q2 : ℕ)
       (next_is : next ≡ sum_of counts (turn_counts answer)) (before : IsBetween config turns old) (after : IsBetween config turns mid)
-      (running : Running config threads range (entries old) counts
+      (running : Running config threads range (entries old) counts since
       (record { link = l0; link_now = l1; timer = t0; timer_now = t1; opened = o0; opened_now = o1; drew = k0; drew_now = k1; port_faults = p0; port_faults_now = p1; key_faults = q0; key_faults_now = q1 }))
       (asked : Gains t1 t2 now) (turned : Turned config old mid now answer p1 p2 q1 q2 o1 o2 k1 k2 l1 l2)
       (ties : Ties config o1 o2 (entries old) (entries mid))
@@ -163,26 +187,55 @@ module _ {M I O : Type 0} {g : _} where
         (record { link = l0; link_now = l1; timer = t0; timer_now = t1; opened = o0; opened_now = o1; drew = k0; drew_now = k1; port_faults = p0; port_faults_now = p1; key_faults = q0; key_faults_now = q1 })
         out running.causes refl refl p_low q_low p_later q_later o1 o2 k1 k2 made turned.given
 
-    -- one more round: the turn, after which the run goes on, and a sweep, where no thread relays media
-    pub turn_goes : (new : Hand M (Part I O) Made (Unit {0}) g) → None ≡ status_after answer → board_of (made_by new) ≡ board_of (made_by mid)
-        → AddsSweep config threads range (entries mid) (entries new) → Running config threads range (entries new) next out
-    turn_goes new goes same sweep =
-        let r : Round = record { handed = now; answer = answer; heard = made } in
-        record {
-          rounds = r ∷ running.rounds;
-          are_rounds = one_more config threads range running.rounds r (entries old) (entries mid) (entries new) (sym goes) (turn_heard config old mid now answer made turned.follows)
-              running.are_rounds turn sweep;
-          board_is = same ∙ board_is;
-          counts_are = next_is ∙ ap (λ (n : Counts). sum_of n (turn_counts answer)) running.counts_are;
-          link =
-              gained_both l0 l1 l2 (AreExchanges config running.rounds) (DidTurn config h now answer made) (AreExchanges config (r ∷ running.rounds))
-              (λ xs ys x y. (xs, ys, refl, x, y)) running.link did;
-          timer = timer;
-          ports = ports;
-          tied = sweep_tied config threads range o0 o2 (entries mid) (entries new) sweep tied;
-          keys = keys;
-          causes = causes;
-        }
+    -- one more round: the turn, after which the run goes on, a sweep, where no thread relays media, and a tick, where one is due
+    module _ (next_since : ℕ) (swept new : Hand M (Part I O) Made (Unit {0}) g) (o3 : Option (List PortCall)) (p3 : ℕ) (goes : None ≡ status_after answer)
+        (same : board_of (made_by swept) ≡ board_of (made_by mid)) (sweep : AddsSweep config threads range (entries mid) (entries swept))
+        (swept_between : IsBetween config turns swept) (new_between : IsBetween config turns new) (ticks : TicksWhenDue config swept new since now)
+        (since_now : next_since ≡ cond (is_second_later since now) now (unwrap_or since now)) (closes : Gained o2 o3 OpensNone)
+        (tick_ties : Ties config o2 o3 (entries swept) (entries new)) (p_tick : p2 ≤ p3) where
+      abbrev r : Round
+      r = record { handed = now; answer = answer; heard = made; ticked = ticks.ticked }
+
+      abbrev out3 : Outside
+      out3 = record { link = l0; link_now = l2; timer = t0; timer_now = t2; opened = o0; opened_now = o3; drew = k0; drew_now = k2; port_faults = p0; port_faults_now = p3; key_faults = q0; key_faults_now = q2 }
+
+      swept_board : board_of (made_by swept) ≡ h2
+      swept_board = same ∙ board_is
+
+      due : is_some ticks.ticked ≡ is_second_later (counted_from running.rounds) now
+      due = ticks.when_due ∙ ap (λ (s : Option ℕ). is_second_later s now) running.since_is
+
+      tick : AddsTurn config (option_map (tick_entry h2 now) ticks.ticked) (entries swept) (entries new)
+      tick =
+          subst (λ (k : List BoardEntry). AddsTurn config (option_map (tick_entry k now) ticks.ticked) (entries swept) (entries new)) swept_board
+          (tick_rows config swept new now ticks.ticked ticks.did)
+
+      pub turn_goes : Running config threads range (entries new) next (Some next_since) out3
+      turn_goes = record {
+        rounds = r ∷ running.rounds;
+        are_rounds =
+            one_more config threads range running.rounds r (entries old) (entries mid) (entries swept) (entries new) (sym goes)
+            (turn_heard config old mid now answer made turned.follows) due running.are_rounds turn sweep tick;
+        board_is =
+            board_ticked config turns swept new now ticks.ticked swept_between new_between ticks.did
+            ∙ ap (λ (k : List BoardEntry). with_ticked k now ticks.ticked) swept_board;
+        counts_are = next_is ∙ ap (λ (n : Counts). sum_of n (turn_counts answer)) running.counts_are;
+        since_is =
+            ap (λ (m : ℕ). Some m) since_now
+            ∙ ap (λ (s : Option ℕ). Some (cond (is_second_later s now) now (unwrap_or s now))) running.since_is
+            ∙ sym (counted_next r running.rounds (is_second_later (counted_from running.rounds) now) due);
+        link =
+            gained_both l0 l1 l2 (AreExchanges config running.rounds) (DidTurn config h now answer made) (AreExchanges config (r ∷ running.rounds))
+            (λ xs ys x y. (xs, ys, refl, x, y)) running.link did;
+        timer = timer;
+        ports =
+            subst (λ (answers : List Bool). Gained o0 o3 (OpensWith answers)) (sym (ticked_openings h2 now ticks.ticked))
+            (gained_openings_alone (openings h2) o0 o2 o3 ports closes);
+        tied =
+            more_tied config o0 o2 o3 (entries swept) (entries new) (sweep_tied config threads range o0 o2 (entries mid) (entries swept) sweep tied) tick_ties;
+        keys = subst (λ (drawn : List KeyCall). Gave k0 k2 drawn) (sym (ticked_draws h2 now ticks.ticked)) keys;
+        causes = ticked_causes h2 now out out3 causes refl refl p_tick (omega arith) ticks.ticked;
+      }
 
     -- the turn after which the run ends
     module _ (limit : ℕ) (ended : Status) (ends : Some ended ≡ status_after answer) (below : counts.turns < limit) where
@@ -223,9 +276,9 @@ module _ {M I O : Type 0} {g : _} where
       }
 
 -- all turns were made
-pub turns_spent : (config : Config) (threads : ℕ) (range : Option (ℕ × ℕ)) (rows : List Row) (counts : Counts) (outside : Outside) (limit : ℕ) → counts.turns ≡ limit
-    → Running config threads range rows counts outside → DidTurns limit config threads range outside status.TurnsSpent counts rows
-turns_spent config threads range rows counts outside limit spent running = record {
+pub turns_spent : (config : Config) (threads : ℕ) (range : Option (ℕ × ℕ)) (rows : List Row) (counts : Counts) (since : Option ℕ) (outside : Outside) (limit : ℕ) → counts.turns ≡ limit
+    → Running config threads range rows counts since outside → DidTurns limit config threads range outside status.TurnsSpent counts rows
+turns_spent config threads range rows counts since outside limit spent running = record {
   rounds = running.rounds;
   last = [];
   are_rounds = running.are_rounds;

@@ -19,7 +19,7 @@ use Rattle.media_lane.specs.declared.answers.Totals.{Totals}
 use Rattle.media_lane.specs.Looping.{visits_of}
 use Rattle.media_lane.specs.Visits.{Row}
 use Rattle.main_sweeps.proofs.Sweeps.{rows_in}
-use Rattle.relay_app.specs.Rounds.{Round, history_after, entry_due, IsBoardTurn, MakesEntry, SweepsAlone, AreRounds, AreThreads, all_of, IsWhole}
+use Rattle.relay_app.specs.Rounds.{Round, with_heard, tick_of, history_after, entry_due, IsBoardTurn, MakesEntry, SweepsAlone, AreRounds, AreThreads, all_of, IsWhole}
 
 before_across : {A : Type 0} {x y : A} (xs ys : List A) → In x xs → In y ys → Before x y (xs ++ ys)
 before_across [] ys i j = elim i [ ]
@@ -144,9 +144,11 @@ module _ (config : Config) where
         let before = are.0 in
         let turn = are.1 in
         let sweep = are.2 in
-        subst (λ (xs : List Row). InOrder (list_of xs)) (sym are.3)
-        (lanes_in_order (before ++ turn) sweep (sweep_of_lane config threads range sweep are.8)
-        (entry_in_order before (entry_due config (history_after config rounds) r.handed r.heard) turn are.7 (rounds_in_order rounds before are.6)))
+        let tick = are.3 in
+        subst (λ (xs : List Row). InOrder (list_of xs)) (sym are.4)
+        (entry_in_order ((before ++ turn) ++ sweep) (tick_of (with_heard config (history_after config rounds) r) r) tick are.11
+        (lanes_in_order (before ++ turn) sweep (sweep_of_lane config threads range sweep are.10)
+        (entry_in_order before (entry_due config (history_after config rounds) r.handed r.heard) turn are.9 (rounds_in_order rounds before are.8))))
 
     pub whole_in_order : (rounds : List Round) (totals : Totals) → (whole : IsWhole config threads range rounds totals) → InOrder (list_of whole.rows)
     whole_in_order rounds totals whole =

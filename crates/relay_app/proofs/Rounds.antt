@@ -1,11 +1,13 @@
 -- How the rows of a run grow: by a control turn, by a sweep, and by the stop.
-use Rattle.std.proofs.Common.{◌≡◌, ◌∙◌, ap, refl, subst, sym, ℕ, zero, suc, ◌<◌, List, [], ◌∷◌, ◌++◌, length, append_assoc, append-nil, Option, None, Some, map, arith}
+use Rattle.std.specs.Prelude.{is_some, unwrap_or}
+use Rattle.std.specs.Option.{option_map}
+use Rattle.std.proofs.Common.{◌≡◌, ◌∙◌, ap, refl, subst, sym, ℕ, zero, suc, ◌<◌, List, [], ◌∷◌, ◌++◌, length, append_assoc, append-nil, Bool, true, false, cond, Option, None, Some, map, arith}
 use Rattle.relay_outside.specs.declared.settings.Config.{Config}
 use Rattle.turn_table.specs.declared.hands.Turns.{Turns}
 use Rattle.turn_table.specs.declared.hands.Hand.{Hand}
 use Rattle.turn_table.specs.Histories as table_lists
 use Rattle.turn_table.specs.Hands.{entries}
-use Rattle.call_board.specs.Acts.{BoardEntry}
+use Rattle.call_board.specs.Acts.{Call, BoardEntry}
 use Rattle.relay_core.specs.declared.part.Part.{Part}
 use Rattle.relay_core.specs.Entries.{Entry}
 use Rattle.relay_core.specs.Legal.{Legal}
@@ -20,6 +22,7 @@ use Rattle.media_lane.specs.Sweeping.{Sweeps}
 use Rattle.media_lane.specs.Visits.{Row}
 use Rattle.board_turns.specs.Between.{board_of, IsBetween, MakesTurn}
 use Rattle.board_turns.specs.Stopping.{stop_entry}
+use Rattle.ng_server.specs.Ticking.{tick_entry}
 use Rattle.board_turns.proofs.Grown.{makes_history}
 use Rattle.control_entries.specs.Controls.{Hearing, entry_at, moment_at}
 use Rattle.control_turns.specs.declared.taking.ControlTurn.{ControlTurn}
@@ -28,21 +31,57 @@ use Rattle.main_sweeps.specs.Totals.{HasTotals}
 use Rattle.main_sweeps.proofs.Between.{lanes_board}
 use Rattle.main_sweeps.proofs.Counts.{turn_totals, told_totals}
 use Rattle.ng_server.proofs.Tellings.{told_board}
-use Rattle.relay_app.specs.Rounds.{Round, status_after, entry_due, with_entry, history_after, IsBoardTurn, HasHeard, MakesEntry, AreRounds, AreThreads, all_of, IsWhole}
-use Rattle.relay_app.specs.Turned.{AddsSweep}
+use Rattle.relay_app.specs.Rounds.{Round, status_after, entry_due, with_entry, with_heard, tick_of, history_after, with_ticks, latest, earliest, or_else, counted_from, is_tick_due, IsBoardTurn, HasHeard, MakesEntry, AreRounds, AreThreads, all_of, IsWhole}
+use Rattle.relay_app.specs.Turned.{AddsSweep, DidTick}
 
--- what a control turn added to the rows
+-- what a control turn added to the rows, or a tick
 pub record AddsTurn (config : Config) (entry : Option BoardEntry) (before after : List Row) : Type 0 where
   pub rows : List Row
   pub are : after ≡ before ++ rows
   pub makes : MakesEntry config before entry rows
 
 -- one more round
-pub one_more : (config : Config) (threads : ℕ) (range : Option (ℕ × ℕ)) (rounds : List Round) (r : Round) (before between after : List Row) → status_after r.answer ≡ None → HasHeard r.answer r.heard
-    → AreRounds config threads range rounds before → AddsTurn config (entry_due config (history_after config rounds) r.handed r.heard) before between
-    → AddsSweep config threads range between after → AreRounds config threads range (r ∷ rounds) after
-one_more config threads range rounds r before between after goes heard are t s =
-    (before, t.rows, s.rows, s.are ∙ ap (λ (xs : List Row). xs ++ s.rows) t.are, goes, heard, are, t.makes, s.alone)
+module _ (config : Config) (threads : ℕ) (range : Option (ℕ × ℕ)) (rounds : List Round) (r : Round) (before between swept after : List Row) where
+  pub one_more : status_after r.answer ≡ None → HasHeard r.answer r.heard → is_some r.ticked ≡ is_tick_due rounds r.handed
+      → AreRounds config threads range rounds before → AddsTurn config (entry_due config (history_after config rounds) r.handed r.heard) before between
+      → AddsSweep config threads range between swept → AddsTurn config (tick_of (with_heard config (history_after config rounds) r) r) swept after
+      → AreRounds config threads range (r ∷ rounds) after
+  one_more goes heard due are t s k =
+      let swept_is : swept ≡ (before ++ t.rows) ++ s.rows = s.are ∙ ap (λ (xs : List Row). xs ++ s.rows) t.are in
+      let tick : MakesEntry config ((before ++ t.rows) ++ s.rows) (tick_of (with_heard config (history_after config rounds) r) r) k.rows =
+      subst (λ (xs : List Row). MakesEntry config xs (tick_of (with_heard config (history_after config rounds) r) r) k.rows) swept_is k.makes in
+      (before, t.rows, s.rows, k.rows, k.are ∙ ap (λ (xs : List Row). xs ++ k.rows) swept_is, goes, heard, due, are, t.makes, s.alone, tick)
+
+-- From which moment the next second counts.
+
+earliest_some : (r : Round) (rounds : List Round) → is_some (earliest (r ∷ rounds)) ≡ true
+earliest_some r [] = refl
+earliest_some r (before ∷ rounds) = earliest_some before rounds
+
+-- the one that is there
+or_kept : (found : Option Round) (r : Round) → is_some found ≡ true → found ≡ or_else found (Some r)
+or_kept None r some = absurd (let k = some in cc)
+or_kept (Some x) r some = refl
+
+earliest_more : (r : Round) (rounds : List Round) → earliest (r ∷ rounds) ≡ or_else (earliest rounds) (Some r)
+earliest_more r [] = refl
+earliest_more r (before ∷ rounds) = or_kept (earliest (before ∷ rounds)) r (earliest_some before rounds)
+
+counted_case : (last first : Option Round) (r : Round)
+    → option_map (λ (q : Round). q.handed) (or_else last (or_else first (Some r))) ≡ Some (unwrap_or (option_map (λ (q : Round). q.handed) (or_else last first)) r.handed)
+counted_case (Some x) first r = refl
+counted_case None (Some x) r = refl
+counted_case None None r = refl
+
+-- behind a round: from its own where a tick is in it, and else as before
+pub counted_next : (r : Round) (rounds : List Round) (ticks : Bool) → is_some r.ticked ≡ ticks
+    → counted_from (r ∷ rounds) ≡ Some (cond ticks r.handed (unwrap_or (counted_from rounds) r.handed))
+counted_next r rounds true is =
+    ap (λ (b : Bool). option_map (λ (q : Round). q.handed) (or_else (latest (cond b (r ∷ with_ticks rounds) (with_ticks rounds))) (earliest (r ∷ rounds)))) is
+counted_next r rounds false is =
+    ap (λ (b : Bool). option_map (λ (q : Round). q.handed) (or_else (latest (cond b (r ∷ with_ticks rounds) (with_ticks rounds))) (earliest (r ∷ rounds)))) is
+    ∙ ap (λ (o : Option Round). option_map (λ (q : Round). q.handed) (or_else (latest (with_ticks rounds)) o)) (earliest_more r rounds)
+    ∙ counted_case (latest (with_ticks rounds)) (earliest rounds) r
 
 pub no_rows : (rows : List Row) → list_of rows ≡ [] → rows ≡ []
 no_rows [] none = refl
@@ -73,6 +112,19 @@ module _ {M I O : Type 0} {g : _} where
         makes = record { nested = m.rows; last = m.row; rows_are = refl; turn = m.turn; is = m.is };
       }
 
+  pub tick_rows : (config : Config) (old new : Hand M (Part I O) Made (Unit {0}) g) (now : ℕ) (ticked : Option (List Call)) → DidTick config old new now ticked
+      → AddsTurn config (option_map (tick_entry (board_of (made_by old)) now) ticked) (entries old) (entries new)
+  tick_rows config old new now None did = record {
+    rows = [];
+    are = ap (λ (h : Hand M (Part I O) Made (Unit {0}) g). entries h) did ∙ sym (append-nil (entries old));
+    makes = refl;
+  }
+  tick_rows config old new now (Some calls) did = record {
+    rows = did.rows ++ did.row ∷ [];
+    are = did.list_is ∙ append_assoc (entries old) did.rows (did.row ∷ []);
+    makes = record { nested = did.rows; last = did.row; rows_are = refl; turn = did.turn; is = did.is };
+  }
+
   pub sweep_rows : (config : Config) (threads : ℕ) (range : Option (ℕ × ℕ)) (old new : Hand M (Part I O) Made (Unit {0}) g) → threads ≡ 0
       → (swept : Totals) × Sweeps config 0 1 range old new swept → AddsSweep config threads range (entries old) (entries new)
   sweep_rows config threads range old new none swept =
@@ -94,6 +146,14 @@ module _ {M I O : Type 0} {g : _} where
       ap (λ (h : Hand M (Part I O) Made (Unit {0}) g). board_of (made_by h)) follows.1
   board_after config turns old new now answer (Some x) before after follows =
       makes_history config turns old new (entry_at config (board_of (made_by old)) (moment_at (board_of (made_by old)) now) x) before after follows.1
+
+  -- and with that of a tick
+  pub board_ticked : (config : Config) (turns : Turns M (Part I O) Made (Unit {0})) (old new : Hand M (Part I O) Made (Unit {0}) g) (now : ℕ) (ticked : Option (List Call))
+      → IsBetween config turns old → IsBetween config turns new → DidTick config old new now ticked
+      → board_of (made_by new) ≡ with_entry (board_of (made_by old)) (option_map (tick_entry (board_of (made_by old)) now) ticked)
+  board_ticked config turns old new now None before after did = ap (λ (h : Hand M (Part I O) Made (Unit {0}) g). board_of (made_by h)) did
+  board_ticked config turns old new now (Some calls) before after did =
+      makes_history config turns old new (tick_entry (board_of (made_by old)) now calls) before after did
 
   -- a control turn makes no take and no relay
   pub follows_totals : (config : Config) (turns : Turns M (Part I O) Made (Unit {0})) (old new : Hand M (Part I O) Made (Unit {0}) g) (now : ℕ) (answer : ControlTurn) (made : Option Hearing)

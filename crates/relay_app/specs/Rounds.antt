@@ -1,9 +1,10 @@
 -- The steps of a run. Those of the main hand, in the order in which they were made: rounds, each a control turn, and the stop. Where no thread
--- relays media, a sweep of media stands behind each control turn and before the stop; else each thread made sweeps beside them.
-use Rattle.std.specs.Prelude.{◌≡◌, ◌+◌, ◌<◌, ℕ, zero, suc, true, false, List, [], ◌∷◌, ◌++◌, Option, None, Some, map, length}
+-- relays media, a sweep of media stands behind each control turn and before the stop; else each thread made sweeps beside them. At the end of a
+-- round stands a tick, about once a second.
+use Rattle.std.specs.Prelude.{◌≡◌, ◌+◌, ◌<◌, ℕ, zero, suc, Bool, true, false, nat_le, List, [], ◌∷◌, ◌++◌, Option, None, Some, is_some, map, filter, length}
 use Rattle.std.specs.Option.{option_map}
 use Rattle.relay_outside.specs.declared.settings.Config.{Config}
-use Rattle.call_board.specs.Acts.{BoardEntry}
+use Rattle.call_board.specs.Acts.{Call, BoardEntry}
 use Rattle.relay_core.specs.Entries.{Entry, board_entry}
 use Rattle.relay_core.specs.Legal.{Legal}
 use Rattle.relay_core.specs.Safe.{Safe}
@@ -15,6 +16,7 @@ use Rattle.media_lane.specs.Visits.{Row, Visit, all_rows}
 use Rattle.media_lane.specs.Looping.{IsSweep, AreSweeps, visits_of}
 use Rattle.board_turns.specs.Between.{board_of}
 use Rattle.board_turns.specs.Stopping.{stop_entry}
+use Rattle.ng_server.specs.Ticking.{tick_entry}
 use Rattle.control_entries.specs.Controls.{Hearing, entry_at, moment_at}
 use Rattle.control_turns.specs.Taking.{is_answered}
 use Rattle.control_turns.specs.declared.taking.ControlTurn.{ControlTurn}
@@ -24,11 +26,12 @@ use Rattle.relay_app.specs.declared.status.Status.{Status}
 use Rattle.relay_app.specs.declared.status.Status.TheVariants as status
 
 -- A control turn after which the run goes on: the moment that the timer gave for its take, how it ended, and of a datagram with a frame what
--- was heard of it, with what the ports and the keys gave
+-- was heard of it, with what the ports and the keys gave; and the calls that the tick behind it ended, where a tick was made
 pub record Round : Type 0 where
   pub handed : ℕ
   pub answer : ControlTurn
   pub heard : Option Hearing
+  pub ticked : Option (List Call)
 
 -- the status with which a run ends after a control turn, where it does not go on
 abbrev pub status_after : ControlTurn → Option Status
@@ -47,15 +50,59 @@ abbrev pub with_entry : List BoardEntry → Option BoardEntry → List BoardEntr
 with_entry history None = history
 with_entry history (Some entry) = entry ∷ history
 
+-- a history after what a control turn heard
+abbrev pub with_heard : Config → List BoardEntry → Round → List BoardEntry
+with_heard config history r = with_entry history (entry_due config history r.handed r.heard)
+
+-- the entry of the tick of a round after that history, at the moment of its control turn, where a tick was made
+abbrev pub tick_of : List BoardEntry → Round → Option BoardEntry
+tick_of history r = option_map (tick_entry history r.handed) r.ticked
+
+abbrev pub with_tick : List BoardEntry → Round → List BoardEntry
+with_tick history r = with_entry history (tick_of history r)
+
 -- the board's history after these rounds; of both the latest comes first
 abbrev pub history_after : Config → List Round → List BoardEntry
 history_after config [] = []
-history_after config (r ∷ rounds) = with_entry (history_after config rounds) (entry_due config (history_after config rounds) r.handed r.heard)
+history_after config (r ∷ rounds) = with_tick (with_heard config (history_after config rounds) r) r
 
 -- the moments that were handed to them, in order
 abbrev pub moments : List Round → List ℕ
 moments [] = []
 moments (r ∷ rounds) = moments rounds ++ r.handed ∷ []
+
+-- When a tick is made.
+
+-- the rounds that have one
+abbrev pub with_ticks : List Round → List Round
+with_ticks rounds = filter (λ r. is_some r.ticked) rounds
+
+abbrev pub latest : List Round → Option Round
+latest [] = None
+latest (r ∷ rounds) = Some r
+
+abbrev pub earliest : List Round → Option Round
+earliest [] = None
+earliest (r ∷ []) = Some r
+earliest (r ∷ before ∷ rounds) = earliest (before ∷ rounds)
+
+-- the one, or where there is none the other
+abbrev pub or_else : Option Round → Option Round → Option Round
+or_else None other = other
+or_else (Some r) other = Some r
+
+-- the moment from which the next second counts: that of the last tick, or where there was none that of the first control turn
+abbrev pub counted_from : List Round → Option ℕ
+counted_from rounds = option_map (λ r. r.handed) (or_else (latest (with_ticks rounds)) (earliest rounds))
+
+-- at least a second after that moment
+abbrev pub is_second_later : Option ℕ → ℕ → Bool
+is_second_later None now = false
+is_second_later (Some then) now = nat_le (then + 1000) now
+
+-- whether a tick is due in the round that follows these, by the moment that was handed to its control turn
+abbrev pub is_tick_due : List Round → ℕ → Bool
+is_tick_due rounds now = is_second_later (counted_from rounds) now
 
 -- A turn of the board behind these rows: the nested entries that its entry owes, in their order, and then the entry
 pub record IsBoardTurn (config : Config) (before : List Row) (e : BoardEntry) (rows : List Row) : Type 0 where
@@ -65,7 +112,7 @@ pub record IsBoardTurn (config : Config) (before : List Row) (e : BoardEntry) (r
   pub turn : IsTurn config (list_of before) (list_of nested) (entry_of last)
   pub is : board_entry (entry_of last) ≡ Some e
 
--- the same of a control turn: without an entry there is no turn of the board
+-- the same of a control turn, and of a tick: without an entry there is no turn of the board
 abbrev pub MakesEntry : Config → List Row → Option BoardEntry → List Row → Type 0
 MakesEntry config before None rows = rows ≡ []
 MakesEntry config before (Some e) rows = IsBoardTurn config before e rows
@@ -87,15 +134,18 @@ abbrev pub HasHeard : ControlTurn → Option Hearing → Type 0
 HasHeard answer None = is_answered answer ≡ false
 HasHeard answer (Some x) = is_answered answer ≡ true
 
--- the rows of these rounds
+-- the rows of these rounds: a tick is made exactly where it is due, and stands last
 abbrev pub AreRounds : Config → (threads : ℕ) → Option (ℕ × ℕ) → List Round → List Row → Type 0
 AreRounds config threads range [] rows = rows ≡ []
 AreRounds config threads range (r ∷ rounds) rows =
-    (before : List Row) × (turn : List Row) × (sweep : List Row) × (rows ≡ (before ++ turn) ++ sweep) × (status_after r.answer ≡ None)
+    (before : List Row) × (turn : List Row) × (sweep : List Row) × (tick : List Row) × (rows ≡ ((before ++ turn) ++ sweep) ++ tick)
+    × (status_after r.answer ≡ None)
     × HasHeard r.answer r.heard
+    × (is_some r.ticked ≡ is_tick_due rounds r.handed)
     × AreRounds config threads range rounds before
     × MakesEntry config before (entry_due config (history_after config rounds) r.handed r.heard) turn
     × SweepsAlone config threads range sweep
+    × MakesEntry config ((before ++ turn) ++ sweep) (tick_of (with_heard config (history_after config rounds) r) r) tick
 
 -- The rows of one thread of media: those of one sweep or of more, one behind the other, of the pairs whose number is the thread's modulo
 -- the number of threads

@@ -1,34 +1,37 @@
 -- A run between two rounds, and behind its last one.
-use Rattle.std.specs.Prelude.{◌≡◌, ◌<◌, ◌≤◌, ◌^◌, ◌++◌, ℕ, List, [], length, Option, Some, None}
+use Rattle.std.specs.Prelude.{◌≡◌, ◌<◌, ◌≤◌, ◌^◌, ◌++◌, ℕ, List, [], length, Option, Some, None, is_some}
 use Rattle.relay_outside.specs.declared.settings.Config.{Config}
 use Rattle.relay_outside.specs.declared.ports.PortCall.{PortCall}
 use Rattle.relay_outside.specs.Told.{Gained, Rose}
 use Rattle.turn_table.specs.declared.hands.Turns.{Turns}
 use Rattle.turn_table.specs.declared.hands.Hand.{Hand}
 use Rattle.turn_table.specs.Hands.{IsSameHand, entries}
+use Rattle.call_board.specs.Acts.{Call}
 use Rattle.media_ports.specs.Asked.{OpensWith}
 use Rattle.relay_core.specs.declared.part.Part.{Part}
 use Rattle.relay_core.specs.Made.{Made, list_of}
 use Rattle.relay_core.specs.Turning.{made_by}
 use Rattle.media_lane.specs.Visits.{Row}
-use Rattle.board_turns.specs.Between.{board_of, IsBetween}
+use Rattle.board_turns.specs.Between.{board_of, IsBetween, MakesTurn}
 use Rattle.board_turns.specs.Ties.{AreTied}
 use Rattle.main_sweeps.specs.Totals.{HasTotals}
+use Rattle.ng_server.specs.Ticking.{tick_entry}
 use Rattle.ng_server.specs.Servers.{OpensJust, history_of}
 use Rattle.relay_app.specs.declared.status.Status.{Status}
 use Rattle.relay_app.specs.declared.status.Status.TheVariants as status
 use Rattle.relay_app.specs.declared.totals.Counts.{Counts}
 use Rattle.relay_app.specs.declared.serve.Looped.{Looped}
 use Rattle.relay_app.specs.declared.words.Settings.{Settings}
-use Rattle.relay_app.specs.Rounds.{Round, history_after, moments, AreRounds, SweepsAlone}
+use Rattle.relay_app.specs.Rounds.{Round, history_after, moments, counted_from, is_second_later, AreRounds, SweepsAlone}
 use Rattle.relay_app.specs.Served.{Outside, Gave, openings, draws, HaveCauses, counts_in, AreExchanges, last_take, HasEnded, AreTold}
 
--- between two rounds: these are the rows so far
-pub record Running (config : Config) (threads : ℕ) (range : Option (ℕ × ℕ)) (rows : List Row) (counts : Counts) (outside : Outside) : Type 0 where
+-- between two rounds: these are the rows so far, and from this moment the next second counts
+pub record Running (config : Config) (threads : ℕ) (range : Option (ℕ × ℕ)) (rows : List Row) (counts : Counts) (since : Option ℕ) (outside : Outside) : Type 0 where
   pub rounds : List Round
   pub are_rounds : AreRounds config threads range rounds rows
   pub board_is : board_of (list_of rows) ≡ history_after config rounds
   pub counts_are : counts ≡ counts_in rounds
+  pub since_is : since ≡ counted_from rounds
   pub link : Gained outside.link outside.link_now (AreExchanges config rounds)
   pub timer : Gave outside.timer outside.timer_now (moments rounds)
   pub ports : Gained outside.opened outside.opened_now (OpensWith (openings (history_after config rounds)))
@@ -64,6 +67,20 @@ IsLoopEnd status.PrintFault = ⊥
 IsLoopEnd status.Usage = ⊥
 IsLoopEnd status.ScriptFault = ⊥
 IsLoopEnd status.ScriptRead = ⊥
+
+-- A tick.
+
+module _ {M I O : Type 0} {g : _} where
+  -- the hand made at this moment the tick that ended these calls, or nothing
+  abbrev pub DidTick : Config → (old new : Hand M (Part I O) Made (Unit {0}) g) → ℕ → Option (List Call) → Type 0
+  DidTick config old new now None = new ≡ old
+  DidTick config old new now (Some calls) = MakesTurn config old new (tick_entry (board_of (made_by old)) now calls)
+
+  -- it made a tick exactly where one is due, by the moment from which the second counts
+  pub record TicksWhenDue (config : Config) (old new : Hand M (Part I O) Made (Unit {0}) g) (since : Option ℕ) (now : ℕ) : Type 0 where
+    pub ticked : Option (List Call)
+    pub when_due : is_some ticked ≡ is_second_later since now
+    pub did : DidTick config old new now ticked
 
 -- The control loop, as the work of one side.
 

@@ -1,5 +1,5 @@
 -- The words of the commands `serve` and `replay`.
-use Rattle.std.specs.Prelude.{◌≡◌, ℕ, ◌+◌, ◌%◌, ◌≤◌, ◌<◌, ◌==◌, List, [], ◌∷◌, length, take, drop, position, filter_map, Bool, ◌||◌, Option, Some, None, nat_eq, nat_lt, if◌then◌else◌, codes}
+use Rattle.std.specs.Prelude.{◌≡◌, ℕ, ◌+◌, ◌*◌, ◌%◌, ◌≤◌, ◌<◌, ◌==◌, List, [], ◌∷◌, length, take, drop, position, filter_map, Bool, ◌||◌, Option, Some, None, nat_eq, nat_lt, if◌then◌else◌, codes}
 use Rattle.std.specs.List.{list_all, starts_with}
 use Rattle.std.specs.Option.{option_map}
 use Rattle.std.specs.Str.{bytes_eq}
@@ -49,6 +49,10 @@ turn_count text = number_within 1 1000000000000000 text
 abbrev pub thread_count : List ℕ → Option ℕ
 thread_count text = number_within 0 16 text
 
+-- a time: a number of seconds, from one to a day
+abbrev pub second_count : List ℕ → Option ℕ
+second_count text = number_within 1 86400 text
+
 -- a seed: a number that fits 64 bits
 abbrev pub seed_number : List ℕ → Option ℕ
 seed_number text = whole_number 18446744073709551615 text
@@ -61,14 +65,21 @@ value_after name word = if starts_with nat_eq word name then Some (drop (length 
 abbrev pub values_of : List ℕ → List (List ℕ) → List (List ℕ)
 values_of name words = filter_map (value_after name) words
 
+-- whether a word is that of an option that `serve` and `replay` share, but the interface
+abbrev pub is_shared_option : List ℕ → Bool
+is_shared_option word =
+    starts_with nat_eq word (codes "--port-min=")
+    || starts_with nat_eq word (codes "--port-max=")
+    || starts_with nat_eq word (codes "--max-sessions=")
+    || starts_with nat_eq word (codes "--timeout=")
+    || starts_with nat_eq word (codes "--offer-timeout=")
+
 -- whether a word is that of an option of `serve`
 abbrev pub is_option : List ℕ → Bool
 is_option word =
     starts_with nat_eq word (codes "--interface=")
+    || is_shared_option word
     || starts_with nat_eq word (codes "--listen-ng=")
-    || starts_with nat_eq word (codes "--port-min=")
-    || starts_with nat_eq word (codes "--port-max=")
-    || starts_with nat_eq word (codes "--max-sessions=")
     || starts_with nat_eq word (codes "--turns=")
     || starts_with nat_eq word (codes "--num-threads=")
 
@@ -76,10 +87,8 @@ is_option word =
 abbrev pub is_replay_option : List ℕ → Bool
 is_replay_option word =
     starts_with nat_eq word (codes "--interface=")
+    || is_shared_option word
     || starts_with nat_eq word (codes "--seed=")
-    || starts_with nat_eq word (codes "--port-min=")
-    || starts_with nat_eq word (codes "--port-max=")
-    || starts_with nat_eq word (codes "--max-sessions=")
 
 -- what the one value reads as; where there is none, the default; an option stands once at most
 abbrev pub one_value : {X : Type 0} → (List ℕ → Option X) → Option X → List (List ℕ) → Option X
@@ -95,16 +104,16 @@ default_listen = record { ip = V4 (127 ∷ 0 ∷ 0 ∷ 1 ∷ []); port = 2223 }
 abbrev pub replay_interface : Ip
 replay_interface = V4 (203 ∷ 0 ∷ 113 ∷ 1 ∷ [])
 
--- the configuration of a relay of this interface, these ports and so many calls: a call without packets ends after a minute,
--- an offer without an answer after an hour
-abbrev pub config_with : Ip → ℕ → ℕ → ℕ → Config
-config_with interface port_min port_max max_sessions = record {
+-- the configuration of a relay of this interface, these ports and so many calls: a call without packets ends after so many seconds,
+-- and an offer without an answer after so many
+abbrev pub config_with : Ip → (port_min port_max max_sessions timeout offer_timeout : ℕ) → Config
+config_with interface port_min port_max max_sessions timeout offer_timeout = record {
   interface = interface;
   interface6 = None;
   port_min = port_min;
   port_max = port_max;
-  timeout_ms = 60000;
-  offer_timeout_ms = 3600000;
+  timeout_ms = 1000 * timeout;
+  offer_timeout_ms = 1000 * offer_timeout;
   max_sessions = max_sessions;
 }
 
@@ -121,12 +130,13 @@ abbrev pub with_pair : Config → Option Config
 with_pair config = if has_pair config then Some config else None
 
 -- the configuration that the options say, where each says something and the range of ports holds a pair
-abbrev pub config_from : Option Ip → Option ℕ → Option ℕ → Option ℕ → Option Config
-config_from (Some interface) (Some port_min) (Some port_max) (Some max_sessions) = with_pair (config_with interface port_min port_max max_sessions)
-config_from interface port_min port_max max_sessions = None
+abbrev pub config_from : Option Ip → (port_min port_max max_sessions timeout offer_timeout : Option ℕ) → Option Config
+config_from (Some interface) (Some port_min) (Some port_max) (Some max_sessions) (Some timeout) (Some offer_timeout) =
+    with_pair (config_with interface port_min port_max max_sessions timeout offer_timeout)
+config_from interface port_min port_max max_sessions timeout offer_timeout = None
 
 -- `--interface=` with an IPv4 address, which is required where no default is given for it, `--port-min=` and `--port-max=`
--- with a port each, and `--max-sessions=` with a number
+-- with a port each, `--max-sessions=` with a number, `--timeout=` and `--offer-timeout=` with a number of seconds each
 abbrev pub configuration : Option Ip → List (List ℕ) → Option Config
 configuration interface words =
     config_from
@@ -134,6 +144,8 @@ configuration interface words =
     (one_value media_port (Some 30000) (values_of (codes "--port-min=") words))
     (one_value media_port (Some 40000) (values_of (codes "--port-max=") words))
     (one_value session_count (Some 2048) (values_of (codes "--max-sessions=") words))
+    (one_value second_count (Some 60) (values_of (codes "--timeout=") words))
+    (one_value second_count (Some 3600) (values_of (codes "--offer-timeout=") words))
 
 -- what the options say, where each says something
 abbrev pub settings_from : Option Config → Option Addr → Option ℕ → Option ℕ → Option Settings

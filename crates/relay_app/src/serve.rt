@@ -1,6 +1,6 @@
-//! The control turns of a run, with its sweeps where no thread relays media, and its end: the stop of all calls and the close of the table.
-ghost use Rattle.std.specs.Prelude.{◌≡◌, ◌≤◌, ◌<◌, ◌^◌, ℕ, List, [], map, Option, None, Some, IfSome, length, vec_capacity, slice_index_or};
-ghost use Rattle.relay_outside.specs.Told.{Rose};
+//! The control turns of a run, with its ticks, and with its sweeps where no thread relays media, and its end: the stop of all calls and the close of the table.
+ghost use Rattle.std.specs.Prelude.{◌≡◌, ◌≤◌, ◌<◌, ◌^◌, ℕ, List, [], map, Option, None, Some, IfSome, length, unwrap_or, if◌then◌else◌, vec_capacity, slice_index_or};
+ghost use Rattle.relay_outside.specs.Told.{Gained, Rose};
 ghost use Rattle.turn_table.specs.Hands.{IsHandOf, HasNoTurn, IsSameHand, parts, starts, entries};
 ghost use Rattle.relay_core.specs.Entries.{Entry};
 ghost use Rattle.relay_core.specs.Legal.{Legal};
@@ -11,13 +11,16 @@ ghost use Rattle.relay_core.specs.Made.{told};
 ghost use Rattle.relay_core.specs.Timed.{AreTimed};
 ghost use Rattle.relay_core.specs.Told.{InOrder, InsAreTold, OutsAreTold};
 ghost use Rattle.relay_core.specs.Turning.{made_by};
+ghost use Rattle.media_lane.specs.declared.answers.Totals.{Totals};
+ghost use Rattle.media_ports.specs.Asked.{OpensNone};
 ghost use Rattle.media_ports.specs.Held.{TellsHeld};
 ghost use Rattle.board_turns.specs.Between.{IsBetween};
+ghost use Rattle.board_turns.specs.Ties.{Ties};
 ghost use Rattle.main_sweeps.specs.Totals.{HasTotals};
 ghost use Rattle.ng_server.specs.Servers.{OpensJust, history_of};
-ghost use Rattle.relay_app.specs.Rounds.{status_after};
+ghost use Rattle.relay_app.specs.Rounds.{status_after, is_second_later};
 ghost use Rattle.relay_app.specs.Served.{DidServe};
-ghost use Rattle.relay_app.specs.Turned.{AddsSweep, DidTurns, CanWork, DidWork, IsLoopEnd};
+ghost use Rattle.relay_app.specs.Turned.{AddsSweep, TicksWhenDue, DidTurns, CanWork, DidWork, IsLoopEnd};
 
 use crate::beside::{ControlWork, run_beside};
 use crate::status::Status;
@@ -108,8 +111,52 @@ fn sweep_alone<P: PortMaker, C: Clock, G: Gate, R: Wait>(
     )
 }
 
+/// How many milliseconds after a tick the next one is due.
+const SECOND_MS: u64 = 1_000;
+
+/// Whether a moment is at least a second after that from which it counts.
+fn is_second_later(since: Option<u64>, now: u64) -> bool
+    ensures { result ≡ is_second_later since now }
+{
+    match since {
+        Some(then) => now.saturating_sub(then) >= SECOND_MS,
+        None => false,
+    }
+}
+
+/// Makes a tick at this moment, where one is due: a second after the last one, or after the first control turn, where there was none yet.
+/// From which moment the next second counts is answered.
+fn tick_when_due<P: PortMaker, R: Wait>(
+    rt: &R,
+    server: &Server<P>,
+    hand: &mut Hand<Relay<P::In, P::Out>>,
+    desk: &mut Desk<P::Out>,
+    ports: &mut P,
+    since: Option<u64>,
+    now: u64,
+) -> u64
+    requires between { IsBetween server.now.config server.now.turns hand.old }
+    requires open { OpensJust server.now.config (history_of hand.old) (P.told ports.old) }
+    ensures same { IsSameHand hand.old hand.new }
+    ensures between { IsBetween server.now.config server.now.turns hand.new }
+    ensures open { OpensJust server.now.config (history_of hand.new) (P.told ports.new) }
+    ensures ticks { TicksWhenDue server.now.config hand.old hand.new since now }
+    ensures since { result ≡ (if is_second_later since now then now else unwrap_or since now) }
+    ensures totals { (totals : Totals) → HasTotals (made_by hand.old) totals → HasTotals (made_by hand.new) totals }
+    ensures closes { Gained (P.told ports.old) (P.told ports.new) OpensNone }
+    ensures ties { Ties server.now.config (P.told ports.old) (P.told ports.new) (entries hand.old) (entries hand.new) }
+    ensures later { P.faults ports.old ≤ P.faults ports.new }
+{
+    if !is_second_later(since, now) {
+        return since.unwrap_or(now);
+    }
+    server.timer_turn(rt, hand, desk, ports, now);
+    now
+}
+
 /// Makes control turns until the link gives no more, a take fails, or as many takes as the settings say gave a datagram or nothing. The
-/// timer is asked once before each. Where no thread relays media, a sweep of it follows each turn after which the run goes on.
+/// timer is asked once before each. Where no thread relays media, a sweep of it follows each turn after which the run goes on. About once a
+/// second a tick, at the turn's moment, follows that.
 fn make_turns<N: ControlLink, P: PortMaker, K: KeySource, T: Timer, C: Clock, G: Gate, R: Wait>(
     rt: &R,
     alloc: Global,
@@ -160,6 +207,7 @@ fn make_turns<N: ControlLink, P: PortMaker, K: KeySource, T: Timer, C: Clock, G:
         datagrams: 0,
         replies: 0,
     };
+    let mut since = None;
     'turns: while counts.turns < settings.turns {
         let now = timer.now();
         let turn = server.control_turn(rt, alloc, &mut hand, desk, link, ports, keys, now);
@@ -173,6 +221,8 @@ fn make_turns<N: ControlLink, P: PortMaker, K: KeySource, T: Timer, C: Clock, G:
             return (looped, hand);
         }
         hand = sweep_alone(rt, settings, server, hand, clock, gate, &mut totals);
+        let next = tick_when_due(rt, server, &mut hand, desk, ports, since, now);
+        since = Some(next);
     }
     let looped = Looped {
         status: Status::TurnsSpent,

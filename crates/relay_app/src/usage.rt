@@ -7,7 +7,7 @@ use relay_outside::LineSink;
 
 /// The usage text.
 const USAGE: &[u8] =
-    b"usage: rtpengine serve --interface=ADDRESS [--listen-ng=ADDRESS:PORT] [--port-min=PORT] [--port-max=PORT] [--max-sessions=NUMBER] [--turns=NUMBER] [--num-threads=NUMBER] | replay [--interface=ADDRESS] [--seed=NUMBER] [--port-min=PORT] [--port-max=PORT] [--max-sessions=NUMBER]\n";
+    b"usage: rtpengine serve --interface=ADDRESS [--listen-ng=ADDRESS:PORT] [--port-min=PORT] [--port-max=PORT] [--max-sessions=NUMBER] [--timeout=SECONDS] [--offer-timeout=SECONDS] [--turns=NUMBER] [--num-threads=NUMBER] | replay [--interface=ADDRESS] [--seed=NUMBER] [--port-min=PORT] [--port-max=PORT] [--max-sessions=NUMBER] [--timeout=SECONDS] [--offer-timeout=SECONDS]\n";
 
 /// Prints the usage text.
 pub(crate) fn print_usage<O: LineSink>(out: &mut O) -> Status

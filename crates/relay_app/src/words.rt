@@ -1,6 +1,6 @@
 ghost use Rattle.std.specs.Prelude.{◌≡◌, ◌≤◌, ◌<◌, ◌==◌, ◌∷◌, ◌++◌, [], ℕ, List, Some, None, IfSome, MatchOption, IsTrue, ◌↔◌, codes, length, map, position};
 ghost use Rattle.std.specs.List.{list_all};
-ghost use Rattle.relay_app.specs.Words.{value_after, values_of, is_option, is_replay_option, ipv4, listen_address, media_port, session_count, turn_count, thread_count, seed_number, one_value, default_listen, has_pair, configuration, option_settings, settings, media, replay_options, replay_settings, IsV4, IsPair, IsInLimits};
+ghost use Rattle.relay_app.specs.Words.{value_after, values_of, is_shared_option, is_option, is_replay_option, ipv4, listen_address, media_port, session_count, second_count, turn_count, thread_count, seed_number, one_value, default_listen, has_pair, configuration, option_settings, settings, media, replay_options, replay_settings, IsV4, IsPair, IsInLimits};
 ghost use Rattle.relay_app.specs.Numbers.{whole_number, number_within};
 ghost use Rattle.relay_app.specs.Given.{IsGiven};
 
@@ -59,6 +59,10 @@ const PORT_MAX: &[u8] = b"--port-max=";
 
 const MAX_SESSIONS: &[u8] = b"--max-sessions=";
 
+const TIMEOUT: &[u8] = b"--timeout=";
+
+const OFFER_TIMEOUT: &[u8] = b"--offer-timeout=";
+
 const TURNS: &[u8] = b"--turns=";
 
 const NUM_THREADS: &[u8] = b"--num-threads=";
@@ -70,12 +74,6 @@ const REPLAY_INTERFACE: Ip = Ip::V4([203, 0, 113, 1]);
 
 /// The greatest number of turns, and the default.
 const MOST_TURNS: u64 = 1_000_000_000_000_000;
-
-/// After how many milliseconds without a packet a committed call ends.
-const TIMEOUT_MS: u64 = 60_000;
-
-/// After how many milliseconds an offer that was never answered ends.
-const OFFER_TIMEOUT_MS: u64 = 3_600_000;
 
 /// The value that a word gives to an option, where it is that option's word.
 fn value_after<'a>(name: &[u8], word: &'a [u8]) -> Option<&'a [u8]>
@@ -108,16 +106,25 @@ fn and_also<'a>(found: Given<'a>, value: &'a [u8]) -> Given<'a>
     }
 }
 
+/// Whether a word is that of an option that `serve` and `replay` share, but the interface.
+fn is_shared_option(word: &[u8]) -> bool
+    ensures { result ≡ is_shared_option word.now }
+{
+    word.starts_with(PORT_MIN)
+        || word.starts_with(PORT_MAX)
+        || word.starts_with(MAX_SESSIONS)
+        || word.starts_with(TIMEOUT)
+        || word.starts_with(OFFER_TIMEOUT)
+}
+
 /// Whether a word is that of an option of `serve`.
 fn is_option(word: &str) -> bool
     ensures { result ≡ is_option word.now }
 {
     let word = word.as_bytes();
     word.starts_with(INTERFACE)
+        || is_shared_option(word)
         || word.starts_with(LISTEN)
-        || word.starts_with(PORT_MIN)
-        || word.starts_with(PORT_MAX)
-        || word.starts_with(MAX_SESSIONS)
         || word.starts_with(TURNS)
         || word.starts_with(NUM_THREADS)
 }
@@ -127,11 +134,7 @@ fn is_replay_option(word: &str) -> bool
     ensures { result ≡ is_replay_option word.now }
 {
     let word = word.as_bytes();
-    word.starts_with(INTERFACE)
-        || word.starts_with(SEED)
-        || word.starts_with(PORT_MIN)
-        || word.starts_with(PORT_MAX)
-        || word.starts_with(MAX_SESSIONS)
+    word.starts_with(INTERFACE) || is_shared_option(word) || word.starts_with(SEED)
 }
 
 fn are_options(words: &[&str]) -> bool
@@ -253,6 +256,19 @@ fn find_sessions(words: &[&str]) -> Option<u32>
     }
 }
 
+/// The time in seconds, from one to a day, that the words give to an option, and the default where they give none.
+fn find_seconds(words: &[&str], name: &[u8], default: u64) -> Option<u64>
+    requires { (1 ≤ default) × (default ≤ 86400) }
+    ensures value { result ≡ one_value second_count (Some default) (values_of name.now (map (λ word. word.now) words.now)) }
+    ensures within { IfSome result (λ seconds. (1 ≤ seconds) × (seconds ≤ 86400)) }
+{
+    let limits = Limits {
+        least: 1,
+        most: 86_400,
+    };
+    find_number(words, name, limits, default)
+}
+
 /// A number of turns of 1 to 10^15.
 fn find_turns(words: &[&str]) -> Option<u64>
     ensures value { result ≡ one_value turn_count (Some 1000000000000000) (values_of (codes "--turns=") (map (λ word. word.now) words.now)) }
@@ -308,13 +324,15 @@ fn find_config(words: &[&str], interface: Option<Ip>) -> Option<Config>
     let port_min = find_port(words, PORT_MIN, 30_000)?;
     let port_max = find_port(words, PORT_MAX, 40_000)?;
     let max_sessions = find_sessions(words)?;
+    let timeout = find_seconds(words, TIMEOUT, 60)?;
+    let offer_timeout = find_seconds(words, OFFER_TIMEOUT, 3600)?;
     let config = Config {
         interface,
         interface6: None,
         port_min,
         port_max,
-        timeout_ms: TIMEOUT_MS,
-        offer_timeout_ms: OFFER_TIMEOUT_MS,
+        timeout_ms: 1_000 * timeout,
+        offer_timeout_ms: 1_000 * offer_timeout,
         max_sessions,
     };
     if has_pair(&config) {

@@ -21,24 +21,32 @@ turns-init g c = record {
   below = omega arith;
 }
 
+pub tick_when_due-next-requires-clause-open : goal.tick_when_due-next-requires-clause-open
+tick_when_due-next-requires-clause-open g c = opens_again _ _ _ _ c.sweep_alone-hand.ensures.history c.control_turn-turn.ensures.open
+
 pub turns-preserved : goal.turns-preserved
 turns-preserved g c = record {
   same =
-      same_again c.args.hand c.control_turn-turn.new.hand c.sweep_alone-hand.result
-      (same_again c.args.hand c.turns.hand c.control_turn-turn.new.hand c.turns.invariant.same c.control_turn-turn.ensures.same) c.sweep_alone-hand.ensures.same;
-  between = c.sweep_alone-hand.ensures.between;
-  opens = opens_again _ _ _ _ c.sweep_alone-hand.ensures.history c.control_turn-turn.ensures.open;
+      same_again c.args.hand c.sweep_alone-hand.result c.tick_when_due-next.new.hand
+      (same_again c.args.hand c.control_turn-turn.new.hand c.sweep_alone-hand.result
+      (same_again c.args.hand c.turns.hand c.control_turn-turn.new.hand c.turns.invariant.same c.control_turn-turn.ensures.same) c.sweep_alone-hand.ensures.same)
+      c.tick_when_due-next.ensures.same;
+  between = c.tick_when_due-next.ensures.between;
+  opens = c.tick_when_due-next.ensures.open;
   running =
-      turn_goes _ _ _ _ c.turns.hand c.control_turn-turn.new.hand c.turns.counts c.with-counts.result _ c.control_turn-turn.result _ _ _ _ _ _ _ _ _ _ _ _ _ _ _ _ _ _
+      turn_goes _ _ _ _ c.turns.hand c.control_turn-turn.new.hand c.turns.counts c.with-counts.result _ c.control_turn-turn.result _ _ _ _ _ _ _ _ _ _ _ _ _ _ _ _ _ _ _
       c.with-counts.ensures.sum c.turns.invariant.between c.control_turn-turn.ensures.between c.turns.invariant.running c.now-now.ensures c.control_turn-turn.ensures.turned c.control_turn-turn.ensures.ties
       c.turns.invariant.port_later c.turns.invariant.key_later c.control_turn-turn.ensures.later.1 c.control_turn-turn.ensures.later.2
-      c.sweep_alone-hand.result c.in_default.ensures.answer c.sweep_alone-hand.ensures.history c.sweep_alone-hand.ensures.swept;
+      c.tick_when_due-next.result c.sweep_alone-hand.result c.tick_when_due-next.new.hand _ _ c.in_default.ensures.answer c.sweep_alone-hand.ensures.history c.sweep_alone-hand.ensures.swept
+      c.sweep_alone-hand.ensures.between c.tick_when_due-next.ensures.between c.tick_when_due-next.ensures.ticks c.tick_when_due-next.ensures.since c.tick_when_due-next.ensures.closes
+      c.tick_when_due-next.ensures.ties c.tick_when_due-next.ensures.later;
   totals =
-      c.sweep_alone-hand.ensures.totals
+      c.tick_when_due-next.ensures.totals _
+      (c.sweep_alone-hand.ensures.totals
       (follows_totals c.args.server.now.config c.args.server.now.turns c.turns.hand c.control_turn-turn.new.hand _ c.control_turn-turn.result
-      c.control_turn-turn.ensures.turned.made c.turns.totals c.turns.invariant.between c.control_turn-turn.ensures.turned.follows c.turns.invariant.totals);
+      c.control_turn-turn.ensures.turned.made c.turns.totals c.turns.invariant.between c.control_turn-turn.ensures.turned.follows c.turns.invariant.totals));
   later = omega (arith, c.turns.invariant.later, c.control_turn-turn.ensures.later.0);
-  port_later = omega (arith, c.turns.invariant.port_later, c.control_turn-turn.ensures.later.1);
+  port_later = omega (arith, c.turns.invariant.port_later, c.control_turn-turn.ensures.later.1, c.tick_when_due-next.ensures.later);
   key_later = omega (arith, c.turns.invariant.key_later, c.control_turn-turn.ensures.later.2);
   replies = omega arith;
   datagrams = omega arith;
@@ -50,7 +58,7 @@ returns-in-Some-clause-same g c = same_again c.args.hand c.turns.hand c.control_
 
 pub returns-in-Some-clause-did : goal.returns-in-Some-clause-did
 returns-in-Some-clause-did g c =
-    turn_ends _ _ _ _ c.turns.hand c.control_turn-turn.new.hand c.turns.counts c.with-counts.result _ c.control_turn-turn.result _ _ _ _ _ _ _ _ _ _ _ _ _ _ _ _ _ _
+    turn_ends _ _ _ _ c.turns.hand c.control_turn-turn.new.hand c.turns.counts c.with-counts.result _ c.control_turn-turn.result _ _ _ _ _ _ _ _ _ _ _ _ _ _ _ _ _ _ _
     c.with-counts.ensures.sum c.turns.invariant.between c.control_turn-turn.ensures.between c.turns.invariant.running c.now-now.ensures c.control_turn-turn.ensures.turned c.control_turn-turn.ensures.ties
     c.turns.invariant.port_later c.turns.invariant.key_later c.control_turn-turn.ensures.later.1 c.control_turn-turn.ensures.later.2
     c.args.settings.now.turns c.in-Some.status c.in-Some.ensures.answer c.turns-test.true
@@ -61,4 +69,4 @@ returns-in-Some-clause-totals g c =
     c.control_turn-turn.ensures.turned.made c.turns.totals c.turns.invariant.between c.control_turn-turn.ensures.turned.follows c.turns.invariant.totals
 
 pub returns-clause-did : goal.returns-clause-did
-returns-clause-did g c = turns_spent _ _ _ _ c.turns.counts _ c.args.settings.now.turns (omega (arith, c.turns-test.false, c.turns.invariant.below)) c.turns.invariant.running
+returns-clause-did g c = turns_spent _ _ _ _ c.turns.counts _ _ c.args.settings.now.turns (omega (arith, c.turns-test.false, c.turns.invariant.below)) c.turns.invariant.running

@@ -12,7 +12,7 @@ invariant-turns g l = record {
   same : IsSameHand l.fn.hand l.hand;
   between : IsBetween l.server.config l.server.turns l.hand;
   opens : OpensJust l.server.config (history_of l.hand) (g.P.PortMaker.told l.ports);
-  running : Running l.server.config l.settings.threads (g.C.Clock.range l.clock) (entries l.hand) l.counts (record {
+  running : Running l.server.config l.settings.threads (g.C.Clock.range l.clock) (entries l.hand) l.counts l.since (record {
     link = g.N.ControlLink.told l.fn.link;
     link_now = g.N.ControlLink.told l.link;
     timer = g.T.Timer.told l.fn.timer;
