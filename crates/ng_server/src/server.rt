@@ -16,12 +16,13 @@ ghost use Rattle.media_ports.specs.Asked.{OpensNone};
 ghost use Rattle.media_ports.specs.Held.{TellsHeld};
 ghost use Rattle.board_turns.specs.Between.{IsBetween, MakesTurn};
 ghost use Rattle.board_turns.specs.Stopping.{stop_entry};
+ghost use Rattle.board_turns.specs.Ticking.{Ticks};
 ghost use Rattle.control_turns.specs.Taking.{Turned};
 ghost use Rattle.ng_server.specs.Servers.{OpensJust, history_of};
 ghost use Rattle.board_turns.specs.Ties.{Ties};
 
 use crate::desk::Desk;
-use board_turns::stop_turn;
+use board_turns::{stop_turn, tick_turn};
 use control_turns::{ControlTurn, control_turn};
 use relay_core::{Part, Relay, close_relay, parts};
 use relay_outside::{Config, ControlLink, InEnd, KeySource, OutEnd, OutOfMemory, PortMaker};
@@ -143,6 +144,34 @@ impl<P: PortMaker> Server<P> {
         ensures later { P.faults ports.old ≤ P.faults ports.new }
     {
         stop_turn(rt, &self.turns, hand, &self.config, ports, &mut desk.gone)
+    }
+
+    /// Makes a tick in one turn of the board: asks each live call, in order of their creation, whether it is due, ends each that is, and answers
+    /// how many it ended.
+    ///
+    /// An answered call is due when its last answer and its last accepted packet are both at least the configuration's `timeout_ms` ago, and a
+    /// call without an answer when it began at least `offer_timeout_ms` ago. `now` is in milliseconds; a moment before that of the board's last
+    /// entry counts as that one. It may wait for the board's turn, and for those of boxes and cells; it takes no memory.
+    pub fn timer_turn<R: Wait>(
+        &self,
+        rt: &R,
+        hand: &mut Hand<Relay<P::In, P::Out>>,
+        desk: &mut Desk<P::Out>,
+        ports: &mut P,
+        now: u64,
+    ) -> usize
+        requires between { IsBetween self.now.config self.now.turns hand.old }
+        requires open { OpensJust self.now.config (history_of hand.old) (P.told ports.old) }
+        ensures same { IsSameHand hand.old hand.new }
+        ensures between { IsBetween self.now.config self.now.turns hand.new }
+        ensures safe { BoardSafe self.now.config (made_by hand.new) }
+        ensures open { OpensJust self.now.config (history_of hand.new) (P.told ports.new) }
+        ensures ticks { Ticks self.now.config hand.old hand.new now result }
+        ensures closes { Gained (P.told ports.old) (P.told ports.new) OpensNone }
+        ensures ties { Ties self.now.config (P.told ports.old) (P.told ports.new) (entries hand.old) (entries hand.new) }
+        ensures later { P.faults ports.old ≤ P.faults ports.new }
+    {
+        tick_turn(rt, &self.turns, hand, &self.config, ports, &mut desk.gone, now)
     }
 
     /// Closes the table by the hand that has all its parts, and answers what its places hold, in order. It takes no memory.

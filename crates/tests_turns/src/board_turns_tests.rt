@@ -1,6 +1,6 @@
 use crate::first_relay::{CONFIG, begin};
 use crate::quiet_devices::QuietPorts;
-use board_turns::stop_turn;
+use board_turns::{stop_turn, tick_turn};
 use call_cell::Gone;
 use relay_core::close_relay;
 
@@ -13,6 +13,20 @@ fn a_stop_without_a_call_ends_none(rt: HostRuntime) {
         panic!(rt; "no memory");
     };
     let count = stop_turn(&rt, &turns, &mut hand, &CONFIG, &mut QuietPorts, &mut gone);
+    assert!(rt; count == 0 && gone.pop().is_none());
+    let places = close_relay(turns, hand);
+    assert!(rt; places.len() == 5);
+}
+
+#[test]
+fn a_tick_without_a_call_ends_none(rt: HostRuntime) {
+    let Ok(mut gone) = Gone::new(rt.alloc()) else {
+        panic!(rt; "no memory");
+    };
+    let Some((turns, mut hand)) = begin(rt.alloc()) else {
+        panic!(rt; "no memory");
+    };
+    let count = tick_turn(&rt, &turns, &mut hand, &CONFIG, &mut QuietPorts, &mut gone, 5);
     assert!(rt; count == 0 && gone.pop().is_none());
     let places = close_relay(turns, hand);
     assert!(rt; places.len() == 5);
