@@ -21,7 +21,7 @@ use Rattle.relay_core.specs.Turning.{made_by}
 use Rattle.media_lane.specs.Visits.{Row}
 use Rattle.board_turns.specs.Between.{board_of, IsBetween}
 use Rattle.board_turns.specs.Ties.{AreTied, Ties}
-use Rattle.ng_server.specs.Ticking.{tick_entry}
+use Rattle.board_turns.specs.Ticking.{tick_entry}
 use Rattle.control_entries.specs.Controls.{Hearing}
 use Rattle.control_entries.specs.Giving.{IsGivenBy}
 use Rattle.control_turns.specs.declared.taking.ControlTurn.{ControlTurn}

@@ -22,7 +22,7 @@ use Rattle.media_lane.specs.Sweeping.{Sweeps}
 use Rattle.media_lane.specs.Visits.{Row}
 use Rattle.board_turns.specs.Between.{board_of, IsBetween, MakesTurn}
 use Rattle.board_turns.specs.Stopping.{stop_entry}
-use Rattle.ng_server.specs.Ticking.{tick_entry}
+use Rattle.board_turns.specs.Ticking.{tick_entry}
 use Rattle.board_turns.proofs.Grown.{makes_history}
 use Rattle.control_entries.specs.Controls.{Hearing, entry_at, moment_at}
 use Rattle.control_turns.specs.declared.taking.ControlTurn.{ControlTurn}

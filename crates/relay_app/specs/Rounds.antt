@@ -16,7 +16,7 @@ use Rattle.media_lane.specs.Visits.{Row, Visit, all_rows}
 use Rattle.media_lane.specs.Looping.{IsSweep, AreSweeps, visits_of}
 use Rattle.board_turns.specs.Between.{board_of}
 use Rattle.board_turns.specs.Stopping.{stop_entry}
-use Rattle.ng_server.specs.Ticking.{tick_entry}
+use Rattle.board_turns.specs.Ticking.{tick_entry}
 use Rattle.control_entries.specs.Controls.{Hearing, entry_at, moment_at}
 use Rattle.control_turns.specs.Taking.{is_answered}
 use Rattle.control_turns.specs.declared.taking.ControlTurn.{ControlTurn}
