@@ -1,18 +1,17 @@
--- The answers of the openings among several calls.
-use Rattle.std.proofs.Common.{◌≡◌, ◌∙◌, ap, refl, ℕ, ◌+◌, ◌*◌, ◌<◌, ◌≤◌, Bool, true, false, List, [], ◌∷◌, ◌++◌, Option, length, take, replicate, append-nil, arith}
+-- The openings among several calls, and their answers.
+use Rattle.std.proofs.Common.{◌≡◌, ◌∙◌, sym, ap, refl, ℕ, zero, suc, ◌+◌, ◌*◌, ◌≤◌, Bool, List, [], ◌∷◌, ◌++◌, Option, length, take, drop, append-nil, arith}
 use Rattle.std.specs.List.{AllZip}
-use Rattle.std.proofs.lemmas.List.{length-append, length-replicate}
-use Rattle.std.proofs.lemmas.List.Elements.{filter_map-append}
+use Rattle.std.proofs.lemmas.List.Elements.{filter-append, filter_map-append}
 use Rattle.relay_outside.specs.declared.address.Addr.{Addr}
-use Rattle.relay_outside.specs.declared.address.Ip.{Ip}
+use Rattle.relay_outside.specs.declared.settings.Config.{Config}
 use Rattle.relay_outside.specs.declared.ports.PortCall.{PortCall}
 use Rattle.relay_outside.specs.declared.ports.PortCall.TheVariants.{Open, Close}
 use Rattle.relay_outside.specs.Told.{Gained}
 use Rattle.relay_outside.proofs.Telling.{gained_both, gained_none}
 use Rattle.port_pool.specs.declared.pairs.Lease.{Lease}
-use Rattle.media_ports.specs.Addresses.{addresses_of}
-use Rattle.media_ports.specs.Asked.{opening_answer, opening_answers, OpensWith, OpensNone}
-use Rattle.media_ports.specs.Calls.{openings, OpensPairs, OpensUpTo, ClosesUncalled}
+use Rattle.media_ports.specs.Addresses.{port_at, addresses_of, pairs_of, HavePorts}
+use Rattle.media_ports.specs.Asked.{opening_answer, opening_answers, is_opening, opening_calls, pair_addresses, OpensWith, OpensNone, OpensThese, OpensAt}
+use Rattle.media_ports.specs.Calls.{openings, ClosesUncalled}
 use Rattle.media_ports.proofs.Leased.{length-addresses_of}
 
 pub opening_answers-append : (xs ys : List PortCall) → opening_answers (xs ++ ys) ≡ opening_answers xs ++ opening_answers ys
@@ -36,25 +35,12 @@ pub gained_no_openings : (first second third : Option (List PortCall)) → Gaine
 gained_no_openings first second third before after =
     gained_both first second third OpensNone OpensNone OpensNone (λ xs ys these those. opens_with_closed [] xs ys these those) before after
 
--- the former calls open with these answers, the latter open none
-pub gained_openings_alone : (answers : List Bool) (first second third : Option (List PortCall)) → Gained first second (OpensWith answers) → Gained second third OpensNone →
-    Gained first third (OpensWith answers)
-gained_openings_alone answers first second third before after =
-    gained_both first second third (OpensWith answers) OpensNone (OpensWith answers) (λ xs ys these those. opens_with_closed answers xs ys these those) before after
-
 -- the answers of openings are those that they were given, where there is an address for each
 pub openings_answered : (ats : List Addr) (answers : List Bool) → length answers ≤ length ats → OpensWith answers (openings ats answers)
 openings_answered [] [] few = refl
 openings_answered [] (done ∷ answers) few = absurd (omega (arith, few))
 openings_answered (at ∷ ats) [] few = refl
 openings_answered (at ∷ ats) (done ∷ answers) few = ap (λ (bs : List Bool). done ∷ bs) (openings_answered ats answers (omega (arith, few)))
-
--- the ports of leased pairs are opened: two for each
-pub pairs_opened : (interface : Ip) (leases : List Lease) (calls : List PortCall) → OpensPairs interface leases calls → OpensWith (replicate (2 * length leases) true) calls
-pairs_opened interface leases calls opens =
-    let many = length-addresses_of interface leases in
-    let answers = length-replicate (2 * length leases) true in
-    ap opening_answers opens ∙ openings_answered (addresses_of interface leases) (replicate (2 * length leases) true) (omega (arith, many, answers))
 
 -- closings open none
 pub uncalled_opens_none : (ats : List Addr) (calls : List PortCall) → AllZip ClosesUncalled ats calls → OpensNone calls
@@ -64,11 +50,87 @@ uncalled_opens_none (at ∷ ats) [] closes = absurd closes
 uncalled_opens_none (at ∷ ats) (Open there done ∷ calls) closes = absurd closes.0
 uncalled_opens_none (at ∷ ats) (Close there taken sent ∷ calls) closes = uncalled_opens_none ats calls closes.1
 
--- openings up to one that fails, and the closings after it
-pub upto_opened : (ats : List Addr) (opened : ℕ) (calls : List PortCall) → opened < length ats → OpensUpTo ats opened calls → OpensWith (replicate opened true ++ false ∷ []) calls
-upto_opened ats opened calls some_left upto =
-    let answers = replicate opened true ++ false ∷ [] in
-    let many : length answers ≡ opened + 1 = length-append (replicate opened true) (false ∷ []) ∙ ap (λ (n : ℕ). n + 1) (length-replicate opened true) in
-    ap opening_answers upto.then_fails
-    ∙ opens_with_closed answers (openings ats answers) upto.closes (openings_answered ats answers (omega (arith, many, some_left)))
-    (uncalled_opens_none (take opened ats) upto.closes upto.closed)
+-- Which ports are opened.
+
+opening_calls-append : (xs ys : List PortCall) → opening_calls (xs ++ ys) ≡ opening_calls xs ++ opening_calls ys
+opening_calls-append xs ys = filter-append is_opening xs ys
+
+-- some openings, and then more
+pub opens_these_both : (some more xs ys : List PortCall) → OpensThese some xs → OpensThese more ys → OpensThese (some ++ more) (xs ++ ys)
+opens_these_both some more xs ys these those =
+    opening_calls-append xs ys ∙ ap (λ (calls : List PortCall). calls ++ opening_calls ys) these ∙ ap (λ (calls : List PortCall). some ++ calls) those
+
+-- calls without an answer of an opening have no opening
+none_opened : (calls : List PortCall) → OpensNone calls → opening_calls calls ≡ []
+none_opened [] none = refl
+none_opened (Open at done ∷ calls) none = absurd (let e = none in cc)
+none_opened (Close at taken sent ∷ calls) none = none_opened calls none
+
+-- openings, and then calls that open none
+opens_these_closed : (opens xs ys : List PortCall) → OpensThese opens xs → OpensNone ys → OpensThese opens (xs ++ ys)
+opens_these_closed opens xs ys these none = opens_these_both opens [] xs ys these (none_opened ys none) ∙ append-nil opens
+
+-- the former calls open these, the latter open none
+pub gained_these_alone : (opens : List PortCall) (first second third : Option (List PortCall)) → Gained first second (OpensThese opens) → Gained second third OpensNone →
+    Gained first third (OpensThese opens)
+gained_these_alone opens first second third before after =
+    gained_both first second third (OpensThese opens) OpensNone (OpensThese opens) (opens_these_closed opens) before after
+
+openings_kept : (ats : List Addr) (answers : List Bool) → opening_calls (openings ats answers) ≡ openings ats answers
+openings_kept [] answers = refl
+openings_kept (at ∷ ats) [] = refl
+openings_kept (at ∷ ats) (done ∷ answers) = ap (λ (calls : List PortCall). Open at done ∷ calls) (openings_kept ats answers)
+
+openings_none : (ats : List Addr) → openings ats [] ≡ []
+openings_none [] = refl
+openings_none (at ∷ ats) = refl
+
+-- those of the addresses in front, where there is one for each answer
+openings_front : (ats more : List Addr) (answers : List Bool) → length answers ≤ length ats → openings (ats ++ more) answers ≡ openings ats answers
+openings_front [] more [] few = openings_none more
+openings_front [] more (done ∷ answers) few = absurd (omega (arith, few))
+openings_front (at ∷ ats) more [] few = refl
+openings_front (at ∷ ats) more (done ∷ answers) few = ap (λ (calls : List PortCall). Open at done ∷ calls) (openings_front ats more answers (omega (arith, few)))
+
+pair_addresses_split : (config : Config) (count : ℕ) (pairs : List ℕ) →
+    pair_addresses config pairs ≡ pair_addresses config (take count pairs) ++ pair_addresses config (drop count pairs)
+pair_addresses_split config zero [] = refl
+pair_addresses_split config zero (pair ∷ pairs) = refl
+pair_addresses_split config (suc count) [] = refl
+pair_addresses_split config (suc count) (pair ∷ pairs) =
+    ap (λ (ats : List Addr). pair_addresses config (pair ∷ []) ++ ats) (pair_addresses_split config count pairs)
+
+-- the ports of leases are those of their pairs
+leased_addresses : (config : Config) (leases : List Lease) → HavePorts config leases → addresses_of config.interface leases ≡ pair_addresses config (pairs_of leases)
+leased_addresses config [] have = refl
+leased_addresses config (lease ∷ leases) have =
+    ap (λ (port : ℕ). port_at config.interface port ∷ port_at config.interface (port + 1) ∷ addresses_of config.interface leases) have.0
+    ∙ ap (λ (ats : List Addr). pair_addresses config (lease.pair ∷ []) ++ ats) (leased_addresses config leases have.1)
+
+-- openings of the ports of leases whose pairs are in front, and then calls that open none
+pub opens_front : (config : Config) (pairs : List ℕ) (count : ℕ) (leases : List Lease) (answers : List Bool) (closes calls : List PortCall) → HavePorts config leases →
+    pairs_of leases ≡ take count pairs → length answers ≤ 2 * length leases → calls ≡ openings (addresses_of config.interface leases) answers ++ closes → OpensNone closes →
+    OpensAt config pairs answers calls
+opens_front config pairs count leases answers closes calls have front few opens none =
+    let ats = addresses_of config.interface leases in
+    let enough : length answers ≤ length ats = (let many = length-addresses_of config.interface leases in omega (arith, many, few)) in
+    let those : ats ≡ pair_addresses config (take count pairs) = leased_addresses config leases have ∙ ap (pair_addresses config) front in record {
+      answered = ap opening_answers opens ∙ opens_with_closed answers (openings ats answers) closes (openings_answered ats answers enough) none;
+      in_order = ap opening_calls opens ∙ opens_these_closed (openings ats answers) (openings ats answers) closes (openings_kept ats answers) none ∙ sym (openings_front ats (pair_addresses config (drop count pairs)) answers enough)
+          ∙ ap (λ (front : List Addr). openings (front ++ pair_addresses config (drop count pairs)) answers) those
+          ∙ ap (λ (all : List Addr). openings all answers) (sym (pair_addresses_split config count pairs));
+    }
+
+-- calls that open none
+pub opens_none_at : (config : Config) (pairs : List ℕ) (calls : List PortCall) → OpensNone calls → OpensAt config pairs [] calls
+opens_none_at config pairs calls none = record { answered = none; in_order = none_opened calls none ∙ sym (openings_none (pair_addresses config pairs)) }
+
+-- the former calls open these ports, the latter open none
+pub gained_opens_alone : (config : Config) (pairs : List ℕ) (answers : List Bool) (first second third : Option (List PortCall)) → Gained first second (OpensAt config pairs answers) →
+    Gained second third OpensNone → Gained first third (OpensAt config pairs answers)
+gained_opens_alone config pairs answers first second third before after =
+    gained_both first second third (OpensAt config pairs answers) OpensNone (OpensAt config pairs answers)
+    (λ xs ys these none. record {
+      answered = opens_with_closed answers xs ys these.answered none;
+      in_order = opens_these_closed (openings (pair_addresses config pairs) answers) xs ys these.in_order none;
+    }) before after

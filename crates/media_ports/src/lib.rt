@@ -3,7 +3,8 @@
 //! Module `opening` opens the ports of an offer's leases pair by pair, RTP first, and closes them again after a fault;
 //! `closing` closes the ports of a pair; `ends` has the ends of opened pairs in order, `address` the address of a port;
 //! `drawing` draws keys into a list, `law` says which ports are open then. `specs/Calls.antt` and `specs/Draws.antt` say what that adds to the lists of the port
-//! maker and of the key source, `specs/Addresses.antt` has the addresses, `specs/Held.antt` which ports are open.
+//! maker and of the key source, `specs/Asked.antt` which ports were opened and with which answers, `specs/Addresses.antt` has the
+//! addresses, `specs/Held.antt` which ports are open.
 #![tactic(auto)]
 
 mod address;
