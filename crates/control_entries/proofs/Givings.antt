@@ -5,10 +5,11 @@ use Rattle.histories.proofs.Lists.{in_nothing}
 use Rattle.relay_outside.specs.declared.keys.KeyCall.{KeyCall}
 use Rattle.relay_outside.specs.declared.keys.KeyCall.TheVariants as key
 use Rattle.relay_outside.specs.declared.ports.PortCall.{PortCall}
+use Rattle.relay_outside.specs.declared.settings.Config.{Config}
 use Rattle.relay_outside.specs.Told.{Rose, Gained}
 use Rattle.relay_outside.proofs.Telling.{gained_none, gained_less}
-use Rattle.media_ports.specs.Asked.{OpensWith, OpensNone}
-use Rattle.media_ports.proofs.Asked.{gained_no_opening}
+use Rattle.media_ports.specs.Asked.{OpensNone, OpensAt}
+use Rattle.media_ports.proofs.Asked.{gained_no_opening, opens_none_at}
 use Rattle.media_ports.specs.Draws.{KeyBytes, DrawsAll, DrawsUpTo}
 use Rattle.control_entries.specs.declared.gave.Gave.{Gave}
 use Rattle.control_entries.specs.declared.gave.Gave.TheVariants.{Nothing, Starved, PortFault, KeyFault, Offered}
@@ -20,35 +21,35 @@ none_failed zero i = in_nothing i
 none_failed (suc opened) (here e) = let k : false ≡ true = e in cc
 none_failed (suc opened) (there i) = none_failed opened i
 
-nothing_given : (starved : Bool) (ports ports_now keys keys_now : ℕ) (opened opened_now : Option (List PortCall)) (drew : Option (List KeyCall))
-    → Gained opened opened_now OpensNone → IsGivenBy (given_so starved [] [] false) ports ports_now keys keys_now opened opened_now drew drew
-nothing_given starved ports ports_now keys keys_now opened opened_now drew closes = record {
+nothing_given : (config : Config) (free : List ℕ) (starved : Bool) (ports ports_now keys keys_now : ℕ) (opened opened_now : Option (List PortCall)) (drew : Option (List KeyCall))
+    → Gained opened opened_now OpensNone → IsGivenBy config free (given_so starved [] [] false) ports ports_now keys keys_now opened opened_now drew drew
+nothing_given config free starved ports ports_now keys keys_now opened opened_now drew closes = record {
   port_fault = λ i. absurd (in_nothing i);
   key_fault = λ t. absurd (let k : false ≡ true = t in cc);
-  opens = closes;
+  opens = gained_less opened opened_now OpensNone (OpensAt config free []) (opens_none_at config free) closes;
   draws = gained_none drew (λ calls. calls ≡ []) refl;
 }
 
 -- nothing was asked: the port maker was at most asked to close, and the key source's list stands as it was, whatever the counts are
-pub closing_given : (gave : Gave) (ports ports_now keys keys_now : ℕ) (opened opened_now : Option (List PortCall)) (drew : Option (List KeyCall))
-    → Gained opened opened_now OpensNone → IsUnasked gave → IsGivenBy (given_by gave) ports ports_now keys keys_now opened opened_now drew drew
-closing_given Nothing ports ports_now keys keys_now opened opened_now drew closes unasked = nothing_given false ports ports_now keys keys_now opened opened_now drew closes
-closing_given Starved ports ports_now keys keys_now opened opened_now drew closes unasked = nothing_given true ports ports_now keys keys_now opened opened_now drew closes
-closing_given (PortFault count) ports ports_now keys keys_now opened opened_now drew closes unasked = absurd unasked
-closing_given (KeyFault count drawn) ports ports_now keys keys_now opened opened_now drew closes unasked = absurd unasked
-closing_given (Offered count drawn) ports ports_now keys keys_now opened opened_now drew closes unasked = absurd unasked
+pub closing_given : (config : Config) (free : List ℕ) (gave : Gave) (ports ports_now keys keys_now : ℕ) (opened opened_now : Option (List PortCall)) (drew : Option (List KeyCall))
+    → Gained opened opened_now OpensNone → IsUnasked gave → IsGivenBy config free (given_by gave) ports ports_now keys keys_now opened opened_now drew drew
+closing_given config free Nothing ports ports_now keys keys_now opened opened_now drew closes unasked = nothing_given config free false ports ports_now keys keys_now opened opened_now drew closes
+closing_given config free Starved ports ports_now keys keys_now opened opened_now drew closes unasked = nothing_given config free true ports ports_now keys keys_now opened opened_now drew closes
+closing_given config free (PortFault count) ports ports_now keys keys_now opened opened_now drew closes unasked = absurd unasked
+closing_given config free (KeyFault count drawn) ports ports_now keys keys_now opened opened_now drew closes unasked = absurd unasked
+closing_given config free (Offered count drawn) ports ports_now keys keys_now opened opened_now drew closes unasked = absurd unasked
 
 -- no port was closed either
-pub unasked_given : (gave : Gave) (ports ports_now keys keys_now : ℕ) (opened : Option (List PortCall)) (drew : Option (List KeyCall)) → IsUnasked gave
-    → IsGivenBy (given_by gave) ports ports_now keys keys_now opened opened drew drew
-unasked_given gave ports ports_now keys keys_now opened drew unasked =
-    closing_given gave ports ports_now keys keys_now opened opened drew (gained_no_opening opened) unasked
+pub unasked_given : (config : Config) (free : List ℕ) (gave : Gave) (ports ports_now keys keys_now : ℕ) (opened : Option (List PortCall)) (drew : Option (List KeyCall)) → IsUnasked gave
+    → IsGivenBy config free (given_by gave) ports ports_now keys keys_now opened opened drew drew
+unasked_given config free gave ports ports_now keys keys_now opened drew unasked =
+    closing_given config free gave ports ports_now keys keys_now opened opened drew (gained_no_opening opened) unasked
 
 -- all ports were opened, and all keys drawn
-pub offered_given : (count : ℕ) (drawn : KeyBytes) (ports ports_now keys keys_now : ℕ) (opened opened_now : Option (List PortCall)) (drew drew_now : Option (List KeyCall))
-    → Gained opened opened_now (OpensWith (replicate count true)) → Gained drew drew_now (DrawsAll drawn.list)
-    → IsGivenBy (given_by (Offered count drawn)) ports ports_now keys keys_now opened opened_now drew drew_now
-offered_given count drawn ports ports_now keys keys_now opened opened_now drew drew_now opens gained = record {
+pub offered_given : (config : Config) (free : List ℕ) (count : ℕ) (drawn : KeyBytes) (ports ports_now keys keys_now : ℕ) (opened opened_now : Option (List PortCall)) (drew drew_now : Option (List KeyCall))
+    → Gained opened opened_now (OpensAt config free (replicate count true)) → Gained drew drew_now (DrawsAll drawn.list)
+    → IsGivenBy config free (given_by (Offered count drawn)) ports ports_now keys keys_now opened opened_now drew drew_now
+offered_given config free count drawn ports ports_now keys keys_now opened opened_now drew drew_now opens gained = record {
   port_fault = λ i. absurd (none_failed count i);
   key_fault = λ t. absurd (let k : false ≡ true = t in cc);
   opens = opens;
@@ -57,10 +58,10 @@ offered_given count drawn ports ports_now keys keys_now opened opened_now drew d
 }
 
 -- a port could not be opened, and no key was drawn
-pub ports_given : (count : ℕ) (ports ports_now keys keys_now : ℕ) (opened opened_now : Option (List PortCall)) (drew drew_now : Option (List KeyCall))
-    → Rose ports ports_now → Gained opened opened_now (OpensWith (replicate count true ++ false ∷ [])) → drew_now ≡ drew
-    → IsGivenBy (given_by (PortFault count)) ports ports_now keys keys_now opened opened_now drew drew_now
-ports_given count ports ports_now keys keys_now opened opened_now drew drew_now rose opens same = record {
+pub ports_given : (config : Config) (free : List ℕ) (count : ℕ) (ports ports_now keys keys_now : ℕ) (opened opened_now : Option (List PortCall)) (drew drew_now : Option (List KeyCall))
+    → Rose ports ports_now → Gained opened opened_now (OpensAt config free (replicate count true ++ false ∷ [])) → drew_now ≡ drew
+    → IsGivenBy config free (given_by (PortFault count)) ports ports_now keys keys_now opened opened_now drew drew_now
+ports_given config free count ports ports_now keys keys_now opened opened_now drew drew_now rose opens same = record {
   port_fault = λ i. rose;
   key_fault = λ t. absurd (let k : false ≡ true = t in cc);
   opens = opens;
@@ -68,10 +69,10 @@ ports_given count ports ports_now keys keys_now opened opened_now drew drew_now 
 }
 
 -- all ports were opened, these keys drawn, and the next draw failed
-pub keys_given : (count : ℕ) (drawn : KeyBytes) (ports ports_now keys keys_now : ℕ) (opened opened_now : Option (List PortCall)) (drew drew_now : Option (List KeyCall))
-    → Rose keys keys_now → Gained opened opened_now (OpensWith (replicate count true)) → Gained drew drew_now (DrawsUpTo drawn.list)
-    → IsGivenBy (given_by (KeyFault count drawn)) ports ports_now keys keys_now opened opened_now drew drew_now
-keys_given count drawn ports ports_now keys keys_now opened opened_now drew drew_now rose opens gained = record {
+pub keys_given : (config : Config) (free : List ℕ) (count : ℕ) (drawn : KeyBytes) (ports ports_now keys keys_now : ℕ) (opened opened_now : Option (List PortCall)) (drew drew_now : Option (List KeyCall))
+    → Rose keys keys_now → Gained opened opened_now (OpensAt config free (replicate count true)) → Gained drew drew_now (DrawsUpTo drawn.list)
+    → IsGivenBy config free (given_by (KeyFault count drawn)) ports ports_now keys keys_now opened opened_now drew drew_now
+keys_given config free count drawn ports ports_now keys keys_now opened opened_now drew drew_now rose opens gained = record {
   port_fault = λ i. absurd (none_failed count i);
   key_fault = λ t. rose;
   opens = opens;
@@ -79,8 +80,8 @@ keys_given count drawn ports ports_now keys keys_now opened opened_now drew drew
 }
 
 -- the same of a gave that is the one that was told
-pub given_as : (gave is : Gave) (ports ports_now keys keys_now : ℕ) (opened opened_now : Option (List PortCall)) (drew drew_now : Option (List KeyCall)) → gave ≡ is
-    → IsGivenBy (given_by is) ports ports_now keys keys_now opened opened_now drew drew_now
-    → IsGivenBy (given_by gave) ports ports_now keys keys_now opened opened_now drew drew_now
-given_as gave is ports ports_now keys keys_now opened opened_now drew drew_now e given =
-    subst (λ (these : Gave). IsGivenBy (given_by these) ports ports_now keys keys_now opened opened_now drew drew_now) (sym e) given
+pub given_as : (config : Config) (free : List ℕ) (gave is : Gave) (ports ports_now keys keys_now : ℕ) (opened opened_now : Option (List PortCall)) (drew drew_now : Option (List KeyCall)) → gave ≡ is
+    → IsGivenBy config free (given_by is) ports ports_now keys keys_now opened opened_now drew drew_now
+    → IsGivenBy config free (given_by gave) ports ports_now keys keys_now opened opened_now drew drew_now
+given_as config free gave is ports ports_now keys keys_now opened opened_now drew drew_now e given =
+    subst (λ (these : Gave). IsGivenBy config free (given_by these) ports ports_now keys keys_now opened opened_now drew drew_now) (sym e) given

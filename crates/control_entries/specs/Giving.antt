@@ -4,9 +4,10 @@ use Rattle.histories.specs.Words.{In}
 use Rattle.relay_outside.specs.declared.keys.KeyCall.{KeyCall}
 use Rattle.relay_outside.specs.declared.keys.KeyCall.TheVariants as key
 use Rattle.relay_outside.specs.declared.ports.PortCall.{PortCall}
+use Rattle.relay_outside.specs.declared.settings.Config.{Config}
 use Rattle.relay_outside.specs.Told.{Rose, Gained}
 use Rattle.call_board.specs.Acts.{Given}
-use Rattle.media_ports.specs.Asked.{OpensWith}
+use Rattle.media_ports.specs.Asked.{OpensAt}
 use Rattle.control_entries.specs.declared.gave.Gave.{Gave}
 use Rattle.control_entries.specs.declared.gave.Gave.TheVariants.{Nothing, Starved, PortFault, KeyFault, Offered}
 
@@ -32,11 +33,12 @@ IsUnasked (Offered opened drawn) = ⊥
 abbrev pub draws_of : Given → List KeyCall
 draws_of given = map key.Drawn given.draws ++ (if given.draw_failed then key.Failed ∷ [] else [])
 
--- What an entry says that the outside gave is what the devices told: the openings are those that the port maker's list gained, with
--- their answers, and the draws those that the key source's list gained; and a port that could not be opened, or a key that could not
--- be drawn, stands in it only where the count of the port maker's faults, or of the key source's, rose
-pub record IsGivenBy (given : Given) (ports ports_now keys keys_now : ℕ) (opened opened_now : Option (List PortCall)) (drew drew_now : Option (List KeyCall)) : Type 0 where
+-- What an entry says that the outside gave is what the devices told: the openings are those that the port maker's list gained, of the
+-- ports of the pairs that were free before it, from the front, and with their answers; the draws are those that the key source's list
+-- gained; and a port that could not be opened, or a key that could not be drawn, stands in it only where the count of the port maker's
+-- faults, or of the key source's, rose
+pub record IsGivenBy (config : Config) (free : List ℕ) (given : Given) (ports ports_now keys keys_now : ℕ) (opened opened_now : Option (List PortCall)) (drew drew_now : Option (List KeyCall)) : Type 0 where
   pub port_fault : In false given.opens → Rose ports ports_now
   pub key_fault : given.draw_failed ≡ true → Rose keys keys_now
-  pub opens : Gained opened opened_now (OpensWith given.opens)
+  pub opens : Gained opened opened_now (OpensAt config free given.opens)
   pub draws : Gained drew drew_now (λ calls. calls ≡ draws_of given)
