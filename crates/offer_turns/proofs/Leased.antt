@@ -1,5 +1,5 @@
 -- The leases of an offer: their pairs are free, so that the boxes of these are shut.
-use Rattle.std.proofs.Common.{◌≡◌, ◌∙◌, refl, sym, ap, subst, ℕ, zero, suc, ◌+◌, ◌<◌, ◌^◌, Bool, true, false, cond, ◌==◌, List, [], ◌∷◌, map, take, arith}
+use Rattle.std.proofs.Common.{◌≡◌, ◌∙◌, refl, sym, ap, subst, ℕ, zero, suc, ◌+◌, ◌<◌, ◌^◌, Bool, true, false, cond, ◌==◌, List, [], ◌∷◌, map, length, take, arith}
 use Rattle.relay_outside.specs.declared.settings.Config.{Config}
 use Rattle.rtp_packet.specs.declared.head.Half.{Half}
 use Rattle.rtp_packet.specs.declared.head.Half.TheVariants.{Rtp, Rtcp}
@@ -24,6 +24,7 @@ use Rattle.call_board.proofs.Outs.{are_free, lease_pairs}
 use Rattle.media_ports.specs.Addresses.{pairs_of, HavePorts, AreLeased}
 use Rattle.media_ports.specs.declared.ends.PairEnds.{PairEnds}
 use Rattle.media_ports.proofs.Held.{pair_fits}
+use Rattle.offer_leases.proofs.Asked.{AreFronts}
 use Rattle.relay_core.specs.Entries.{Entry, board_history}
 use Rattle.relay_core.specs.Legal.{Orderly}
 use Rattle.relay_core.specs.Turning.{IsAbove}
@@ -68,6 +69,12 @@ pairs_leased config h count leases is = ap pairs_of is ∙ lease_pairs config (t
 pub lease_free : (config : Config) (h : List BoardEntry) (count : ℕ) (leases : List Lease) → leases ≡ leases_of config (view_of config h) count → (pair : ℕ) → In pair (pairs_of leases) →
     In pair (free config h)
 lease_free config h count leases is pair i = taken_in pair count (free config h) (subst (λ (ps : List ℕ). In pair ps) (pairs_leased config h count leases is) i)
+
+-- with their ports, in the order of the free ones
+pub are_fronts : (config : Config) (h : List BoardEntry) (count : ℕ) (leases : List Lease) → IsFitting config h → leases ≡ leases_of config (view_of config h) count → length leases ≡ count →
+    AreFronts config (free config h) count leases
+are_fronts config h count leases good is many =
+    record { have = (are_leased config h count leases good is).ports; fronts = pairs_leased config h count leases is; many = many }
 
 -- their boxes are shut
 pub are_shut : (config : Config) (l : List Entry) → Orderly config l → (n : ℕ) → IsAbove l 0 n → (count : ℕ) (leases : List Lease) →

@@ -10,7 +10,8 @@ ghost use Rattle.call_board.specs.Acts.{Offered, Undone, BoardEntry, act};
 ghost use Rattle.call_board.specs.Boards.{KeepsReplies};
 ghost use Rattle.call_board.specs.Fits.{FitsBoard};
 ghost use Rattle.call_board.specs.Planned.{HasRoom};
-ghost use Rattle.media_ports.specs.Asked.{OpensWith};
+ghost use Rattle.call_board.specs.Pairs.{free};
+ghost use Rattle.media_ports.specs.Asked.{OpensAt};
 ghost use Rattle.media_ports.specs.Draws.{DrawsAll};
 ghost use Rattle.relay_core.specs.Entries.{board_history};
 ghost use Rattle.relay_core.specs.Turning.{made_by};
@@ -86,7 +87,8 @@ pub fn offer_act<P: PortMaker, K: KeySource, R: Wait>(
         accepted.text.list ≡ text_of config.now (board_history (made_by hand.old) nest.number) id (offer_of config.now (board_history (made_by hand.old) nest.number) id ask accepted.drawn.list)) }
     ensures within { IfOk result (λ accepted. length accepted.text.list ≤ plan.plan.reply_len) }
     ensures count { IfOk result (λ accepted. length accepted.drawn.list ≡ key_count plan.plan) }
-    ensures opens { IfOk result (λ accepted. Gained (P.told ports.old) (P.told ports.new) (OpensWith (replicate (2 * pair_count plan.plan) true))) }
+    ensures opens { let h = board_history (made_by hand.old) nest.number in
+        IfOk result (λ accepted. Gained (P.told ports.old) (P.told ports.new) (OpensAt config.now (free config.now h) (replicate (2 * pair_count plan.plan) true))) }
     ensures draws { IfOk result (λ accepted. Gained (K.told keys.old) (K.told keys.new) (DrawsAll accepted.drawn.list)) }
 
     // One that is undone does what its entry owes.
@@ -94,7 +96,8 @@ pub fn offer_act<P: PortMaker, K: KeySource, R: Wait>(
         (e : BoardEntry) (code : ErrorCode) → act e ≡ Undone code (undone_leases config.now (board_history (made_by hand.old) nest.number) id ask) (keys_before fault) →
         DoesAct config.now hand.old hand.new nest e board.new (P.told ports.new)) }
     ensures early { IfErr result (ComesEarly (pairs_of_plan plan) (keys_of_plan plan)) }
-    ensures opens_before { IfErr result (λ fault. Gained (P.told ports.old) (P.told ports.new) (OpensWith (opens_before (pair_count plan.plan) fault))) }
+    ensures opens_before { let h = board_history (made_by hand.old) nest.number in
+        IfErr result (λ fault. Gained (P.told ports.old) (P.told ports.new) (OpensAt config.now (free config.now h) (opens_before (pair_count plan.plan) fault))) }
     ensures draws_before { IfErr result (λ fault. DrawsBefore fault (K.told keys.old) (K.told keys.new)) }
     ensures cause { IfErr result (λ fault. HasRisen fault (P.faults ports.old) (P.faults ports.new) (K.faults keys.old) (K.faults keys.new)) }
 {

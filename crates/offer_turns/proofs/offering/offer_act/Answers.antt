@@ -11,7 +11,7 @@ use Rattle.call_board.proofs.Entries.{draws_keep}
 use Rattle.relay_core.specs.Entries.{board_history}
 use Rattle.relay_core.specs.Turning.{made_by}
 use Rattle.relay_core.proofs.Histories.{good_history}
-use Rattle.media_ports.proofs.Asked.{gained_openings_alone}
+use Rattle.media_ports.proofs.Asked.{gained_opens_alone}
 use Rattle.board_turns.specs.Ending.{leg_pairs}
 use Rattle.board_turns.proofs.Tying.{ties_both, ties_uncalled}
 use Rattle.offer_leases.specs.Leasing.{with_taken}
@@ -20,6 +20,7 @@ use Rattle.offer_leases.proofs.Asked.{gained_pairs, gained_undone}
 use Rattle.offer_leases.proofs.Counted.{plan_few, may_lease}
 use Rattle.offer_turns.specs.Offers.{target_of, offer_of, leased_view, text_of}
 use Rattle.offer_turns.proofs.Kept.{both_held}
+use Rattle.offer_turns.proofs.Leased.{are_fronts}
 use Rattle.offer_turns.proofs.Targets.{pairs_count}
 use Rattle.offer_turns.proofs.Limits.{sound_of, some_due, enough_free, may_apply, due_leased, board_history_short}
 use Rattle.offer_turns.proofs.Undone.{does_undone}
@@ -133,22 +134,30 @@ returns-in-Ok-clause-within g c =
 pub returns-in-Ok-clause-opens : goal.returns-in-Ok-clause-opens
 returns-in-Ok-clause-opens g c =
     let told = g.P.PortMaker.told in
+    let config = c.args.config.now in
+    let l = made_by c.args.hand.now in
+    let h = board_history l c.args.nest.number in
+    let v = at_moment (view_of config h) c.args.nest.moment in
     let pairs = pair_count c.args.plan.plan in
-    let leased = c.in-Ok.leased.leases.list in
-    gained_openings_alone (replicate (2 * pairs) true) (told c.args.ports.now) (told c.lease_offer.new.ports) (told c.take_in.new.ports)
-    (gained_pairs c.args.config.now.interface leased pairs (told c.args.ports.now) (told c.lease_offer.new.ports) c.in-Ok.ensures.pairs c.in-Ok.ensures.opens) c.take_in.ensures.closes
+    let turn = c.requires.turn in
+    let leases = c.in-Ok.leased.leases.list in
+    let are = are_fronts config h pairs leases (good_history config l turn.orderly c.args.nest.number) (c.in-Ok.ensures.leases v turn.shows) c.in-Ok.ensures.pairs in
+    gained_opens_alone config (free config h) (replicate (2 * pairs) true) (told c.args.ports.now) (told c.lease_offer.new.ports) (told c.take_in.new.ports)
+    (gained_pairs config (free config h) pairs leases are (told c.args.ports.now) (told c.lease_offer.new.ports) c.in-Ok.ensures.opens) c.take_in.ensures.closes
 
 pub returns-in-Err-clause-opens_before : goal.returns-in-Err-clause-opens_before
 returns-in-Err-clause-opens_before g c =
     let told = g.P.PortMaker.told in
     let config = c.args.config.now in
-    let h = board_history (made_by c.args.hand.now) c.args.nest.number in
+    let l = made_by c.args.hand.now in
+    let h = board_history l c.args.nest.number in
     let v = at_moment (view_of config h) c.args.nest.moment in
     let pairs = pair_count c.args.plan.plan in
     let turn = c.requires.turn in
+    let leases = leases_of config v pairs in
     let many = length-map (take pairs (free config h)) (lease_at config v.leases) ∙ enough_free config h c.args.board.now c.args.plan v turn.shows refl c.requires.planned in
-    gained_undone config.interface (leases_of config v pairs) pairs (key_count c.args.plan.plan) c.in-Err.fault (told c.args.ports.now) (told c.lease_offer.new.ports) many c.in-Err.ensures.early
-    (c.in-Err.ensures.closes v turn.shows)
+    gained_undone config (free config h) pairs leases (are_fronts config h pairs leases (good_history config l turn.orderly c.args.nest.number) refl many) (key_count c.args.plan.plan) c.in-Err.fault
+    (told c.args.ports.now) (told c.lease_offer.new.ports) c.in-Err.ensures.early (c.in-Err.ensures.closes v turn.shows)
 
 pub returns-in-Ok-clause-ties : goal.returns-in-Ok-clause-ties
 returns-in-Ok-clause-ties g c =
