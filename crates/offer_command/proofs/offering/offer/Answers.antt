@@ -3,6 +3,7 @@ use Rattle.turn_table.specs.Hands.{entries}
 use Rattle.offer_answer.specs.declared.plan.Plan.{Plan}
 use Rattle.offer_answer.specs.Offering.{pair_count, AsksOffer}
 use Rattle.call_board.specs.Asked.{sdp_error}
+use Rattle.call_board.specs.Pairs.{free}
 use Rattle.call_board.specs.Replies.{Described, Fault, reply_datagram}
 use Rattle.call_board.specs.Views.{view_of, at_moment}
 use Rattle.relay_core.specs.Entries.{board_history}
@@ -28,7 +29,9 @@ returns-in-Err-clause-carries g c pairs asking =
 
 pub returns-in-Err-clause-given : goal.returns-in-Err-clause-given
 returns-in-Err-clause-given g c =
-    unasked_given c.misdescribed.result.gave (g.P.PortMaker.faults c.args.ports.now) (g.P.PortMaker.faults c.args.ports.now) (g.K.KeySource.faults c.args.keys.now) (g.K.KeySource.faults c.args.keys.now)
+    let config = c.args.config.now in
+    let free_pairs = free config (board_history (made_by c.args.hand.now) c.args.nest.number) in
+    unasked_given config free_pairs c.misdescribed.result.gave (g.P.PortMaker.faults c.args.ports.now) (g.P.PortMaker.faults c.args.ports.now) (g.K.KeySource.faults c.args.keys.now) (g.K.KeySource.faults c.args.keys.now)
     (g.P.PortMaker.told c.args.ports.now) (g.K.KeySource.told c.args.keys.now) c.misdescribed.ensures.unasked
 
 pub returns-in-Err-plan_offer-clause-carries : goal.returns-in-Err-plan_offer-clause-carries
@@ -53,7 +56,9 @@ returns-in-Err-plan_offer-clause-carries g c pairs asking =
 
 pub returns-in-Err-plan_offer-clause-given : goal.returns-in-Err-plan_offer-clause-given
 returns-in-Err-plan_offer-clause-given g c =
-    unasked_given c.unplanned.result.gave (g.P.PortMaker.faults c.args.ports.now) (g.P.PortMaker.faults c.args.ports.now) (g.K.KeySource.faults c.args.keys.now) (g.K.KeySource.faults c.args.keys.now)
+    let config = c.args.config.now in
+    let free_pairs = free config (board_history (made_by c.args.hand.now) c.args.nest.number) in
+    unasked_given config free_pairs c.unplanned.result.gave (g.P.PortMaker.faults c.args.ports.now) (g.P.PortMaker.faults c.args.ports.now) (g.K.KeySource.faults c.args.keys.now) (g.K.KeySource.faults c.args.keys.now)
     (g.P.PortMaker.told c.args.ports.now) (g.K.KeySource.told c.args.keys.now) c.unplanned.ensures.unasked
 
 pub returns-in_default-clause-carries : goal.returns-in_default-clause-carries
@@ -68,7 +73,9 @@ returns-in_default-clause-carries g c pairs asking =
 
 pub returns-in_default-clause-given : goal.returns-in_default-clause-given
 returns-in_default-clause-given g c =
-    unasked_given c.short.result.gave (g.P.PortMaker.faults c.args.ports.now) (g.P.PortMaker.faults c.args.ports.now) (g.K.KeySource.faults c.args.keys.now) (g.K.KeySource.faults c.args.keys.now)
+    let config = c.args.config.now in
+    let free_pairs = free config (board_history (made_by c.args.hand.now) c.args.nest.number) in
+    unasked_given config free_pairs c.short.result.gave (g.P.PortMaker.faults c.args.ports.now) (g.P.PortMaker.faults c.args.ports.now) (g.K.KeySource.faults c.args.keys.now) (g.K.KeySource.faults c.args.keys.now)
     (g.P.PortMaker.told c.args.ports.now) (g.K.KeySource.told c.args.keys.now) c.short.ensures.unasked
 
 pub offer_act-requires-clause-turn : goal.offer_act-requires-clause-turn
@@ -138,14 +145,16 @@ returns-in-Err-offer_act-clause-carries g c pairs asking =
 
 pub returns-in-Err-offer_act-clause-given : goal.returns-in-Err-offer_act-clause-given
 returns-in-Err-offer_act-clause-given g c =
+    let config = c.args.config.now in
+    let free_pairs = free config (board_history (made_by c.args.hand.now) c.args.nest.number) in
     let plan = c.in-Ok-plan_offer.plan in
     let fault = c.in-Err-offer_act.fault in
     let opens : c.pairs-opens.result ≡ pair_count plan.plan = c.pairs-opens.ensures.count ∙ ap pair_count c.planned-2.ensures in
     let count = pair_count plan.plan in
-    given_as c.undone.result.gave (undone_gave (2 * count) fault) (g.P.PortMaker.faults c.args.ports.now) (g.P.PortMaker.faults c.offer_act.new.ports) (g.K.KeySource.faults c.args.keys.now) (g.K.KeySource.faults c.offer_act.new.keys)
+    given_as config free_pairs c.undone.result.gave (undone_gave (2 * count) fault) (g.P.PortMaker.faults c.args.ports.now) (g.P.PortMaker.faults c.offer_act.new.ports) (g.K.KeySource.faults c.args.keys.now) (g.K.KeySource.faults c.offer_act.new.keys)
     (g.P.PortMaker.told c.args.ports.now) (g.P.PortMaker.told c.offer_act.new.ports) (g.K.KeySource.told c.args.keys.now) (g.K.KeySource.told c.offer_act.new.keys)
     (c.undone.ensures.gave_is ∙ ap (λ (n : ℕ). undone_gave (2 * n) fault) opens)
-    (undone_given count fault (g.P.PortMaker.faults c.args.ports.now) (g.P.PortMaker.faults c.offer_act.new.ports) (g.K.KeySource.faults c.args.keys.now) (g.K.KeySource.faults c.offer_act.new.keys)
+    (undone_given config free_pairs count fault (g.P.PortMaker.faults c.args.ports.now) (g.P.PortMaker.faults c.offer_act.new.ports) (g.K.KeySource.faults c.args.keys.now) (g.K.KeySource.faults c.offer_act.new.keys)
     (g.P.PortMaker.told c.args.ports.now) (g.P.PortMaker.told c.offer_act.new.ports) (g.K.KeySource.told c.args.keys.now) (g.K.KeySource.told c.offer_act.new.keys)
     c.in-Err-offer_act.ensures.cause c.in-Err-offer_act.ensures.opens_before c.in-Err-offer_act.ensures.draws_before)
 
@@ -180,14 +189,16 @@ returns-clause-carries g c pairs asking =
 
 pub returns-clause-given : goal.returns-clause-given
 returns-clause-given g c =
+    let config = c.args.config.now in
+    let free_pairs = free config (board_history (made_by c.args.hand.now) c.args.nest.number) in
     let plan = c.in-Ok-plan_offer.plan in
     let drawn = c.in-Ok-offer_act.offered.drawn in
     let opens : c.pairs-opens.result ≡ pair_count plan.plan = c.pairs-opens.ensures.count ∙ ap pair_count c.planned-2.ensures in
     let count = 2 * pair_count plan.plan in
-    given_as c.accepted.result.gave (gave.Offered count drawn) (g.P.PortMaker.faults c.args.ports.now) (g.P.PortMaker.faults c.offer_act.new.ports) (g.K.KeySource.faults c.args.keys.now) (g.K.KeySource.faults c.offer_act.new.keys)
+    given_as config free_pairs c.accepted.result.gave (gave.Offered count drawn) (g.P.PortMaker.faults c.args.ports.now) (g.P.PortMaker.faults c.offer_act.new.ports) (g.K.KeySource.faults c.args.keys.now) (g.K.KeySource.faults c.offer_act.new.keys)
     (g.P.PortMaker.told c.args.ports.now) (g.P.PortMaker.told c.offer_act.new.ports) (g.K.KeySource.told c.args.keys.now) (g.K.KeySource.told c.offer_act.new.keys)
     (c.accepted.ensures.gave_is ∙ ap (λ (n : ℕ). gave.Offered (2 * n) drawn) opens)
-    (offered_given count drawn (g.P.PortMaker.faults c.args.ports.now) (g.P.PortMaker.faults c.offer_act.new.ports) (g.K.KeySource.faults c.args.keys.now) (g.K.KeySource.faults c.offer_act.new.keys)
+    (offered_given config free_pairs count drawn (g.P.PortMaker.faults c.args.ports.now) (g.P.PortMaker.faults c.offer_act.new.ports) (g.K.KeySource.faults c.args.keys.now) (g.K.KeySource.faults c.offer_act.new.keys)
     (g.P.PortMaker.told c.args.ports.now) (g.P.PortMaker.told c.offer_act.new.ports) (g.K.KeySource.told c.args.keys.now) (g.K.KeySource.told c.offer_act.new.keys)
     c.in-Ok-offer_act.ensures.opens c.in-Ok-offer_act.ensures.draws)
 
