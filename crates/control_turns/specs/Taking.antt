@@ -12,6 +12,7 @@ use Rattle.relay_outside.specs.declared.ports.PortCall.{PortCall}
 use Rattle.relay_outside.specs.declared.settings.Config.{Config}
 use Rattle.turn_table.specs.declared.hands.Hand.{Hand}
 use Rattle.call_board.specs.Acts.{BoardEntry}
+use Rattle.call_board.specs.Pairs.{free}
 use Rattle.relay_core.specs.declared.part.Part.{Part}
 use Rattle.relay_core.specs.Made.{Made}
 use Rattle.relay_core.specs.Turning.{made_by}
@@ -77,10 +78,12 @@ pub record DidTurn (config : Config) (h : List BoardEntry) (now : ℕ) (answer :
   pub calls_are : calls ≡ call.Take 16385 gave ∷ sends
   pub followed : DidFollow config h now gave answer made sends
 
--- what the outside gave in a turn; of a turn that made no entry neither the port maker nor the key source was asked
-abbrev pub GaveFor : Option Hearing → (ports ports_now keys keys_now : ℕ) → (opened opened_now : Option (List PortCall)) → (drew drew_now : Option (List KeyCall)) → Type 0
-GaveFor None ports ports_now keys keys_now opened opened_now drew drew_now = (opened_now ≡ opened) × (drew_now ≡ drew)
-GaveFor (Some x) ports ports_now keys keys_now opened opened_now drew drew_now = IsGivenBy x.given ports ports_now keys keys_now opened opened_now drew drew_now
+-- what the outside gave in a turn, by the board's history before it; of a turn that made no entry neither the port maker nor the key
+-- source was asked
+abbrev pub GaveFor : Config → List BoardEntry → Option Hearing → (ports ports_now keys keys_now : ℕ) → (opened opened_now : Option (List PortCall)) → (drew drew_now : Option (List KeyCall)) → Type 0
+GaveFor config h None ports ports_now keys keys_now opened opened_now drew drew_now = (opened_now ≡ opened) × (drew_now ≡ drew)
+GaveFor config h (Some x) ports ports_now keys keys_now opened opened_now drew drew_now =
+    IsGivenBy config (free config h) x.given ports ports_now keys keys_now opened opened_now drew drew_now
 
 module _ {M I O T : Type 0} {g : _} where
   -- what follows a datagram that was taken
@@ -88,7 +91,7 @@ module _ {M I O T : Type 0} {g : _} where
       (ports ports_now keys keys_now : ℕ) (opened opened_now : Option (List PortCall)) (drew drew_now : Option (List KeyCall)) (before after : Option (List LinkCall)) : Type 0 where
     pub made : Option Hearing
     pub follows : Follows config old new now answer made
-    pub given : GaveFor made ports ports_now keys keys_now opened opened_now drew drew_now
+    pub given : GaveFor config (board_of (made_by old)) made ports ports_now keys keys_now opened opened_now drew drew_now
     pub calls : Gained before after (DidReply config (board_of (made_by old)) now from (frame datagram) (is_too_long datagram) answer made)
 
   -- One control turn, where this moment is handed in: the main hand's list gained at most one turn of the board, whose entry says of
@@ -97,5 +100,5 @@ module _ {M I O T : Type 0} {g : _} where
       (ports ports_now keys keys_now : ℕ) (opened opened_now : Option (List PortCall)) (drew drew_now : Option (List KeyCall)) (before after : Option (List LinkCall)) : Type 0 where
     pub made : Option Hearing
     pub follows : Follows config old new now answer made
-    pub given : GaveFor made ports ports_now keys keys_now opened opened_now drew drew_now
+    pub given : GaveFor config (board_of (made_by old)) made ports ports_now keys keys_now opened opened_now drew drew_now
     pub calls : Gained before after (DidTurn config (board_of (made_by old)) now answer made)

@@ -8,6 +8,7 @@ use Rattle.relay_outside.specs.declared.settings.Config.{Config}
 use Rattle.turn_table.specs.declared.hands.Hand.{Hand}
 use Rattle.ng_frame.specs.Frame.{frame}
 use Rattle.cookie_cache.specs.Keepings.{IsCookie}
+use Rattle.call_board.specs.Pairs.{free}
 use Rattle.relay_core.specs.declared.part.Part.{Part}
 use Rattle.relay_core.specs.Made.{Made}
 use Rattle.relay_core.specs.Turning.{made_by}
@@ -39,5 +40,5 @@ module _ {M I O T : Type 0} {g : _} where
     pub hearing : Hearing
     pub is_heard : IsHeard request hearing
     pub makes : MakesTurn config old new (entry_at config (board_of (made_by old)) (moment_at (board_of (made_by old)) now) hearing)
-    pub given : IsGivenBy hearing.given ports ports_now keys keys_now opened opened_now drew drew_now
+    pub given : IsGivenBy config (free config (board_of (made_by old))) hearing.given ports ports_now keys keys_now opened opened_now drew drew_now
     pub sends : Sends request.source (control_of config (board_of (made_by old)) (moment_at (board_of (made_by old)) now) hearing).reply sent before after

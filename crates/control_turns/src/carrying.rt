@@ -12,6 +12,7 @@ ghost use Rattle.nested_steps.specs.Nesting.{MayNest};
 ghost use Rattle.board_turns.specs.Acting.{InTurn};
 ghost use Rattle.control_entries.specs.Telling.{IsAnew};
 ghost use Rattle.control_entries.specs.Carrying.{hearing_by, Carries};
+ghost use Rattle.call_board.specs.Pairs.{free};
 ghost use Rattle.control_entries.specs.Giving.{given_by, IsGivenBy};
 ghost use Rattle.board_turns.specs.Ties.{Ties};
 
@@ -71,7 +72,8 @@ fn carry_out_command<P: PortMaker, K: KeySource, R: Wait>(
     ensures empty { gone.new ≡ [] }
     ensures ties { Ties config.now (P.told ports.old) (P.told ports.new) (entries hand.old) (entries hand.new) }
     ensures later { (P.faults ports.old ≤ P.faults ports.new) × (K.faults keys.old ≤ K.faults keys.new) }
-    ensures given { IsGivenBy (given_by result.gave) (P.faults ports.old) (P.faults ports.new) (K.faults keys.old) (K.faults keys.new) (P.told ports.old) (P.told ports.new) (K.told keys.old) (K.told keys.new) }
+    ensures given { let h = board_history (made_by hand.old) nest.number in
+        IsGivenBy config.now (free config.now h) (given_by result.gave) (P.faults ports.old) (P.faults ports.new) (K.faults keys.old) (K.faults keys.new) (P.told ports.old) (P.told ports.new) (K.told keys.old) (K.told keys.new) }
 {
     let command = match command {
         Ok(command) => command,
@@ -117,7 +119,8 @@ pub(crate) fn carry_out<P: PortMaker, K: KeySource, R: Wait>(
     ensures empty { gone.new ≡ [] }
     ensures ties { Ties config.now (P.told ports.old) (P.told ports.new) (entries hand.old) (entries hand.new) }
     ensures later { (P.faults ports.old ≤ P.faults ports.new) × (K.faults keys.old ≤ K.faults keys.new) }
-    ensures given { IsGivenBy (given_by result.done.gave) (P.faults ports.old) (P.faults ports.new) (K.faults keys.old) (K.faults keys.new) (P.told ports.old) (P.told ports.new) (K.told keys.old) (K.told keys.new) }
+    ensures given { let h = board_history (made_by hand.old) nest.number in
+        IsGivenBy config.now (free config.now h) (given_by result.done.gave) (P.faults ports.old) (P.faults ports.new) (K.faults keys.old) (K.faults keys.new) (P.told ports.old) (P.told ports.new) (K.told keys.old) (K.told keys.new) }
 {
     if request.too_long {
         let done = refused(alloc, request.cookie, ErrorCode::E18, Heard::none());

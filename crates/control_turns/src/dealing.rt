@@ -9,6 +9,7 @@ ghost use Rattle.relay_core.specs.Turning.{made_by};
 ghost use Rattle.nested_steps.specs.Nesting.{MayNest};
 ghost use Rattle.board_turns.specs.Acting.{InTurn};
 ghost use Rattle.control_entries.specs.Controls.{control_of, moment_at};
+ghost use Rattle.call_board.specs.Pairs.{free};
 ghost use Rattle.control_entries.specs.Giving.{given_by, IsGivenBy, IsUnasked};
 ghost use Rattle.control_turns.specs.Sending.{Sends};
 ghost use Rattle.control_entries.specs.Telling.{IsAnew};
@@ -86,7 +87,8 @@ fn answer_anew<N: ControlLink, P: PortMaker, K: KeySource, R: Wait>(
     ensures empty { gone.new ≡ [] }
     ensures ties { Ties config.now (P.told ports.old) (P.told ports.new) (entries hand.old) (entries hand.new) }
     ensures later { (P.faults ports.old ≤ P.faults ports.new) × (K.faults keys.old ≤ K.faults keys.new) }
-    ensures given { IsGivenBy (given_by result.dealt.gave) (P.faults ports.old) (P.faults ports.new) (K.faults keys.old) (K.faults keys.new) (P.told ports.old) (P.told ports.new) (K.told keys.old) (K.told keys.new) }
+    ensures given { let h = board_history (made_by hand.old) nest.number in
+        IsGivenBy config.now (free config.now h) (given_by result.dealt.gave) (P.faults ports.old) (P.faults ports.new) (K.faults keys.old) (K.faults keys.new) (P.told ports.old) (P.told ports.new) (K.told keys.old) (K.told keys.new) }
 {
     if board.reserve_reply().is_err() {
         return answer_short(link, request);
@@ -134,7 +136,8 @@ fn deal<N: ControlLink, P: PortMaker, K: KeySource, R: Wait>(
     ensures empty { gone.new ≡ [] }
     ensures ties { Ties config.now (P.told ports.old) (P.told ports.new) (entries hand.old) (entries hand.new) }
     ensures later { (P.faults ports.old ≤ P.faults ports.new) × (K.faults keys.old ≤ K.faults keys.new) }
-    ensures given { IsGivenBy (given_by result.dealt.gave) (P.faults ports.old) (P.faults ports.new) (K.faults keys.old) (K.faults keys.new) (P.told ports.old) (P.told ports.new) (K.told keys.old) (K.told keys.new) }
+    ensures given { let h = board_history (made_by hand.old) nest.number in
+        IsGivenBy config.now (free config.now h) (given_by result.dealt.gave) (P.faults ports.old) (P.faults ports.new) (K.faults keys.old) (K.faults keys.new) (P.told ports.old) (P.told ports.new) (K.told keys.old) (K.told keys.new) }
 {
     if let Some(kept) = board.find_reply(request.source, request.cookie, nest.moment) {
         let sent = send(link, request.source, kept);
@@ -179,7 +182,8 @@ pub(crate) fn deal_part<N: ControlLink, P: PortMaker, K: KeySource, R: Wait>(
     ensures empty { gone.new ≡ [] }
     ensures ties { Ties config.now (P.told ports.old) (P.told ports.new) (entries hand.old) (entries hand.new) }
     ensures later { (P.faults ports.old ≤ P.faults ports.new) × (K.faults keys.old ≤ K.faults keys.new) }
-    ensures given { IsGivenBy (given_by result.dealt.gave) (P.faults ports.old) (P.faults ports.new) (K.faults keys.old) (K.faults keys.new) (P.told ports.old) (P.told ports.new) (K.told keys.old) (K.told keys.new) }
+    ensures given { let h = board_history (made_by hand.old) number in
+        IsGivenBy config.now (free config.now h) (given_by result.dealt.gave) (P.faults ports.old) (P.faults ports.new) (K.faults keys.old) (K.faults keys.new) (P.told ports.old) (P.told ports.new) (K.told keys.old) (K.told keys.new) }
 {
     match part {
         Part::Board(board) => {

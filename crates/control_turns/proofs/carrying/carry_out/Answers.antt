@@ -2,7 +2,10 @@ use Rattle.std.proofs.Common.{ap, Bool, None}
 use Rattle.turn_table.specs.Hands.{entries}
 use Rattle.call_board.specs.Asked.{command_in}
 use Rattle.ng_reply.specs.declared.code.ErrorCode.TheVariants.{E18}
+use Rattle.relay_core.specs.Entries.{board_history}
+use Rattle.relay_core.specs.Turning.{made_by}
 use Rattle.board_turns.proofs.Tying.{ties_none}
+use Rattle.call_board.specs.Pairs.{free}
 use Rattle.control_entries.proofs.Givings.{unasked_given}
 use Rattle.control_entries.proofs.Tellings.{is_short_carries}
 use Rattle.control_turns.proofs.Commands.{faulty_carries}
@@ -22,12 +25,14 @@ returns-in_default-clause-carries g c =
 
 pub returns-then-request-clause-given : goal.returns-then-request-clause-given
 returns-then-request-clause-given g c =
-    unasked_given c.refused-done.result.gave (g.P.PortMaker.faults c.args.ports.now) (g.P.PortMaker.faults c.args.ports.now) (g.K.KeySource.faults c.args.keys.now) (g.K.KeySource.faults c.args.keys.now)
+    let config = c.args.config.now in
+    unasked_given config (free config (board_history (made_by c.args.hand.now) c.args.nest.number)) c.refused-done.result.gave (g.P.PortMaker.faults c.args.ports.now) (g.P.PortMaker.faults c.args.ports.now) (g.K.KeySource.faults c.args.keys.now) (g.K.KeySource.faults c.args.keys.now)
     (g.P.PortMaker.told c.args.ports.now) (g.K.KeySource.told c.args.keys.now) c.refused-done.ensures.unasked
 
 pub returns-in_default-clause-given : goal.returns-in_default-clause-given
 returns-in_default-clause-given g c =
-    unasked_given c.short.result.gave (g.P.PortMaker.faults c.args.ports.now) (g.P.PortMaker.faults c.args.ports.now) (g.K.KeySource.faults c.args.keys.now) (g.K.KeySource.faults c.args.keys.now)
+    let config = c.args.config.now in
+    unasked_given config (free config (board_history (made_by c.args.hand.now) c.args.nest.number)) c.short.result.gave (g.P.PortMaker.faults c.args.ports.now) (g.P.PortMaker.faults c.args.ports.now) (g.K.KeySource.faults c.args.keys.now) (g.K.KeySource.faults c.args.keys.now)
     (g.P.PortMaker.told c.args.ports.now) (g.K.KeySource.told c.args.keys.now) c.short.ensures.unasked
 
 pub returns-then-request-clause-ties : goal.returns-then-request-clause-ties

@@ -4,8 +4,11 @@ use Rattle.ng_command.specs.Said.{said}
 use Rattle.ng_command.specs.declared.command.Command.{Command}
 use Rattle.call_board.specs.Asked.{command_in}
 use Rattle.call_board.specs.Replies.{Pong, reply_datagram}
+use Rattle.relay_core.specs.Entries.{board_history}
+use Rattle.relay_core.specs.Turning.{made_by}
 use Rattle.board_turns.proofs.Tying.{ties_none}
 use Rattle.control_reading.specs.Bodies.{said_by}
+use Rattle.call_board.specs.Pairs.{free}
 use Rattle.control_entries.proofs.Givings.{unasked_given, closing_given}
 use Rattle.control_turns.proofs.Commands.{faulty_carries, ping_carries}
 use Rattle.control_turns.proofs.carrying.carry_out_command.Goals as goal
@@ -18,7 +21,8 @@ returns-in-Err-clause-carries g c pairs short reads is =
 
 pub returns-in-Err-clause-given : goal.returns-in-Err-clause-given
 returns-in-Err-clause-given g c =
-    unasked_given c.refused.result.gave (g.P.PortMaker.faults c.args.ports.now) (g.P.PortMaker.faults c.args.ports.now) (g.K.KeySource.faults c.args.keys.now) (g.K.KeySource.faults c.args.keys.now)
+    let config = c.args.config.now in
+    unasked_given config (free config (board_history (made_by c.args.hand.now) c.args.nest.number)) c.refused.result.gave (g.P.PortMaker.faults c.args.ports.now) (g.P.PortMaker.faults c.args.ports.now) (g.K.KeySource.faults c.args.keys.now) (g.K.KeySource.faults c.args.keys.now)
     (g.P.PortMaker.told c.args.ports.now) (g.K.KeySource.told c.args.keys.now) c.refused.ensures.unasked
 
 pub returns-in-Ping-clause-carries : goal.returns-in-Ping-clause-carries
@@ -30,17 +34,20 @@ returns-in-Ping-clause-carries g c pairs short reads is =
 
 pub returns-in-Ping-clause-given : goal.returns-in-Ping-clause-given
 returns-in-Ping-clause-given g c =
-    unasked_given c.told.result.gave (g.P.PortMaker.faults c.args.ports.now) (g.P.PortMaker.faults c.args.ports.now) (g.K.KeySource.faults c.args.keys.now) (g.K.KeySource.faults c.args.keys.now)
+    let config = c.args.config.now in
+    unasked_given config (free config (board_history (made_by c.args.hand.now) c.args.nest.number)) c.told.result.gave (g.P.PortMaker.faults c.args.ports.now) (g.P.PortMaker.faults c.args.ports.now) (g.K.KeySource.faults c.args.keys.now) (g.K.KeySource.faults c.args.keys.now)
     (g.P.PortMaker.told c.args.ports.now) (g.K.KeySource.told c.args.keys.now) c.told.ensures.unasked
 
 pub returns-in-Answer-clause-given : goal.returns-in-Answer-clause-given
 returns-in-Answer-clause-given g c =
-    closing_given c.answer.result.gave (g.P.PortMaker.faults c.args.ports.now) (g.P.PortMaker.faults c.answer.new.ports) (g.K.KeySource.faults c.args.keys.now) (g.K.KeySource.faults c.args.keys.now)
+    let config = c.args.config.now in
+    closing_given config (free config (board_history (made_by c.args.hand.now) c.args.nest.number)) c.answer.result.gave (g.P.PortMaker.faults c.args.ports.now) (g.P.PortMaker.faults c.answer.new.ports) (g.K.KeySource.faults c.args.keys.now) (g.K.KeySource.faults c.args.keys.now)
     (g.P.PortMaker.told c.args.ports.now) (g.P.PortMaker.told c.answer.new.ports) (g.K.KeySource.told c.args.keys.now) c.answer.ensures.closes c.answer.ensures.unasked
 
 pub returns-in-Delete-clause-given : goal.returns-in-Delete-clause-given
 returns-in-Delete-clause-given g c =
-    closing_given c.delete.result.gave (g.P.PortMaker.faults c.args.ports.now) (g.P.PortMaker.faults c.delete.new.ports) (g.K.KeySource.faults c.args.keys.now) (g.K.KeySource.faults c.args.keys.now)
+    let config = c.args.config.now in
+    closing_given config (free config (board_history (made_by c.args.hand.now) c.args.nest.number)) c.delete.result.gave (g.P.PortMaker.faults c.args.ports.now) (g.P.PortMaker.faults c.delete.new.ports) (g.K.KeySource.faults c.args.keys.now) (g.K.KeySource.faults c.args.keys.now)
     (g.P.PortMaker.told c.args.ports.now) (g.P.PortMaker.told c.delete.new.ports) (g.K.KeySource.told c.args.keys.now) c.delete.ensures.closes c.delete.ensures.unasked
 
 pub returns-in-Err-clause-ties : goal.returns-in-Err-clause-ties

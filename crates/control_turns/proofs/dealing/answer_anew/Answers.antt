@@ -4,6 +4,7 @@ use Rattle.relay_core.specs.Entries.{board_history}
 use Rattle.relay_core.specs.Turning.{made_by}
 use Rattle.board_turns.proofs.Tying.{ties_none}
 use Rattle.control_reading.specs.Bodies.{pairs_if}
+use Rattle.call_board.specs.Pairs.{free}
 use Rattle.control_entries.proofs.Givings.{unasked_given}
 use Rattle.control_turns.specs.Sending.{Sends}
 use Rattle.control_turns.proofs.Kept.{deals_kept, short_deals, short_reply, turn_keeps}
@@ -48,12 +49,14 @@ returns-clause-deals g c =
 
 pub returns-then-is_err-clause-given : goal.returns-then-is_err-clause-given
 returns-then-is_err-clause-given g c =
-    unasked_given c.answer_short.result.dealt.gave (g.P.PortMaker.faults c.args.ports.now) (g.P.PortMaker.faults c.args.ports.now) (g.K.KeySource.faults c.args.keys.now) (g.K.KeySource.faults c.args.keys.now)
+    let config = c.args.config.now in
+    unasked_given config (free config (board_history (made_by c.args.hand.now) c.args.nest.number)) c.answer_short.result.dealt.gave (g.P.PortMaker.faults c.args.ports.now) (g.P.PortMaker.faults c.args.ports.now) (g.K.KeySource.faults c.args.keys.now) (g.K.KeySource.faults c.args.keys.now)
     (g.P.PortMaker.told c.args.ports.now) (g.K.KeySource.told c.args.keys.now) c.answer_short.ensures.unasked
 
 pub returns-in_default-clause-given : goal.returns-in_default-clause-given
 returns-in_default-clause-given g c =
-    unasked_given c.answer_short-in_default.result.dealt.gave (g.P.PortMaker.faults c.args.ports.now) (g.P.PortMaker.faults c.args.ports.now) (g.K.KeySource.faults c.args.keys.now) (g.K.KeySource.faults c.args.keys.now)
+    let config = c.args.config.now in
+    unasked_given config (free config (board_history (made_by c.args.hand.now) c.args.nest.number)) c.answer_short-in_default.result.dealt.gave (g.P.PortMaker.faults c.args.ports.now) (g.P.PortMaker.faults c.args.ports.now) (g.K.KeySource.faults c.args.keys.now) (g.K.KeySource.faults c.args.keys.now)
     (g.P.PortMaker.told c.args.ports.now) (g.K.KeySource.told c.args.keys.now) c.answer_short-in_default.ensures.unasked
 
 pub returns-then-is_err-clause-ties : goal.returns-then-is_err-clause-ties

@@ -5,6 +5,7 @@ use Rattle.relay_core.specs.Entries.{board_history}
 use Rattle.relay_core.specs.Turning.{made_by}
 use Rattle.board_turns.proofs.Tying.{ties_none}
 use Rattle.control_entries.specs.declared.gave.Gave.TheVariants.{Nothing}
+use Rattle.call_board.specs.Pairs.{free}
 use Rattle.control_entries.proofs.Givings.{unasked_given}
 use Rattle.control_turns.specs.Sending.{Sends}
 use Rattle.control_turns.proofs.Kept.{is_kept_now, repeat_deals, repeat_reply}
@@ -42,7 +43,8 @@ answer_anew-requires-clause-anew g c =
 
 pub returns-in-Some-clause-given : goal.returns-in-Some-clause-given
 returns-in-Some-clause-given g c =
-    unasked_given Nothing (g.P.PortMaker.faults c.args.ports.now) (g.P.PortMaker.faults c.args.ports.now) (g.K.KeySource.faults c.args.keys.now)
+    let config = c.args.config.now in
+    unasked_given config (free config (board_history (made_by c.args.hand.now) c.args.nest.number)) Nothing (g.P.PortMaker.faults c.args.ports.now) (g.P.PortMaker.faults c.args.ports.now) (g.K.KeySource.faults c.args.keys.now)
     (g.K.KeySource.faults c.args.keys.now) (g.P.PortMaker.told c.args.ports.now) (g.K.KeySource.told c.args.keys.now) tt
 
 pub returns-in-Some-clause-ties : goal.returns-in-Some-clause-ties

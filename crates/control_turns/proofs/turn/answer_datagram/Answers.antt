@@ -2,7 +2,7 @@ use Rattle.std.proofs.Common.{refl, sym, subst, ℕ, List, ◌∷◌}
 use Rattle.turn_table.specs.declared.machine.Entry as table
 use Rattle.turn_table.specs.Hands.{entries, front_of, place_of, state_of, taken_of}
 use Rattle.call_board.specs.Acts.{BoardEntry}
-use Rattle.call_board.specs.Pairs.{held}
+use Rattle.call_board.specs.Pairs.{free, held}
 use Rattle.media_ports.specs.Held.{TellsHeld}
 use Rattle.relay_core.specs.Entries.{board_history}
 use Rattle.relay_core.specs.Made.{Made}
@@ -15,6 +15,7 @@ use Rattle.board_turns.proofs.Grown.{makes_history}
 use Rattle.board_turns.proofs.StopTurns.{moved}
 use Rattle.board_turns.proofs.Tying.{ties_ended}
 use Rattle.control_entries.specs.Controls.{control_made, control_of, entry_at, moment_at}
+use Rattle.control_entries.specs.Giving.{IsGivenBy}
 use Rattle.control_turns.specs.Dealing.{hearing_of}
 use Rattle.control_turns.specs.Sending.{Sends}
 use Rattle.control_turns.proofs.Turns.{control_relates, is_taken, deals_turn, control_history, control_ends}
@@ -96,11 +97,15 @@ returns-clause-answers g c =
     let deals = deals_turn config mid nested c.front-number.result n c.args.now x c.deal_part-answered.new.part told c.front-number.ensures c.deal_part-answered.ensures.deals in
     let ended = control_ends config c.args.turns.now c.args.hand.now mid nested c.put_control.new.hand c.turn-turn.result tt c.args.now x c.deal_part-answered.new.part told c.requires.between
     c.turn-turn.ensures.same c.turn-turn.ensures.turn.0 begins c.deal_part-answered.ensures.same deals c.put_control.ensures.same c.put_control.ensures.entry in
+    let is_given : List BoardEntry → Type 0 = λ h. IsGivenBy config (free config h) x.given (g.P.PortMaker.faults c.args.ports.now) (g.P.PortMaker.faults c.deal_part-answered.new.ports)
+    (g.K.KeySource.faults c.args.keys.now) (g.K.KeySource.faults c.deal_part-answered.new.keys) (g.P.PortMaker.told c.args.ports.now) told
+    (g.K.KeySource.told c.args.keys.now) (g.K.KeySource.told c.deal_part-answered.new.keys) in
     record {
       hearing = x;
       is_heard = record { source_is = refl; cookie_is = refl; body_is = refl; length_is = refl };
       makes = ended.makes;
-      given = c.deal_part-answered.ensures.given;
+      given = subst is_given (begins_whole config c.args.turns.now c.args.hand.now mid c.turn-turn.result c.turn-turn.ensures.same.1 begins)
+          (subst (λ (k : ℕ). is_given (board_history (made_by mid) k)) c.front-number.ensures c.deal_part-answered.ensures.given);
       sends = subst (λ (h : List BoardEntry). Sends c.args.request.now.source (control_of config h (moment_at h c.args.now) x).reply c.deal_part-answered.result.sent
           (g.N.ControlLink.told c.args.link.now) (g.N.ControlLink.told c.deal_part-answered.new.link))
           (begins_whole config c.args.turns.now c.args.hand.now mid c.turn-turn.result c.turn-turn.ensures.same.1 begins)
