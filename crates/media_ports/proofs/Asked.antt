@@ -70,12 +70,6 @@ none_opened (Close at taken sent ∷ calls) none = none_opened calls none
 opens_these_closed : (opens xs ys : List PortCall) → OpensThese opens xs → OpensNone ys → OpensThese opens (xs ++ ys)
 opens_these_closed opens xs ys these none = opens_these_both opens [] xs ys these (none_opened ys none) ∙ append-nil opens
 
--- the former calls open these, the latter open none
-pub gained_these_alone : (opens : List PortCall) (first second third : Option (List PortCall)) → Gained first second (OpensThese opens) → Gained second third OpensNone →
-    Gained first third (OpensThese opens)
-gained_these_alone opens first second third before after =
-    gained_both first second third (OpensThese opens) OpensNone (OpensThese opens) (opens_these_closed opens) before after
-
 openings_kept : (ats : List Addr) (answers : List Bool) → opening_calls (openings ats answers) ≡ openings ats answers
 openings_kept [] answers = refl
 openings_kept (at ∷ ats) [] = refl
