@@ -1,7 +1,7 @@
 -- The control turns of a run, one after another, as the rows grow and the lists of the devices gain their calls.
 use Rattle.std.specs.Prelude.{is_some, unwrap_or}
 use Rattle.std.specs.Option.{option_map}
-use Rattle.std.proofs.Common.{◌≡◌, ◌∙◌, ap, refl, subst, sym, ℕ, ◌<◌, ◌≤◌, List, [], ◌∷◌, ◌++◌, append-nil, Option, Some, None, Bool, true, false, cond, arith}
+use Rattle.std.proofs.Common.{◌≡◌, ◌∙◌, ap, refl, subst, sym, ℕ, ◌<◌, ◌≤◌, List, [], ◌∷◌, ◌++◌, append-nil, Option, Some, None, true, false, cond, arith}
 use Rattle.relay_outside.specs.Told.{Gains, Gained}
 use Rattle.relay_outside.specs.declared.keys.KeyCall.{KeyCall}
 use Rattle.relay_outside.specs.declared.link.LinkCall.{LinkCall}
@@ -9,12 +9,14 @@ use Rattle.relay_outside.specs.declared.ports.PortCall.{PortCall}
 use Rattle.relay_outside.specs.declared.settings.Config.{Config}
 use Rattle.relay_outside.proofs.Telling.{gained_none, gained_one, gained_both, gained_less}
 use Rattle.histories.specs.Words.{here, there}
-use Rattle.media_ports.specs.Asked.{OpensWith, OpensNone}
-use Rattle.media_ports.proofs.Asked.{opens_with_both, gained_no_opening, gained_openings_alone}
+use Rattle.media_ports.specs.Asked.{pair_addresses, OpensNone, OpensAt}
+use Rattle.media_ports.specs.Calls as port_calls
+use Rattle.media_ports.proofs.Asked.{opens_with_both, opens_with_closed, opens_these_both, opens_none_at}
 use Rattle.turn_table.specs.declared.hands.Turns.{Turns}
 use Rattle.turn_table.specs.declared.hands.Hand.{Hand}
 use Rattle.turn_table.specs.Hands.{entries}
 use Rattle.call_board.specs.Acts.{Call, Given, BoardEntry}
+use Rattle.call_board.specs.Pairs.{free}
 use Rattle.relay_core.specs.declared.part.Part.{Part}
 use Rattle.relay_core.specs.Made.{Made, list_of}
 use Rattle.relay_core.specs.Turning.{made_by}
@@ -30,7 +32,7 @@ use Rattle.relay_app.specs.declared.status.Status.{Status}
 use Rattle.relay_app.specs.declared.status.Status.TheVariants as status
 use Rattle.relay_app.specs.declared.totals.Counts.{Counts}
 use Rattle.relay_app.specs.Rounds.{Round, status_after, entry_due, with_entry, history_after, moments, counted_from, is_second_later, AreRounds}
-use Rattle.relay_app.specs.Served.{Outside, Gave, IsCaused, HaveCauses, given_in, openings, draws, counts_of, turn_counts, sum_of, counts_in, Counted, AreExchanges, AreCalls, last_take, HasEnded}
+use Rattle.relay_app.specs.Served.{Outside, Gave, IsCaused, HaveCauses, given_in, openings, opening_calls_of, OpensBy, draws, counts_of, turn_counts, sum_of, counts_in, Counted, AreExchanges, AreCalls, last_take, HasEnded}
 use Rattle.relay_app.specs.Turned.{Running, AddsSweep, TicksWhenDue, DidTurns}
 use Rattle.relay_app.proofs.Counts.{calls_counted, sum_none, not_answered, ends_uncounted, ends_below, ends_with, one_take}
 use Rattle.relay_app.proofs.Rounds.{AddsTurn, turn_rows, turn_heard, tick_rows, one_more, counted_next, no_rows, no_rounds, board_after, board_ticked}
@@ -48,16 +50,31 @@ gave_one before after now gains = gained_one before after now (λ ys. ys ≡ now
 
 -- the openings of a turn
 opened_for : (config : Config) (history : List BoardEntry) (now : ℕ) (made : Option Hearing) (p p2 q q2 : ℕ) (o0 o1 o2 : Option (List PortCall)) (k1 k2 : Option (List KeyCall))
-    → Gained o0 o1 (OpensWith (openings history)) → GaveFor made p p2 q q2 o1 o2 k1 k2 → Gained o0 o2 (OpensWith (openings (with_entry history (entry_due config history now made))))
+    → Gained o0 o1 (OpensBy config history) → GaveFor config history made p p2 q q2 o1 o2 k1 k2 → Gained o0 o2 (OpensBy config (with_entry history (entry_due config history now made)))
 opened_for config history now None p p2 q q2 o0 o1 o2 k1 k2 opened gave =
-    subst (λ (o : Option (List PortCall)). Gained o0 o (OpensWith (openings history))) (sym gave.0) opened
+    subst (λ (o : Option (List PortCall)). Gained o0 o (OpensBy config history)) (sym gave.0) opened
 opened_for config history now (Some x) p p2 q q2 o0 o1 o2 k1 k2 opened gave =
-    gained_both o0 o1 o2 (OpensWith (openings history)) (OpensWith x.given.opens) (OpensWith (openings history ++ x.given.opens))
-    (opens_with_both (openings history) x.given.opens) opened gave.opens
+    let pairs = free config history in
+    gained_both o0 o1 o2 (OpensBy config history) (OpensAt config pairs x.given.opens) (OpensBy config (with_entry history (entry_due config history now (Some x))))
+    (λ xs ys these those. record {
+      answered = opens_with_both (openings history) x.given.opens xs ys these.answered those.answered;
+      in_order = opens_these_both (opening_calls_of config history) (port_calls.openings (pair_addresses config pairs) x.given.opens) xs ys these.in_order those.in_order;
+    }) opened gave.opens
+
+-- calls that open none after those of a history
+pub opened_alone : (config : Config) (history : List BoardEntry) (o0 o1 o2 : Option (List PortCall)) → Gained o0 o1 (OpensBy config history) → Gained o1 o2 OpensNone
+    → Gained o0 o2 (OpensBy config history)
+opened_alone config history o0 o1 o2 opened closes =
+    gained_both o0 o1 o2 (OpensBy config history) OpensNone (OpensBy config history)
+    (λ xs ys these none. record {
+      answered = opens_with_closed (openings history) xs ys these.answered none;
+      in_order =
+          opens_these_both (opening_calls_of config history) [] xs ys these.in_order (opens_none_at config [] ys none).in_order ∙ append-nil (opening_calls_of config history);
+    }) opened closes
 
 -- the draws of a turn
 drew_for : (config : Config) (history : List BoardEntry) (now : ℕ) (made : Option Hearing) (p p2 q q2 : ℕ) (o1 o2 : Option (List PortCall)) (k0 k1 k2 : Option (List KeyCall))
-    → Gave k0 k1 (draws history) → GaveFor made p p2 q q2 o1 o2 k1 k2 → Gave k0 k2 (draws (with_entry history (entry_due config history now made)))
+    → Gave k0 k1 (draws history) → GaveFor config history made p p2 q q2 o1 o2 k1 k2 → Gave k0 k2 (draws (with_entry history (entry_due config history now made)))
 drew_for config history now None p p2 q q2 o1 o2 k0 k1 k2 drew gave =
     subst (λ (k : Option (List KeyCall)). Gave k0 k (draws history)) (sym gave.1) drew
 drew_for config history now (Some x) p p2 q q2 o1 o2 k0 k1 k2 drew gave = gave_more k0 k1 k2 (draws history) _ drew gave.draws
@@ -73,14 +90,14 @@ caused_later then later given p q port key caused = record {
 module _ (config : Config) (history : List BoardEntry) (now : ℕ) (then later : Outside) (causes : HaveCauses then history)
     (p : then.port_faults ≡ later.port_faults) (q : then.key_faults ≡ later.key_faults) (p_low : then.port_faults ≤ then.port_faults_now) (q_low : then.key_faults ≤ then.key_faults_now)
     (port : then.port_faults_now ≤ later.port_faults_now) (key : then.key_faults_now ≤ later.key_faults_now) (o1 o2 : Option (List PortCall)) (k1 k2 : Option (List KeyCall)) where
-  caused_now : (x : Hearing) → IsGivenBy x.given then.port_faults_now later.port_faults_now then.key_faults_now later.key_faults_now o1 o2 k1 k2 → IsCaused later x.given
+  caused_now : (x : Hearing) → IsGivenBy config (free config history) x.given then.port_faults_now later.port_faults_now then.key_faults_now later.key_faults_now o1 o2 k1 k2 → IsCaused later x.given
   caused_now x by = record {
     port_fault = λ f. (let rose = by.port_fault f in omega (arith, rose, p, p_low));
     key_fault = λ f. (let rose = by.key_fault f in omega (arith, rose, q, q_low));
   }
 
   -- the causes of the entries, and of one more
-  causes_for : (made : Option Hearing) → GaveFor made then.port_faults_now later.port_faults_now then.key_faults_now later.key_faults_now o1 o2 k1 k2
+  causes_for : (made : Option Hearing) → GaveFor config history made then.port_faults_now later.port_faults_now then.key_faults_now later.key_faults_now o1 o2 k1 k2
       → HaveCauses later (with_entry history (entry_due config history now made))
   causes_for None gave entry given i is = caused_later then later given p q port key (causes entry given i is)
   causes_for (Some x) gave entry given (here same) is =
@@ -94,9 +111,13 @@ module _ (config : Config) (history : List BoardEntry) (now : ℕ) (then later :
 abbrev with_ticked : List BoardEntry → ℕ → Option (List Call) → List BoardEntry
 with_ticked history now ticked = with_entry history (option_map (tick_entry history now) ticked)
 
-ticked_openings : (history : List BoardEntry) (now : ℕ) (ticked : Option (List Call)) → openings (with_ticked history now ticked) ≡ openings history
-ticked_openings history now None = refl
-ticked_openings history now (Some calls) = append-nil (openings history)
+ticked_opens : (config : Config) (history : List BoardEntry) (now : ℕ) (ticked : Option (List Call)) (calls : List PortCall) → OpensBy config history calls
+    → OpensBy config (with_ticked history now ticked) calls
+ticked_opens config history now None calls opens = opens
+ticked_opens config history now (Some ended) calls opens = record {
+  answered = opens.answered ∙ sym (append-nil (openings history));
+  in_order = opens.in_order ∙ sym (append-nil (opening_calls_of config history));
+}
 
 ticked_draws : (history : List BoardEntry) (now : ℕ) (ticked : Option (List Call)) → draws (with_ticked history now ticked) ≡ draws history
 ticked_draws history now None = refl
@@ -120,7 +141,9 @@ begins config threads range rows outside none board link timer opened drew = rec
   since_is = refl;
   link = subst (λ (l : Option (List LinkCall)). Gained outside.link l (AreExchanges config [])) link (gained_none outside.link (AreExchanges config []) refl);
   timer = subst (λ (t : Option (List ℕ)). Gave outside.timer t []) timer (gained_none outside.timer (λ more. more ≡ []) refl);
-  ports = subst (λ (o : Option (List PortCall)). Gained outside.opened o OpensNone) opened (gained_no_opening outside.opened);
+  ports =
+      subst (λ (o : Option (List PortCall)). Gained outside.opened o (OpensBy config [])) opened
+      (gained_none outside.opened (OpensBy config []) (record { answered = refl; in_order = refl }));
   tied = none_tied config outside.opened outside.opened_now rows (no_rows rows none) opened;
   keys = subst (λ (k : Option (List KeyCall)). Gave outside.drew k []) drew (gained_none outside.drew (λ more. more ≡ []) refl);
   causes = λ entry given i. elim i [ ];
@@ -172,20 +195,23 @@ module _ {M I O : Type 0} {g : _} where
     timer : Gave t0 t2 (moments running.rounds ++ now ∷ [])
     timer = gave_more t0 t1 t2 (moments running.rounds) (now ∷ []) running.timer (gave_one t1 t2 now asked)
 
-    ports : Gained o0 o2 (OpensWith (openings h2))
-    ports = opened_for config h now made p1 p2 q1 q2 o0 o1 o2 k1 k2 running.ports turned.given
+    given : GaveFor config h made p1 p2 q1 q2 o1 o2 k1 k2
+    given = subst (λ (k : List BoardEntry). GaveFor config k made p1 p2 q1 q2 o1 o2 k1 k2) running.board_is turned.given
+
+    ports : Gained o0 o2 (OpensBy config h2)
+    ports = opened_for config h now made p1 p2 q1 q2 o0 o1 o2 k1 k2 running.ports given
 
     tied : Gained o0 o2 (AreTied config (entries mid))
     tied = more_tied config o0 o1 o2 (entries old) (entries mid) running.tied ties
 
     keys : Gave k0 k2 (draws h2)
-    keys = drew_for config h now made p1 p2 q1 q2 o1 o2 k0 k1 k2 running.keys turned.given
+    keys = drew_for config h now made p1 p2 q1 q2 o1 o2 k0 k1 k2 running.keys given
 
     causes : HaveCauses out h2
     causes =
         causes_for config h now
         (record { link = l0; link_now = l1; timer = t0; timer_now = t1; opened = o0; opened_now = o1; drew = k0; drew_now = k1; port_faults = p0; port_faults_now = p1; key_faults = q0; key_faults_now = q1 })
-        out running.causes refl refl p_low q_low p_later q_later o1 o2 k1 k2 made turned.given
+        out running.causes refl refl p_low q_low p_later q_later o1 o2 k1 k2 made given
 
     -- one more round: the turn, after which the run goes on, a sweep, where no thread relays media, and a tick, where one is due
     module _ (next_since : ℕ) (swept new : Hand M (Part I O) Made (Unit {0}) g) (o3 : Option (List PortCall)) (p3 : ℕ) (goes : None ≡ status_after answer)
@@ -229,8 +255,8 @@ module _ {M I O : Type 0} {g : _} where
             (λ xs ys x y. (xs, ys, refl, x, y)) running.link did;
         timer = timer;
         ports =
-            subst (λ (answers : List Bool). Gained o0 o3 (OpensWith answers)) (sym (ticked_openings h2 now ticks.ticked))
-            (gained_openings_alone (openings h2) o0 o2 o3 ports closes);
+            gained_less o0 o3 (OpensBy config h2) (OpensBy config (with_ticked h2 now ticks.ticked)) (ticked_opens config h2 now ticks.ticked)
+            (opened_alone config h2 o0 o2 o3 ports closes);
         tied =
             more_tied config o0 o2 o3 (entries swept) (entries new) (sweep_tied config threads range o0 o2 (entries mid) (entries swept) sweep tied) tick_ties;
         keys = subst (λ (drawn : List KeyCall). Gave k0 k2 drawn) (sym (ticked_draws h2 now ticks.ticked)) keys;
@@ -268,7 +294,7 @@ module _ {M I O : Type 0} {g : _} where
         told = record {
           link = gained_both l0 l1 l2 (AreExchanges config running.rounds) (DidTurn config h now answer made) (AreCalls config [] running.rounds ended) calls running.link did;
           timer = timer;
-          ports = subst (λ (m : Option Hearing). Gained o0 o2 (OpensWith (openings (with_entry h (entry_due config h now m))))) idle.0 ports;
+          ports = subst (λ (m : Option Hearing). Gained o0 o2 (OpensBy config (with_entry h (entry_due config h now m)))) idle.0 ports;
           keys = subst (λ (m : Option Hearing). Gave k0 k2 (draws (with_entry h (entry_due config h now m)))) idle.0 keys;
           causes = subst (λ (m : Option Hearing). HaveCauses out (with_entry h (entry_due config h now m))) idle.0 causes;
         };

@@ -17,7 +17,6 @@ use Rattle.relay_core.specs.Turning.{made_by}
 use Rattle.media_ports.specs.Given.{IsOfPair}
 use Rattle.media_ports.specs.Held.{TellsHeld}
 use Rattle.media_ports.specs.Asked as asked
-use Rattle.media_ports.proofs.Asked.{gained_openings_alone}
 use Rattle.media_lane.specs.declared.answers.Totals.{Totals}
 use Rattle.media_lane.specs.Visits.{Row, AreTotals}
 use Rattle.board_turns.specs.Between.{IsBetween}
@@ -30,11 +29,12 @@ use Rattle.relay_app.specs.declared.totals.Counts.{Counts}
 use Rattle.relay_app.specs.declared.words.Settings.{Settings}
 use Rattle.relay_app.specs.Rounds.{history_after, IsWhole}
 use Rattle.relay_app.specs.Run.{OpensNone, TellsNone}
-use Rattle.relay_app.specs.Served.{Outside, HaveCauses, openings, DidServe}
+use Rattle.relay_app.specs.Served.{Outside, HaveCauses, DidServe}
 use Rattle.relay_app.specs.declared.serve.Looped.{Looped}
 use Rattle.relay_app.specs.Turned.{AddsSweep, DidTurns, CanWork, DidWork, MadeTurns}
 use Rattle.relay_app.proofs.Departures.{is_sent}
 use Rattle.relay_app.proofs.Ends.{whole_ends, opens_same}
+use Rattle.relay_app.proofs.Loops.{opened_alone}
 use Rattle.relay_app.proofs.Orders.{AreOfLane, whole_in_order}
 use Rattle.relay_app.proofs.Tied.{run_tied}
 
@@ -101,7 +101,7 @@ ran_whole limit config threads range l0 l1 t0 t1 o0 o1 o2 k0 k1 p0 p1 p2 q0 q1 e
       told = record {
         link = turns.told.link;
         timer = turns.told.timer;
-        ports = gained_openings_alone (openings (history_after config turns.rounds)) o0 o1 o2 turns.told.ports closes;
+        ports = opened_alone config (history_after config turns.rounds) o0 o1 o2 turns.told.ports closes;
         keys = turns.told.keys;
         causes = stopped_causes (history_after config turns.rounds) _ _ refl refl later refl turns.told.causes;
       };

@@ -9,8 +9,10 @@ use Rattle.relay_outside.specs.declared.settings.Config.{Config}
 use Rattle.relay_outside.specs.Told.{Gained, Rose}
 use Rattle.relay_outside.specs.Link.{datagrams, sent}
 use Rattle.histories.specs.Words.{In}
-use Rattle.media_ports.specs.Asked.{OpensWith}
+use Rattle.media_ports.specs.Asked.{pair_addresses, OpensWith, OpensThese}
+use Rattle.media_ports.specs.Calls as port_calls
 use Rattle.call_board.specs.Acts.{BoardEvent, Turn, Tick, Stop, BoardEntry, Given}
+use Rattle.call_board.specs.Pairs.{free}
 use Rattle.control_entries.specs.Giving.{draws_of}
 use Rattle.control_turns.specs.Taking.{DidTurn}
 use Rattle.control_turns.specs.declared.taking.ControlTurn.{ControlTurn}
@@ -56,6 +58,22 @@ openings_in (Some given) = given.opens
 abbrev pub openings : List BoardEntry → List Bool
 openings [] = []
 openings (entry ∷ history) = openings history ++ openings_in (given_in entry.event)
+
+-- the openings that go with what an entry behind this history tells: of the ports of the pairs that are free then, from the front, pair by
+-- pair and that for RTP before that for RTCP
+abbrev pub opening_calls_in : Config → List BoardEntry → Option Given → List PortCall
+opening_calls_in config history None = []
+opening_calls_in config history (Some given) = port_calls.openings (pair_addresses config (free config history)) given.opens
+
+-- the openings of a history, in order, each with its address and its answer
+abbrev pub opening_calls_of : Config → List BoardEntry → List PortCall
+opening_calls_of config [] = []
+opening_calls_of config (entry ∷ history) = opening_calls_of config history ++ opening_calls_in config history (given_in entry.event)
+
+-- the openings among these calls are those of the history, and none of its answers is left out
+pub record OpensBy (config : Config) (history : List BoardEntry) (calls : List PortCall) : Type 0 where
+  pub answered : OpensWith (openings history) calls
+  pub in_order : OpensThese (opening_calls_of config history) calls
 
 abbrev pub draws_in : Option Given → List KeyCall
 draws_in None = []
@@ -148,12 +166,12 @@ pub record AreCalls (config : Config) (first : List LinkCall) (rounds : List Rou
   pub counted : Counted (counts_in rounds) calls
 
 -- What the devices told in these rounds and in the take that ended them, each where it tells: the link its calls; the timer the moments that
--- were handed to the takes; the port maker the openings of the history and the key source its draws, each with its answer, in order and no
--- others
+-- were handed to the takes; the port maker the openings of the history, each of the port that it is of, and the key source its draws, each
+-- with its answer, in order and no others
 pub record AreTold (config : Config) (first : List LinkCall) (rounds : List Round) (last : List ℕ) (ended : Status) (outside : Outside) : Type 0 where
   pub link : Gained outside.link outside.link_now (AreCalls config first rounds ended)
   pub timer : Gave outside.timer outside.timer_now (moments rounds ++ last)
-  pub ports : Gained outside.opened outside.opened_now (OpensWith (openings (history_after config rounds)))
+  pub ports : Gained outside.opened outside.opened_now (OpensBy config (history_after config rounds))
   pub keys : Gave outside.drew outside.drew_now (draws (history_after config rounds))
   pub causes : HaveCauses outside (history_after config rounds)
 

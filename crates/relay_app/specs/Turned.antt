@@ -7,7 +7,6 @@ use Rattle.turn_table.specs.declared.hands.Turns.{Turns}
 use Rattle.turn_table.specs.declared.hands.Hand.{Hand}
 use Rattle.turn_table.specs.Hands.{IsSameHand, entries}
 use Rattle.call_board.specs.Acts.{Call}
-use Rattle.media_ports.specs.Asked.{OpensWith}
 use Rattle.relay_core.specs.declared.part.Part.{Part}
 use Rattle.relay_core.specs.Made.{Made, list_of}
 use Rattle.relay_core.specs.Turning.{made_by}
@@ -23,7 +22,7 @@ use Rattle.relay_app.specs.declared.totals.Counts.{Counts}
 use Rattle.relay_app.specs.declared.serve.Looped.{Looped}
 use Rattle.relay_app.specs.declared.words.Settings.{Settings}
 use Rattle.relay_app.specs.Rounds.{Round, history_after, moments, counted_from, is_second_later, AreRounds, SweepsAlone}
-use Rattle.relay_app.specs.Served.{Outside, Gave, openings, draws, HaveCauses, counts_in, AreExchanges, last_take, HasEnded, AreTold}
+use Rattle.relay_app.specs.Served.{Outside, Gave, OpensBy, draws, HaveCauses, counts_in, AreExchanges, last_take, HasEnded, AreTold}
 
 -- between two rounds: these are the rows so far, and from this moment the next second counts
 pub record Running (config : Config) (threads : ℕ) (range : Option (ℕ × ℕ)) (rows : List Row) (counts : Counts) (since : Option ℕ) (outside : Outside) : Type 0 where
@@ -34,7 +33,7 @@ pub record Running (config : Config) (threads : ℕ) (range : Option (ℕ × ℕ
   pub since_is : since ≡ counted_from rounds
   pub link : Gained outside.link outside.link_now (AreExchanges config rounds)
   pub timer : Gave outside.timer outside.timer_now (moments rounds)
-  pub ports : Gained outside.opened outside.opened_now (OpensWith (openings (history_after config rounds)))
+  pub ports : Gained outside.opened outside.opened_now (OpensBy config (history_after config rounds))
   pub tied : Gained outside.opened outside.opened_now (AreTied config rows)
   pub keys : Gave outside.drew outside.drew_now (draws (history_after config rounds))
   pub causes : HaveCauses outside (history_after config rounds)

@@ -14,7 +14,8 @@ use Rattle.relay_outside.specs.declared.ports.PortCall.{PortCall}
 use Rattle.relay_outside.specs.declared.settings.Config.{Config}
 use Rattle.relay_outside.specs.Link.{datagram_of, sent_of}
 use Rattle.relay_outside.proofs.Telling.{gained_none, gained_less}
-use Rattle.media_ports.specs.Asked.{OpensWith}
+use Rattle.call_board.specs.Pairs.{free}
+use Rattle.media_ports.specs.Asked.{OpensWith, OpensAt}
 use Rattle.turn_table.specs.declared.machine.Entry as table
 use Rattle.turn_table.specs.declared.hands.Hand.{Hand}
 use Rattle.turn_table.specs.Hands.{entries}
@@ -180,7 +181,7 @@ module _ (config : Config) {M I O T : Type 0} {g : _} where
 
     -- nothing was called, and nothing was done
     idle : (read_fails : Bool) (answer : ControlTurn) (made : Option Hearing) → is_answered answer ≡ false → Follows config old new now answer made
-        → GaveFor made ports ports_now keys keys_now opened opened_now drew drew_now
+        → GaveFor config (board_of (made_by old)) made ports ports_now keys keys_now opened opened_now drew drew_now
         → (IsIdle [] [] (made_by old) (made_by new) → Controls config now (made_by old) source bytes read_fails reply_fails [] [] e (made_by new)) → Made_so read_fails
     idle read_fails answer None unsent follows gave so =
         subst (λ (o : Option (List PortCall)). Gained opened o (λ opens. Gained drew drew_now (λ draws. Controls config now (made_by old) source bytes read_fails reply_fails opens draws e (made_by new))))
@@ -190,16 +191,16 @@ module _ (config : Config) {M I O T : Type 0} {g : _} where
     idle read_fails answer (Some x) unsent follows gave so = absurd (let k : false ≡ true = sym unsent ∙ follows.0 in cc)
 
     answers : (answer : ControlTurn) (made : Option Hearing) (before after : Option (List LinkCall)) → is_answered answer ≡ true → Follows config old new now answer made
-        → GaveFor made ports ports_now keys keys_now opened opened_now drew drew_now → Gained before after (DidTurn config (board_of (made_by old)) now answer made)
+        → GaveFor config (board_of (made_by old)) made ports ports_now keys keys_now opened opened_now drew drew_now → Gained before after (DidTurn config (board_of (made_by old)) now answer made)
         → TellsTaken after source bytes → IsOfTurn answer reply_fails after e → Made_so false
     answers answer None before after sent follows gave gained tells of = absurd (let k : false ≡ true = sym follows.0 ∙ sent in cc)
     answers answer (Some x) before after sent follows gave gained tells of =
-        gained_less opened opened_now (OpensWith x.given.opens) _
+        gained_less opened opened_now (OpensAt config (free config (board_of (made_by old))) x.given.opens) _
         (λ opens opens_are. gained_less drew drew_now (λ draws. draws ≡ draws_of x.given) _
-        (λ draws draws_are. inr (taken_told now source bytes reply_fails e old new answer x opens draws opens_are draws_are follows sent before after tells of gained)) gave.draws) gave.opens
+        (λ draws draws_are. inr (taken_told now source bytes reply_fails e old new answer x opens draws opens_are.answered draws_are follows sent before after tells of gained)) gave.draws) gave.opens
 
     controls_line : (read_fails : Bool) (answer : ControlTurn) (before after : Option (List LinkCall)) (made : Option Hearing) → Follows config old new now answer made
-        → GaveFor made ports ports_now keys keys_now opened opened_now drew drew_now → Gained before after (DidTurn config (board_of (made_by old)) now answer made)
+        → GaveFor config (board_of (made_by old)) made ports ports_now keys keys_now opened opened_now drew drew_now → Gained before after (DidTurn config (board_of (made_by old)) now answer made)
         → TellsTurn answer read_fails reply_fails after source bytes e → Made_so read_fails
     controls_line read_fails turn.ReadFault before after made follows gave gained tells =
         subst Made_so (sym tells.0) (idle true turn.ReadFault made refl follows gave (λ is. (tells.1, is)))
