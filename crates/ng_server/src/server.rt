@@ -171,7 +171,15 @@ impl<P: PortMaker> Server<P> {
         ensures ties { Ties self.now.config (P.told ports.old) (P.told ports.new) (entries hand.old) (entries hand.new) }
         ensures later { P.faults ports.old ≤ P.faults ports.new }
     {
-        tick_turn(rt, &self.turns, hand, &self.config, ports, &mut desk.gone, now)
+        tick_turn(
+            rt,
+            &self.turns,
+            hand,
+            &self.config,
+            ports,
+            &mut desk.gone,
+            now,
+        )
     }
 
     /// Closes the table by the hand that has all its parts, and answers what its places hold, in order. It takes no memory.

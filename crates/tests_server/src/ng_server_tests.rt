@@ -169,8 +169,14 @@ fn a_call_without_an_answer_ends_a_timeout_after_its_offer(rt: HostRuntime) {
     let old = server.timer_turn(&rt, &mut hand, &mut desk, &mut ports, 3_600_000);
     let later = server.timer_turn(&rt, &mut hand, &mut desk, &mut ports, 3_600_001);
     drop(server.close(hand));
-    assert!(rt; young == 0 && counts == Some((4, 0)), "its ports are open still");
-    assert!(rt; old == 1 && ports.counts() == Some((4, 4)), "its ports were closed");
+    assert!(rt;
+        young == 0 && counts == Some((4, 0)),
+        "its ports are open still"
+    );
+    assert!(rt;
+        old == 1 && ports.counts() == Some((4, 4)),
+        "its ports were closed"
+    );
     assert!(rt; later == 0, "it has ended");
 }
 

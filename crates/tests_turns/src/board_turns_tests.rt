@@ -26,7 +26,15 @@ fn a_tick_without_a_call_ends_none(rt: HostRuntime) {
     let Some((turns, mut hand)) = begin(rt.alloc()) else {
         panic!(rt; "no memory");
     };
-    let count = tick_turn(&rt, &turns, &mut hand, &CONFIG, &mut QuietPorts, &mut gone, 5);
+    let count = tick_turn(
+        &rt,
+        &turns,
+        &mut hand,
+        &CONFIG,
+        &mut QuietPorts,
+        &mut gone,
+        5,
+    );
     assert!(rt; count == 0 && gone.pop().is_none());
     let places = close_relay(turns, hand);
     assert!(rt; places.len() == 5);
