@@ -15,6 +15,8 @@ mod relay_app_tests;
 #[cfg(test)]
 mod relay_app_threads_tests;
 #[cfg(test)]
+mod relay_app_timeouts_tests;
+#[cfg(test)]
 mod relay_app_words_tests;
 #[cfg(test)]
 mod table_devices;
