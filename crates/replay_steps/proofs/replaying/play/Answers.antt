@@ -30,8 +30,9 @@ returns-clause-told g c =
     let l = made_by old in
     let how = c.args.ending in
     let end = c.end_replay-ended.result in
+    let closed = c.close.ensures.legal in
     gained_both (g.O.LineSink.told c.args.out.now) (g.O.LineSink.told c.play_steps-ended.new.out) (g.O.LineSink.told c.end_replay-ended.new.out) (DidSteps config seed steps l ran)
     (DidFinish ran how line end) (DidPlay config seed steps how end)
     (after_stop config seed steps l line ran how end (λ q. ap (λ (k : ℕ). k + 1) (c.play_steps-ended.ensures.all q ∙ sym (length-map c.args.steps.now meaning)))
-    (subst (λ (k : Config). Stops k l) c.in-Ok-start.ensures.config (stops c.in-Ok-start.server.config old c.stop.new.hand c.stop.ensures.makes c.close.ensures.legal)))
+    (subst (λ (k : Config). Stops k l) c.in-Ok-start.ensures.config (stops c.in-Ok-start.server.config old c.stop.new.hand c.stop.ensures.makes (closed.0, closed.1, closed.2, closed.3))))
     (c.play_steps-ended.ensures.told seed (c.in-Ok-new.ensures config)) c.end_replay-ended.ensures.told
