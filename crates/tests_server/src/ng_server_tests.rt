@@ -1,12 +1,10 @@
 //! A server over devices of tables, from its start to its close. What it answers to other datagrams is shown by scripts, which
 //! `check_scripts` plays.
 
-use crate::relay_app_runs::{ANSWER, OFFER};
+use crate::relay_app_runs::OFFER;
 use crate::table_devices::{SameKey, TableLink, TablePort, TablePorts};
-use main_sweeps::sweep_between;
-use media_lane::Totals;
 use ng_server::{ControlTurn, Desk, Server};
-use relay_outside::{Addr, Config, HandClock, Ip, OpenGate};
+use relay_outside::{Addr, Config, Ip};
 use std::alloc::Global;
 use std::process::Abort;
 use std::sync::Wait;
@@ -106,44 +104,6 @@ fn a_stop_closes_the_ports_of_an_offer(rt: HostRuntime) {
     assert!(rt; ports.counts() == Some((4, 4)), "its ports were closed");
 }
 
-/// The same over two port pairs.
-const NARROW: Config = Config {
-    port_max: 30_003,
-    ..CONFIG
-};
-
-/// The ports of a call of which one packet comes from the caller, and leaves to the callee.
-const ONE_PACKET: &[TablePort] = &[
-    TablePort {
-        at: Addr {
-            ip: HERE,
-            port: 30_000,
-        },
-        comes: &[],
-        goes: &[(
-            Addr {
-                ip: Ip::V4([198, 51, 100, 20]),
-                port: 7000,
-            },
-            b"\x80\0\0\x01\0\0\0\0\x11\x11\x11\x11\x01",
-        )],
-    },
-    TablePort {
-        at: Addr {
-            ip: HERE,
-            port: 30_002,
-        },
-        comes: &[(
-            Addr {
-                ip: Ip::V4([192, 0, 2, 10]),
-                port: 6000,
-            },
-            b"\x80\0\0\x01\0\0\0\0\x11\x11\x11\x11\x01",
-        )],
-        goes: &[],
-    },
-];
-
 #[test]
 fn a_call_without_an_answer_ends_a_timeout_after_its_offer(rt: HostRuntime) {
     let Ok(mut desk) = Desk::new(rt.alloc()) else {
@@ -178,59 +138,4 @@ fn a_call_without_an_answer_ends_a_timeout_after_its_offer(rt: HostRuntime) {
         "its ports were closed"
     );
     assert!(rt; later == 0, "it has ended");
-}
-
-#[test]
-fn an_answered_call_ends_a_timeout_after_its_last_packet(rt: HostRuntime) {
-    let Ok(mut desk) = Desk::new(rt.alloc()) else {
-        panic!(rt; "no memory");
-    };
-    let Ok((server, mut hand)) = Server::start(rt.alloc(), NARROW) else {
-        panic!(rt; "no memory");
-    };
-    let mut link = TableLink::new(&[OFFER, ANSWER], 0, None, 0);
-    let mut ports = TablePorts::new(ONE_PACKET);
-    server.control_turn(
-        &rt,
-        rt.alloc(),
-        &mut hand,
-        &mut desk,
-        &mut link,
-        &mut ports,
-        &mut SameKey,
-        0,
-    );
-    server.control_turn(
-        &rt,
-        rt.alloc(),
-        &mut hand,
-        &mut desk,
-        &mut link,
-        &mut ports,
-        &mut SameKey,
-        0,
-    );
-    let mut totals = Totals {
-        taken: 0,
-        sent: 0,
-        refused: 0,
-        lost: 0,
-    };
-    let mut hand = sweep_between(
-        &rt,
-        server.turns(),
-        hand,
-        &NARROW,
-        &OpenGate::new(),
-        &HandClock::new(1000),
-        &mut totals,
-    );
-    let young = server.timer_turn(&rt, &mut hand, &mut desk, &mut ports, 60_999);
-    let old = server.timer_turn(&rt, &mut hand, &mut desk, &mut ports, 61_000);
-    let before = server.timer_turn(&rt, &mut hand, &mut desk, &mut ports, 5);
-    drop(server.close(hand));
-    assert!(rt; totals.sent == 1, "its packet was accepted");
-    assert!(rt; young == 0, "the packet is younger than the timeout");
-    assert!(rt; old == 1, "the packet is as old as the timeout");
-    assert!(rt; before == 0, "it has ended");
 }
