@@ -7,6 +7,7 @@ use Rattle.relay_outside.specs.declared.ports.InCall.{InCall}
 use Rattle.relay_outside.specs.declared.ports.OutCall.{OutCall}
 use Rattle.relay_outside.specs.declared.ports.PortCall.{PortCall}
 use Rattle.relay_outside.specs.declared.settings.Config.{Config}
+use Rattle.relay_outside.specs.Told.{EndTold}
 use Rattle.turn_table.specs.declared.machine.Entry as table
 use Rattle.turn_table.specs.declared.hands.Turns.{Turns}
 use Rattle.turn_table.specs.declared.hands.Hand.{Hand}
@@ -118,7 +119,7 @@ module _ {M I O T : Type 0} {g : _} where
       let count = parts_count config (starts hand) b.parts in
       (omega (arith, count), λ j has. absurd (has (b.idle j)))
 
-module _ {M I O T : Type 0} {g : _} (it : I → Option (List InCall)) (ic : I → ℕ) (ot : O → Option (List OutCall)) (oc : O → ℕ) where
+module _ {M I O T : Type 0} {g : _} (it : I → EndTold InCall) (ic : I → ℕ) (ot : O → EndTold OutCall) (oc : O → ℕ) where
   pub turn_begins : (config : Config) (turns : Turns M (Part I O) Made T) (old mid : Hand M (Part I O) Made T g) (turn : Turn M (Part I O) Made T)
       → IsBetween config turns old → IsSameHand old mid × (entries mid ≡ entries old)
       → GainsTurn 0 turn old mid × IsGiven (λ (a : Part I O) (m : Made) (o : T) (b : Part I O). Relates it ic ot oc a m b) IsReserved old 0 (front_of turn) (state_of turn)
@@ -225,7 +226,7 @@ step_put config h old new made event before for moment fits stands =
     (subst (λ (k : List BoardEntry). BoardStep config k made event new) (sym before) (record { moment_is = moment; fits = fits; stands = stands }))
 
 -- so the place's state relates to the new one
-pub relates_put : {I O : Type 0} (it : I → Option (List InCall)) (ic : I → ℕ) (ot : O → Option (List OutCall)) (oc : O → ℕ)
+pub relates_put : {I O : Type 0} (it : I → EndTold InCall) (ic : I → ℕ) (ot : O → EndTold OutCall) (oc : O → ℕ)
     (config : Config) (h : List BoardEntry) (old new : Part I O) (made : Made) (event : BoardEvent) → made.event ≡ Board event → made.before ≡ h
     → BoardIs config old h → made.moment ≡ moment_of (Board event) made.handed (last_moment h) → FitsBoard config h (board_made made event)
     → BoardIs config new (board_made made event ∷ h) → Relates it ic ot oc old made new

@@ -7,7 +7,7 @@ use Rattle.relay_outside.specs.declared.address.Ip.{Ip}
 use Rattle.relay_outside.specs.declared.ports.OutCall.{OutCall}
 use Rattle.relay_outside.specs.declared.ports.PortCall.{PortCall}
 use Rattle.relay_outside.specs.declared.settings.Config.{Config}
-use Rattle.relay_outside.specs.Told.{WhereTold}
+use Rattle.relay_outside.specs.Told.{EndTold, WhereTold}
 use Rattle.turn_table.specs.declared.hands.Hand.{Hand}
 use Rattle.turn_table.specs.declared.machine.Entry as table
 use Rattle.turn_table.specs.Hands.{entries}
@@ -133,7 +133,7 @@ module _ {O : Type 0} where
   pub pairs_more : (some more : List (Lease × O × O)) → pairs_in (leases_of (some ++ more)) ≡ pairs_in (leases_of some) ++ pairs_in (leases_of more)
   pairs_more some more = ap pairs_in (map-append (λ (leg : Lease × O × O). leg.0) some more) ∙ map-append (λ (lease : Lease). lease.pair) (leases_of some) (leases_of more)
 
-  pub closes_more : (sent : O → Option (List OutCall)) (interface : Ip) (some more : List (Lease × O × O)) (xs ys : List PortCall) →
+  pub closes_more : (sent : O → EndTold OutCall) (interface : Ip) (some more : List (Lease × O × O)) (xs ys : List PortCall) →
       ClosesLegs sent interface some xs → ClosesLegs sent interface more ys → ClosesLegs sent interface (some ++ more) (xs ++ ys)
   closes_more sent interface [] more xs ys first second = subst (λ (zs : List PortCall). ClosesLegs sent interface more (zs ++ ys)) (sym first) second
   closes_more sent interface (leg ∷ some) more xs ys first second = (

@@ -7,6 +7,7 @@ use Rattle.relay_outside.specs.declared.ports.PortCall.{PortCall}
 use Rattle.relay_outside.specs.declared.settings.Config.{Config}
 use Rattle.relay_outside.specs.declared.ports.InCall.{InCall}
 use Rattle.relay_outside.specs.declared.ports.OutCall.{OutCall}
+use Rattle.relay_outside.specs.Told.{EndTold}
 use Rattle.turn_table.specs.declared.hands.Hand.{Hand}
 use Rattle.turn_table.specs.Hands.{view, entries, starts, parts}
 use Rattle.histories.specs.Words.{In, here, there}
@@ -142,7 +143,7 @@ answer_same config old new h k now due one two does =
     let answer = due_by (with_moment old moment) moment in
     does.fits ∙ sym (cell_expires config old h now moment answer one refl refl).fits ∙ (cell_expires config old k now moment answer two refl refl).fits
 
-module _ {M I O T : Type 0} {g : _} (it : I → Option (List InCall)) (ic : I → ℕ) (ot : O → Option (List OutCall)) (oc : O → ℕ) where
+module _ {M I O T : Type 0} {g : _} (it : I → EndTold InCall) (ic : I → ℕ) (ot : O → EndTold OutCall) (oc : O → ℕ) where
   pub due_by_whole : (config : Config) (hand : Hand M (Part I O) Made T g) (place now : ℕ) (due : Bool) → AreParts config (starts hand) → Numbered (made_by hand)
       → 1 ≤ place → place ≤ config.max_sessions → HasNewKeys (made_by hand) place → parts hand ≡ 1024 → Expires it ic ot oc config hand place now due
       → IsDueBy config (made_by hand) place now due

@@ -17,3 +17,4 @@ pub mod Answered
 pub mod Expiring
 pub mod Ticked
 pub mod TickTurns
+pub mod ReadCalls

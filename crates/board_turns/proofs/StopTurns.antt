@@ -3,6 +3,7 @@ use Rattle.std.proofs.Common.{◌≡◌, sym, subst, refl, ℕ, List, ◌∷◌,
 use Rattle.relay_outside.specs.declared.ports.InCall.{InCall}
 use Rattle.relay_outside.specs.declared.ports.OutCall.{OutCall}
 use Rattle.relay_outside.specs.declared.settings.Config.{Config}
+use Rattle.relay_outside.specs.Told.{EndTold}
 use Rattle.turn_table.specs.declared.hands.Turns.{Turns}
 use Rattle.turn_table.specs.declared.hands.Hand.{Hand}
 use Rattle.turn_table.specs.declared.hands.Turn.{Turn}
@@ -44,7 +45,7 @@ stopped_at config l x number n is stands =
     subst (λ (k : ℕ). BoardIs config x (stop_entry (board_history l k) ∷ board_history l k)) is stands
 
 -- the board that was taken relates to the one that ended all live calls
-pub stop_relates : {I O : Type 0} (it : I → Option (List InCall)) (ic : I → ℕ) (ot : O → Option (List OutCall)) (oc : O → ℕ)
+pub stop_relates : {I O : Type 0} (it : I → EndTold InCall) (ic : I → ℕ) (ot : O → EndTold OutCall) (oc : O → ℕ)
     (config : Config) (h again : List BoardEntry) (old new : Part I O) → again ≡ h → BoardIs config old h → BoardIs config new (stop_entry h ∷ h)
     → Relates it ic ot oc old (stop_made again) new
 stop_relates it ic ot oc config h again old new same was stands =

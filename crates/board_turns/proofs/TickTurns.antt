@@ -4,6 +4,7 @@ use Rattle.relay_outside.specs.declared.ports.InCall.{InCall}
 use Rattle.relay_outside.specs.declared.ports.OutCall.{OutCall}
 use Rattle.relay_outside.specs.declared.ports.PortCall.{PortCall}
 use Rattle.relay_outside.specs.declared.settings.Config.{Config}
+use Rattle.relay_outside.specs.Told.{EndTold}
 use Rattle.turn_table.specs.declared.machine.Entry as table
 use Rattle.turn_table.specs.declared.hands.Turns.{Turns}
 use Rattle.turn_table.specs.declared.hands.Hand.{Hand}
@@ -108,7 +109,7 @@ module _ {M I O T : Type 0} {g : _} where
         ∙ ap (tick_made h now) (gone_are config h now calls x (good_history config (made_by mid) begins.orderly (front_of turn)) ends.named stands)
 
     -- the board that was taken relates to the one that ended the calls that were due
-    pub tick_relates : (it : I → Option (List InCall)) (ic : I → ℕ) (ot : O → Option (List OutCall)) (oc : O → ℕ) (old : Part I O)
+    pub tick_relates : (it : I → EndTold InCall) (ic : I → ℕ) (ot : O → EndTold OutCall) (oc : O → ℕ) (old : Part I O)
         → BoardIs config old (board_history (made_by mid) (front_of turn)) → Relates it ic ot oc old (made_after nested (front_of turn) now x) x
     tick_relates it ic ot oc old was =
         let h = board_history (made_by mid) (front_of turn) in

@@ -12,7 +12,7 @@ use Rattle.relay_outside.specs.declared.ports.PortCall.{PortCall}
 use Rattle.relay_outside.specs.declared.ports.PortCall.TheVariants as port
 use Rattle.relay_outside.specs.declared.settings.Config.{Config}
 use Rattle.relay_outside.specs.Ports.{joined, same_ip, same_addr, taken_at, sent_at}
-use Rattle.relay_outside.specs.Told.{Gained}
+use Rattle.relay_outside.specs.Told.{EndTold, Gained}
 use Rattle.relay_outside.proofs.Telling.{gained_none, gained_both, gained_less}
 use Rattle.rtp_packet.specs.declared.head.Half.{Half}
 use Rattle.rtp_packet.specs.declared.head.Half.TheVariants.{Rtp, Rtcp}
@@ -326,7 +326,7 @@ module _ {T : Type 0} where
       ∙ ap (λ (b : Bool). cond b (joined (in_left half row.event.left) (Some [])) (Some [])) (same_box config one pair)
       ∙ ap (λ (told : Option (List InCall)). cond (one == pair) (joined told (Some [])) (Some [])) (ap (in_left half) is ∙ in_of_half half left)
 
-module _ {M S T I O : Type 0} {g : _} (taken : I → Option (List InCall)) (sent : O → Option (List OutCall)) where
+module _ {M S T I O : Type 0} {g : _} (taken : I → EndTold InCall) (sent : O → EndTold OutCall) where
   -- the box of a leased pair was shut, and its two ports were closed with the ends that it gave
   pub takes_closed : (config : Config) (t0 t1 : Option (List PortCall)) (old new : Hand M S Made T g) (lease : Lease) (ends : PairEnds I O) → lease.pair < pair_count config
       → lease.rtp_port ≡ pair_port config lease.pair → AddsRow (box_of config lease.pair) (Box Close) (ends_left taken (ends.rtp_in, ends.rtcp_in)) old new
@@ -336,19 +336,19 @@ module _ {M S T I O : Type 0} {g : _} (taken : I → Option (List InCall)) (sent
     rows_are = adds.list_is;
     calls = gained_less t0 t1 (ClosesPair config.interface lease (ends_told taken sent ends)) (λ calls. All (IsOfPair config) calls × AreTakesTied config (adds.row ∷ []) calls)
         (λ calls are. subst (λ (cs : List PortCall). All (IsOfPair config) cs × AreTakesTied config (adds.row ∷ []) cs) (sym are)
-        (of_lease config lease (taken ends.rtp_in) (taken ends.rtcp_in) (sent ends.rtp_out) (sent ends.rtcp_out) low is, tied)) closes;
+        (of_lease config lease (taken ends.rtp_in).calls (taken ends.rtcp_in).calls (sent ends.rtp_out).calls (sent ends.rtcp_out).calls low is, tied)) closes;
     no_legs = λ pair half. ap (λ (e : Event). cond (is_parting e) (joined (legs_told adds.row.event.left.legs pair half) (Some [])) (Some [])) adds.event_is;
   }
     where
       these : List PortCall
-      these = port.Close (port_at config.interface lease.rtp_port) (taken ends.rtp_in) (sent ends.rtp_out)
-          ∷ port.Close (port_at config.interface (lease.rtp_port + 1)) (taken ends.rtcp_in) (sent ends.rtcp_out) ∷ []
+      these = port.Close (port_at config.interface lease.rtp_port) (taken ends.rtp_in).calls (sent ends.rtp_out).calls
+          ∷ port.Close (port_at config.interface (lease.rtp_port + 1)) (taken ends.rtcp_in).calls (sent ends.rtcp_out).calls ∷ []
 
       tied : AreTakesTied config (adds.row ∷ []) these
       tied pair half below =
           agrees_same (taken_at these (port_address config pair half)) (ins_told (adds.row ∷ []) (box_of config pair) half)
           (ins_of_row config adds.row lease.pair (ends_left taken (ends.rtp_in, ends.rtcp_in)) adds.place_is adds.event_is adds.left_is pair half
-          ∙ sym (pick_half config lease is pair half (taken ends.rtp_in) (taken ends.rtcp_in) (Some [])))
+          ∙ sym (pick_half config lease is pair half (taken ends.rtp_in).calls (taken ends.rtcp_in).calls (Some [])))
 
 -- Legs that go from a cell, and are closed.
 
@@ -361,7 +361,7 @@ out_of_half : (half : Half) (leg : LegLeft) → out_left half leg ≡ of_half ha
 out_of_half Rtp leg = refl
 out_of_half Rtcp leg = refl
 
-module _ {M S T O : Type 0} {g : _} (told : O → Option (List OutCall)) where
+module _ {M S T O : Type 0} {g : _} (told : O → EndTold OutCall) where
   -- the row of a cell's step by which legs go
   pub legs_leave : (gone : List (Lease × O × O)) (place : ℕ) (event : Event) (old new : Hand M S Made T g) → is_parting event ≡ true
       → AddsRow place event (gone_left told gone) old new → LegsLeave told gone (entries old) (entries new)
@@ -376,17 +376,17 @@ module _ {M S T O : Type 0} {g : _} (told : O → Option (List OutCall)) where
             ∙ nothing_joined (legs_told row.event.left.legs pair half) ∙ ap (λ (left : Left). legs_told left.legs pair half) adds.left_is;
       }
 
-module _ {O : Type 0} (sent : O → Option (List OutCall)) where
+module _ {O : Type 0} (sent : O → EndTold OutCall) where
   -- what the closings of legs give back is what the legs left with
   legs_closed : (config : Config) (gone : List (Lease × O × O)) (calls : List PortCall) (pair : ℕ) (half : Half) → HavePorts config (leases_of gone)
       → ClosesLegs sent config.interface gone calls → sent_at calls (port_address config pair half) ≡ legs_told (legs_left sent gone) pair half
   legs_closed config [] calls pair half ports closes = ap (λ (cs : List PortCall). sent_at cs (port_address config pair half)) closes
   legs_closed config (leg ∷ gone) calls pair half ports closes =
       ap (λ (cs : List PortCall). sent_at cs (port_address config pair half)) closes.3
-      ∙ pick_half config leg.0 ports.0 pair half (sent leg.1) (sent leg.2) (sent_at closes.2 (port_address config pair half))
+      ∙ pick_half config leg.0 ports.0 pair half (sent leg.1).calls (sent leg.2).calls (sent_at closes.2 (port_address config pair half))
       ∙ ap (λ (told : Option (List OutCall)). cond (leg.0.pair == pair) (joined told (sent_at closes.2 (port_address config pair half))) (sent_at closes.2 (port_address config pair half)))
-      (sym (out_of_half half (record { lease = leg.0; rtp = sent leg.1; rtcp = sent leg.2 })))
-      ∙ ap (λ (rest : Option (List OutCall)). cond (leg.0.pair == pair) (joined (out_left half (record { lease = leg.0; rtp = sent leg.1; rtcp = sent leg.2 })) rest) rest)
+      (sym (out_of_half half (record { lease = leg.0; rtp = (sent leg.1).calls; rtcp = (sent leg.2).calls })))
+      ∙ ap (λ (rest : Option (List OutCall)). cond (leg.0.pair == pair) (joined (out_left half (record { lease = leg.0; rtp = (sent leg.1).calls; rtcp = (sent leg.2).calls })) rest) rest)
       (legs_closed config gone closes.2 pair half ports.1 closes.4)
 
 gained_and : {C : Type 0} (old new : Option (List C)) (P Q : List C → Type 0) → Gained old new P → Gained old new Q → Gained old new (λ calls. P calls × Q calls)
@@ -396,7 +396,7 @@ gained_and (Some old) (Some new) P Q first second =
     (first.0, first.1, (first.2, subst Q (append_cancel_left old second.0 first.0 (sym second.1 ∙ first.1)) second.2))
 
 -- legs went from a cell, and then they were closed
-pub ties_gone : {T O : Type 0} (sent : O → Option (List OutCall)) (config : Config) (t0 t1 : Option (List PortCall)) (r0 r1 r2 : List (table.Entry Made T))
+pub ties_gone : {T O : Type 0} (sent : O → EndTold OutCall) (config : Config) (t0 t1 : Option (List PortCall)) (r0 r1 r2 : List (table.Entry Made T))
     (gone : List (Lease × O × O)) → HavePorts config (leases_of gone) → LegsLeave sent gone r0 r1 → TiesTakes config t0 t1 r1 r2
     → Gained t0 t1 (ClosesLegs sent config.interface gone) → Ties config t0 t1 r0 r2
 ties_gone {T} sent config t0 t1 r0 r1 r2 gone ports leave takes closes = record {

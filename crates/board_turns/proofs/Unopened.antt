@@ -4,7 +4,7 @@ use Rattle.relay_outside.specs.declared.address.Ip.{Ip}
 use Rattle.relay_outside.specs.declared.ports.OutCall.{OutCall}
 use Rattle.relay_outside.specs.declared.ports.PortCall.{PortCall}
 use Rattle.relay_outside.specs.declared.settings.Config.{Config}
-use Rattle.relay_outside.specs.Told.{Gained}
+use Rattle.relay_outside.specs.Told.{EndTold, Gained}
 use Rattle.relay_outside.proofs.Telling.{gained_less}
 use Rattle.port_pool.specs.declared.holder.Holder.{Holder}
 use Rattle.port_pool.specs.declared.pairs.Lease.{Lease}
@@ -12,7 +12,7 @@ use Rattle.media_ports.specs.Asked.{opening_answers, OpensNone}
 use Rattle.board_turns.specs.Closing.{ClosesLegs}
 use Rattle.board_turns.specs.Ending.{ClosesTheirs}
 
-module _ {O : Type 0} (sent : O → Option (List OutCall)) where
+module _ {O : Type 0} (sent : O → EndTold OutCall) where
   pub legs_open_none : (interface : Ip) (legs : List (Lease × O × O)) (calls : List PortCall) → ClosesLegs sent interface legs calls → OpensNone calls
   legs_open_none interface [] calls closes = ap opening_answers closes
   legs_open_none interface (leg ∷ legs) calls closes = ap opening_answers closes.3 ∙ legs_open_none interface legs closes.2 closes.4

@@ -6,7 +6,7 @@ use Rattle.relay_outside.specs.declared.ports.OutCall.{OutCall}
 use Rattle.relay_outside.specs.declared.ports.PortCall.{PortCall}
 use Rattle.relay_outside.specs.declared.ports.PortCall.TheVariants.{Close}
 use Rattle.relay_outside.specs.declared.settings.Config.{Config}
-use Rattle.relay_outside.specs.Told.{WhereTold}
+use Rattle.relay_outside.specs.Told.{EndTold, WhereTold}
 use Rattle.histories.specs.Words.{In, has}
 use Rattle.port_pool.specs.declared.pairs.Lease.{Lease}
 use Rattle.call_board.specs.declared.board.Board.{Board}
@@ -44,10 +44,10 @@ abbrev pub pairs_left : List ℕ → List ℕ → List ℕ
 pairs_left pairs held = filter (λ pair. not (has pairs pair)) held
 
 -- The calls close the two ports of each leg in order, that for RTP first, with the leg's out ends
-module _ {O : Type 0} (sent : O → Option (List OutCall)) where
+module _ {O : Type 0} (sent : O → EndTold OutCall) where
   abbrev pub ClosesLegs : Ip → List (Lease × O × O) → List PortCall → Type 0
   ClosesLegs interface [] calls = calls ≡ []
   ClosesLegs interface (leg ∷ legs) calls =
       (rtp : Option (List InCall)) × (rtcp : Option (List InCall)) × (rest : List PortCall)
-      × (calls ≡ Close (port_at interface leg.0.rtp_port) rtp (sent leg.1) ∷ Close (port_at interface (leg.0.rtp_port + 1)) rtcp (sent leg.2) ∷ rest)
+      × (calls ≡ Close (port_at interface leg.0.rtp_port) rtp (sent leg.1).calls ∷ Close (port_at interface (leg.0.rtp_port + 1)) rtcp (sent leg.2).calls ∷ rest)
       × ClosesLegs interface legs rest

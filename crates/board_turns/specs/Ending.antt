@@ -3,7 +3,7 @@ use Rattle.std.specs.Prelude.{◌≡◌, ◌≤◌, ℕ, true, Option, Some, Lis
 use Rattle.relay_outside.specs.declared.ports.OutCall.{OutCall}
 use Rattle.relay_outside.specs.declared.ports.PortCall.{PortCall}
 use Rattle.relay_outside.specs.declared.settings.Config.{Config}
-use Rattle.relay_outside.specs.Told.{WhereTold}
+use Rattle.relay_outside.specs.Told.{EndTold, WhereTold}
 use Rattle.histories.specs.Words.{In, has}
 use Rattle.port_pool.specs.declared.pairs.Lease as pairs
 use Rattle.port_pool.specs.declared.holder.Holder.{Holder}
@@ -54,5 +54,5 @@ abbrev pub with_end : View → ℕ → List Holder → View
 with_end v call legs = with_returned (without_call v call) (leg_pairs legs)
 
 -- the calls close the ports of these legs, with the out ends that they had
-abbrev pub ClosesTheirs : {O : Type 0} → (O → Option (List OutCall)) → Config → List Holder → List PortCall → Type 0
+abbrev pub ClosesTheirs : {O : Type 0} → (O → EndTold OutCall) → Config → List Holder → List PortCall → Type 0
 ClosesTheirs {O} sent config legs calls = (gone : List (pairs.Lease × O × O)) × AreLeasesOf config gone legs × ClosesLegs sent config.interface gone calls

@@ -4,7 +4,7 @@ use Rattle.relay_outside.specs.declared.ports.OutCall.{OutCall}
 use Rattle.relay_outside.specs.declared.ports.PortCall.{PortCall}
 use Rattle.relay_outside.specs.declared.settings.Config.{Config}
 use Rattle.relay_outside.specs.Ports.{taken_at, sent_at}
-use Rattle.relay_outside.specs.Told.{Gained}
+use Rattle.relay_outside.specs.Told.{EndTold, Gained}
 use Rattle.rtp_packet.specs.declared.head.Half.{Half}
 use Rattle.turn_table.specs.declared.machine.Entry as table
 use Rattle.port_pool.specs.declared.pairs.Lease.{Lease}
@@ -47,7 +47,7 @@ module _ {T : Type 0} where
     pub no_legs : (pair : ℕ) (half : Half) → outs_told more pair half ≡ Some []
 
   -- rows came behind the earlier ones, by which just these legs went from a cell, and no box was shut
-  pub record LegsLeave {O : Type 0} (told : O → Option (List OutCall)) (gone : List (Lease × O × O)) (rows rows_now : List (table.Entry Made T)) : Type 0 where
+  pub record LegsLeave {O : Type 0} (told : O → EndTold OutCall) (gone : List (Lease × O × O)) (rows rows_now : List (table.Entry Made T)) : Type 0 where
     pub more : List (table.Entry Made T)
     pub rows_are : rows_now ≡ rows ++ more
     pub no_ends : (place : ℕ) (half : Half) → ins_told more place half ≡ Some []

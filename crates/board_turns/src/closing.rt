@@ -5,6 +5,7 @@ ghost use Rattle.relay_outside.specs.Told.{Gained, WhereTold};
 ghost use Rattle.turn_table.specs.Hands.{IsSameHand, SameTurns, entries};
 ghost use Rattle.call_board.specs.Boards.{Shows, KeepsCalls, KeepsReplies, pairs_in};
 ghost use Rattle.call_board.specs.Views.{View, with_returned};
+ghost use Rattle.relay_core.specs.Standing.{GoneHome};
 ghost use Rattle.relay_core.specs.Turning.{GainsNested, made_by};
 ghost use Rattle.media_ports.specs.Held.{OpensHeld};
 ghost use Rattle.nested_steps.specs.Nesting.{MayNest, closing_of};
@@ -34,6 +35,7 @@ fn close_leg<P: PortMaker, R: Wait>(
 )
     requires may { MayNest config.now turns.now hand.old }
     requires can { CanClose config.now (made_by hand.old) board.old (P.told ports.old) (leg ∷ []) }
+    requires home { GoneHome P.Out.told config.now (leg ∷ []) }
     ensures same { IsSameHand hand.old hand.new × SameTurns hand.old hand.new }
     ensures may { MayNest config.now turns.now hand.new }
     ensures gained { GainsNested nest.number nest.moment (closings_of config.now (leg ∷ [])) hand.old hand.new }
@@ -59,8 +61,8 @@ fn close_leg<P: PortMaker, R: Wait>(
 }
 
 /// Closes the legs that went from a cell, in lease order, and leaves `gone` empty: of each leg the box is shut, its two ports
-/// are given to the port maker, that for RTP first, with the ends that they were opened with, and then its pair goes back
-/// to the board. It takes no memory.
+/// are given to the port maker, that for RTP first, each with the ends that were opened for it, and then its pair goes back
+/// to the board. The out ends of each leg were opened for the ports of its pair. It takes no memory.
 pub fn close_legs<P: PortMaker, R: Wait>(
     rt: &R,
     turns: &Turns<Relay<P::In, P::Out>>,
@@ -73,6 +75,7 @@ pub fn close_legs<P: PortMaker, R: Wait>(
 )
     requires may { MayNest config.now turns.now hand.old }
     requires can { CanClose config.now (made_by hand.old) board.old (P.told ports.old) gone.old }
+    requires home { GoneHome P.Out.told config.now gone.old }
     ensures same { IsSameHand hand.old hand.new × SameTurns hand.old hand.new }
     ensures may { MayNest config.now turns.now hand.new }
     ensures gained { GainsNested nest.number nest.moment (closings_of config.now gone.old) hand.old hand.new }

@@ -9,16 +9,18 @@ use Rattle.ng_command.specs.Said.{Said}
 use Rattle.ng_reply.specs.declared.code.ErrorCode.{ErrorCode}
 use Rattle.ng_reply.specs.declared.code.ErrorCode.TheVariants.{E9, E10, E13, E14, E15, E16, E17}
 use Rattle.sdes_lines.specs.declared.crypto_line.CryptoLine.{CryptoLine}
+use Rattle.port_pool.specs.declared.reports.LegReport.{LegReport}
 use Rattle.offer_answer.specs.Rounds.{Round, OfferAsk, AnswerAsk}
 use Rattle.offer_answer.specs.Plan as plan
 use Rattle.call_board.specs.Acts as act
 use Rattle.call_board.specs.Acts.{Act, Call, Control, BoardEntry}
-use Rattle.call_board.specs.Calls.{live, find_call, new_call, rounds, rounds_of_call}
+use Rattle.call_board.specs.Calls.{live, find_call, new_call, rounds, rounds_of_call, first_moment, latest_moment}
 use Rattle.call_board.specs.Pairs.{free, free_in, is_short, lease_of}
 use Rattle.call_board.specs.Kept.{kept}
 use Rattle.call_board.specs.Asked.{Reads, asked}
-use Rattle.call_board.specs.Replies.{Reply, Pong, Done, Warned, Described, Fault, reply_datagram}
-use Rattle.call_board.specs.Answers.{Answering, Answered, failing, telling, offering, leased_pairs, offer_ask, answer_ask, offer_leased, offer_unless, offer_to, answer_unless, answer_to, delete_of, missing, names_side, answering, answering_asked, answering_unless, spelled}
+use Rattle.call_board.specs.Replies.{Reply, Pong, Done, Warned, Described, Reported, Listed, Fault, reply_datagram}
+use Rattle.call_board.specs.Reports.{Report}
+use Rattle.call_board.specs.Answers.{Answering, Answered, failing, telling, offering, leased_pairs, offer_ask, answer_ask, offer_leased, offer_unless, offer_to, answer_unless, answer_to, delete_of, missing, names_side, legs_told, query_of, answering, answering_asked, answering_unless, spelled}
 use Rattle.call_board.specs.Fits.{FitsControl, GivesFor, Hears, asks_after, demanded, demanded_by, is_read, is_heard}
 use Rattle.call_board.specs.Views.{view_of}
 use Rattle.call_board.specs.Planned.{PlansOffer, target}
@@ -128,6 +130,34 @@ failed_due config h now c code asks = asked_due config h now c (Err code) asks
 
 pub ping_due : (config : Config) (h : List BoardEntry) (now : ℕ) (c : Control) → Asks config h now c (Ok said.Ping) → IsDue config h now c (with_reply config c Pong act.Told)
 ping_due config h now c asks = asked_due config h now c (Ok said.Ping) asks
+
+-- Queries and lists.
+
+query_due : (config : Config) (h : List BoardEntry) (now : ℕ) (c : Control) (id : List ℕ) (due : Answering)
+    → Asks config h now c (Ok (said.Query id)) → query_of h c.given (find_call h id) ≡ due → IsDue config h now c (spelled config c.cookie due)
+query_due config h now c id due asks is = asked_due config h now c (Ok (said.Query id)) asks ∙ ap (spelled config c.cookie) is
+
+-- no live call has the call-id
+pub query_unknown_due : (config : Config) (h : List BoardEntry) (now : ℕ) (c : Control) (id : List ℕ)
+    → Asks config h now c (Ok (said.Query id)) → find_call h id ≡ None → IsDue config h now c (with_reply config c (Fault E9) (act.Failed E9))
+query_unknown_due config h now c id asks none = query_due config h now c id (failing E9) asks (ap (query_of h c.given) none)
+
+-- what is told of a call with these reports of its legs
+abbrev pub report_of_call : List BoardEntry → Call → List LegReport → Report
+report_of_call h of told = record { created = first_moment h of.number; last_signal = latest_moment h of.number; rounds = rounds h of.number; legs = told }
+
+-- the call was read
+pub queried_due : (config : Config) (h : List BoardEntry) (now : ℕ) (c : Control) (id : List ℕ) (of : Call) (told : List LegReport)
+    → Asks config h now c (Ok (said.Query id)) → find_call h id ≡ Some of → c.given.report ≡ Some told
+    → IsDue config h now c (with_reply config c (Reported (report_of_call h of told)) (act.Queried of))
+queried_due config h now c id of told asks found read =
+    query_due config h now c id (record { reply = Reported (report_of_call h of told); act = act.Queried of }) asks
+    (ap (query_of h c.given) found
+    ∙ ap (λ (o : Option (List LegReport)). record { reply = Reported (report_of_call h of (legs_told o)); act = act.Queried of }) read)
+
+pub listed_due : (config : Config) (h : List BoardEntry) (now : ℕ) (c : Control) (limit : ℕ) → Asks config h now c (Ok (said.Listing limit))
+    → IsDue config h now c (with_reply config c (Listed (take limit (map (λ (call : Call). call.id) (live h)))) act.Told)
+listed_due config h now c limit asks = asked_due config h now c (Ok (said.Listing limit)) asks
 
 -- Deletes.
 

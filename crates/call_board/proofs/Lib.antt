@@ -36,5 +36,4 @@ pub mod Bounds
 pub mod Found
 pub mod Outs
 pub mod Dues
-pub mod Built
 pub mod Done

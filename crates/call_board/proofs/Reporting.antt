@@ -8,7 +8,7 @@ use Rattle.ng_command.specs.declared.command.Options.{Options}
 use Rattle.port_pool.specs.declared.holder.Side.{Side}
 use Rattle.port_pool.specs.declared.holder.Side.TheVariants.{A, B}
 use Rattle.port_pool.specs.declared.holder.Holder.{Holder}
-use Rattle.port_pool.specs.Reports.{LegReport}
+use Rattle.port_pool.specs.declared.reports.LegReport.{LegReport}
 use Rattle.offer_answer.specs.Rounds.{Round, Offered, Answered}
 use Rattle.offer_answer.specs.Plan.{tag, protocol}
 use Rattle.call_board.specs.Reports.{report_tree, listing_tree}
@@ -46,8 +46,10 @@ abbrev answered : List Round
 answered = Answered (record { from_tag = codes "a"; to_tag = codes "B"; sdp = text; options = no_options; chosen = None ∷ [] }) ∷ offered
 
 abbrev told : Side → ℕ → LegReport
-told side pair = record {
-  leg = leg side pair;
+told side port = record {
+  section = 0;
+  side = side;
+  port = port;
   endpoint = record { ip = ips.V4 (192 ∷ 0 ∷ 2 ∷ 10 ∷ []); port = 6000 };
   rtp_accepted = 7;
   rtp_sent = 0;
@@ -67,7 +69,7 @@ unfolding report_tree digits tag
 offered_report = refl
 
 -- an answered one has both tags in byte order, each with its committed section; moments end at 2 ^ 63 - 1
-answered_report : spelling (report_tree config (record { created = 5; last_signal = 18446744073709551615; rounds = answered; legs = told B 0 ∷ told A 1 ∷ [] }))
+answered_report : spelling (report_tree config (record { created = 5; last_signal = 18446744073709551615; rounds = answered; legs = told B 30000 ∷ told A 30002 ∷ [] }))
     ≡ codes "d7:createdi5e11:last signali9223372036854775807e6:result2:ok4:tagsd1:Bd6:mediasld4:RTCPd8:acceptedi0e4:senti12ee3:RTPd8:acceptedi7e4:senti0ee8:endpointd7:address10:192.0.2.104:porti6000ee5:indexi1e10:local porti30000e8:protocol7:RTP/AVPeee1:ad6:mediasld4:RTCPd8:acceptedi0e4:senti12ee3:RTPd8:acceptedi7e4:senti0ee8:endpointd7:address10:192.0.2.104:porti6000ee5:indexi1e10:local porti30002e8:protocol7:RTP/AVPeeeee"
 unfolding report_tree digits tag protocol
 answered_report = refl

@@ -31,6 +31,13 @@ cell_at config (call ∷ calls) [] i d s below = elim s [ ]
 cell_at config (call ∷ calls) (c ∷ cs) zero d s below = ap Some (sym s.0.cell_is)
 cell_at config (call ∷ calls) (c ∷ cs) (suc i) d s below = cell_at config calls cs i d s.1 (omega (arith, below))
 
+pub id_at : (config : Config) (calls : List LiveCall) (cs : List CallView) (i : ℕ) (d : LiveCall) → CallsFor config calls cs → i < length calls →
+    slice_get (map (λ (c : CallView). c.of.id) cs) i ≡ Some (get_or calls i d).id.list
+id_at config [] cs i d s below = absurd (omega (arith, below))
+id_at config (call ∷ calls) [] i d s below = elim s [ ]
+id_at config (call ∷ calls) (c ∷ cs) zero d s below = ap Some (sym s.0.id_is)
+id_at config (call ∷ calls) (c ∷ cs) (suc i) d s below = id_at config calls cs i d s.1 (omega (arith, below))
+
 -- a question to a live call, and the same one to what is kept of it
 pub record Asks (config : Config) (p : LiveCall → Bool) (q : CallView → Bool) : Type 0 where
   pub alike : (call : LiveCall) (c : CallView) → CallFor config call c → p call ≡ q c

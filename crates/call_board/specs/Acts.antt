@@ -7,7 +7,7 @@ use Rattle.sdes_lines.specs.declared.crypto_line.CryptoLine.{CryptoLine}
 use Rattle.port_pool.specs.declared.holder.Holder.{Holder}
 use Rattle.port_pool.specs.declared.signal.SectionSignal.{SectionSignal}
 use Rattle.port_pool.specs.Signals.{NewKey}
-use Rattle.port_pool.specs.Reports.{LegReport}
+use Rattle.port_pool.specs.declared.reports.LegReport.{LegReport}
 use Rattle.offer_answer.specs.Rounds.{OfferAsk, AnswerAsk}
 
 -- a call: its number, its cell and its call-id

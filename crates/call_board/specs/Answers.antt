@@ -8,7 +8,7 @@ use Rattle.ng_reply.specs.declared.code.ErrorCode.{ErrorCode}
 use Rattle.ng_reply.specs.declared.code.ErrorCode.TheVariants.{E9, E10, E13, E14, E15, E16, E17}
 use Rattle.sdes_lines.specs.declared.crypto_line.CryptoLine.{CryptoLine}
 use Rattle.port_pool.specs.Ports.{pair_port}
-use Rattle.port_pool.specs.Reports.{LegReport}
+use Rattle.port_pool.specs.declared.reports.LegReport.{LegReport}
 use Rattle.offer_answer.specs.Rounds.{Round, OfferAsk, AnswerAsk, Demand}
 use Rattle.offer_answer.specs.Plan as plan
 use Rattle.call_board.specs.Acts as act

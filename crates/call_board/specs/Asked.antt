@@ -31,17 +31,11 @@ code_of (fault.Key name) = E4 name
 code_of (fault.Unsupported name) = E5 name
 code_of fault.OutOfMemory = E17
 
--- a command that is answered; a query and a list are none until reports of calls are built
-abbrev pub built : Said → Result Said ErrorCode
-built (Query call_id) = Err E3
-built (Listing limit) = Err E3
-built says = Ok says
-
 abbrev pub or_code : Result Said CommandFault → Result Said ErrorCode
-or_code (Ok says) = built says
+or_code (Ok says) = Ok says
 or_code (Err cause) = Err (code_of cause)
 
--- the command of a datagram, or the error of its length, its dictionary or its keys, or that it is not answered yet
+-- the command of a datagram, or the error of its length, its dictionary or its keys
 abbrev pub command_in : Bool → Option Entries → Result Said ErrorCode
 command_in true pairs = Err E18
 command_in false None = Err E1

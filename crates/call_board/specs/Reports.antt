@@ -7,11 +7,10 @@ use Rattle.sdp_text.specs.Hosts.{text_of}
 use Rattle.sdp_text.specs.declared.proto.Proto.{Proto}
 use Rattle.sdp_edit.specs.Texts.{proto_text}
 use Rattle.histories.specs.Words.{first, numbers}
-use Rattle.port_pool.specs.Ports.{pair_port}
 use Rattle.port_pool.specs.declared.holder.Side.{Side}
 use Rattle.port_pool.specs.declared.holder.Side.TheVariants.{A, B}
 use Rattle.port_pool.specs.Signals.{side_eq}
-use Rattle.port_pool.specs.Reports.{LegReport}
+use Rattle.port_pool.specs.declared.reports.LegReport.{LegReport}
 use Rattle.offer_answer.specs.Rounds.{Round}
 use Rattle.offer_answer.specs.Texts.{host_of_ip}
 use Rattle.offer_answer.specs.Plan as plan
@@ -42,23 +41,23 @@ profile_text None = []
 profile_text (Some proto) = proto_text proto []
 
 -- one leg; sections count from 1 here
-abbrev pub leg_value : Config → List Round → LegReport → Tree
-leg_value config rounds told = Dict (
+abbrev pub leg_value : List Round → LegReport → Tree
+leg_value rounds told = Dict (
     entry (codes "RTCP") (counts told.rtcp_accepted told.rtcp_sent) (
     entry (codes "RTP") (counts told.rtp_accepted told.rtp_sent) (
     entry (codes "endpoint") (endpoint_value told.endpoint) (
-    entry (codes "index") (whole (told.leg.section + 1)) (
-    entry (codes "local port") (whole (pair_port config told.leg.pair)) (
-    entry (codes "protocol") (Bytes (profile_text (plan.protocol rounds told.leg.section told.leg.side))) no_entries))))))
+    entry (codes "index") (whole (told.section + 1)) (
+    entry (codes "local port") (whole told.port) (
+    entry (codes "protocol") (Bytes (profile_text (plan.protocol rounds told.section told.side))) no_entries))))))
 
 -- the leg of a section and side
 abbrev pub leg_at : List LegReport → Side → ℕ → Option LegReport
-leg_at legs side section = first (filter (λ told. (told.leg.section == section) && side_eq told.leg.side side) legs)
+leg_at legs side section = first (filter (λ told. (told.section == section) && side_eq told.side side) legs)
 
 -- the legs of a side in the order of their sections
-abbrev pub side_value : Config → Report → Side → Tree
-side_value config told side =
-    Dict (entry (codes "medias") (Items (items_of (map (leg_value config told.rounds) (filter_map (leg_at told.legs side) (numbers 0 8))))) no_entries)
+abbrev pub side_value : Report → Side → Tree
+side_value told side =
+    Dict (entry (codes "medias") (Items (items_of (map (leg_value told.rounds) (filter_map (leg_at told.legs side) (numbers 0 8))))) no_entries)
 
 -- the first differing byte is smaller, or the text ends first
 abbrev pub stands_before : List ℕ → List ℕ → Bool
@@ -76,15 +75,15 @@ tags_by (Some a) of_a None of_b = entry a of_a no_entries
 tags_by None of_a (Some b) of_b = entry b of_b no_entries
 tags_by (Some a) of_a (Some b) of_b = tag_pair a of_a b of_b
 
-abbrev pub tags_value : Config → Report → Tree
-tags_value config told = Dict (tags_by (plan.tag told.rounds A) (side_value config told A) (plan.tag told.rounds B) (side_value config told B))
+abbrev pub tags_value : Report → Tree
+tags_value told = Dict (tags_by (plan.tag told.rounds A) (side_value told A) (plan.tag told.rounds B) (side_value told B))
 
 unfoldable pub report_tree : Config → Report → Tree
 report_tree config told = Dict (
     entry (codes "created") (moment_value told.created) (
     entry (codes "last signal") (moment_value told.last_signal) (
     entry (codes "result") (Bytes (codes "ok")) (
-    entry (codes "tags") (tags_value config told) no_entries))))
+    entry (codes "tags") (tags_value told) no_entries))))
 
 -- the call-ids of live calls
 unfoldable pub listing_tree : List (List ℕ) → Tree

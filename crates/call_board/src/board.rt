@@ -7,6 +7,7 @@ ghost use Rattle.cookie_cache.specs.Keepings as keepings;
 ghost use Rattle.cookie_cache.specs.Caches.{HasSparePlace};
 ghost use Rattle.histories.specs.Words.{has};
 ghost use Rattle.port_pool.specs.Pools.{generation};
+ghost use Rattle.offer_answer.specs.Dialogs.{DialogFor};
 ghost use Rattle.offer_answer.specs.Plan as plan;
 ghost use Rattle.call_board.specs.Views.{View, CallView, at_moment, with_keeping, one_drawn, with_returned, without_call, call_of_id, call_numbered};
 ghost use Rattle.call_board.specs.Boards.{Shows, ShowsCall, BoardFor, IsLive, KeepsCalls, KeepsReplies};
@@ -14,6 +15,7 @@ ghost use Rattle.call_board.specs.Boards.{Shows, ShowsCall, BoardFor, IsLive, Ke
 use crate::live_call::{LiveCall, place_of, place_of_id};
 use cookie_cache::CookieCache;
 use ng_bencode::Text;
+use offer_answer::Dialog;
 use port_pool::{Lease, Pool, Side};
 use relay_outside::{Addr, Config, OutOfMemory};
 use sdp_text::Proto;
@@ -183,6 +185,15 @@ impl Board {
         self.calls[index].cell
     }
 
+    /// The call-id of a live call, by the place of the call in the order of creation, from 0.
+    pub fn call_id_at(&self, index: usize) -> &[u8]
+        requires { index < length self.now.calls.items }
+        ensures { (config : Config) (v : View) → Shows config self.now v →
+            slice_get (map (λ (c : CallView). c.of.id) v.calls) index ≡ Some result.now }
+    {
+        self.calls[index].id.as_slice()
+    }
+
     /// The place of a live call.
     pub(crate) fn place(&self, call: u64) -> usize
         requires { IsLive self.now call }
@@ -235,6 +246,15 @@ impl Board {
             result ≡ plan.protocol c.rounds section side }
     {
         self.live(call).dialog.protocol(section, side)
+    }
+
+    /// The dialog of a live call: its tags, and what is in force in its sections.
+    pub fn dialog(&self, call: u64) -> &Dialog
+        requires { IsLive self.now call }
+        ensures { (config : Config) (v : View) (c : CallView) → Shows config self.now v → call_numbered v call ≡ Some c →
+            DialogFor config result.now c.rounds }
+    {
+        &self.live(call).dialog
     }
 
     /// The moments of the first and of the last accepted offer or answer of a live call, in milliseconds.

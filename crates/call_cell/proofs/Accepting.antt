@@ -1,5 +1,5 @@
 -- What a leg's part for receiving does with a packet that opens.
-use Rattle.std.proofs.Common.{◌≡◌, refl, subst, sym, ◌∙◌, ℕ, Bool, false, List, Option, Some, Ok}
+use Rattle.std.proofs.Common.{◌≡◌, refl, ap, subst, sym, ◌∙◌, ℕ, Bool, false, List, Option, Some, Ok, Err}
 use Rattle.std.specs.Prelude.{Box, not, if◌then◌else◌}
 use Rattle.std.specs.Global.{Global}
 use Rattle.std.specs.List.{cons_option}
@@ -8,12 +8,17 @@ use Rattle.rtp_packet.specs.declared.head.Half.{Half}
 use Rattle.rtp_packet.specs.declared.head.Half.TheVariants.{Rtp, Rtcp}
 use Rattle.srtp_sources.specs.Notes.{Note}
 use Rattle.port_pool.specs.declared.signal.LegSignal.{LegSignal}
+use Rattle.call_cell.specs.declared.outcome.Refused.{Refused}
 use Rattle.call_cell.specs.declared.outcome.Refused.TheVariants as refused
 use Rattle.call_cell.specs.declared.contexts.Inbound.{Inbound}
+use Rattle.call_cell.specs.declared.counts.Counts.{Counts}
 use Rattle.call_cell.specs.declared.receiving.Receiving.{Receiving}
+use Rattle.call_cell.specs.declared.leg.Leg.{Leg}
 use Rattle.call_cell.specs.Keyed.{Judged, Stopped, Passed, is_packet, opened_by}
 use Rattle.call_cell.specs.Learning.{is_wrong_source}
 use Rattle.call_cell.specs.Deeds.{judged_leg}
+use Rattle.call_cell.specs.Counting.{more_accepted}
+use Rattle.call_cell.specs.Standing.{LegAccepts}
 use Rattle.call_cell.specs.Parts.{ReceivingFor, OpensIn, AcceptsTo, learned_in, taught_half}
 
 abbrev with_inbound : Receiving → Option (Box (Option Inbound) Global) → Receiving
@@ -48,3 +53,50 @@ accepts s half source bytes known notes old new inbound buf size for is right op
     let Q : Bool → Type 0 = λ (b : Bool).
     AcceptsTo (if b then Stopped refused.WrongSource else opened_by s.inbound notes half bytes) half source s known notes old new buf (Ok size) in
     subst P (sym is) (subst Q (sym right) (accepts_case s half source known notes old new inbound buf size for (opened_by s.inbound notes half bytes) opens learns))
+
+-- A leg.
+
+abbrev leg_with : {O : Type 0} → Leg O → Receiving → Counts → Leg O
+leg_with old receiving counts =
+    record { holder = old.holder; lease = old.lease; signal = old.signal; receiving = receiving; sending = old.sending; counts = counts }
+
+refuses_case : {O : Type 0} (half : Half) (source : Addr) (s : LegSignal) (known : Half → Option Addr) (notes : List Note) (old : Leg O) (new : Receiving)
+    (buf : List ℕ) (cause : Refused) (j : Judged) → AcceptsTo j half source s known notes old.receiving new buf (Err cause)
+    → LegAccepts j half source known notes old (leg_with old new old.counts) buf (Err cause)
+refuses_case half source s known notes old new buf cause (Stopped why) does =
+    record { answer = does.answer; contexts = ap (λ (r : Receiving). leg_with old r old.counts) does.contexts }
+refuses_case half source s known notes old new buf cause (Passed noted plain) does = absurd (let f = does.answer in cc)
+
+pub leg_refuses : {O : Type 0} (half : Half) (source : Addr) (bytes : List ℕ) (s : LegSignal) (known : Half → Option Addr) (notes : List Note) (old : Leg O)
+    (new : Receiving) (buf : List ℕ) (cause : Refused) → old.signal ≡ Some s
+    → AcceptsTo (judged_leg (Some s) (known half) notes half source bytes) half source s known notes old.receiving new buf (Err cause)
+    → LegAccepts (judged_leg old.signal (known half) notes half source bytes) half source known notes old (leg_with old new old.counts) buf (Err cause)
+leg_refuses {O} half source bytes s known notes old new buf cause signal does =
+    let P : Option LegSignal → Type 0 = λ (o : Option LegSignal).
+    LegAccepts {O = O} (judged_leg o (known half) notes half source bytes) half source known notes old (leg_with old new old.counts) buf (Err cause) in
+    subst P (sym signal) (refuses_case half source s known notes old new buf cause (judged_leg (Some s) (known half) notes half source bytes) does)
+
+takes_case : {O : Type 0} (half : Half) (source : Addr) (s : LegSignal) (known : Half → Option Addr) (notes : List Note) (old : Leg O) (new : Receiving)
+    (counts : Counts) (buf : List ℕ) (size : ℕ) → old.signal ≡ Some s → counts ≡ more_accepted half old.counts → (j : Judged)
+    → AcceptsTo j half source s known notes old.receiving new buf (Ok size)
+    → LegAccepts j half source known notes old (leg_with old new counts) buf (Ok size)
+takes_case half source s known notes old new counts buf size signal counted (Stopped why) does = absurd (let f = does.answer in cc)
+takes_case half source s known notes old new counts buf size signal counted (Passed noted plain) does =
+    record {
+      answer = does.answer;
+      buffer = does.buffer;
+      signal = s;
+      in_force = signal;
+      receiving = does.receiving;
+      rest = ap (λ (c : Counts). leg_with old new c) counted;
+    }
+
+pub leg_takes : {O : Type 0} (half : Half) (source : Addr) (bytes : List ℕ) (s : LegSignal) (known : Half → Option Addr) (notes : List Note) (old : Leg O)
+    (new : Receiving) (counts : Counts) (buf : List ℕ) (size : ℕ) → old.signal ≡ Some s → counts ≡ more_accepted half old.counts
+    → AcceptsTo (judged_leg (Some s) (known half) notes half source bytes) half source s known notes old.receiving new buf (Ok size)
+    → LegAccepts (judged_leg old.signal (known half) notes half source bytes) half source known notes old (leg_with old new counts) buf (Ok size)
+leg_takes {O} half source bytes s known notes old new counts buf size signal counted does =
+    let P : Option LegSignal → Type 0 = λ (o : Option LegSignal).
+    LegAccepts {O = O} (judged_leg o (known half) notes half source bytes) half source known notes old (leg_with old new counts) buf (Ok size) in
+    subst P (sym signal)
+    (takes_case half source s known notes old new counts buf size signal counted (judged_leg (Some s) (known half) notes half source bytes) does)

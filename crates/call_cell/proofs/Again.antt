@@ -1,11 +1,11 @@
 -- What an offer and an answer ask of a cell's history holds of each history for which the cell stands, where it holds of one.
-use Rattle.std.proofs.Common.{◌≡◌, refl, ap, subst, sym, ◌∙◌, ℕ, Bool, true, false, List, [], ◌∷◌, ◌++◌, Some, None, filter, not, inl, inr}
+use Rattle.std.proofs.Common.{◌≡◌, refl, ap, subst, sym, ◌∙◌, ℕ, ◌<◌, ◌^◌, arith, Bool, true, false, List, [], ◌∷◌, ◌++◌, Some, None, filter, not, inl, inr}
 use Rattle.std.specs.List.{list_any}
 use Rattle.sdes_lines.specs.declared.crypto_line.Suite.{Suite}
 use Rattle.sdes_lines.specs.declared.crypto_line.Suite.TheVariants.{Tag80, Tag32}
 use Rattle.relay_outside.specs.declared.settings.Config.{Config}
 use Rattle.histories.specs.Words.{In, here, first, has}
-use Rattle.histories.proofs.Lists.{in_left, in_right, in_append, filtered, keeps, first_is_in, mapped}
+use Rattle.histories.proofs.Lists.{in_left, in_right, in_append, filtered, keeps, first_is_in, maps, mapped}
 use Rattle.port_pool.specs.declared.holder.Holder.{Holder}
 use Rattle.port_pool.specs.declared.signal.SectionSignal.{SectionSignal}
 use Rattle.port_pool.specs.Signals.{NewKey, same_leg, suite_eq}
@@ -14,6 +14,8 @@ use Rattle.call_cell.specs.declared.prepare.Prepare as prepared
 use Rattle.call_cell.specs.declared.cell.Cell.{Cell}
 use Rattle.call_cell.specs.Cells.{CellEntry, legs, since_end, key_numbered}
 use Rattle.call_cell.specs.LegKeys.{keys_for, key_of, number_of, is_for, OnePerSuite}
+use Rattle.call_cell.specs.Asked.{CountsBelow, accepted_count, sent_count}
+use Rattle.call_cell.specs.Counting.{accepted_in, sent_in, as_counted}
 use Rattle.call_cell.specs.Standing.{LegFor, LegsFor}
 use Rattle.call_cell.specs.CellStanding.{CellFor}
 use Rattle.call_cell.specs.Committing.{NamesKeys, contexts_due_after}
@@ -160,3 +162,20 @@ names_keys_again {O} config cell h k signal for again names leg number i q =
 pub due_again : {O : Type 0} (config : Config) (cell : Cell O) (h k : List CellEntry) (signal : List SectionSignal) → CellFor config cell h
     → CellFor config cell k → contexts_due_after (since_end h) signal ≡ contexts_due_after (since_end k) signal
 due_again config cell h k signal for again = sym (due_is config cell h signal for) ∙ due_is config cell k signal again
+
+-- and its counts are below 2 ^ 63
+pub counts_again : {O : Type 0} (config : Config) (cell : Cell O) (h k : List CellEntry) → CellFor config cell h → CellFor config cell k
+    → CountsBelow (since_end h) → CountsBelow (since_end k)
+counts_again {O} config cell h k for again below leg half i =
+    let holder : Leg O → Holder = λ (l : Leg O). l.holder in
+    let m = mapped holder cell.legs.items (subst (λ (l : List Holder). In leg l) (sym again.legs_for.holders) i) in
+    let one = each_in config (since_end h) cell.legs.items m.from for.legs_for m.is_in in
+    let two = each_in config (since_end k) cell.legs.items m.from again.legs_for m.is_in in
+    let was = below m.from.holder half (subst (λ (l : List Holder). In m.from.holder l) for.legs_for.holders (maps holder cell.legs.items m.is_in)) in
+    subst (λ (x : Holder). (accepted_count (since_end k) x half < 2 ^ 63) × (sent_count (since_end k) x half < 2 ^ 63)) m.makes (
+      small (accepted_in half m.from.counts) _ _ (one.counted.accepted half) (two.counted.accepted half) was.0,
+      small (sent_in half m.from.counts) _ _ (one.counted.sent half) (two.counted.sent half) was.1,
+    )
+  where
+    small : (kept a b : ℕ) → kept ≡ as_counted a → kept ≡ as_counted b → a < 2 ^ 63 → b < 2 ^ 63
+    small kept a b q r less = omega (arith, q, r, less)

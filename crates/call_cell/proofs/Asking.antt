@@ -105,6 +105,7 @@ cell_expires {O} config old h now moment due for is answer =
                 section = l.section;
                 held = l.held;
                 one_each = l.one_each;
+                counted = record { accepted = l.counted.accepted; sent = l.counted.sent };
               };
         };
       };

@@ -116,6 +116,7 @@ silent_leg config m signal h leg is for =
       section = for.section;
       held = for.held;
       one_each = for.one_each;
+      counted = record { accepted = for.counted.accepted; sent = for.counted.sent };
     }
 
 said_leg : {O : Type 0} (config : Config) (m : ℕ) (signal : List SectionSignal) (h : List CellEntry) (old new : Leg O) (s : LegSignal)
@@ -140,6 +141,7 @@ said_leg {O} config m signal h old new s is keys does for =
       section = for.section;
       held = for.held;
       one_each = for.one_each;
+      counted = record { accepted = for.counted.accepted; sent = for.counted.sent };
     })
 
 pub committed_leg : {O : Type 0} (config : Config) (m : ℕ) (signal : List SectionSignal) (h : List CellEntry) (old new : Leg O) (said : Option LegSignal)

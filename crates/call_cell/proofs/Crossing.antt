@@ -5,6 +5,8 @@ use Rattle.std.specs.List.{cons_option}
 use Rattle.std.proofs.lemmas.List.{length-set}
 use Rattle.relay_outside.specs.declared.settings.Config.{Config}
 use Rattle.relay_outside.specs.declared.ports.OutCall.{OutCall}
+use Rattle.relay_outside.specs.Told.{EndTold}
+use Rattle.rtp_packet.specs.declared.head.Half.{Half}
 use Rattle.srtp_sources.specs.Notes.{Note}
 use Rattle.histories.specs.Words.{first}
 use Rattle.port_pool.specs.declared.holder.Holder.{Holder}
@@ -16,9 +18,10 @@ use Rattle.call_cell.specs.declared.leg.Leg.{Leg}
 use Rattle.call_cell.specs.Cells.{CellEntry, Receipt, Deed, is_accepted, is_opposite, opposite, key_numbered}
 use Rattle.call_cell.specs.Keyed.{accepted, Judged, Stopped, Passed}
 use Rattle.call_cell.specs.Learning.{learned}
-use Rattle.call_cell.specs.Deeds.{found, judged, lost_deed}
+use Rattle.call_cell.specs.Deeds.{found, judged, lost_deed, opposite_of, is_leaving}
 use Rattle.call_cell.specs.Parts.{ReceivingFor, taught_half}
-use Rattle.call_cell.specs.Standing.{LegFor, LegsFor, LegsDo, LegsRelay, LegTakes, LegAccepts, opposite_of, is_leaving, relay_entry, sent_ok}
+use Rattle.call_cell.specs.Standing.{LegFor, LegsFor, LegsDo, LegsRelay, LegTakes, LegAccepts, relay_entry, sent_ok}
+use Rattle.call_cell.proofs.Counting.{sent_from}
 use Rattle.call_cell.proofs.LegSteps.{takes, IsElsewhere, leg_keeps, leg_takes}
 use Rattle.call_cell.proofs.Placing.{holders_of, IsPlace, same_or_not, at_set, off_set, same_holders, same_swap, same_both, true_or_not, other_default, apart_over}
 use Rattle.call_cell.proofs.Relaying.{found_at, holders_over, none_elsewhere, ends_none, deed_alone}
@@ -42,15 +45,16 @@ same_sending {O} config h p those i x new noted plain buf size t = ap (λ (leg :
 
 pub taken_at : {O : Type 0} (config : Config) (h : List CellEntry) (p : Receipt) (those : List (Leg O)) (i : ℕ) (x new : Leg O) (noted : Option Note)
     (plain buf : List ℕ) (size : ℕ) → Taking config h p those i x new noted plain buf size → (m : ℕ) (ok : Bool) (d : Deed)
-    → is_accepted d.outcome ≡ true → d.noted ≡ noted → IsElsewhere (get_or those i x).holder (key_numbered h) d.shield
+    → is_accepted d.outcome ≡ true → d.noted ≡ noted → d.kind ≡ p.half → ((half : Half) → sent_from h (get_or those i x).holder half p d ≡ false)
+    → IsElsewhere (get_or those i x).holder (key_numbered h) d.shield
     → LegFor config (relay_entry m p ok d ∷ h) new
-taken_at {O} config h p those i x new noted plain buf size t m ok d acc is_noted apart =
+taken_at {O} config h p those i x new noted plain buf size t m ok d acc is_noted kind unsent apart =
     let leg = get_or those i x in
     let is_so : takes leg.holder p d ≡ true = both (same_leg leg.holder p.holder) (is_accepted d.outcome) (same_swap p.holder leg.holder t.place.passes) acc in
     let it = subst (λ (n : Option Note). ReceivingFor t.takes.signal.inbound new.receiving (taught_half p.half t.takes.signal.flags p.source (learned h leg.holder)) (cons_option n (accepted h leg.holder)))
     (sym is_noted) t.takes.receiving in
     let P : Leg O → Type 0 = λ (l : Leg O). LegFor config (relay_entry m p ok d ∷ h) l in
-    subst P (sym t.takes.rest) (leg_takes config m p ok d h leg t.takes.signal new.receiving is_so apart t.takes.in_force it (t.for.each i x t.place.below))
+    subst P (sym t.takes.rest) (leg_takes config m p ok d h leg t.takes.signal new.receiving is_so kind unsent apart t.takes.in_force it (t.for.each i x t.place.below))
 
 pub not_same : {O : Type 0} (config : Config) (h : List CellEntry) (p : Receipt) (those : List (Leg O)) (i : ℕ) (x : Leg O) → LegsFor config h those
     → IsPlace (same_leg p.holder) those i x → (j : ℕ) (y : Leg O) → j < length those → (j ≡ i → ⊥) → same_leg (get_or those j y).holder p.holder ≡ false
@@ -63,10 +67,10 @@ not_same {O} config h p those i x for place j y within apart = elim (true_or_not
 
 pub taken_off : {O : Type 0} (config : Config) (h : List CellEntry) (p : Receipt) (those : List (Leg O)) (i : ℕ) (x : Leg O) → LegsFor config h those
     → IsPlace (same_leg p.holder) those i x → (m : ℕ) (ok : Bool) (d : Deed) (j : ℕ) (y : Leg O) → j < length those → (j ≡ i → ⊥)
-    → IsElsewhere (get_or those j y).holder (key_numbered h) d.shield → LegFor config (relay_entry m p ok d ∷ h) (get_or those j y)
-taken_off config h p those i x for place m ok d j y within apart elsewhere =
+    → ((half : Half) → sent_from h (get_or those j y).holder half p d ≡ false) → IsElsewhere (get_or those j y).holder (key_numbered h) d.shield → LegFor config (relay_entry m p ok d ∷ h) (get_or those j y)
+taken_off config h p those i x for place m ok d j y within apart unsent elsewhere =
     leg_keeps config m p ok d h (get_or those j y)
-    (ap (λ (b : Bool). b && is_accepted d.outcome) (not_same config h p those i x for place j y within apart)) elsewhere (for.each j y within)
+    (ap (λ (b : Bool). b && is_accepted d.outcome) (not_same config h p those i x for place j y within apart)) unsent elsewhere (for.each j y within)
 
 -- Nothing leaves.
 
@@ -78,9 +82,9 @@ lost_each {O} config h p those i x new noted plain buf size cause t m ok j y wit
     let P : Leg O → Type 0 = λ (l : Leg O). LegFor config (relay_entry m p ok d ∷ h) l in
     elim (same_or_not j i) [
       | inl is ↦ subst P (sym (ap (λ (k : ℕ). get_or (set those i new) k y) is ∙ at_set those i new y t.place.below))
-          (taken_at config h p those i x new noted plain buf size t m ok d refl refl (none_elsewhere (get_or those i x).holder (key_numbered h)))
+          (taken_at config h p those i x new noted plain buf size t m ok d refl refl refl (λ half. refl) (none_elsewhere (get_or those i x).holder (key_numbered h)))
       | inr apart ↦ subst P (sym (off_set those i j new y apart))
-          (taken_off config h p those i x t.for t.place m ok d j y within apart (none_elsewhere (get_or those j y).holder (key_numbered h)))
+          (taken_off config h p those i x t.for t.place m ok d j y within apart (λ half. refl) (none_elsewhere (get_or those j y).holder (key_numbered h)))
     ]
 
 lost_legs : {O : Type 0} (config : Config) (h : List CellEntry) (p : Receipt) (those : List (Leg O)) (i : ℕ) (x new : Leg O) (noted : Option Note)
@@ -106,7 +110,7 @@ taker_sending {O} config h p those i x new noted plain buf size t j y = elim (sa
   | inr apart ↦ ap (λ (leg : Leg O). leg.sending) (off_set those i j new y apart)
 ]
 
-pub lost_do : {O : Type 0} (told : O → Option (List OutCall)) (faults : O → ℕ) (config : Config) (h : List CellEntry) (p : Receipt) (those : List (Leg O)) (i : ℕ)
+pub lost_do : {O : Type 0} (told : O → EndTold OutCall) (faults : O → ℕ) (config : Config) (h : List CellEntry) (p : Receipt) (those : List (Leg O)) (i : ℕ)
     (x new : Leg O) (noted : Option Note) (plain buf out : List ℕ) (size : ℕ) (cause : Lost) → Taking config h p those i x new noted plain buf size
     → LegsDo told faults config h p those (set those i new) out (outcomes.Lost cause) (lost_deed p.half noted cause)
 lost_do told faults config h p those i x new noted plain buf out size cause t =
@@ -134,7 +138,7 @@ opposite_is config h p those i x new noted plain buf size t r q =
     ap (λ (l : List Holder). first (filter (is_opposite (get_or those i x).holder) l))
     (sym (same_holders those i new x (same_holder config h p those i x new noted plain buf size t) ∙ t.for.holders)) ∙ q
 
-pub relays_unopposed : {O : Type 0} (told : O → Option (List OutCall)) (faults : O → ℕ) (config : Config) (h : List CellEntry) (p : Receipt) (those : List (Leg O)) (i : ℕ)
+pub relays_unopposed : {O : Type 0} (told : O → EndTold OutCall) (faults : O → ℕ) (config : Config) (h : List CellEntry) (p : Receipt) (those : List (Leg O)) (i : ℕ)
     (x new : Leg O) (noted : Option Note) (plain buf out : List ℕ) (size : ℕ) → Taking config h p those i x new noted plain buf size
     → first (filter (is_opposite (get_or those i x).holder) (holders_of (set those i new))) ≡ None
     → LegsRelay told faults config h p those (set those i new) out (outcomes.Lost lost.Hold)

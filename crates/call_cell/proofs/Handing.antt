@@ -2,6 +2,7 @@
 use Rattle.std.proofs.Common.{◌≡◌, refl, ap, subst, sym, ◌∙◌, ℕ, List, ◌∷◌, max, arith}
 use Rattle.relay_outside.specs.declared.settings.Config.{Config}
 use Rattle.relay_outside.specs.declared.ports.OutCall.{OutCall}
+use Rattle.relay_outside.specs.Told.{EndTold}
 use Rattle.std.specs.Prelude.{Bool, true, false, cond, [], Option, Some, None, filter, is_some, slice_index_or, if◌then◌else◌}
 use Rattle.std.specs.List.{cons_option}
 use Rattle.srtp_sources.specs.Notes.{Note}
@@ -16,8 +17,8 @@ use Rattle.call_cell.specs.Cells.{CellEntry, Receipt, Sending, since_end, prepar
 use Rattle.call_cell.specs.Keyed.{protected}
 use Rattle.call_cell.specs.Asked.{is_activity, IsAnswered}
 use Rattle.call_cell.specs.Parts.{note_under}
-use Rattle.call_cell.specs.Deeds.{deed, found}
-use Rattle.call_cell.specs.Standing.{LegsFor, LegsRelay, EndsFor, relay_entry, sent_ok, opposite_of, is_leaving}
+use Rattle.call_cell.specs.Deeds.{deed, found, opposite_of, is_leaving}
+use Rattle.call_cell.specs.Standing.{LegsFor, LegsRelay, EndsFor, relay_entry, sent_ok}
 use Rattle.call_cell.specs.CellStanding.{CellFor, CellRelays, WasAt, last_moment, relayed_at}
 use Rattle.call_cell.proofs.Sends.{send_failed}
 use Rattle.call_cell.proofs.Steps.{relay_protected}
@@ -59,7 +60,7 @@ unnoted_over config h p ok m number none unnoted =
     ∙ ap (λ (o : Option Note). cons_option o []) (other_note number (deed config h p ok).shield
     (λ s q same. let k = shields config h p ok s q in let f : ◌≡◌ {A = Option NewKey} (Some k.key) None = sym k.is_there ∙ ap (λ (n : ℕ). key_numbered h n) same ∙ none in cc))
 
-pub cell_relays : {O : Type 0} (told : O → Option (List OutCall)) (faults : O → ℕ) (config : Config) (old new : Cell O) (h : List CellEntry) (p : Receipt)
+pub cell_relays : {O : Type 0} (told : O → EndTold OutCall) (faults : O → ℕ) (config : Config) (old new : Cell O) (h : List CellEntry) (p : Receipt)
     (now : ℕ) (buf : List ℕ) (result : Outcome) (those : List (Leg O)) → CellFor config old h → new.config ≡ old.config → new.moment ≡ max old.moment now
     → new.call ≡ old.call → new.began ≡ old.began → new.is_committed ≡ old.is_committed
     → new.active ≡ (if is_accepted result then new.moment else old.active) → new.legs.items ≡ those → LegsRelay told faults config (since_end h) p old.legs.items those buf result

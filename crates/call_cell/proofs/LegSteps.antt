@@ -19,9 +19,10 @@ use Rattle.call_cell.specs.Keyed.{accepted, protected}
 use Rattle.call_cell.specs.Learning.{Lesson, lessons, lesson_of, learned, learned_from}
 use Rattle.call_cell.specs.Contexts.{OutboundFor}
 use Rattle.call_cell.specs.Parts.{boxed_in, ReceivingFor, InboundIn, SendingFor, OutboundIn, HasNamed, HasIt, SameNumbers, contexts_of, has_number, is_numbered, number_in, noted_under, taught, taught_half}
-use Rattle.call_cell.specs.Standing.{LegFor, inbound_of, outbound_of, relay_entry, with_receiving, with_sending}
+use Rattle.call_cell.specs.Standing.{LegFor, inbound_of, outbound_of, relay_entry, with_receiving, with_send}
 use Rattle.call_cell.proofs.Steps.{if_true, heard_is, relay_accepted, relay_protected, taught_by}
 use Rattle.call_cell.proofs.Protecting.{other_kept}
+use Rattle.call_cell.proofs.Counting.{sent_from, counted_still, counted_accepts, counted_sends}
 
 -- the relay was accepted from this leg
 abbrev pub takes : Holder → Receipt → Deed → Bool
@@ -153,8 +154,9 @@ held_still Tag32 old new same = same.tag32
 -- A leg.
 
 pub leg_keeps : {O : Type 0} (config : Config) (m : ℕ) (p : Receipt) (ok : Bool) (d : Deed) (h : List CellEntry) (leg : Leg O)
-    → takes leg.holder p d ≡ false → IsElsewhere leg.holder (key_numbered h) d.shield → LegFor config h leg → LegFor config (relay_entry m p ok d ∷ h) leg
-leg_keeps config m p ok d h leg is_not apart for =
+    → takes leg.holder p d ≡ false → ((half : Half) → sent_from h leg.holder half p d ≡ false) → IsElsewhere leg.holder (key_numbered h) d.shield
+    → LegFor config h leg → LegFor config (relay_entry m p ok d ∷ h) leg
+leg_keeps config m p ok d h leg is_not unsent apart for =
     record {
       pair = for.pair;
       generation = for.generation;
@@ -167,13 +169,15 @@ leg_keeps config m p ok d h leg is_not apart for =
       section = for.section;
       held = for.held;
       one_each = for.one_each;
+      counted = counted_still m p ok d h leg.holder leg.counts for.counted is_not unsent;
     }
 
 pub leg_takes : {O : Type 0} (config : Config) (m : ℕ) (p : Receipt) (ok : Bool) (d : Deed) (h : List CellEntry) (leg : Leg O) (s : LegSignal) (receiving : Receiving)
-    → takes leg.holder p d ≡ true → IsElsewhere leg.holder (key_numbered h) d.shield → leg.signal ≡ Some s
+    → takes leg.holder p d ≡ true → d.kind ≡ p.half → ((half : Half) → sent_from h leg.holder half p d ≡ false)
+    → IsElsewhere leg.holder (key_numbered h) d.shield → leg.signal ≡ Some s
     → ReceivingFor s.inbound receiving (taught_half p.half s.flags p.source (learned h leg.holder)) (cons_option d.noted (accepted h leg.holder))
-    → LegFor config h leg → LegFor config (relay_entry m p ok d ∷ h) (with_receiving leg receiving)
-leg_takes config m p ok d h leg s receiving is_so apart signal takes_it for =
+    → LegFor config h leg → LegFor config (relay_entry m p ok d ∷ h) (with_receiving p.half leg receiving)
+leg_takes config m p ok d h leg s receiving is_so kind unsent apart signal takes_it for =
     let key : inbound_of (Some s) ≡ inbound_of leg.signal = ap inbound_of (sym signal) in
     let new = receiving_takes m p ok d h leg.holder s receiving is_so (sym for.signal ∙ signal) takes_it in
     record {
@@ -188,12 +192,13 @@ leg_takes config m p ok d h leg s receiving is_so apart signal takes_it for =
       section = for.section;
       held = for.held;
       one_each = for.one_each;
+      counted = counted_accepts m p ok d h leg.holder leg.counts for.counted is_so kind unsent;
     }
 
 pub leg_sends : {O : Type 0} (config : Config) (m : ℕ) (p : Receipt) (ok : Bool) (d : Deed) (h : List CellEntry) (leg : Leg O) (sending : Sending O)
-    → takes leg.holder p d ≡ false → SendingFor leg.holder (key_numbered h) (noted_under d.shield (protected h)) sending → SameNumbers leg.sending sending
-    → LegFor config h leg → LegFor config (relay_entry m p ok d ∷ h) (with_sending leg sending)
-leg_sends config m p ok d h leg sending is_not noted same for =
+    → takes leg.holder p d ≡ false → ((half : Half) → sent_from h leg.holder half p d ≡ (ok && is_half p.half half)) → SendingFor leg.holder (key_numbered h) (noted_under d.shield (protected h)) sending → SameNumbers leg.sending sending
+    → LegFor config h leg → LegFor config (relay_entry m p ok d ∷ h) (with_send p.half ok leg sending)
+leg_sends config m p ok d h leg sending is_not sent noted same for =
     record {
       pair = for.pair;
       generation = for.generation;
@@ -205,4 +210,5 @@ leg_sends config m p ok d h leg sending is_not noted same for =
       section = for.section;
       held = λ suite. held_still suite leg.sending sending same ∙ for.held suite;
       one_each = for.one_each;
+      counted = counted_sends m p ok d h leg.holder leg.counts ok for.counted is_not sent;
     }

@@ -17,6 +17,7 @@ pub mod BothHalves
 pub mod Protecting
 pub mod Accepting
 pub mod Forwarding
+pub mod Counting
 pub mod LegSteps
 pub mod Placing
 pub mod Relaying
@@ -29,6 +30,7 @@ pub mod Joined
 pub mod PrepareSteps
 pub mod Offered
 pub mod Asking
+pub mod Telling
 pub mod Callers
 pub mod CommitSteps
 pub mod Answered

@@ -34,6 +34,7 @@ use Rattle.call_cell.proofs.KeysEqual.{suite_is}
 use Rattle.call_cell.proofs.Steps.{prepare_in_force, prepare_accepted, prepare_lessons, new_leg_unanswered, new_leg_notes_nothing, new_leg_learned_nothing}
 use Rattle.call_cell.proofs.CommitSteps.{has_of}
 use Rattle.call_cell.proofs.Joined.{side_is}
+use Rattle.call_cell.proofs.Counting.{counted_stays, counted_begins}
 
 -- A leg with keys is the leg with another part for sending.
 
@@ -356,6 +357,7 @@ leg_stays {O} config m call legs prepared keys dropped h came leg stays one for 
       section = for.section;
       held = held;
       one_each = one;
+      counted = counted_stays m call legs keys dropped h leg.holder leg.counts stays for.counted;
     })
 
 pub leg_begins : {O : Type 0} (config : Config) (m call : ℕ) (legs : List Holder) (prepared : List PreparedKey) (keys : List NewKey) (dropped : List ℕ) (h : List CellEntry)
@@ -385,4 +387,5 @@ leg_begins {O} config m call legs prepared keys dropped h came leg new one small
       section = small;
       held = held;
       one_each = one;
+      counted = counted_begins m call legs keys dropped h leg.holder leg.counts new fresh.uncounted;
     })

@@ -4,6 +4,7 @@ use Rattle.std.specs.Prelude.{◌&&◌}
 use Rattle.std.proofs.lemmas.List.{set-get_or}
 use Rattle.relay_outside.specs.declared.settings.Config.{Config}
 use Rattle.relay_outside.specs.declared.ports.OutCall.{OutCall}
+use Rattle.relay_outside.specs.Told.{EndTold}
 use Rattle.srtp_sources.specs.Notes.{Note}
 use Rattle.histories.specs.Words.{first}
 use Rattle.port_pool.specs.declared.holder.Holder.{Holder}
@@ -18,8 +19,8 @@ use Rattle.call_cell.specs.declared.leg.Leg.{Leg}
 use Rattle.call_cell.specs.Cells.{CellEntry, Receipt, Deed, legs, in_force, opposite, key_numbered}
 use Rattle.call_cell.specs.Keyed.{accepted, Judged, Stopped, Passed}
 use Rattle.call_cell.specs.Learning.{learned}
-use Rattle.call_cell.specs.Deeds.{deed, deed_found, deed_judged, deed_opposite, deed_towards, found, judged, judged_leg, refused_deed, lost_deed}
-use Rattle.call_cell.specs.Standing.{LegFor, LegsFor, LegsDo, LegsRelay, LegAccepts, EndsFor, opposite_of, is_leaving, relay_entry}
+use Rattle.call_cell.specs.Deeds.{deed, deed_found, deed_judged, deed_opposite, deed_towards, found, opposite_of, is_leaving, judged, judged_leg, refused_deed, lost_deed}
+use Rattle.call_cell.specs.Standing.{LegFor, LegsFor, LegsDo, LegsRelay, LegAccepts, EndsFor, relay_entry}
 use Rattle.call_cell.proofs.Steps.{relay_legs}
 use Rattle.call_cell.proofs.LegSteps.{IsElsewhere, leg_keeps}
 use Rattle.call_cell.proofs.Placing.{holders_of, IsPlace}
@@ -57,7 +58,7 @@ and_false false = refl
 pub none_elsewhere : (leg : Holder) (keys : ℕ → Option NewKey) → IsElsewhere leg keys None
 none_elsewhere leg keys s q = absurd (let f = q in cc)
 
-pub ends_none : {O : Type 0} (told : O → Option (List OutCall)) (faults : O → ℕ) (leaves ok : Bool) (old new : parts.Sending O) → new ≡ old
+pub ends_none : {O : Type 0} (told : O → EndTold OutCall) (faults : O → ℕ) (leaves ok : Bool) (old new : parts.Sending O) → new ≡ old
     → EndsFor told faults leaves None ok old new
 ends_none {O} told faults true ok old new q = (ap (λ (x : parts.Sending O). x.rtp) q, ap (λ (x : parts.Sending O). x.rtcp) q)
 ends_none {O} told faults false ok old new q = (ap (λ (x : parts.Sending O). x.rtp) q, ap (λ (x : parts.Sending O). x.rtcp) q)
@@ -74,10 +75,10 @@ legs_keep config m p ok cause h those for =
       holders = holders_over m p ok (refused_deed p.half cause) h those for.holders;
       apart = for.apart;
       each = λ i x below. leg_keeps config m p ok (refused_deed p.half cause) h (get_or those i x)
-          (and_false (same_leg (get_or those i x).holder p.holder)) (none_elsewhere (get_or those i x).holder (key_numbered h)) (for.each i x below);
+          (and_false (same_leg (get_or those i x).holder p.holder)) (λ half. refl) (none_elsewhere (get_or those i x).holder (key_numbered h)) (for.each i x below);
     }
 
-legs_refuse : {O : Type 0} (told : O → Option (List OutCall)) (faults : O → ℕ) (config : Config) (h : List CellEntry) (p : Receipt) (those : List (Leg O))
+legs_refuse : {O : Type 0} (told : O → EndTold OutCall) (faults : O → ℕ) (config : Config) (h : List CellEntry) (p : Receipt) (those : List (Leg O))
     (buf : List ℕ) (cause : Refused) → LegsFor config h those
     → LegsDo told faults config h p those those buf (outcomes.Refused cause) (refused_deed p.half cause)
 legs_refuse told faults config h p those buf cause for =
@@ -88,7 +89,7 @@ legs_refuse told faults config h p those buf cause for =
       ends = λ i x below. ends_none told faults (is_leaving (opposite_of h (found h p)) (get_or those i x).holder) true (get_or those i x).sending (get_or those i x).sending refl;
     }
 
-pub relays_stale : {O : Type 0} (told : O → Option (List OutCall)) (faults : O → ℕ) (config : Config) (h : List CellEntry) (p : Receipt) (those : List (Leg O))
+pub relays_stale : {O : Type 0} (told : O → EndTold OutCall) (faults : O → ℕ) (config : Config) (h : List CellEntry) (p : Receipt) (those : List (Leg O))
     (buf : List ℕ) → LegsFor config h those → first (filter (same_leg p.holder) (holders_of those)) ≡ None
     → LegsRelay told faults config h p those those buf (outcomes.Refused refused.Stale)
 relays_stale {O} told faults config h p those buf for none =
@@ -111,7 +112,7 @@ pub judges_so : {O : Type 0} (config : Config) (h : List CellEntry) (p : Receipt
 judges_so config h p leg for =
     ap (λ (o : Option LegSignal). judged_leg o (learned h leg.holder p.half) (accepted h leg.holder) p.half p.source p.bytes) (sym for.signal)
 
-refuse_case : {O : Type 0} (told : O → Option (List OutCall)) (faults : O → ℕ) (config : Config) (h : List CellEntry) (p : Receipt) (those : List (Leg O)) (i : ℕ)
+refuse_case : {O : Type 0} (told : O → EndTold OutCall) (faults : O → ℕ) (config : Config) (h : List CellEntry) (p : Receipt) (those : List (Leg O)) (i : ℕ)
     (x new : Leg O) (buf other : List ℕ) (cause : Refused) → LegsFor config h those → IsPlace (same_leg p.holder) those i x → (j : Judged)
     → judged h p (get_or those i x).holder ≡ j
     → LegAccepts j p.half p.source (learned h (get_or those i x).holder) (accepted h (get_or those i x).holder) (get_or those i x) new other (Err cause)
@@ -127,7 +128,7 @@ refuse_case {O} told faults config h p those i x new buf other cause for place (
     ∙ ap (λ (c : Refused). refused_deed p.half c) (sym same) in
     subst P (sym it) (subst Q kept (legs_refuse told faults config h p those buf cause for))
 
-pub relays_refused : {O : Type 0} (told : O → Option (List OutCall)) (faults : O → ℕ) (config : Config) (h : List CellEntry) (p : Receipt) (those : List (Leg O)) (i : ℕ)
+pub relays_refused : {O : Type 0} (told : O → EndTold OutCall) (faults : O → ℕ) (config : Config) (h : List CellEntry) (p : Receipt) (those : List (Leg O)) (i : ℕ)
     (x new : Leg O) (buf other : List ℕ) (cause : Refused) → LegsFor config h those → IsPlace (same_leg p.holder) those i x
     → LegAccepts (judges h p (get_or those i x)) p.half p.source (learned h (get_or those i x).holder) (accepted h (get_or those i x).holder) (get_or those i x) new other (Err cause)
     → LegsRelay told faults config h p those (set those i new) buf (outcomes.Refused cause)

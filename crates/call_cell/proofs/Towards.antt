@@ -5,9 +5,10 @@ use Rattle.std.proofs.lemmas.List.{length-set, set-get_or}
 use Rattle.relay_outside.specs.declared.address.Addr.{Addr}
 use Rattle.relay_outside.specs.declared.settings.Config.{Config}
 use Rattle.relay_outside.specs.declared.ports.OutCall.{OutCall}
+use Rattle.relay_outside.specs.Told.{EndTold}
 use Rattle.rtp_packet.specs.declared.head.Half.{Half}
 use Rattle.sdes_lines.specs.declared.crypto_line.Suite.{Suite}
-use Rattle.srtp_sources.specs.Notes.{Note}
+use Rattle.srtp_sources.specs.Notes.{Note, is_half}
 use Rattle.port_pool.specs.Ports.{half_port}
 use Rattle.port_pool.specs.declared.holder.Holder.{Holder}
 use Rattle.port_pool.specs.declared.signal.LegSignal.{LegSignal}
@@ -21,9 +22,11 @@ use Rattle.call_cell.specs.declared.leg.Leg.{Leg}
 use Rattle.call_cell.specs.Cells.{CellEntry, Receipt, Shield, Sending, Deed, in_force, is_accepted, is_opposite, opposite, key_numbered}
 use Rattle.call_cell.specs.Keyed.{protected, Wrapped, Held, Leaves}
 use Rattle.call_cell.specs.Learning.{learned, endpoint_by}
-use Rattle.call_cell.specs.Deeds.{sent_outcome, deed, deed_wrapped, found, lost_deed, sent_deed, wrapped_towards, wrapped_numbered}
+use Rattle.call_cell.specs.Deeds.{sent_outcome, deed, deed_wrapped, found, opposite_of, is_leaving, lost_deed, sent_deed, wrapped_towards, wrapped_numbered}
+use Rattle.call_cell.specs.Asked.{is_sent}
 use Rattle.call_cell.specs.Parts.{SendingFor, HasNamed, learned_in, SendsBy, SameNumbers, IsOf, wrapped_by, wrapped_for}
-use Rattle.call_cell.specs.Standing.{FrontIs, outbound_of, LegFor, LegsFor, LegsDo, LegsRelay, LegSends, LegKeeps, LegForwards, LegForwardsBy, EndsFor, opposite_of, is_leaving, relay_entry, sent_ok, send_outcome}
+use Rattle.call_cell.specs.Standing.{FrontIs, outbound_of, LegFor, LegsFor, LegsDo, LegsRelay, LegSends, LegKeeps, LegForwards, LegForwardsBy, EndsFor, relay_entry, sent_ok, send_outcome}
+use Rattle.call_cell.proofs.Counting.{sent_from}
 use Rattle.call_cell.proofs.LegSteps.{IsElsewhere, leg_sends, named_so}
 use Rattle.call_cell.proofs.Placing.{IsPlace, same_or_not, at_set, off_set, same_holders, same_itself, not_opposite, true_or_not, other_default, apart_over}
 use Rattle.call_cell.proofs.Relaying.{found_at, holders_over, deed_to}
@@ -70,7 +73,7 @@ faces {O} config h p those i x new noted plain buf size k z t place =
           ∙ ap (λ (leg : Leg O). Some leg.holder) (off_set those i k new z apart);
     }
 
-pub kept_lost : {O : Type 0} (told : O → Option (List OutCall)) (faults : O → ℕ) (config : Config) (h : List CellEntry) (p : Receipt) (those : List (Leg O)) (i : ℕ)
+pub kept_lost : {O : Type 0} (told : O → EndTold OutCall) (faults : O → ℕ) (config : Config) (h : List CellEntry) (p : Receipt) (those : List (Leg O)) (i : ℕ)
     (x new : Leg O) (noted : Option Note) (plain buf : List ℕ) (size k : ℕ) (z y : Leg O) (out : List ℕ) (cause : Lost) (result : Outcome)
     → Facing config h p those i x new noted plain buf size k z → LegKeeps cause (get_or those k z) y result
     → deed config h p (sent_ok (outcomes.Lost cause)) ≡ lost_deed p.half noted cause
@@ -116,7 +119,7 @@ elsewhere {O} config h those k z shield for below under j y within apart s q key
     (sym section ∙ ap (λ (n : NewKey). n.section) (sym same) ∙ u.section ∙ ap (λ (l : Leg O). l.holder.section) here)
     (sym side ∙ ap (λ (n : NewKey). n.side) (sym same) ∙ u.side ∙ ap (λ (l : Leg O). l.holder.side) here))
 
-pub record Leaving {O : Type 0} (told : O → Option (List OutCall)) (faults : O → ℕ) (config : Config) (h : List CellEntry) (p : Receipt) (those : List (Leg O)) (i : ℕ)
+pub record Leaving {O : Type 0} (told : O → EndTold OutCall) (faults : O → ℕ) (config : Config) (h : List CellEntry) (p : Receipt) (those : List (Leg O)) (i : ℕ)
     (x new : Leg O) (noted : Option Note) (plain buf : List ℕ) (size k : ℕ) (z y : Leg O) (s : LegSignal) (shield : Option Shield) (bytes out : List ℕ)
     (result : Outcome) : Type 0 where
   pub facing : Facing config h p those i x new noted plain buf size k z
@@ -124,7 +127,58 @@ pub record Leaving {O : Type 0} (told : O → Option (List OutCall)) (faults : O
       (get_or those k z) y out result
   pub numbers : SameNumbers (get_or those k z).sending y.sending
 
-leaving_each : {O : Type 0} (told : O → Option (List OutCall)) (faults : O → ℕ) (config : Config) (h : List CellEntry) (p : Receipt) (those : List (Leg O)) (i : ℕ)
+apart_leg : {O : Type 0} (config : Config) (h : List CellEntry) (those : List (Leg O)) (k : ℕ) (z : Leg O) → LegsFor config h those → k < length those
+    → (j : ℕ) (v : Leg O) → j < length those → (j ≡ k → ⊥) → same_leg (get_or those k z).holder (get_or those j v).holder ≡ false
+apart_leg {O} config h those k z for below j v within apart = elim (true_or_not (same_leg (get_or those k z).holder (get_or those j v).holder)) [
+  | inl same ↦ absurd (apart (sym (for.apart.leases k j v below within
+      (subst (λ (l : Leg O). same_leg l.holder (get_or those j v).holder ≡ true) (other_default those k z v below) same))))
+  | inr other ↦ other
+]
+
+sent_is : (config : Config) (w : Sending) (ok : Bool) → is_sent (sent_outcome config w ok) ≡ ok
+sent_is config w true = refl
+sent_is config w false = refl
+
+-- the packet leaves by the leg on the other side
+leaving_by : {O : Type 0} (config : Config) (h : List CellEntry) (p : Receipt) (those : List (Leg O)) (i : ℕ) (x new : Leg O) (noted : Option Note)
+    (plain buf : List ℕ) (size k : ℕ) (z : Leg O) → Facing config h p those i x new noted plain buf size k z
+    → opposite_of h (found h p) ≡ Some (get_or those k z).holder
+leaving_by {O} config h p those i x new noted plain buf size k z f =
+    ap (λ (a : Option Holder). opposite_of h a) (found_at config h p those i x f.taking.for f.taking.place) ∙ f.is_opposite
+
+and_one : (a b c : Bool) → c ≡ true → a ≡ b → (d : Bool) → (a && (d && c)) ≡ (b && d)
+and_one a b c q r true = ap (λ (x : Bool). a && x) q ∙ and_true a ∙ r ∙ sym (and_true b)
+  where
+    and_true : (x : Bool) → (x && true) ≡ x
+    and_true true = refl
+    and_true false = refl
+and_one a b c q r false = ap (λ (x : Bool). x && false) r
+
+and_none : (a b c : Bool) → c ≡ false → (a && (b && c)) ≡ false
+and_none true true c q = q
+and_none true false c q = refl
+and_none false b c q = refl
+
+-- what the leg on the other side sends
+sent_at : {O : Type 0} (config : Config) (h : List CellEntry) (p : Receipt) (those : List (Leg O)) (i : ℕ) (x new : Leg O) (noted : Option Note)
+    (plain buf : List ℕ) (size k : ℕ) (z : Leg O) (shield : Option Shield) (w : Sending) (ok : Bool) → Facing config h p those i x new noted plain buf size k z
+    → (half : Half) → sent_from h (get_or those k z).holder half p (sent_deed config p.half noted shield w ok) ≡ (ok && is_half p.half half)
+sent_at config h p those i x new noted plain buf size k z shield w ok f half =
+    and_one (is_sent (sent_outcome config w ok)) ok (is_leaving (opposite_of h (found h p)) (get_or those k z).holder)
+    (ap (λ (o : Option Holder). is_leaving o (get_or those k z).holder) (leaving_by config h p those i x new noted plain buf size k z f)
+    ∙ same_itself (get_or those k z).holder)
+    (sent_is config w ok) (is_half p.half half)
+
+-- the other legs send nothing
+unsent_off : {O : Type 0} (config : Config) (h : List CellEntry) (p : Receipt) (those : List (Leg O)) (i : ℕ) (x new : Leg O) (noted : Option Note)
+    (plain buf : List ℕ) (size k : ℕ) (z : Leg O) (d : Deed) → Facing config h p those i x new noted plain buf size k z
+    → (j : ℕ) (v : Leg O) → j < length those → (j ≡ k → ⊥) → (half : Half) → sent_from h (get_or those j v).holder half p d ≡ false
+unsent_off config h p those i x new noted plain buf size k z d f j v within apart half =
+    and_none (is_sent d.outcome) (is_half p.half half) (is_leaving (opposite_of h (found h p)) (get_or those j v).holder)
+    (ap (λ (o : Option Holder). is_leaving o (get_or those j v).holder) (leaving_by config h p those i x new noted plain buf size k z f)
+    ∙ apart_leg config h those k z f.taking.for f.below j v within apart)
+
+leaving_each : {O : Type 0} (told : O → EndTold OutCall) (faults : O → ℕ) (config : Config) (h : List CellEntry) (p : Receipt) (those : List (Leg O)) (i : ℕ)
     (x new : Leg O) (noted : Option Note) (plain buf : List ℕ) (size k : ℕ) (z y : Leg O) (s : LegSignal) (shield : Option Shield) (bytes out : List ℕ)
     (result : Outcome) → Leaving told faults config h p those i x new noted plain buf size k z y s shield bytes out result → (m : ℕ) (j : ℕ) (v : Leg O) → j < length those
     → LegFor config (relay_entry m p (sent_ok result) (sent_deed config p.half noted shield (sending_to h p (get_or those k z) s bytes) (sent_ok result)) ∷ h)
@@ -142,17 +196,21 @@ leaving_each {O} told faults config h p those i x new noted plain buf size k z y
       | inl is ↦ subst P (sym (ap (λ (n : ℕ). get_or (set (set those i new) k y) n v) is ∙ at_set (set those i new) k y v long ∙ l.sends.rest))
           (leg_sends config m p ok d h (get_or those k z) y.sending
           (ap (λ (b : Bool). b && is_accepted d.outcome) (not_same config h p those i x t.for t.place k z l.facing.below l.facing.apart))
+          (sent_at config h p those i x new noted plain buf size k z shield w ok l.facing)
           l.sends.sending l.numbers (t.for.each k z l.facing.below))
       | inr off ↦ subst P (sym (off_set (set those i new) k j y v off))
           (elim (same_or_not j i) [
             | inl at ↦ subst P (sym (ap (λ (n : ℕ). get_or (set those i new) n v) at ∙ at_set those i new v t.place.below))
-                (taken_at config h p those i x new noted plain buf size t m ok d acc refl (away i x t.place.below (λ q. l.facing.apart (sym q))))
+                (taken_at config h p those i x new noted plain buf size t m ok d acc refl refl
+                (unsent_off config h p those i x new noted plain buf size k z d l.facing i x t.place.below (λ q. l.facing.apart (sym q)))
+                (away i x t.place.below (λ q. l.facing.apart (sym q))))
             | inr apart ↦ subst P (sym (off_set those i j new v apart))
-                (taken_off config h p those i x t.for t.place m ok d j v within apart (away j v within off))
+                (taken_off config h p those i x t.for t.place m ok d j v within apart
+                (unsent_off config h p those i x new noted plain buf size k z d l.facing j v within off) (away j v within off))
           ])
     ]
 
-leaving_legs : {O : Type 0} (told : O → Option (List OutCall)) (faults : O → ℕ) (config : Config) (h : List CellEntry) (p : Receipt) (those : List (Leg O)) (i : ℕ)
+leaving_legs : {O : Type 0} (told : O → EndTold OutCall) (faults : O → ℕ) (config : Config) (h : List CellEntry) (p : Receipt) (those : List (Leg O)) (i : ℕ)
     (x new : Leg O) (noted : Option Note) (plain buf : List ℕ) (size k : ℕ) (z y : Leg O) (s : LegSignal) (shield : Option Shield) (bytes out : List ℕ)
     (result : Outcome) → Leaving told faults config h p those i x new noted plain buf size k z y s shield bytes out result → (m : ℕ)
     → LegsFor config (relay_entry m p (sent_ok result) (sent_deed config p.half noted shield (sending_to h p (get_or those k z) s bytes) (sent_ok result)) ∷ h)
@@ -171,15 +229,7 @@ leaving_legs {O} told faults config h p those i x new noted plain buf size k z y
           (omega (arith, within, length-set mid k y, length-set those i new));
     }
 
-apart_leg : {O : Type 0} (config : Config) (h : List CellEntry) (those : List (Leg O)) (k : ℕ) (z : Leg O) → LegsFor config h those → k < length those
-    → (j : ℕ) (v : Leg O) → j < length those → (j ≡ k → ⊥) → same_leg (get_or those k z).holder (get_or those j v).holder ≡ false
-apart_leg {O} config h those k z for below j v within apart = elim (true_or_not (same_leg (get_or those k z).holder (get_or those j v).holder)) [
-  | inl same ↦ absurd (apart (sym (for.apart.leases k j v below within
-      (subst (λ (l : Leg O). same_leg l.holder (get_or those j v).holder ≡ true) (other_default those k z v below) same))))
-  | inr other ↦ other
-]
-
-leaving_ends : {O : Type 0} (told : O → Option (List OutCall)) (faults : O → ℕ) (config : Config) (h : List CellEntry) (p : Receipt) (those : List (Leg O)) (i : ℕ)
+leaving_ends : {O : Type 0} (told : O → EndTold OutCall) (faults : O → ℕ) (config : Config) (h : List CellEntry) (p : Receipt) (those : List (Leg O)) (i : ℕ)
     (x new : Leg O) (noted : Option Note) (plain buf : List ℕ) (size k : ℕ) (z y : Leg O) (s : LegSignal) (shield : Option Shield) (bytes out : List ℕ)
     (result : Outcome) → Leaving told faults config h p those i x new noted plain buf size k z y s shield bytes out result → (j : ℕ) (v : Leg O) → j < length those
     → EndsFor told faults (same_leg (get_or those k z).holder (get_or those j v).holder) (Some (sending_to h p (get_or those k z) s bytes)) (sent_ok result)
@@ -208,7 +258,7 @@ leaving_ends {O} told faults config h p those i x new noted plain buf size k z y
           subst P (sym other) (ap (λ (a : parts.Sending O). a.rtp) as_before, ap (λ (a : parts.Sending O). a.rtcp) as_before)
     ]
 
-pub leaves : {O : Type 0} (told : O → Option (List OutCall)) (faults : O → ℕ) (config : Config) (h : List CellEntry) (p : Receipt) (those : List (Leg O)) (i : ℕ)
+pub leaves : {O : Type 0} (told : O → EndTold OutCall) (faults : O → ℕ) (config : Config) (h : List CellEntry) (p : Receipt) (those : List (Leg O)) (i : ℕ)
     (x new : Leg O) (noted : Option Note) (plain buf : List ℕ) (size k : ℕ) (z y : Leg O) (s : LegSignal) (shield : Option Shield) (bytes out : List ℕ)
     (result : Outcome) → Leaving told faults config h p those i x new noted plain buf size k z y s shield bytes out result
     → deed config h p (sent_ok result) ≡ sent_deed config p.half noted shield (sending_to h p (get_or those k z) s bytes) (sent_ok result)
@@ -222,8 +272,7 @@ leaves {O} told faults config h p those i x new noted plain buf size k z y s shi
     let leg_o = t.for.each k z l.facing.below in
     let answer : result ≡ send_outcome (half_port config o.holder.pair p.half) w.to (length bytes) ok
     = l.sends.answer ∙ ap (λ (n : ℕ). send_outcome n w.to (length bytes) ok) (leg_o.port p.half) in
-    let by : opposite_of h (found h p) ≡ Some o.holder
-    = ap (λ (a : Option Holder). opposite_of h a) (found_at config h p those i x t.for t.place) ∙ l.facing.is_opposite in
+    let by = leaving_by config h p those i x new noted plain buf size k z l.facing in
     subst P (sym it) (record {
       outcome = answer ∙ sent_so config w ok;
       front = subst (λ (r : Outcome). FrontIs r (Some w) out) (sym answer) (front_case (half_port config o.holder.pair p.half) w out ok l.sends.buffer);
@@ -234,7 +283,7 @@ leaves {O} told faults config h p those i x new noted plain buf size k z y s shi
 
 -- What the leg on the other side does, by cases.
 
-wrapped_case : {O : Type 0} (told : O → Option (List OutCall)) (faults : O → ℕ) (config : Config) (h : List CellEntry) (p : Receipt) (those : List (Leg O)) (i : ℕ)
+wrapped_case : {O : Type 0} (told : O → EndTold OutCall) (faults : O → ℕ) (config : Config) (h : List CellEntry) (p : Receipt) (those : List (Leg O)) (i : ℕ)
     (x new : Leg O) (noted : Option Note) (plain buf : List ℕ) (size k : ℕ) (z y : Leg O) (s : LegSignal) (out : List ℕ) (result : Outcome)
     → Facing config h p those i x new noted plain buf size k z → SameNumbers (get_or those k z).sending y.sending → (w : Wrapped)
     → ((ok : Bool) → deed config h p ok ≡ deed_wrapped config h p noted (get_or those k z).holder s ok w)
@@ -246,7 +295,7 @@ wrapped_case told faults config h p those i x new noted plain buf size k z y s o
     leaves told faults config h p those i x new noted plain buf size k z y s shield bytes out result
     (record { facing = f; sends = does; numbers = numbers }) (it (sent_ok result))
 
-signal_case : {O : Type 0} (told : O → Option (List OutCall)) (faults : O → ℕ) (config : Config) (h : List CellEntry) (p : Receipt) (those : List (Leg O)) (i : ℕ)
+signal_case : {O : Type 0} (told : O → EndTold OutCall) (faults : O → ℕ) (config : Config) (h : List CellEntry) (p : Receipt) (those : List (Leg O)) (i : ℕ)
     (x new : Leg O) (noted : Option Note) (plain buf : List ℕ) (size k : ℕ) (z y : Leg O) (out : List ℕ) (result : Outcome)
     → Facing config h p those i x new noted plain buf size k z → SameNumbers (get_or those k z).sending y.sending → (o : Option LegSignal)
     → in_force h (get_or those k z).holder ≡ o
@@ -263,7 +312,7 @@ signal_case told faults config h p those i x new noted plain buf size k z y out 
     ∙ ap (λ (w : Wrapped). deed_wrapped config h p noted (get_or those k z).holder s ok w) (towards_so h s p.half plain))
     does
 
-pub relays_towards : {O : Type 0} (told : O → Option (List OutCall)) (faults : O → ℕ) (config : Config) (h : List CellEntry) (p : Receipt) (those : List (Leg O)) (i : ℕ)
+pub relays_towards : {O : Type 0} (told : O → EndTold OutCall) (faults : O → ℕ) (config : Config) (h : List CellEntry) (p : Receipt) (those : List (Leg O)) (i : ℕ)
     (x new : Leg O) (noted : Option Note) (plain buf : List ℕ) (size k : ℕ) (z y : Leg O) (out : List ℕ) (result : Outcome)
     → Taking config h p those i x new noted plain buf size → IsPlace (is_opposite (get_or those i x).holder) (set those i new) k z
     → SameNumbers (get_or (set those i new) k z).sending y.sending

@@ -1,22 +1,23 @@
 -- When a call is due to end, what is told of its legs, and which event a cell's history demands.
-use Rattle.std.specs.Prelude.{◌≡◌, ℕ, ◌+◌, Bool, true, false, ◌&&◌, ◌==◌, nat_le, List, [], ◌∷◌, Option, Some, None, is_some, filter, filter_map, count_by, if◌then◌else◌}
+use Rattle.std.specs.Prelude.{◌≡◌, ◌<◌, ℕ, ◌+◌, ◌^◌, Bool, true, false, ◌&&◌, ◌==◌, nat_le, List, [], ◌∷◌, Option, Some, None, is_some, filter, filter_map, count_by, if◌then◌else◌}
 use Rattle.std.specs.List.{list_any, flat_map}
 use Rattle.relay_outside.specs.declared.settings.Config.{Config}
 use Rattle.rtp_packet.specs.declared.head.Half.{Half}
 use Rattle.rtp_packet.specs.declared.head.Half.TheVariants.{Rtp, Rtcp}
 use Rattle.srtp_sources.specs.Notes.{is_half}
-use Rattle.histories.specs.Words.{first, final, numbers}
+use Rattle.histories.specs.Words.{In, first, final, numbers}
+use Rattle.port_pool.specs.Ports.{pair_port}
 use Rattle.port_pool.specs.declared.holder.Holder.{Holder}
 use Rattle.port_pool.specs.declared.holder.Side.{Side}
 use Rattle.port_pool.specs.declared.holder.Side.TheVariants.{A, B}
 use Rattle.port_pool.specs.declared.signal.LegSignal.{LegSignal}
-use Rattle.port_pool.specs.Signals.{side_eq}
-use Rattle.port_pool.specs.Reports.{LegReport}
+use Rattle.port_pool.specs.Signals.{same_leg, side_eq}
+use Rattle.port_pool.specs.declared.reports.LegReport.{LegReport}
 use Rattle.call_cell.specs.declared.outcome.Outcome.{Outcome}
 use Rattle.call_cell.specs.declared.outcome.Outcome.TheVariants as outcomes
-use Rattle.call_cell.specs.Cells.{CellEvent, CellEntry, Prepare, Commit, Relay, Expire, Read, End, Relayed, Sending, legs, life, in_force, since_end, is_accepted, relayed, accepted_of, prepared_call}
+use Rattle.call_cell.specs.Cells.{CellEvent, CellEntry, Prepare, Commit, Relay, Expire, Read, End, Relayed, Sending, legs_of, legs, life, in_force, since_end, is_accepted, relayed, accepted_of, prepared_call}
 use Rattle.call_cell.specs.Learning.{learned, endpoint_by}
-use Rattle.call_cell.specs.Deeds.{deed}
+use Rattle.call_cell.specs.Deeds.{deed, way, found, opposite_of, is_leaving}
 
 -- Timeouts.
 
@@ -48,23 +49,33 @@ is_sent (outcomes.Refused cause) = false
 is_sent (outcomes.Lost cause) = false
 is_sent (outcomes.Sent port to len) = true
 
-abbrev pub leaves_by : Holder → Half → Option Sending → Bool
-leaves_by leg half None = false
-leaves_by leg half (Some sending) = (sending.pair == leg.pair) && is_half sending.half half
-
 -- how many packets of a half were accepted from the leg
 abbrev pub accepted_count : List CellEntry → Holder → Half → ℕ
 accepted_count h leg half = count_by (λ r. is_half r.deed.kind half) (accepted_of (life h leg) leg)
 
+-- the packet that was relayed after these entries, if one was, was sent by the leg's end of a half
+abbrev pub is_sent_by : Holder → Half → List CellEntry → Option Relayed → Bool
+is_sent_by leg half h None = false
+is_sent_by leg half h (Some r) =
+    is_sent r.deed.outcome && (is_half (way h r.packet) half && is_leaving (opposite_of h (found h r.packet)) leg)
+
 -- how many packets of a half were sent by the leg's ports to its side
 abbrev pub sent_count : List CellEntry → Holder → Half → ℕ
-sent_count h leg half =
-    count_by (λ r. is_sent r.deed.outcome && leaves_by leg half r.deed.sending) (filter_map relayed (life h leg))
+sent_count [] leg half = 0
+sent_count (e ∷ h) leg half =
+    if list_any (same_leg leg) (legs_of e.event) then 0
+    else if is_sent_by leg half h (relayed e) then sent_count h leg half + 1 else sent_count h leg half
 
-abbrev pub report_under : List CellEntry → Holder → Option LegSignal → Option LegReport
-report_under h leg None = None
-report_under h leg (Some s) = Some (record {
-  leg = leg;
+-- the counts of the legs that are there are below 2 ^ 63
+abbrev pub CountsBelow : List CellEntry → Type 0
+CountsBelow h = (leg : Holder) (half : Half) → In leg (legs h) → (accepted_count h leg half < 2 ^ 63) × (sent_count h leg half < 2 ^ 63)
+
+abbrev pub report_under : Config → List CellEntry → Holder → Option LegSignal → Option LegReport
+report_under config h leg None = None
+report_under config h leg (Some s) = Some (record {
+  section = leg.section;
+  side = leg.side;
+  port = pair_port config leg.pair;
   endpoint = endpoint_by s (learned h leg Rtp) Rtp;
   rtp_accepted = accepted_count h leg Rtp;
   rtp_sent = sent_count h leg Rtp;
@@ -72,23 +83,27 @@ report_under h leg (Some s) = Some (record {
   rtcp_sent = sent_count h leg Rtcp;
 })
 
-abbrev pub report_of : List CellEntry → Holder → Option LegReport
-report_of h leg = report_under h leg (in_force h leg)
+abbrev pub report_of : Config → List CellEntry → Holder → Option LegReport
+report_of config h leg = report_under config h leg (in_force h leg)
 
-abbrev pub report_in : List CellEntry → Option Holder → Option LegReport
-report_in h None = None
-report_in h (Some leg) = report_of h leg
+abbrev pub report_in : Config → List CellEntry → Option Holder → Option LegReport
+report_in config h None = None
+report_in config h (Some leg) = report_of config h leg
 
 abbrev pub stands_at : ℕ → Side → Holder → Bool
 stands_at section side leg = (leg.section == section) && side_eq leg.side side
 
 -- the report of the leg of that section and side, where it is committed
-abbrev pub report_at : List CellEntry → ℕ → Side → Option LegReport
-report_at h section side = report_in h (first (filter (stands_at section side) (legs h)))
+abbrev pub report_at : Config → List CellEntry → ℕ → Side → Option LegReport
+report_at config h section side = report_in config h (first (filter (stands_at section side) (legs h)))
 
--- the reports of the legs of committed sections, by section, that of side A first
-unfoldable pub reports : List CellEntry → List LegReport
-reports h = flat_map (λ section. filter_map (report_at h section) (A ∷ B ∷ [])) (numbers 0 8)
+-- the reports of the legs of a section, that of side A first
+abbrev pub section_reports : Config → List CellEntry → ℕ → List LegReport
+section_reports config h section = filter_map (report_at config h section) (A ∷ B ∷ [])
+
+-- the reports of the legs of committed sections, by section
+unfoldable pub reports : Config → List CellEntry → List LegReport
+reports config h = flat_map (section_reports config h) (numbers 0 8)
 
 -- What a history demands.
 
@@ -106,7 +121,7 @@ pub record FitsRelay (config : Config) (h : List CellEntry) (r : Relayed) : Type
 abbrev pub FitsAt : Config → List CellEntry → ℕ → CellEvent → Type 0
 FitsAt config h now (Relay r) = FitsRelay config (since_end h) r
 FitsAt config h now (Expire due) = due ≡ is_due config (since_end h) now
-FitsAt config h now (Read told) = told ≡ reports (since_end h)
+FitsAt config h now (Read told) = told ≡ reports config (since_end h)
 FitsAt config h now (Prepare call legs keys dropped) = Unit {0}
 FitsAt config h now (Commit signal) = Unit {0}
 FitsAt config h now End = Unit {0}

@@ -3,15 +3,16 @@ use Rattle.std.specs.Prelude.{◌≡◌, ◌<◌, ℕ, max, List, [], ◌∷◌,
 use Rattle.std.specs.List.{list_any}
 use Rattle.relay_outside.specs.declared.settings.Config.{Config}
 use Rattle.relay_outside.specs.declared.ports.OutCall.{OutCall}
+use Rattle.relay_outside.specs.Told.{EndTold}
 use Rattle.histories.specs.Words.{greatest, first, final}
 use Rattle.call_cell.specs.declared.outcome.Outcome.{Outcome}
 use Rattle.call_cell.specs.declared.leg.Leg.{Leg}
 use Rattle.call_cell.specs.declared.cell.Cell.{Cell}
 use Rattle.call_cell.specs.Cells.{CellEntry, Receipt, call, since_end, prepared_call, key_numbered}
 use Rattle.call_cell.specs.Keyed.{protected}
-use Rattle.call_cell.specs.Deeds.{deed, found}
+use Rattle.call_cell.specs.Deeds.{deed, found, opposite_of, is_leaving}
 use Rattle.call_cell.specs.Asked.{FitsCell, commits, is_activity}
-use Rattle.call_cell.specs.Standing.{LegsFor, EndsFor, FrontIs, relay_entry, sent_ok, opposite_of, is_leaving}
+use Rattle.call_cell.specs.Standing.{LegsFor, EndsFor, FrontIs, relay_entry, sent_ok}
 
 -- the greatest moment of a history, at first 0
 abbrev pub last_moment : List CellEntry → ℕ
@@ -40,7 +41,7 @@ relayed_at config h p now result =
 
 -- a relay after that history: the new cell stands for it with the relay's entry, the outcome and the bytes are those of the
 -- entry, and its one send is by the end of the opposite leg
-pub record CellRelays {O : Type 0} (told : O → Option (List OutCall)) (faults : O → ℕ) (config : Config) (old new : Cell O) (h : List CellEntry)
+pub record CellRelays {O : Type 0} (told : O → EndTold OutCall) (faults : O → ℕ) (config : Config) (old new : Cell O) (h : List CellEntry)
     (p : Receipt) (now : ℕ) (buf : List ℕ) (result : Outcome) : Type 0 where
   pub fits : FitsCell config h (relayed_at config h p now result)
   pub stands : CellFor config new (relayed_at config h p now result ∷ h)

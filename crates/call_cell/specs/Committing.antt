@@ -38,9 +38,16 @@ abbrev pub is_inbound_anew : Option LegSignal → LegSignal → Bool
 is_inbound_anew earlier s = differs same_inbound (Some s) earlier && is_some s.inbound
 
 abbrev pub with_commit : {O : Type 0} → Leg O → LegSignal → Receiving → Leg O
-with_commit leg s receiving = record { holder = leg.holder; lease = leg.lease; signal = Some s; receiving = receiving; sending = leg.sending }
+with_commit leg s receiving = record {
+  holder = leg.holder;
+  lease = leg.lease;
+  signal = Some s;
+  receiving = receiving;
+  sending = leg.sending;
+  counts = leg.counts;
+}
 
--- the leg is committed: it has its keys and ends as before
+-- the leg is committed: it has its keys, ends and counts as before
 pub record LegCommits {O : Type 0} (s : LegSignal) (old new : Leg O) : Type 0 where
   pub receiving : (known : Half → Option Addr) (notes : List Note) → ReceivingFor (inbound_of old.signal) old.receiving known notes
       → ReceivingFor s.inbound new.receiving (λ half. relearned old.signal s half (known half)) (renoted old.signal s notes)

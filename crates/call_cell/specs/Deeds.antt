@@ -31,6 +31,15 @@ way h p = p.half
 abbrev pub found : List CellEntry → Receipt → Option Holder
 found h p = first (filter (same_leg p.holder) (legs h))
 
+-- the leg by which a packet leaves: the one on the other side
+abbrev pub opposite_of : List CellEntry → Option Holder → Option Holder
+opposite_of h None = None
+opposite_of h (Some leg) = opposite h leg
+
+abbrev pub is_leaving : Option Holder → Holder → Bool
+is_leaving None leg = false
+is_leaving (Some other) leg = same_leg other leg
+
 -- a packet of a source, taken by a half of a leg with that in force, that learned source and those notes
 abbrev pub judged_leg : Option LegSignal → Option Addr → List Note → Half → Addr → List ℕ → Judged
 judged_leg None known notes kind source bytes = Stopped refused.NotAnswered

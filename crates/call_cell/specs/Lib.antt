@@ -3,6 +3,7 @@ pub mod Keyed
 pub mod Learning
 pub mod Deeds
 pub mod Asked
+pub mod Counting
 pub mod Good
 pub mod Contexts
 pub mod Parts
@@ -14,5 +15,6 @@ pub mod Committing
 pub mod Parting
 pub mod Preparing
 pub mod Expiring
+pub mod Reading
 pub mod Lasting
 pub mod Numbers

@@ -7,7 +7,7 @@ use Rattle.relay_outside.specs.declared.address.Addr.{Addr}
 use Rattle.relay_outside.specs.declared.settings.Flags.{Flags}
 use Rattle.relay_outside.specs.declared.ports.OutCall.{OutCall}
 use Rattle.relay_outside.specs.declared.ports.OutCall.TheVariants.{Send}
-use Rattle.relay_outside.specs.Told.{Gains, Rose}
+use Rattle.relay_outside.specs.Told.{EndTold, EndGains, Rose}
 use Rattle.rtp_packet.specs.declared.head.Half.{Half}
 use Rattle.rtp_packet.specs.declared.head.Half.TheVariants.{Rtp, Rtcp}
 use Rattle.sdes_lines.specs.declared.crypto_line.Suite.{Suite}
@@ -204,9 +204,9 @@ ProtectsTo (Held cause) leg keys notes old new buf result = Refuses cause old ne
 ProtectsTo (Leaves shield bytes) leg keys notes old new buf result = Wraps leg keys notes shield bytes new buf result
 
 -- one send by the end of a half, and none by the other
-pub record SendsBy {O : Type 0} (told : O → Option (List OutCall)) (faults : O → ℕ) (half : Half) (to : Addr) (bytes : List ℕ) (ok : Bool)
+pub record SendsBy {O : Type 0} (told : O → EndTold OutCall) (faults : O → ℕ) (half : Half) (to : Addr) (bytes : List ℕ) (ok : Bool)
     (old new : Sending O) : Type 0 where
-  pub gains : Gains (told (ends_of half old)) (told (ends_of half new)) (Send to bytes ok)
+  pub gains : EndGains (told (ends_of half old)) (told (ends_of half new)) (Send to bytes ok)
   pub later : faults (ends_of half old) ≤ faults (ends_of half new)
   pub cause : ok ≡ false → Rose (faults (ends_of half old)) (faults (ends_of half new))
   pub other : ends_of (other_half half) new ≡ ends_of (other_half half) old
@@ -226,7 +226,7 @@ send_answer port size true = Ok size
 send_answer port size false = Err (lost.SendFault port)
 
 -- a packet leaves: it is noted under its key, whether or not its send succeeds
-pub record Forwards {O : Type 0} (told : O → Option (List OutCall)) (faults : O → ℕ) (leg : Holder) (keys : ℕ → Option NewKey) (notes : ℕ → List Note)
+pub record Forwards {O : Type 0} (told : O → EndTold OutCall) (faults : O → ℕ) (leg : Holder) (keys : ℕ → Option NewKey) (notes : ℕ → List Note)
     (shield : Option Shield) (bytes : List ℕ) (half : Half) (port : ℕ) (to : Addr) (old new : Sending O) (buf : List ℕ) (result : Result ℕ Lost) : Type 0 where
   pub answer : result ≡ send_answer port (length bytes) (is_ok result)
   pub buffer : take (length bytes) buf ≡ bytes
@@ -234,7 +234,7 @@ pub record Forwards {O : Type 0} (told : O → Option (List OutCall)) (faults : 
   pub keeps : SendingFor leg keys (noted_under shield notes) new
   pub sends : SendsBy told faults half to bytes (is_ok result) old new
 
-abbrev pub ForwardsTo : {O : Type 0} → (O → Option (List OutCall)) → (O → ℕ) → Wrapped → Holder → (ℕ → Option NewKey) → (ℕ → List Note) → Half → (port : ℕ) → Addr
+abbrev pub ForwardsTo : {O : Type 0} → (O → EndTold OutCall) → (O → ℕ) → Wrapped → Holder → (ℕ → Option NewKey) → (ℕ → List Note) → Half → (port : ℕ) → Addr
     → Sending O → Sending O → List ℕ → Result ℕ Lost → Type 0
 ForwardsTo told faults (Held cause) leg keys notes half port to old new buf result = Refuses cause old new result
 ForwardsTo told faults (Leaves shield bytes) leg keys notes half port to old new buf result =

@@ -21,6 +21,7 @@ use Rattle.call_cell.specs.Cells.{CellEntry, Prepare, legs, key_numbered}
 use Rattle.call_cell.specs.Asked.{FitsCell}
 use Rattle.call_cell.specs.LegKeys.{keys_for, OnePerSuite}
 use Rattle.call_cell.specs.Contexts.{OutboundFor}
+use Rattle.call_cell.specs.Counting.{no_counts}
 use Rattle.call_cell.specs.Parts.{ReceivingFor, contexts_of}
 use Rattle.call_cell.specs.Standing.{port_by, with_sending}
 use Rattle.call_cell.specs.CellStanding.{CellFor, last_moment}
@@ -40,13 +41,14 @@ pub record IsPrepared (prepared : PreparedKey) (key : NewKey) : Type 0 where
   pub suite : prepared.suite ≡ key.suite
   pub contexts : IsOutboundAnew key prepared.contexts.value
 
--- a leg that was answered by none, has received nothing and has no key
+-- a leg that was answered by none, has received and sent nothing and has no key
 pub record IsFresh {O : Type 0} (leg : Leg O) : Type 0 where
   pub pair : leg.lease.pair ≡ leg.holder.pair
   pub generation : leg.lease.generation ≡ leg.holder.generation
   pub signal : leg.signal ≡ None
   pub receiving : ReceivingFor None leg.receiving (λ half. None) []
   pub keyless : (suite : Suite) → contexts_of suite leg.sending ≡ None
+  pub uncounted : leg.counts ≡ no_counts
 
 -- the new legs, in lease order
 abbrev pub added : {O : Type 0} → prepared.Prepare O → List Holder

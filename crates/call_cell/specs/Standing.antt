@@ -4,12 +4,12 @@ use Rattle.std.specs.List.{cons_option}
 use Rattle.relay_outside.specs.declared.address.Addr.{Addr}
 use Rattle.relay_outside.specs.declared.settings.Config.{Config}
 use Rattle.relay_outside.specs.declared.ports.OutCall.{OutCall}
+use Rattle.relay_outside.specs.Told.{EndTold}
 use Rattle.rtp_packet.specs.declared.head.Half.{Half}
 use Rattle.rtp_packet.specs.declared.head.Half.TheVariants.{Rtp, Rtcp}
 use Rattle.sdes_lines.specs.declared.crypto_line.Suite.{Suite}
 use Rattle.srtp_sources.specs.Notes.{Note}
 use Rattle.port_pool.specs.Ports.{half_port}
-use Rattle.port_pool.specs.declared.holder.Holder.{Holder}
 use Rattle.port_pool.specs.declared.signal.LegSignal.{LegSignal}
 use Rattle.port_pool.specs.Signals.{NewKey, same_leg}
 use Rattle.call_cell.specs.declared.outcome.Incoming.{Incoming}
@@ -21,10 +21,11 @@ use Rattle.call_cell.specs.declared.outcome.Outcome.TheVariants as outcomes
 use Rattle.call_cell.specs.declared.receiving.Receiving.{Receiving}
 use Rattle.call_cell.specs.declared.sending.Sending as parts
 use Rattle.call_cell.specs.declared.leg.Leg.{Leg}
-use Rattle.call_cell.specs.Cells.{CellEntry, Receipt, Shield, Sending, Deed, Relay, legs, in_force, key_numbered, opposite}
+use Rattle.call_cell.specs.Cells.{CellEntry, Receipt, Shield, Sending, Deed, Relay, legs, in_force, key_numbered}
 use Rattle.call_cell.specs.Keyed.{accepted, protected, Judged, Stopped, Passed, Wrapped, Held, Leaves}
 use Rattle.call_cell.specs.Learning.{learned, endpoint_by}
-use Rattle.call_cell.specs.Deeds.{deed, found}
+use Rattle.call_cell.specs.Deeds.{deed, found, opposite_of, is_leaving}
+use Rattle.call_cell.specs.Counting.{IsCounted, more_accepted, more_sent}
 use Rattle.call_cell.specs.Contexts.{Refuses}
 use Rattle.call_cell.specs.LegKeys.{keys_for, key_of, OnePerSuite}
 use Rattle.call_cell.specs.Parts.{ReceivingFor, SendingFor, HasIt, SendsBy, IsOf, taught_half, noted_under, wrapped_for, number_in, contexts_of}
@@ -44,11 +45,37 @@ abbrev pub port_by : Half → ℕ → ℕ
 port_by Rtp port = port
 port_by Rtcp port = min (port + 1) 65535
 
-abbrev pub with_receiving : {O : Type 0} → Leg O → Receiving → Leg O
-with_receiving leg receiving = record { holder = leg.holder; lease = leg.lease; signal = leg.signal; receiving = receiving; sending = leg.sending }
+-- a packet of a half was accepted
+abbrev pub with_receiving : {O : Type 0} → Half → Leg O → Receiving → Leg O
+with_receiving half leg receiving = record {
+  holder = leg.holder;
+  lease = leg.lease;
+  signal = leg.signal;
+  receiving = receiving;
+  sending = leg.sending;
+  counts = more_accepted half leg.counts;
+}
 
 abbrev pub with_sending : {O : Type 0} → Leg O → parts.Sending O → Leg O
-with_sending leg sending = record { holder = leg.holder; lease = leg.lease; signal = leg.signal; receiving = leg.receiving; sending = sending }
+with_sending leg sending = record {
+  holder = leg.holder;
+  lease = leg.lease;
+  signal = leg.signal;
+  receiving = leg.receiving;
+  sending = sending;
+  counts = leg.counts;
+}
+
+-- a packet of a half left, and its send was answered so
+abbrev pub with_send : {O : Type 0} → Half → Bool → Leg O → parts.Sending O → Leg O
+with_send half ok leg sending = record {
+  holder = leg.holder;
+  lease = leg.lease;
+  signal = leg.signal;
+  receiving = leg.receiving;
+  sending = sending;
+  counts = more_sent half ok leg.counts;
+}
 
 -- a packet of a half and source was accepted from a leg that was answered
 pub record LegTakes {O : Type 0} (half : Half) (source : Addr) (known : Half → Option Addr) (notes : List Note) (noted : Option Note)
@@ -58,7 +85,7 @@ pub record LegTakes {O : Type 0} (half : Half) (source : Addr) (known : Half →
   pub signal : LegSignal
   pub in_force : old.signal ≡ Some signal
   pub receiving : ReceivingFor signal.inbound new.receiving (taught_half half signal.flags source known) (cons_option noted notes)
-  pub rest : new ≡ with_receiving old new.receiving
+  pub rest : new ≡ with_receiving half old new.receiving
 
 abbrev pub LegAccepts : {O : Type 0} → Judged → Half → Addr → (Half → Option Addr) → List Note → Leg O → Leg O → List ℕ → Result ℕ Refused → Type 0
 LegAccepts (Stopped cause) half source known notes old new buf result = Refuses cause old new result
@@ -84,22 +111,22 @@ pub record LegKeeps {O : Type 0} (cause : Lost) (old new : Leg O) (result : Outc
   pub leg : new ≡ old
 
 -- a packet leaves by the leg's end of the half
-pub record LegSends {O : Type 0} (told : O → Option (List OutCall)) (faults : O → ℕ) (keys : ℕ → Option NewKey) (notes : ℕ → List Note)
+pub record LegSends {O : Type 0} (told : O → EndTold OutCall) (faults : O → ℕ) (keys : ℕ → Option NewKey) (notes : ℕ → List Note)
     (shield : Option Shield) (bytes : List ℕ) (half : Half) (to : Addr) (old new : Leg O) (buf : List ℕ) (result : Outcome) : Type 0 where
   pub answer : result ≡ send_outcome (port_by half old.lease.rtp_port) to (length bytes) (sent_ok result)
   pub buffer : take (length bytes) buf ≡ bytes
   pub under : (s : Shield) → shield ≡ Some s → (suite : Suite) × IsOf old.holder suite keys s.key
   pub sending : SendingFor old.holder keys (noted_under shield notes) new.sending
   pub sends : SendsBy told faults half to bytes (sent_ok result) old.sending new.sending
-  pub rest : new ≡ with_sending old new.sending
+  pub rest : new ≡ with_send half (sent_ok result) old new.sending
 
-abbrev pub LegForwards : {O : Type 0} → (O → Option (List OutCall)) → (O → ℕ) → Wrapped → (ℕ → Option NewKey) → (ℕ → List Note) → Half → Addr
+abbrev pub LegForwards : {O : Type 0} → (O → EndTold OutCall) → (O → ℕ) → Wrapped → (ℕ → Option NewKey) → (ℕ → List Note) → Half → Addr
     → Leg O → Leg O → List ℕ → Outcome → Type 0
 LegForwards told faults (Held cause) keys notes half to old new buf result = LegKeeps cause old new result
 LegForwards told faults (Leaves shield bytes) keys notes half to old new buf result =
     LegSends told faults keys notes shield bytes half to old new buf result
 
-abbrev pub LegForwardsBy : {O : Type 0} → (O → Option (List OutCall)) → (O → ℕ) → Option LegSignal → (ℕ → Option NewKey) → (ℕ → List Note) → Half
+abbrev pub LegForwardsBy : {O : Type 0} → (O → EndTold OutCall) → (O → ℕ) → Option LegSignal → (ℕ → Option NewKey) → (ℕ → List Note) → Half
     → Option Addr → List ℕ → Leg O → Leg O → List ℕ → Outcome → Type 0
 LegForwardsBy told faults None keys notes half known plain old new buf result = LegKeeps lost.Hold old new result
 LegForwardsBy told faults (Some s) keys notes half known plain old new buf result =
@@ -117,6 +144,7 @@ pub record LegFor {O : Type 0} (config : Config) (h : List CellEntry) (leg : Leg
   pub section : leg.holder.section < 8
   pub held : (suite : Suite) → number_in (contexts_of suite leg.sending) ≡ key_of suite (keys_for h leg.holder)
   pub one_each : OnePerSuite (keys_for h leg.holder)
+  pub counted : IsCounted h leg.holder leg.counts
 
 -- no two of these legs are the same, or stand on one side of one section
 pub record AreApart {O : Type 0} (those : List (Leg O)) : Type 0 where
@@ -141,17 +169,8 @@ receipt_of number packet buf =
 abbrev pub relay_entry : ℕ → Receipt → Bool → Deed → CellEntry
 relay_entry moment p ok d = record { moment = moment; event = Relay (record { packet = p; sent_ok = ok; deed = d }) }
 
--- the leg by which a packet leaves
-abbrev pub opposite_of : List CellEntry → Option Holder → Option Holder
-opposite_of h None = None
-opposite_of h (Some leg) = opposite h leg
-
-abbrev pub is_leaving : Option Holder → Holder → Bool
-is_leaving None leg = false
-is_leaving (Some other) leg = same_leg other leg
-
 -- what a leg's ends send: nothing, or once by the end of a half
-abbrev pub EndsFor : {O : Type 0} → (O → Option (List OutCall)) → (O → ℕ) → Bool → Option Sending → Bool → parts.Sending O → parts.Sending O → Type 0
+abbrev pub EndsFor : {O : Type 0} → (O → EndTold OutCall) → (O → ℕ) → Bool → Option Sending → Bool → parts.Sending O → parts.Sending O → Type 0
 EndsFor told faults leaves None ok old new = (new.rtp ≡ old.rtp) × (new.rtcp ≡ old.rtcp)
 EndsFor told faults false (Some w) ok old new = (new.rtp ≡ old.rtp) × (new.rtcp ≡ old.rtcp)
 EndsFor told faults true (Some w) ok old new = SendsBy told faults w.half w.to w.bytes ok old new
@@ -162,7 +181,7 @@ FrontIs (outcomes.Sent port to len) (Some w) buf = take len buf ≡ w.bytes
 FrontIs _ _ buf = Unit {0}
 
 -- what a relay that does this does to the legs after a history since the last End
-pub record LegsDo {O : Type 0} (told : O → Option (List OutCall)) (faults : O → ℕ) (config : Config) (h : List CellEntry) (p : Receipt)
+pub record LegsDo {O : Type 0} (told : O → EndTold OutCall) (faults : O → ℕ) (config : Config) (h : List CellEntry) (p : Receipt)
     (old new : List (Leg O)) (buf : List ℕ) (result : Outcome) (d : Deed) : Type 0 where
   pub outcome : result ≡ d.outcome
   pub front : FrontIs result d.sending buf
@@ -172,7 +191,7 @@ pub record LegsDo {O : Type 0} (told : O → Option (List OutCall)) (faults : O 
       (sent_ok result) (slice_index_or old i x).sending (slice_index_or new i x).sending
 
 -- a relay does what the history demands, with that answer of its send
-abbrev pub LegsRelay : {O : Type 0} → (O → Option (List OutCall)) → (O → ℕ) → Config → List CellEntry → Receipt → List (Leg O) → List (Leg O)
+abbrev pub LegsRelay : {O : Type 0} → (O → EndTold OutCall) → (O → ℕ) → Config → List CellEntry → Receipt → List (Leg O) → List (Leg O)
     → List ℕ → Outcome → Type 0
 LegsRelay told faults config h p old new buf result =
     LegsDo told faults config h p old new buf result (deed config h p (sent_ok result))

@@ -2,6 +2,7 @@ ghost use Rattle.std.specs.Prelude.{ℕ, ◌≡◌, ◌≤◌, ◌<◌, ◌+◌,
 ghost use Rattle.relay_outside.specs.declared.settings.Config.{Config};
 ghost use Rattle.histories.specs.Words.{or_else};
 ghost use Rattle.call_cell.specs.Cells.{CellEntry, since_end, is_accepted};
+ghost use Rattle.call_cell.specs.Asked.{CountsBelow};
 ghost use Rattle.call_cell.specs.Standing.{LegsFor, LegsRelay, receipt_of};
 ghost use Rattle.call_cell.specs.Committing.{LegCommitsBy, LegsCommit, contexts_due, needs_contexts, said_of};
 ghost use Rattle.call_cell.specs.Expiring.{is_ago};
@@ -13,8 +14,9 @@ use crate::leg::{Leg, place_of, place_of_opposite};
 use crate::outcome::{Incoming, Lost, Outcome, Refused};
 use crate::parting::part;
 use crate::prepare::Prepare;
+use crate::reading::tell_legs;
 use crate::signals::{rejected, said_of};
-use port_pool::Signal;
+use port_pool::{LegReports, Signal};
 use relay_outside::{Config, OutEnd};
 use std::alloc::Global;
 
@@ -139,6 +141,7 @@ impl<O: OutEnd> Cell<O> {
     ghost use Rattle.port_pool.specs.Signals.{NewKey};
     ghost use Rattle.call_cell.specs.Committing.{CellCommits, NamesKeys};
     ghost use Rattle.call_cell.specs.Expiring.{CellExpires};
+    ghost use Rattle.call_cell.specs.Reading.{CellReads};
     ghost use Rattle.call_cell.specs.Preparing.{IsReady, FitsPlaces, PrepareFor, CanCome, CellPrepares};
 
     /// An empty cell, which takes no memory.
@@ -217,6 +220,15 @@ impl<O: OutEnd> Cell<O> {
     {
         self.moment = self.moment.max(now);
         self.is_due()
+    }
+
+    /// Replaces the list by a report of each leg of a committed section, by section and then side A first. The counts are of
+    /// the packets since the leg came; from 2^64 - 1 on a count stands still.
+    pub fn read_legs(&self, out: &mut LegReports)
+        ensures { (config : Config) (h : List CellEntry) → CellFor config self.now h → CountsBelow (since_end h) → CellReads config self.now h out.new }
+    {
+        out.clear();
+        tell_legs(self.legs.as_slice(), out);
     }
 
     /// Ends the call: all its legs go to `gone`, which is empty. It takes no memory.

@@ -8,6 +8,7 @@ ghost use Rattle.call_cell.specs.declared.cell.Cell.{Cell};
 ghost use Rattle.call_cell.specs.Cells.{CellEntry, Receipt, Shield, since_end, key_numbered};
 ghost use Rattle.call_cell.specs.Keyed.{protected};
 ghost use Rattle.call_cell.specs.Deeds.{deed};
+ghost use Rattle.call_cell.specs.Asked.{CountsBelow};
 ghost use Rattle.call_cell.specs.Good.{GoodCell};
 ghost use Rattle.call_cell.specs.Lasting.{kept};
 ghost use Rattle.call_cell.specs.CellStanding.{CellFor};
@@ -45,6 +46,13 @@ pub fn offers_come_after_each_history<O>()
 pub fn answers_name_keys_after_each_history<O>()
     ensures { (config : Config) (cell : Cell O) (h k : List CellEntry) (signal : List SectionSignal) →
         CellFor config cell h → CellFor config cell k → NamesKeys (since_end h) signal → NamesKeys (since_end k) signal }
+{}
+
+/// A law, and no work: where the counts are below 2^63 after one history for which a cell stands, they are so after each other
+/// one.
+pub fn counts_are_below_after_each_history<O>()
+    ensures { (config : Config) (cell : Cell O) (h k : List CellEntry) →
+        CellFor config cell h → CellFor config cell k → CountsBelow (since_end h) → CountsBelow (since_end k) }
 {}
 
 /// A law, and no work: after two histories with the same offers, answers and ends, whatever packets were relayed between them,

@@ -10,12 +10,13 @@ ghost use Rattle.call_cell.specs.Standing.{port_by, outcome_of};
 ghost use Rattle.call_cell.specs.Ending.{parts_of};
 
 use crate::contexts::Outbound;
+use crate::counts::Counts;
 use crate::in_contexts::InContexts;
 use crate::outcome::{Lost, Outcome, Refused};
 use crate::receiving::Receiving;
 use crate::sending::Sending;
 use crate::signals::address;
-use port_pool::{Holder, Lease, LegSignal, Side};
+use port_pool::{Holder, Lease, LegReport, LegSignal, Side};
 use relay_outside::{Addr, OutEnd};
 use rtp_packet::Half;
 use sdes_lines::Suite;
@@ -33,6 +34,8 @@ pub(crate) struct Leg<O> {
     receiving: Receiving,
     /// By what it sends.
     sending: Sending<O>,
+    /// How many packets it accepted and sent.
+    counts: Counts,
 }
 
 /// Whether these are the same leg, in the same lease of its pair.
@@ -97,8 +100,9 @@ fn outcome_of(port: u16, to: Addr, sent: Result<usize, Lost>) -> Outcome
 
 impl<O> Leg<O> {
     ghost use Rattle.call_cell.specs.Preparing.{IsFresh};
+    ghost use Rattle.call_cell.specs.Reading.{told_by};
 
-    /// A leg that was answered by none, has received nothing and has no key.
+    /// A leg that was answered by none, has received and sent nothing and has no key.
     pub(crate) fn new(holder: Holder, lease: Lease, rtp: O, rtcp: O) -> Leg<O>
         requires pair { lease.pair ≡ holder.pair }
         requires generation { lease.generation ≡ holder.generation }
@@ -112,6 +116,7 @@ impl<O> Leg<O> {
             signal: None,
             receiving: Receiving::new(),
             sending: Sending::new(rtp, rtcp),
+            counts: Counts::new(),
         }
     }
 
@@ -125,9 +130,29 @@ impl<O> Leg<O> {
             signal: _,
             receiving: _,
             sending,
+            counts: _,
         } = self;
         let (rtp, rtcp) = sending.into_ends();
         (lease, rtp, rtcp)
+    }
+
+    /// What is told of the leg, where it is committed.
+    pub(crate) fn report(&self) -> Option<LegReport>
+        ensures { result ≡ told_by self.now }
+    {
+        let Some(signal) = self.signal else {
+            return None;
+        };
+        Some(LegReport {
+            section: self.holder.section,
+            side: self.holder.side,
+            port: self.lease.rtp_port(),
+            endpoint: endpoint_by(&signal, self.receiving.learned(Half::Rtp), Half::Rtp),
+            rtp_accepted: self.counts.rtp_accepted,
+            rtp_sent: self.counts.rtp_sent,
+            rtcp_accepted: self.counts.rtcp_accepted,
+            rtcp_sent: self.counts.rtcp_sent,
+        })
     }
 }
 
@@ -158,8 +183,8 @@ impl<O: OutEnd> Leg<O> {
     ghost use Rattle.call_cell.specs.Parts.{ReceivingFor, SendingFor, HasNamed, SameNumbers, learned_in};
     ghost use Rattle.call_cell.specs.Standing.{inbound_of, outbound_of, LegAccepts, LegForwardsBy};
 
-    /// Judges the packet in the buffer's first `len` bytes, which the leg received, opens it in place and learns its source.
-    /// Answers the plain packet's length. After a refusal nothing has changed.
+    /// Judges the packet in the buffer's first `len` bytes, which the leg received, opens it in place, learns its source and
+    /// counts it. Answers the plain packet's length. After a refusal nothing has changed.
     pub(crate) fn accept(
         &mut self,
         half: Half,
@@ -175,10 +200,17 @@ impl<O: OutEnd> Leg<O> {
         let Some(signal) = self.signal else {
             return Err(Refused::NotAnswered);
         };
-        self.receiving.accept(&signal, half, source, buf, len)
+        match self.receiving.accept(&signal, half, source, buf, len) {
+            Err(cause) => Err(cause),
+            Ok(size) => {
+                self.counts.accept(half);
+                Ok(size)
+            }
+        }
     }
 
-    /// Sends the plain packet in the buffer's first `len` bytes to the leg's side, protected under the key in force.
+    /// Sends the plain packet in the buffer's first `len` bytes to the leg's side, protected under the key in force, and counts
+    /// it where it was sent.
     pub(crate) fn forward(&mut self, half: Half, buf: &mut [u8; 2064], len: usize) -> Outcome
         requires held { len ≤ 2000 }
         ensures numbers { SameNumbers self.old.sending self.new.sending }
@@ -192,6 +224,7 @@ impl<O: OutEnd> Leg<O> {
         let to = endpoint_by(&signal, self.receiving.learned(half), half);
         let port = port_by(half, self.lease.rtp_port());
         let sent = self.sending.forward(&signal, half, port, to, buf, len);
+        self.counts.finish(half, &sent);
         outcome_of(port, to, sent)
     }
 }

@@ -1,24 +1,27 @@
 //! The state of one call's media: which packets are taken, where they go, and under which keys.
 //!
 //! Module `cell` has the cell, `leg` one leg of its call, which `receiving` packets keeps learned sources and the contexts of
-//! `contexts`, and by `sending` sends; `gone` takes the legs that went. An offer is collected by `prepare`, and `joining` brings
-//! its legs and keys to those that are there; `in_contexts` is room for what an answer brings, `signals` reads what it says, and
-//! `parting` parts the legs that go from those that stay. Module `outcome` says what becomes of a packet that a leg received,
-//! `law` that no packet is protected under an index that another had, and what a caller knows of a cell by its history; that
-//! what it knows of one history holds of each for which the cell stands.
+//! `contexts`, and by `sending` sends; `counts` counts its packets, and `reading` tells of the legs that are committed; `gone`
+//! takes the legs that went. An offer is collected by `prepare`, and `joining` brings its legs and keys to those that are there;
+//! `in_contexts` is room for what an answer brings, `signals` reads what it says, and `parting` parts the legs that go from those
+//! that stay. Module `outcome` says what becomes of a packet that a leg received, `law` that no packet is protected under an index
+//! that another had, and what a caller knows of a cell by its history; that what it knows of one history holds of each for which
+//! the cell stands.
 //!
 //! `specs/Cells.antt` has the history of a cell and its legs, `specs/Learning.antt` where packets go, `specs/Keyed.antt` what is
 //! taken and sent under a key, `specs/Deeds.antt` what a relay does, `specs/Asked.antt` when a call is due to end and what is
 //! told of its legs, `specs/Good.antt` which histories fit, `specs/Lasting.antt` on which entries legs and keys hang, and
 //! `specs/Numbers.antt` that each key has a number of its own. `specs/CellStanding.antt` says for which histories a cell stands and
 //! what a relay does to it, `specs/Preparing.antt`, `specs/Committing.antt`, `specs/Expiring.antt` and `specs/Ending.antt` the
-//! same of offers, answers, the question whether the call is due, and its end; they stand over `specs/Standing.antt` for legs,
-//! `specs/LegKeys.antt` for their keys, `specs/Parting.antt` for legs that go, `specs/Parts.antt` for the parts of a leg and
-//! `specs/Contexts.antt` for the contexts of one key. `proofs/rows` has worked examples.
+//! same of offers, answers, the question whether the call is due, and its end, `specs/Reading.antt` of reports; they stand over
+//! `specs/Standing.antt` for legs, `specs/LegKeys.antt` for their keys, `specs/Counting.antt` for their counts,
+//! `specs/Parting.antt` for legs that go, `specs/Parts.antt` for the parts of a leg and `specs/Contexts.antt` for the contexts of
+//! one key. `proofs/rows` has worked examples.
 #![tactic(auto)]
 
 mod cell;
 mod contexts;
+mod counts;
 mod gone;
 mod in_contexts;
 mod joining;
@@ -27,6 +30,7 @@ mod leg;
 mod outcome;
 mod parting;
 mod prepare;
+mod reading;
 mod receiving;
 mod sending;
 mod signals;
@@ -35,8 +39,10 @@ pub use cell::Cell;
 pub use gone::Gone;
 pub use in_contexts::InContexts;
 pub use law::{
-    answers_name_keys_after_each_history, contexts_are_counted, legs_find_places, notes_are_new,
+    answers_name_keys_after_each_history, contexts_are_counted,
+    counts_are_below_after_each_history, legs_find_places, notes_are_new,
     offers_come_after_each_history, packets_change_no_condition,
 };
 pub use outcome::{Incoming, Lost, Outcome, Refused};
+pub use port_pool::{LegReport, LegReports};
 pub use prepare::Prepare;

@@ -1,5 +1,5 @@
 -- What the outside gave, by what the devices told.
-use Rattle.std.proofs.Common.{◌≡◌, ◌∙◌, refl, sym, subst, ℕ, zero, suc, Bool, true, false, List, [], ◌∷◌, ◌++◌, Option, map, replicate, append-nil}
+use Rattle.std.proofs.Common.{◌≡◌, ◌∙◌, refl, sym, subst, ℕ, zero, suc, Bool, true, false, List, [], ◌∷◌, ◌++◌, Option, Some, None, map, replicate, append-nil}
 use Rattle.histories.specs.Words.{In, here, there}
 use Rattle.histories.proofs.Lists.{in_nothing}
 use Rattle.relay_outside.specs.declared.keys.KeyCall.{KeyCall}
@@ -8,12 +8,13 @@ use Rattle.relay_outside.specs.declared.ports.PortCall.{PortCall}
 use Rattle.relay_outside.specs.declared.settings.Config.{Config}
 use Rattle.relay_outside.specs.Told.{Rose, Gained}
 use Rattle.relay_outside.proofs.Telling.{gained_none, gained_less}
+use Rattle.port_pool.specs.declared.reports.LegReport.{LegReport}
 use Rattle.media_ports.specs.Asked.{OpensNone, OpensAt}
 use Rattle.media_ports.proofs.Asked.{gained_no_opening, opens_none_at}
 use Rattle.media_ports.specs.Draws.{KeyBytes, DrawsAll, DrawsUpTo}
 use Rattle.control_entries.specs.declared.gave.Gave.{Gave}
-use Rattle.control_entries.specs.declared.gave.Gave.TheVariants.{Nothing, Starved, PortFault, KeyFault, Offered}
-use Rattle.control_entries.specs.Giving.{given_so, given_by, IsUnasked, IsGivenBy}
+use Rattle.control_entries.specs.declared.gave.Gave.TheVariants.{Nothing, Starved, PortFault, KeyFault, Offered, Report, ReportStarved}
+use Rattle.control_entries.specs.Giving.{given_by, IsUnasked, IsGivenBy}
 
 -- where all ports were opened, none failed
 none_failed : (opened : ℕ) → In false (replicate opened true) → ⊥
@@ -21,9 +22,9 @@ none_failed zero i = in_nothing i
 none_failed (suc opened) (here e) = let k : false ≡ true = e in cc
 none_failed (suc opened) (there i) = none_failed opened i
 
-nothing_given : (config : Config) (free : List ℕ) (starved : Bool) (ports ports_now keys keys_now : ℕ) (opened opened_now : Option (List PortCall)) (drew : Option (List KeyCall))
-    → Gained opened opened_now OpensNone → IsGivenBy config free (given_so starved [] [] false) ports ports_now keys keys_now opened opened_now drew drew
-nothing_given config free starved ports ports_now keys keys_now opened opened_now drew closes = record {
+nothing_given : (config : Config) (free : List ℕ) (starved : Bool) (report : Option (List LegReport)) (ports ports_now keys keys_now : ℕ) (opened opened_now : Option (List PortCall)) (drew : Option (List KeyCall))
+    → Gained opened opened_now OpensNone → IsGivenBy config free (record { starved = starved; opens = []; draws = []; draw_failed = false; report = report }) ports ports_now keys keys_now opened opened_now drew drew
+nothing_given config free starved report ports ports_now keys keys_now opened opened_now drew closes = record {
   port_fault = λ i. absurd (in_nothing i);
   key_fault = λ t. absurd (let k : false ≡ true = t in cc);
   opens = gained_less opened opened_now OpensNone (OpensAt config free []) (opens_none_at config free) closes;
@@ -33,11 +34,13 @@ nothing_given config free starved ports ports_now keys keys_now opened opened_no
 -- nothing was asked: the port maker was at most asked to close, and the key source's list stands as it was, whatever the counts are
 pub closing_given : (config : Config) (free : List ℕ) (gave : Gave) (ports ports_now keys keys_now : ℕ) (opened opened_now : Option (List PortCall)) (drew : Option (List KeyCall))
     → Gained opened opened_now OpensNone → IsUnasked gave → IsGivenBy config free (given_by gave) ports ports_now keys keys_now opened opened_now drew drew
-closing_given config free Nothing ports ports_now keys keys_now opened opened_now drew closes unasked = nothing_given config free false ports ports_now keys keys_now opened opened_now drew closes
-closing_given config free Starved ports ports_now keys keys_now opened opened_now drew closes unasked = nothing_given config free true ports ports_now keys keys_now opened opened_now drew closes
+closing_given config free Nothing ports ports_now keys keys_now opened opened_now drew closes unasked = nothing_given config free false None ports ports_now keys keys_now opened opened_now drew closes
+closing_given config free Starved ports ports_now keys keys_now opened opened_now drew closes unasked = nothing_given config free true None ports ports_now keys keys_now opened opened_now drew closes
 closing_given config free (PortFault count) ports ports_now keys keys_now opened opened_now drew closes unasked = absurd unasked
 closing_given config free (KeyFault count drawn) ports ports_now keys keys_now opened opened_now drew closes unasked = absurd unasked
 closing_given config free (Offered count drawn) ports ports_now keys keys_now opened opened_now drew closes unasked = absurd unasked
+closing_given config free (Report told) ports ports_now keys keys_now opened opened_now drew closes unasked = nothing_given config free false (Some told) ports ports_now keys keys_now opened opened_now drew closes
+closing_given config free (ReportStarved told) ports ports_now keys keys_now opened opened_now drew closes unasked = nothing_given config free true (Some told) ports ports_now keys keys_now opened opened_now drew closes
 
 -- no port was closed either
 pub unasked_given : (config : Config) (free : List ℕ) (gave : Gave) (ports ports_now keys keys_now : ℕ) (opened : Option (List PortCall)) (drew : Option (List KeyCall)) → IsUnasked gave

@@ -1,18 +1,23 @@
 -- What the outside gave in the turn of a datagram, as the run tells it.
-use Rattle.std.specs.Prelude.{◌≡◌, ℕ, Bool, true, false, List, [], ◌∷◌, ◌++◌, Option, None, replicate, map, if◌then◌else◌}
+use Rattle.std.specs.Prelude.{◌≡◌, ℕ, Bool, true, false, List, [], ◌∷◌, ◌++◌, Option, Some, None, replicate, map, if◌then◌else◌}
 use Rattle.histories.specs.Words.{In}
 use Rattle.relay_outside.specs.declared.keys.KeyCall.{KeyCall}
 use Rattle.relay_outside.specs.declared.keys.KeyCall.TheVariants as key
 use Rattle.relay_outside.specs.declared.ports.PortCall.{PortCall}
 use Rattle.relay_outside.specs.declared.settings.Config.{Config}
 use Rattle.relay_outside.specs.Told.{Rose, Gained}
+use Rattle.port_pool.specs.declared.reports.LegReport.{LegReport}
 use Rattle.call_board.specs.Acts.{Given}
 use Rattle.media_ports.specs.Asked.{OpensAt}
 use Rattle.control_entries.specs.declared.gave.Gave.{Gave}
-use Rattle.control_entries.specs.declared.gave.Gave.TheVariants.{Nothing, Starved, PortFault, KeyFault, Offered}
+use Rattle.control_entries.specs.declared.gave.Gave.TheVariants.{Nothing, Starved, PortFault, KeyFault, Offered, Report, ReportStarved}
 
 abbrev pub given_so : Bool → List Bool → List (List ℕ) → Bool → Given
 given_so starved opens draws failed = record { starved = starved; opens = opens; draws = draws; draw_failed = failed; report = None }
+
+-- a call was read, and nothing else was asked
+abbrev pub given_report : Bool → List LegReport → Given
+given_report starved told = record { starved = starved; opens = []; draws = []; draw_failed = false; report = Some told }
 
 abbrev pub given_by : Gave → Given
 given_by Nothing = given_so false [] [] false
@@ -20,14 +25,18 @@ given_by Starved = given_so true [] [] false
 given_by (PortFault opened) = given_so false (replicate opened true ++ false ∷ []) [] false
 given_by (KeyFault opened drawn) = given_so false (replicate opened true) drawn.list true
 given_by (Offered opened drawn) = given_so false (replicate opened true) drawn.list false
+given_by (Report told) = given_report false told
+given_by (ReportStarved told) = given_report true told
 
--- nothing was asked of the outside
+-- no port was asked for, and no key
 abbrev pub IsUnasked : Gave → Type 0
 IsUnasked Nothing = Unit {0}
 IsUnasked Starved = Unit {0}
 IsUnasked (PortFault opened) = ⊥
 IsUnasked (KeyFault opened drawn) = ⊥
 IsUnasked (Offered opened drawn) = ⊥
+IsUnasked (Report told) = Unit {0}
+IsUnasked (ReportStarved told) = Unit {0}
 
 -- the calls of a key source whose draws gave these keys, and then failed or not
 abbrev pub draws_of : Given → List KeyCall

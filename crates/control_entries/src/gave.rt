@@ -1,6 +1,7 @@
 //! What the outside gave in the turn of a datagram.
 
 use media_ports::DrawnList;
+use port_pool::LegReports;
 
 /// What the outside gave in the turn of a datagram. The board's entry records it: a proof takes it from here.
 #[derive(Drop)]
@@ -15,4 +16,8 @@ pub enum Gave {
     KeyFault(usize, DrawnList),
     /// So many ports were opened, and these keys drawn.
     Offered(usize, DrawnList),
+    /// The call that was asked after was read: these are the reports of its legs.
+    Report(LegReports),
+    /// The call was read, and then memory was short.
+    ReportStarved(LegReports),
 }

@@ -7,7 +7,7 @@ use Rattle.ng_command.specs.Said.{Said, Ping, Offer, Answer, Delete, Query, List
 use Rattle.ng_command.specs.Reading.{told}
 use Rattle.ng_command.specs.declared.fault.CommandFault.{CommandFault}
 use Rattle.ng_command.proofs.Sizes.{told_within}
-use Rattle.call_board.specs.Asked.{Reads, built, or_code, command_in}
+use Rattle.call_board.specs.Asked.{Reads, or_code, command_in}
 use Rattle.control_reading.specs.Bodies.{description_in}
 
 described : (pairs : Entries) (says : Said) → told pairs ≡ Ok says → length (description_in says) ≤ length (entry_spellings pairs)
@@ -18,17 +18,8 @@ described pairs (Delete call_id from_tag fatal) e = omega arith
 described pairs (Query call_id) e = omega arith
 described pairs (Listing limit) e = omega arith
 
--- a command that is answered is the one that was told
-built_back : (other says : Said) → built other ≡ Ok says → other ≡ says
-built_back Ping says e = let f = e in cc
-built_back (Offer call_id from_tag sdp options) says e = let f = e in cc
-built_back (Answer call_id from_tag to_tag sdp options) says e = let f = e in cc
-built_back (Delete call_id from_tag fatal) says e = let f = e in cc
-built_back (Query call_id) says e = absurd (let f = e in cc)
-built_back (Listing limit) says e = absurd (let f = e in cc)
-
 told_back : (r : Result Said CommandFault) (says : Said) → or_code r ≡ Ok says → r ≡ Ok says
-told_back (Ok other) says e = ap (λ (x : Said). Ok x) (built_back other says e)
+told_back (Ok other) says e = let f = e in cc
 told_back (Err fault) says e = absurd (let f = e in cc)
 
 -- the description of a body's command is no longer than the body

@@ -5,7 +5,7 @@ ghost use Rattle.ng_bencode.specs.Row.{list_in};
 ghost use Rattle.ng_bencode.specs.Tree.{Dict, Entries, tree_of, pairs_of};
 ghost use Rattle.ng_command.specs.Said.{said};
 ghost use Rattle.ng_command.specs.Reading.{told};
-ghost use Rattle.call_board.specs.Asked.{Reads, built, code_of, or_code, command_in};
+ghost use Rattle.call_board.specs.Asked.{Reads, code_of, or_code, command_in};
 ghost use Rattle.control_reading.specs.Bodies.{pairs_if, pairs_in, said_by, description_in};
 
 use ng_bencode::{Bad, Pairs, Value, decode};
@@ -60,25 +60,12 @@ fn dictionary_in(alloc: Global, body: &[u8]) -> Result<Option<Pairs>, OutOfMemor
     }
 }
 
-/// The command, where it is one that is answered: a query and a list are none yet.
-fn answered(command: Command) -> Result<Command, ErrorCode>
-    ensures { built (said command) ≡ said_by result }
-{
-    match command {
-        Command::Ping => Ok(Command::Ping),
-        Command::Offer(input) => Ok(Command::Offer(input)),
-        Command::Answer(input) => Ok(Command::Answer(input)),
-        Command::Delete(input) => Ok(Command::Delete(input)),
-        Command::Query(_) | Command::List(_) => Err(ErrorCode::E3),
-    }
-}
-
 /// The command that a dictionary says, or the first error in its place.
 fn command_of(alloc: Global, pairs: &Pairs) -> Result<Result<Command, ErrorCode>, OutOfMemory>
     ensures { IfOk result (λ command. or_code (told (pairs_of (list_in pairs.now))) ≡ said_by command) }
 {
     match read_pairs(alloc, pairs) {
-        Ok(command) => Ok(answered(command)),
+        Ok(command) => Ok(Ok(command)),
         Err(CommandFault::OutOfMemory) => Err(OutOfMemory),
         Err(fault) => Ok(Err(code_of(fault))),
     }

@@ -6,7 +6,8 @@ use Rattle.ng_bencode.specs.Room.{Room}
 use Rattle.ng_bencode.specs.Spells.{spelling}
 use Rattle.ng_reply.specs.Replies as bare
 use Rattle.ng_reply.specs.declared.code.ErrorCode.{ErrorCode}
-use Rattle.call_board.specs.Replies.{Pong, Done, Warned, Described, Fault, reply_text, reply_datagram}
+use Rattle.call_board.specs.Replies.{Pong, Done, Warned, Described, Reported, Listed, Fault, reply_text, reply_datagram}
+use Rattle.call_board.specs.Reports.{Report, report_tree, listing_tree}
 
 pub pong_is : (config : Config) (cookie : List ℕ) → cookie ++ 32 ∷ spelling bare.pong_reply ≡ reply_datagram config cookie Pong
 unfolding reply_text
@@ -19,6 +20,14 @@ done_is config cookie = refl
 pub warned_is : (config : Config) (cookie : List ℕ) (code : ErrorCode) → cookie ++ 32 ∷ spelling (bare.warning_reply code) ≡ reply_datagram config cookie (Warned code)
 unfolding reply_text
 warned_is config cookie code = refl
+
+pub reported_is : (config : Config) (cookie : List ℕ) (told : Report) → cookie ++ 32 ∷ spelling (report_tree config told) ≡ reply_datagram config cookie (Reported told)
+unfolding reply_text
+reported_is config cookie told = refl
+
+pub listed_is : (config : Config) (cookie : List ℕ) (ids : List (List ℕ)) → cookie ++ 32 ∷ spelling (listing_tree ids) ≡ reply_datagram config cookie (Listed ids)
+unfolding reply_text
+listed_is config cookie ids = refl
 
 pub described_is : (config : Config) (cookie sdp : List ℕ) → cookie ++ 32 ∷ spelling (bare.sdp_reply sdp) ≡ reply_datagram config cookie (Described sdp)
 unfolding reply_text

@@ -1,6 +1,6 @@
 //! The datagrams by which control datagrams are answered: a cookie, a space, a reply.
 //!
-//! Module `short` makes the datagrams of replies that carry no description. `room` takes the memory for a reply before
+//! Module `short` makes the datagrams of replies that carry no description, that of any value among them. `room` takes the memory for a reply before
 //! it is known which one it is, and writes one into it without taking any. The datagrams are
 //! `reply_datagram` of `call_board`'s `specs/Replies.antt`; `specs/Rooms.antt` says what room for a reply is.
 #![tactic(auto)]
@@ -9,4 +9,4 @@ mod room;
 mod short;
 
 pub use room::{reply_room, write_described, write_error};
-pub use short::{done_datagram, error_datagram, pong_datagram, warned_datagram};
+pub use short::{done_datagram, error_datagram, pong_datagram, value_datagram, warned_datagram};

@@ -19,7 +19,7 @@ pub fn pong_datagram(alloc: Global, cookie: &[u8]) -> Result<Text, OutOfMemory>
     let Ok(value) = pong(alloc) else {
         return Err(OutOfMemory);
     };
-    spelled(alloc, cookie, &value)
+    value_datagram(alloc, cookie, &value)
 }
 
 /// The datagram of success, and nothing else. `Err` is want of memory.
@@ -29,7 +29,7 @@ pub fn done_datagram(alloc: Global, cookie: &[u8]) -> Result<Text, OutOfMemory>
     let Ok(value) = done(alloc) else {
         return Err(OutOfMemory);
     };
-    spelled(alloc, cookie, &value)
+    value_datagram(alloc, cookie, &value)
 }
 
 /// The datagram of success with the text of an error as a warning. `Err` is want of memory.
@@ -39,7 +39,7 @@ pub fn warned_datagram(alloc: Global, cookie: &[u8], code: ErrorCode) -> Result<
     let Ok(value) = warned(alloc, code) else {
         return Err(OutOfMemory);
     };
-    spelled(alloc, cookie, &value)
+    value_datagram(alloc, cookie, &value)
 }
 
 /// The datagram of an error. `Err` is want of memory, which `ng_reply::fixed_error` tells without taking any.
@@ -55,8 +55,9 @@ pub fn error_datagram(alloc: Global, cookie: &[u8], code: ErrorCode) -> Result<T
     Ok(datagram)
 }
 
-/// The datagram of a reply that stands as a value.
-fn spelled(alloc: Global, cookie: &[u8], value: &Value) -> Result<Text, OutOfMemory>
+/// The datagram of a reply that stands as a value, in which at most 16 lists and dictionaries stand in one another: the cookie, a
+/// space, and what spells the value. `Err` is want of memory.
+pub fn value_datagram(alloc: Global, cookie: &[u8], value: &Value) -> Result<Text, OutOfMemory>
     requires { depth (tree_of value.now) ≤ 16 }
     ensures { IfOk result (λ text. text.list ≡ cookie.now ++ 32 ∷ spelling (tree_of value.now)) }
 {

@@ -1,7 +1,7 @@
--- Commands that are carried out here: those that fail before they are known, and pings.
-use Rattle.std.proofs.Common.{◌≡◌, ◌≤◌, ◌∙◌, refl, sym, subst, ℕ, Bool, true, false, List, ◌∷◌, ◌++◌, length, length-append, Option, Ok, Err, arith}
+-- Commands that owe nothing: those that fail before they are known, pings and lists.
+use Rattle.std.proofs.Common.{◌≡◌, ◌≤◌, ◌∙◌, refl, sym, subst, ℕ, Bool, true, false, List, [], ◌∷◌, ◌++◌, map, length, length-append, Option, Ok, Err, ap, arith}
 use Rattle.std.proofs.lemmas.Bool.Decides.{nat_tests}
-use Rattle.std.specs.Prelude.{nat_lt}
+use Rattle.std.specs.Prelude.{nat_lt, take}
 use Rattle.relay_outside.specs.declared.ports.PortCall.{PortCall}
 use Rattle.relay_outside.specs.declared.settings.Config.{Config}
 use Rattle.turn_table.specs.declared.hands.Turns.{Turns}
@@ -12,11 +12,14 @@ use Rattle.ng_reply.specs.declared.code.ErrorCode.{ErrorCode}
 use Rattle.sdes_lines.specs.declared.crypto_line.CryptoLine.{CryptoLine}
 use Rattle.call_board.specs.declared.board.Board.{Board}
 use Rattle.call_board.specs.Acts as act
+use Rattle.call_board.specs.Acts.{Call, BoardEntry}
 use Rattle.call_board.specs.Asked.{Reads, command_in}
+use Rattle.call_board.specs.Boards.{Shows}
+use Rattle.call_board.specs.Calls.{live}
 use Rattle.call_board.specs.Fits.{Hears}
-use Rattle.call_board.specs.Replies.{Fault, Pong, reply_datagram}
-use Rattle.call_board.proofs.Built.{asks_no_query, asks_no_list}
-use Rattle.call_board.proofs.Done.{with_reply, failed_due, ping_due}
+use Rattle.call_board.specs.Replies.{Fault, Pong, Listed, reply_datagram}
+use Rattle.call_board.specs.Views.{View, CallView, call_view, view_of, at_moment}
+use Rattle.call_board.proofs.Done.{with_reply, failed_due, ping_due, listed_due}
 use Rattle.relay_core.specs.declared.part.Part.{Part}
 use Rattle.relay_core.specs.Entries.{board_history}
 use Rattle.relay_core.specs.Made.{Made}
@@ -32,13 +35,6 @@ use Rattle.control_entries.specs.Telling.{IsAnew, Tells}
 use Rattle.control_entries.proofs.Asking.{asks_so, asks_faulty}
 use Rattle.control_entries.proofs.Tellings.{tells_carries}
 
--- no dictionary is a query or a list
-pub no_query : (config : Config) (pairs : Option Entries) (id : List ℕ) → command_in false pairs ≡ Ok (said.Query id) → ⊥
-no_query config pairs id is = asks_no_query config false pairs id (asks_so config false pairs (said.Query id) is refl)
-
-pub no_list : (config : Config) (pairs : Option Entries) (limit : ℕ) → command_in false pairs ≡ Ok (said.Listing limit) → ⊥
-no_list config pairs limit is = asks_no_list config false pairs limit (asks_so config false pairs (said.Listing limit) is refl)
-
 not_below : (m n : ℕ) → nat_lt m n ≡ false → n ≤ m
 not_below m n t = grind (arith, nat_tests)
 
@@ -48,6 +44,11 @@ body_short cookie body long is short =
     let whole = length-append cookie (32 ∷ body) in
     let fits = not_below 16384 (length (cookie ++ 32 ∷ body)) (sym is ∙ short) in
     omega (arith, whole, fits)
+
+-- the board keeps the call-ids of the live calls
+call_ids : (h : List BoardEntry) (calls : List Call) → map (λ (c : CallView). c.of.id) (map (call_view h) calls) ≡ map (λ (c : Call). c.id) calls
+call_ids h [] = refl
+call_ids h (c ∷ calls) = ap (λ (ids : List (List ℕ)). c.id ∷ ids) (call_ids h calls)
 
 module _ {M I O T : Type 0} {g : _} where
   -- a datagram that is too long, or whose dictionary or keys are faulty, was answered with its error
@@ -78,3 +79,20 @@ module _ {M I O T : Type 0} {g : _} where
       tells_carries config turns hand nest request pairs chosen (with_reply config c Pong act.Told) done board told turn anew reads
       (ping_due config h nest.moment c (record { nothing_kept = anew.not_kept; not_starved = refl; is_asked = asks_so config request.too_long pairs said.Ping is refl })) refl refl
       (λ heard. absurd (let k : false ≡ true = heard in cc)) tells
+
+  -- a list was answered
+  pub list_carries : (config : Config) (turns : Turns M (Part I O) Made T) (hand : Hand M (Part I O) Made T g) (nest : Nest) (request : Request) (pairs : Option Entries)
+      (limit : ℕ) (done : Done) (board : Board) (told : Option (List PortCall))
+      → InTurn config turns hand nest board told → IsAnew (board_history (made_by hand) nest.number) nest.moment request
+      → (request.too_long ≡ false → Reads request.body.now pairs) → command_in request.too_long pairs ≡ Ok (said.Listing limit)
+      → ((config : Config) (v : View) → Shows config board v → Tells [] (reply_datagram config request.cookie.now (Listed (take limit (map (λ (c : CallView). c.of.id) v.calls)))) done)
+      → Carries config hand hand nest (hearing_by request pairs done) done.reply board told
+  list_carries config turns hand nest request pairs limit done board told turn anew reads is tells =
+      let h = board_history (made_by hand) nest.number in
+      let c = unanswered (hearing_as request pairs [] Nothing) in
+      let ids : List (List ℕ) = take limit (map (λ (call : Call). call.id) (live h)) in
+      tells_carries config turns hand nest request pairs [] (with_reply config c (Listed ids) act.Told) done board told turn anew reads
+      (listed_due config h nest.moment c limit (record { nothing_kept = anew.not_kept; not_starved = refl; is_asked = asks_so config request.too_long pairs (said.Listing limit) is refl })) refl refl
+      (λ heard. absurd (let k : false ≡ true = heard in cc))
+      (subst (λ (names : List (List ℕ)). Tells [] (reply_datagram config request.cookie.now (Listed (take limit names))) done) (call_ids h (live h))
+      (tells config (at_moment (view_of config h) nest.moment) turn.shows))

@@ -4,6 +4,7 @@ use Rattle.relay_outside.specs.declared.ports.InCall.{InCall}
 use Rattle.relay_outside.specs.declared.ports.OutCall.{OutCall}
 use Rattle.relay_outside.specs.declared.ports.PortCall.{PortCall}
 use Rattle.relay_outside.specs.declared.settings.Config.{Config}
+use Rattle.relay_outside.specs.Told.{EndTold}
 use Rattle.turn_table.specs.declared.hands.Turns.{Turns}
 use Rattle.turn_table.specs.declared.hands.Hand.{Hand}
 use Rattle.turn_table.specs.declared.hands.Turn.{Turn}
@@ -31,7 +32,7 @@ use Rattle.control_entries.specs.Controls.{Hearing, control_of, entry_at, moment
 use Rattle.control_turns.specs.Dealing.{Deals, IsTaken, DealsAt}
 
 -- the board that was taken relates to the one that stands for the history with the datagram's entry
-pub control_relates : {I O : Type 0} (it : I → Option (List InCall)) (ic : I → ℕ) (ot : O → Option (List OutCall)) (oc : O → ℕ)
+pub control_relates : {I O : Type 0} (it : I → EndTold InCall) (ic : I → ℕ) (ot : O → EndTold OutCall) (oc : O → ℕ)
     (config : Config) (h again : List BoardEntry) (old new : Part I O) (now : ℕ) (x : Hearing) → again ≡ h → BoardIs config old h
     → FitsBoard config h (entry_at config h (moment_at h now) x) → BoardIs config new (entry_at config h (moment_at h now) x ∷ h)
     → Relates it ic ot oc old (control_made config again now x) new

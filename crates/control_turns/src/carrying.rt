@@ -31,6 +31,7 @@ use offer_answer::Heard;
 use offer_command::offer;
 use relay_core::Relay;
 use relay_outside::{Config, KeySource, PortMaker};
+use report_commands::{list, query};
 use std::alloc::Global;
 use std::sync::Wait;
 use turn_table::{Hand, Turns};
@@ -90,8 +91,8 @@ fn carry_out_command<P: PortMaker, K: KeySource, R: Wait>(
         Command::Delete(input) => delete(
             rt, alloc, turns, hand, config, nest, board, ports, gone, request, input,
         ),
-        Command::Query(_) => unreachable!(),
-        Command::List(_) => unreachable!(),
+        Command::Query(input) => query(rt, alloc, turns, hand, config, nest, board, request, input),
+        Command::List(limit) => list(alloc, board, request, *limit),
     }
 }
 

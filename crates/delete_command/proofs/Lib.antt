@@ -1,5 +1,4 @@
 pub mod Named
-pub mod FoundCalls
 pub mod Missed
 pub mod Deleted
 pub mod Firsts

@@ -3,6 +3,7 @@ use Rattle.std.proofs.Common.{◌≡◌, ◌∙◌, sym, ap, subst, ℕ, ◌≤�
 use Rattle.relay_outside.specs.declared.ports.InCall.{InCall}
 use Rattle.relay_outside.specs.declared.ports.OutCall.{OutCall}
 use Rattle.relay_outside.specs.declared.settings.Config.{Config}
+use Rattle.relay_outside.specs.Told.{EndTold}
 use Rattle.turn_table.specs.declared.hands.Hand.{Hand}
 use Rattle.turn_table.specs.Hands.{view, entries, starts, parts, IsMain}
 use Rattle.call_cell.specs.declared.outcome.Outcome.{Outcome}
@@ -31,7 +32,7 @@ pub of_copy : {T E : Type 0} (copy : Result T E) (list : T → List ℕ) (bytes 
 of_copy (Ok t) list bytes P is p = subst P (sym is) p
 of_copy (Err e) list bytes P is p = tt
 
-module _ {I O : Type 0} (it : I → Option (List InCall)) (ic : I → ℕ) (ot : O → Option (List OutCall)) (oc : O → ℕ) {M : Type 0} {g : _} where
+module _ {I O : Type 0} (it : I → EndTold InCall) (ic : I → ℕ) (ot : O → EndTold OutCall) (oc : O → ℕ) {M : Type 0} {g : _} where
   -- by the only hand
   pub relays_by : (Tried : Type 0) (config : Config) (p : Receipt) (now : ℕ) (outcome : Outcome) (bytes : List ℕ) (old after : Hand M (Part I O) Made (Unit {0}) g) (new : List Entry)
       → AreParts config (starts old) → Numbered (made_by old) → Orderly config (made_by old) → (1 ≤ p.holder.cell) × (p.holder.cell ≤ config.max_sessions) → parts old ≡ 1024

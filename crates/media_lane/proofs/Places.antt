@@ -3,6 +3,7 @@ use Rattle.std.proofs.Common.{◌≡◌, refl, ◌∙◌, ap, subst, ℕ, suc, �
 use Rattle.relay_outside.specs.declared.ports.InCall.{InCall}
 use Rattle.relay_outside.specs.declared.ports.OutCall.{OutCall}
 use Rattle.relay_outside.specs.declared.settings.Config.{Config}
+use Rattle.relay_outside.specs.Told.{EndTold}
 use Rattle.turn_table.specs.declared.machine.Entry as table
 use Rattle.turn_table.specs.declared.view.View.{View}
 use Rattle.turn_table.specs.Histories.{Leaves}
@@ -61,7 +62,7 @@ module _ {I : Type 0} where
     held_by = λ leg q. (let w = held_by box h for (holder_in box) refl leg q in (w.0, let b = w.1 in omega (arith, b, is)));
   }
 
-  box_kept : (it : I → Option (List InCall)) (ic : I → ℕ) (cells : ℕ) (old new : PairBox I) (made : Made) (ev : Event) → BoxSteps it ic old made ev new
+  box_kept : (it : I → EndTold InCall) (ic : I → ℕ) (cells : ℕ) (old new : PairBox I) (made : Made) (ev : Event) → BoxSteps it ic old made ev new
       → HasCells cells old → HasCells cells new
   box_kept it ic cells old new made (Box e) step has =
       let s = stands_for cells old has in
@@ -69,7 +70,7 @@ module _ {I : Type 0} where
   box_kept it ic cells old new made (Cell e) step has = absurd step
   box_kept it ic cells old new made (Board e) step has = absurd step
 
-module _ {I O : Type 0} (it : I → Option (List InCall)) (ic : I → ℕ) (ot : O → Option (List OutCall)) (oc : O → ℕ) where
+module _ {I O : Type 0} (it : I → EndTold InCall) (ic : I → ℕ) (ot : O → EndTold OutCall) (oc : O → ℕ) where
   box_step : (cells : ℕ) (a b : Part I O) (made : Made) → Steps it ic ot oc a made tt b → IsBoxOf cells a → IsBoxOf cells b
   box_step cells (part.Board old) (part.Board new) made step is = is
   box_step cells (part.Cell old) (part.Cell new) made step is = is

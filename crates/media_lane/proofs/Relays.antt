@@ -4,6 +4,7 @@ use Rattle.std.proofs.lemmas.List.{length-take-le, take_at}
 use Rattle.relay_outside.specs.declared.settings.Config.{Config}
 use Rattle.relay_outside.specs.declared.ports.InCall.{InCall}
 use Rattle.relay_outside.specs.declared.ports.OutCall.{OutCall}
+use Rattle.relay_outside.specs.Told.{EndTold}
 use Rattle.turn_table.specs.declared.hands.Hand.{Hand}
 use Rattle.turn_table.specs.Hands.{entries}
 use Rattle.turn_table.specs.Steps.{entry}
@@ -47,14 +48,14 @@ sent_bytes config h p buf (outcomes.Refused cause) is front = refl
 
 -- The step.
 
-pub part_relays : {I O : Type 0} (ot : O → Option (List OutCall)) (oc : O → ℕ) (p q : cells.Receipt) (now : ℕ) (x : Part I O) (old new : cell.Cell O) (buf : List ℕ) (outcome : Outcome)
+pub part_relays : {I O : Type 0} (ot : O → EndTold OutCall) (oc : O → ℕ) (p q : cells.Receipt) (now : ℕ) (x : Part I O) (old new : cell.Cell O) (buf : List ℕ) (outcome : Outcome)
     → x ≡ part.Cell old → q ≡ p → ((config : Config) (h : List CellEntry) → CellFor config old h → CellRelays ot oc config old new h q now buf outcome)
     → RelaysPart ot oc p now x buf outcome (part.Cell new)
 part_relays {I} ot oc p q now x old new buf outcome is same relays =
     subst (λ (y : Part I _). RelaysPart ot oc p now y buf outcome (part.Cell new)) (sym is)
     (λ config h for. subst (λ (r : cells.Receipt). CellRelays ot oc config old new h r now buf outcome) same (relays config h for))
 
-module _ {I O : Type 0} (it : I → Option (List InCall)) (ic : I → ℕ) (ot : O → Option (List OutCall)) (oc : O → ℕ) where
+module _ {I O : Type 0} (it : I → EndTold InCall) (ic : I → ℕ) (ot : O → EndTold OutCall) (oc : O → ℕ) where
   cell_relayed : (p : cells.Receipt) (now : ℕ) (buf : List ℕ) (outcome : Outcome) (old new : cell.Cell O)
       → ((config : Config) (h : List CellEntry) → CellFor config old h → CellRelays ot oc config old new h p now buf outcome)
       → CellRelayed ot oc old (relay_made p now (max now old.moment) outcome) (told_relay p outcome) new

@@ -4,6 +4,7 @@ use Rattle.relay_outside.specs.declared.address.Addr.{Addr}
 use Rattle.relay_outside.specs.declared.settings.Config.{Config}
 use Rattle.relay_outside.specs.declared.ports.InCall.{InCall}
 use Rattle.relay_outside.specs.declared.ports.OutCall.{OutCall}
+use Rattle.relay_outside.specs.Told.{EndTold}
 use Rattle.rtp_packet.specs.declared.head.Half.{Half}
 use Rattle.turn_table.specs.declared.hands.Hand.{Hand}
 use Rattle.turn_table.specs.Hands.{starts, entries, TriedOnce, TriedUntilFree}
@@ -63,7 +64,7 @@ packet_fields number half box.Nothing p is = absurd (let z = is in cc)
 packet_fields number half (box.TooLong source bytes) p is = absurd (let z = is in cc)
 packet_fields number half box.Fault p is = absurd (let z = is in cc)
 
-module _ {I O : Type 0} (it : I → Option (List InCall)) (ic : I → ℕ) (ot : O → Option (List OutCall)) (oc : O → ℕ) where
+module _ {I O : Type 0} (it : I → EndTold InCall) (ic : I → ℕ) (ot : O → EndTold OutCall) (oc : O → ℕ) where
   -- a step that takes from a box
   pub record Took (cells : ℕ) (half : Half) (taken : Taken) (x : Part I O) : Type 0 where
     pub before : PairBox I

@@ -2,13 +2,14 @@
 use Rattle.std.specs.Prelude.{◌≡◌, ◌^◌, ℕ, List, Option}
 use Rattle.relay_outside.specs.declared.ports.InCall.{InCall}
 use Rattle.relay_outside.specs.declared.ports.OutCall.{OutCall}
+use Rattle.relay_outside.specs.Told.{EndTold}
 use Rattle.turn_table.specs.declared.hands.Hand.{Hand}
 use Rattle.turn_table.specs.Hands.{entries, parts, FoundBusy, IsBusy, IsGiven}
 use Rattle.relay_core.specs.declared.part.Part.{Part}
 use Rattle.relay_core.specs.Made.{Made}
 use Rattle.relay_core.specs.Steps.{Relates, IsReserved}
 
-module _ {I O : Type 0} (in_told : I → Option (List InCall)) (in_faults : I → ℕ) (out_told : O → Option (List OutCall)) (out_faults : O → ℕ) where
+module _ {I O : Type 0} (in_told : I → EndTold InCall) (in_faults : I → ℕ) (out_told : O → EndTold OutCall) (out_faults : O → ℕ) where
   -- which steps the machine of the relay may make
   abbrev pub Steps : Part I O → Made → Unit {0} → Part I O → Type 0
   Steps old made outcome new = Relates in_told in_faults out_told out_faults old made new

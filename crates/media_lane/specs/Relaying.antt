@@ -3,6 +3,7 @@ use Rattle.std.specs.Prelude.{◌≡◌, ℕ, List, [], ◌∷◌, ◌++◌, max
 use Rattle.relay_outside.specs.declared.settings.Config.{Config}
 use Rattle.relay_outside.specs.declared.ports.InCall.{InCall}
 use Rattle.relay_outside.specs.declared.ports.OutCall.{OutCall}
+use Rattle.relay_outside.specs.Told.{EndTold}
 use Rattle.turn_table.specs.declared.hands.Hand.{Hand}
 use Rattle.turn_table.specs.Hands.{entries, TriedOnce, TriedUntilFree}
 use Rattle.turn_table.specs.Steps.{entry}
@@ -45,7 +46,7 @@ bytes_left (outcomes.Lost cause) = 0
 bytes_left (outcomes.Refused cause) = 0
 
 -- a relay of this packet in a cell, handed this moment, after which the buffer holds these bytes
-abbrev pub RelaysPart : {I O : Type 0} → (O → Option (List OutCall)) → (O → ℕ) → cells.Receipt → ℕ → Part I O → List ℕ → Outcome → Part I O → Type 0
+abbrev pub RelaysPart : {I O : Type 0} → (O → EndTold OutCall) → (O → ℕ) → cells.Receipt → ℕ → Part I O → List ℕ → Outcome → Part I O → Type 0
 RelaysPart told faults p now (part.Cell old) buf outcome (part.Cell new) =
     (config : Config) (h : List CellEntry) → CellFor config old h → CellRelays told faults config old new h p now buf outcome
 RelaysPart told faults p now _ buf outcome _ = ⊥
@@ -57,7 +58,7 @@ AreSent (outcomes.Sent port to len) (Some w) bytes = bytes ≡ w.bytes
 AreSent (outcomes.Lost cause) sending bytes = bytes ≡ []
 AreSent (outcomes.Refused cause) sending bytes = bytes ≡ []
 
-module _ {I O : Type 0} (in_told : I → Option (List InCall)) (in_faults : I → ℕ) (out_told : O → Option (List OutCall)) (out_faults : O → ℕ) {M : Type 0} {g : _} where
+module _ {I O : Type 0} (in_told : I → EndTold InCall) (in_faults : I → ℕ) (out_told : O → EndTold OutCall) (out_faults : O → ℕ) {M : Type 0} {g : _} where
   -- The hand relayed this packet in its leg's cell, handed this moment, and did nothing else: a step from the state that its turn
   -- gave, which sent these bytes. It tried the marks of places so.
   pub record MakesRelay (Tried : Type 0) (p : cells.Receipt) (now : ℕ) (outcome : Outcome) (bytes : List ℕ) (old new : Hand M (Part I O) Made (Unit {0}) g) : Type 0 where

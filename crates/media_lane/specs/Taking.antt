@@ -4,6 +4,7 @@ use Rattle.relay_outside.specs.declared.address.Addr.{Addr}
 use Rattle.relay_outside.specs.declared.settings.Config.{Config}
 use Rattle.relay_outside.specs.declared.ports.InCall.{InCall}
 use Rattle.relay_outside.specs.declared.ports.OutCall.{OutCall}
+use Rattle.relay_outside.specs.Told.{EndTold}
 use Rattle.rtp_packet.specs.declared.head.Half.{Half}
 use Rattle.turn_table.specs.declared.hands.Hand.{Hand}
 use Rattle.turn_table.specs.Hands.{entries, TriedOnce, TriedUntilFree}
@@ -59,7 +60,7 @@ abbrev pub HasReceipt : Config → List Entry → Received → Type 0
 HasReceipt config l (answer.Got r) = IsReceiptOf config l (pair_of r) (packet_of r)
 HasReceipt config l _ = Unit {0}
 
-module _ {I O : Type 0} (in_told : I → Option (List InCall)) (in_faults : I → ℕ) (out_told : O → Option (List OutCall)) (out_faults : O → ℕ) {M : Type 0} {g : _} where
+module _ {I O : Type 0} (in_told : I → EndTold InCall) (in_faults : I → ℕ) (out_told : O → EndTold OutCall) (out_faults : O → ℕ) {M : Type 0} {g : _} where
   -- The hand made one take of this half at the box of this pair, and nothing else: a step from the state that its turn gave. It tried
   -- the marks of places so.
   pub record MakesTake (Tried : Type 0) (config : Config) (pair : ℕ) (half : Half) (answer : Received) (old new : Hand M (Part I O) Made (Unit {0}) g) : Type 0 where

@@ -12,7 +12,7 @@ use Rattle.relay_outside.specs.declared.ports.OutCall.{OutCall}
 use Rattle.relay_outside.specs.declared.ports.PortCall.{PortCall}
 use Rattle.relay_outside.specs.declared.ports.PortCall.TheVariants.{Open}
 use Rattle.relay_outside.specs.Ports.{IsOpen}
-use Rattle.relay_outside.specs.Told.{Gained, WhereTold}
+use Rattle.relay_outside.specs.Told.{EndTold, Gained, WhereTold}
 use Rattle.relay_outside.proofs.Telling.{gained_both}
 use Rattle.histories.specs.Words.{In, here, there}
 use Rattle.port_pool.specs.declared.pairs.Lease.{Lease}
@@ -20,10 +20,10 @@ use Rattle.media_ports.specs.Addresses.{port_at, ports_of, addresses_of, ArePort
 use Rattle.media_ports.specs.Calls.{openings, OpensPairs, OpensHalf, OpensUpTo, ClosesUncalled, NoneOpen, AllOpen, SameOpen}
 use Rattle.media_ports.specs.declared.opening.HalfOpened.{HalfOpened}
 use Rattle.media_ports.specs.declared.ends.PairEnds.{PairEnds}
-use Rattle.media_ports.specs.Ends.{EndsList, with_ends, half_count, IsUncalled, AreUncalled}
+use Rattle.media_ports.specs.Ends.{EndsList, with_ends, half_count, IsOpened, AreOpened, AreOfLease}
 use Rattle.media_ports.proofs.Telling.{told_after}
 use Rattle.media_ports.proofs.Opened.{open_anew, open_before}
-use Rattle.media_ports.proofs.Closed.{OpensAll, closes_uncalled, opens_each, still_open, open_since, open_beside, not_open}
+use Rattle.media_ports.proofs.Closed.{zip-append, OpensAll, closes_uncalled, opens_each, still_open, open_since, open_beside, not_open}
 use Rattle.media_ports.proofs.Apart.{none_open_after}
 use Rattle.media_ports.proofs.Leased.{take_next, drop_next, later_ports, addresses_of-append, length-ports_of, all_from_pairs}
 
@@ -191,15 +191,21 @@ half_few (Some ends) = omega arith
 
 -- The ends of one pair more.
 
-uncalled_more : {I O : Type 0} (taken : I → Option (List InCall)) (sent : O → Option (List OutCall)) (pairs : List (PairEnds I O)) (ends : PairEnds I O) →
-    AreUncalled taken sent pairs → IsUncalled taken sent ends → AreUncalled taken sent (pairs ++ ends ∷ [])
-uncalled_more taken sent [] ends those this = (this, tt)
-uncalled_more taken sent (first ∷ pairs) ends those this = (those.0, uncalled_more taken sent pairs ends those.1 this)
+pub opened_pushed : {I O : Type 0} (taken : I → EndTold InCall) (sent : O → EndTold OutCall) (interface : Ip) (leases : List Lease) (i : ℕ) (lease : Lease) (old new : EndsList I O)
+    (ends : PairEnds I O) → slice_get leases i ≡ Some lease → new ≡ with_ends old ends → AreOpened taken sent interface (take i leases) old.list →
+    IsOpened taken sent interface lease ends → AreOpened taken sent interface (take (i + 1) leases) new.list
+opened_pushed {I} {O} taken sent interface leases i lease old new ends at is those this =
+    subst (λ (opened : EndsList I O). AreOpened taken sent interface (take (i + 1) leases) opened.list) (sym is)
+    (subst (λ (ls : List Lease). AreOpened taken sent interface ls (old.list ++ ends ∷ [])) (sym (take_next leases i lease at))
+    (zip-append (IsOpened taken sent interface) (take i leases) (lease ∷ []) old.list (ends ∷ []) those (this, tt)))
 
-pub uncalled_pushed : {I O : Type 0} (taken : I → Option (List InCall)) (sent : O → Option (List OutCall)) (old new : EndsList I O) (ends : PairEnds I O) → new ≡ with_ends old ends →
-    AreUncalled taken sent old.list → IsUncalled taken sent ends → AreUncalled taken sent new.list
-uncalled_pushed {I} {O} taken sent old new ends is those this =
-    subst (λ (opened : EndsList I O). AreUncalled taken sent opened.list) (sym is) (uncalled_more taken sent old.list ends those this)
+-- the ends that an opening made are those of the lease's ports
+pub opened_of : {I O : Type 0} (taken : I → EndTold InCall) (sent : O → EndTold OutCall) (interface : Ip) (lease : Lease) (ends : PairEnds I O) →
+    IsOpened taken sent interface lease ends → AreOfLease taken sent interface lease ends
+opened_of taken sent interface lease ends is = (
+  record { rtp_at = is.rtp_in.at_is; rtcp_at = is.rtcp_in.at_is },
+  record { rtp_at = is.rtp_out.at_is; rtcp_at = is.rtcp_out.at_is },
+)
 
 pub count_pushed : {I O : Type 0} (old new : EndsList I O) (ends : PairEnds I O) → new ≡ with_ends old ends → length new.list ≡ length old.list + 1
 count_pushed {I} {O} old new ends is = ap (λ (opened : EndsList I O). length opened.list) is ∙ length_push old.list ends

@@ -3,19 +3,10 @@ use Rattle.std.specs.Prelude.{◌≡◌, ℕ, ◌+◌, ◌^◌, ◌<◌, false, 
 use Rattle.relay_outside.specs.declared.address.Addr.{Addr}
 use Rattle.relay_outside.specs.declared.address.Ip.{Ip}
 use Rattle.relay_outside.specs.declared.settings.Config.{Config}
-use Rattle.rtp_packet.specs.declared.head.Half.{Half}
 use Rattle.histories.specs.Words.{has}
 use Rattle.port_pool.specs.declared.pairs.Lease.{Lease}
-use Rattle.port_pool.specs.Ports.{pair_count, pair_port, half_port}
+pub use Rattle.port_pool.specs.Ports.{pair_count, pair_port, port_at, port_address}
 use Rattle.port_pool.specs.Pools.{AreFree}
-
--- a port of an interface
-abbrev pub port_at : Ip → ℕ → Addr
-port_at interface port = record { ip = interface; port = port }
-
--- the address of the port of a pair's half, on the configuration's interface
-abbrev pub port_address : Config → (pair : ℕ) → Half → Addr
-port_address config pair half = port_at config.interface (half_port config pair half)
 
 -- the ports of leased pairs, in the order of leases, that for RTP before that for RTCP
 abbrev pub ports_of : List Lease → List ℕ

@@ -1,8 +1,12 @@
 -- The ends of opened pairs, in the order of leases.
-use Rattle.std.specs.Prelude.{ℕ, Option, Some, None, List, [], ◌∷◌, ◌++◌}
+use Rattle.std.specs.Prelude.{ℕ, ◌+◌, Option, Some, None, List, [], ◌∷◌, ◌++◌}
+use Rattle.std.specs.List.{AllZip}
+use Rattle.relay_outside.specs.declared.address.Ip.{Ip}
 use Rattle.relay_outside.specs.declared.ports.InCall.{InCall}
 use Rattle.relay_outside.specs.declared.ports.OutCall.{OutCall}
-use Rattle.relay_outside.specs.Told.{StartsEmpty}
+use Rattle.relay_outside.specs.Told.{EndTold, IsOpenedFor}
+use Rattle.port_pool.specs.declared.pairs.Lease.{Lease}
+use Rattle.port_pool.specs.Ports.{port_at, AreOfPair}
 use Rattle.media_ports.specs.declared.ends.PairEnds.{PairEnds}
 use Rattle.media_ports.specs.declared.opening.HalfOpened.{HalfOpened}
 
@@ -22,31 +26,36 @@ pub record EndsTold : Type 0 where
   pub rtcp_in : Option (List InCall)
   pub rtcp_out : Option (List OutCall)
 
-module _ {I O : Type 0} (taken : I → Option (List InCall)) (sent : O → Option (List OutCall)) where
+module _ {I O : Type 0} (taken : I → EndTold InCall) (sent : O → EndTold OutCall) where
   abbrev pub ends_told : PairEnds I O → EndsTold
   ends_told ends = record {
-    rtp_in = taken ends.rtp_in;
-    rtp_out = sent ends.rtp_out;
-    rtcp_in = taken ends.rtcp_in;
-    rtcp_out = sent ends.rtcp_out;
+    rtp_in = (taken ends.rtp_in).calls;
+    rtp_out = (sent ends.rtp_out).calls;
+    rtcp_in = (taken ends.rtcp_in).calls;
+    rtcp_out = (sent ends.rtcp_out).calls;
   }
 
-  -- no end of the pair was called
-  pub record IsUncalled (ends : PairEnds I O) : Type 0 where
-    pub rtp_in : StartsEmpty (taken ends.rtp_in)
-    pub rtp_out : StartsEmpty (sent ends.rtp_out)
-    pub rtcp_in : StartsEmpty (taken ends.rtcp_in)
-    pub rtcp_out : StartsEmpty (sent ends.rtcp_out)
+  -- the ends of the pair were opened for the ports of the lease, each for its own, and not called since
+  pub record IsOpened (interface : Ip) (lease : Lease) (ends : PairEnds I O) : Type 0 where
+    pub rtp_in : IsOpenedFor (port_at interface lease.rtp_port) (taken ends.rtp_in)
+    pub rtp_out : IsOpenedFor (port_at interface lease.rtp_port) (sent ends.rtp_out)
+    pub rtcp_in : IsOpenedFor (port_at interface (lease.rtp_port + 1)) (taken ends.rtcp_in)
+    pub rtcp_out : IsOpenedFor (port_at interface (lease.rtp_port + 1)) (sent ends.rtcp_out)
 
-  -- no end of these pairs was called
-  abbrev pub AreUncalled : List (PairEnds I O) → Type 0
-  AreUncalled [] = Unit {0}
-  AreUncalled (ends ∷ rest) = IsUncalled ends × AreUncalled rest
+  -- the same of the pairs of these leases, in order
+  abbrev pub AreOpened : Ip → List Lease → List (PairEnds I O) → Type 0
+  AreOpened interface leases pairs = AllZip (IsOpened interface) leases pairs
 
-  -- no end of the port was called, where there is one
-  abbrev pub IsHalfUncalled : Option (HalfOpened I O) → Type 0
-  IsHalfUncalled None = Unit {0}
-  IsHalfUncalled (Some ends) = StartsEmpty (taken ends.receiving) × StartsEmpty (sent ends.sending)
+  -- the ends of the port for RTP of the lease, where there are any, were opened for it, and not called since
+  abbrev pub IsHalfOpened : Ip → Lease → Option (HalfOpened I O) → Type 0
+  IsHalfOpened interface lease None = Unit {0}
+  IsHalfOpened interface lease (Some ends) =
+      IsOpenedFor (port_at interface lease.rtp_port) (taken ends.receiving) × IsOpenedFor (port_at interface lease.rtp_port) (sent ends.sending)
+
+  -- the ends are those of the ports of the lease, each of its own
+  abbrev pub AreOfLease : Ip → Lease → PairEnds I O → Type 0
+  AreOfLease interface lease ends =
+      AreOfPair taken (port_at interface lease.rtp_port) ends.rtp_in ends.rtcp_in × AreOfPair sent (port_at interface lease.rtp_port) ends.rtp_out ends.rtcp_out
 
 -- how many ports of the pair were opened
 abbrev pub half_count : {I O : Type 0} → Option (HalfOpened I O) → ℕ

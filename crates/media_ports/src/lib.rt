@@ -1,7 +1,7 @@
 //! The ports of leased pairs, and drawn keys: what an offer asks of the port maker and of the key source.
 //!
 //! Module `opening` opens the ports of an offer's leases pair by pair, RTP first, and closes them again after a fault;
-//! `closing` closes the ports of a pair; `ends` has the ends of opened pairs in order, `address` the address of a port;
+//! `closing` closes the ports of a pair and of opened pairs; `ends` has the ends of opened pairs in order, `address` the address of a port;
 //! `drawing` draws keys into a list, `law` says which ports are open then. `specs/Calls.antt` and `specs/Draws.antt` say what that adds to the lists of the port
 //! maker and of the key source, `specs/Asked.antt` which ports were opened and with which answers, `specs/Addresses.antt` has the
 //! addresses, `specs/Held.antt` which ports are open.
@@ -15,7 +15,7 @@ mod law;
 mod opening;
 
 pub use address::address_of;
-pub use closing::close_pair;
+pub use closing::{close_opened, close_pair};
 pub use drawing::{DrawnList, KeyFault, draw_keys};
 pub use ends::{OpenedPairs, PairEnds};
 pub use law::{

@@ -1,12 +1,13 @@
-ghost use Rattle.std.specs.Prelude.{◌≡◌, ◌≤◌, ◌<◌, ◌+◌, ◌*◌, ◌^◌, true, false, [], ◌∷◌, length, take, IfOk, IfErr, OnOk, OnErr};
+ghost use Rattle.std.specs.Prelude.{◌≡◌, ◌≤◌, ◌<◌, ◌+◌, ◌*◌, ◌^◌, true, false, List, [], ◌∷◌, Some, length, take, slice_get, IfOk, IfErr, OnOk, OnErr};
+ghost use Rattle.port_pool.specs.declared.pairs.Lease.{Lease};
 ghost use Rattle.std.specs.List.{AllZip};
-ghost use Rattle.relay_outside.specs.Told.{Gained, HasCause, StartsEmpty, WhereTold};
+ghost use Rattle.relay_outside.specs.Told.{Gained, HasCause, WhereTold};
 ghost use Rattle.media_ports.specs.Addresses.{addresses_of, ports_of, ArePorts};
 ghost use Rattle.media_ports.specs.Calls.{OpensPairs, OpensHalf, OpensUpTo, ClosesUncalled, AllOpen, NoneOpen, SameOpen, WhereBothTold};
-ghost use Rattle.media_ports.specs.Ends.{IsUncalled, AreUncalled, IsHalfUncalled, half_count};
+ghost use Rattle.media_ports.specs.Ends.{IsOpened, AreOpened, IsHalfOpened, half_count};
 
 use crate::address::address_of;
-use crate::closing::close_pair;
+use crate::closing::close_opened;
 use crate::ends::{OpenedPairs, PairEnds};
 use port_pool::{Lease, Leases};
 use relay_outside::{Ip, PortMaker};
@@ -34,9 +35,9 @@ fn open_pair<P: PortMaker>(
     requires port { lease.now.rtp_port + 1 < 2 ^ 16 }
     requires closed { WhereTold (P.told ports.old) (NoneOpen (addresses_of interface (lease.now ∷ []))) }
     ensures opens { OnOk result (Gained (P.told ports.old) (P.told ports.new) (OpensPairs interface (lease.now ∷ []))) }
-    ensures uncalled { IfOk result (IsUncalled P.In.told P.Out.told) }
+    ensures opened { IfOk result (IsOpened P.In.told P.Out.told interface lease.now) }
     ensures then_fails { IfErr result (λ half. Gained (P.told ports.old) (P.told ports.new) (OpensHalf (addresses_of interface (lease.now ∷ [])) (half_count half))) }
-    ensures half_uncalled { IfErr result (IsHalfUncalled P.In.told P.Out.told) }
+    ensures half_opened { IfErr result (IsHalfOpened P.In.told P.Out.told interface lease.now) }
     ensures cause { HasCause (P.faults ports.old) (P.faults ports.new) result }
 {
     let port = lease.rtp_port();
@@ -57,49 +58,6 @@ fn open_pair<P: PortMaker>(
     }
 }
 
-/// Closes the earliest of the opened pairs, which is that of the lease.
-fn close_first<P: PortMaker>(
-    ports: &mut P,
-    interface: Ip,
-    lease: &Lease,
-    opened: &mut OpenedPairs<P::In, P::Out>,
-)
-    requires some { 0 < length opened.old.list }
-    requires port { lease.now.rtp_port + 1 < 2 ^ 16 }
-    requires open { WhereTold (P.told ports.old) (AllOpen (addresses_of interface (lease.now ∷ []))) }
-    requires uncalled { AreUncalled P.In.told P.Out.told opened.old.list }
-    ensures closes { Gained (P.told ports.old) (P.told ports.new) (AllZip ClosesUncalled (addresses_of interface (lease.now ∷ []))) }
-    ensures fewer { length opened.new.list + 1 ≡ length opened.old.list }
-    ensures uncalled { AreUncalled P.In.told P.Out.told opened.new.list }
-    ensures room { opened.new.room ≡ opened.old.room }
-    ensures later { P.faults ports.old ≤ P.faults ports.new }
-{
-    if let Some(ends) = opened.pop() {
-        close_pair(ports, interface, lease, ends);
-    }
-}
-
-/// Closes the opened pairs, which are those of the first leases, in their order.
-fn close_opened<P: PortMaker>(
-    ports: &mut P,
-    interface: Ip,
-    leases: &Leases,
-    opened: &mut OpenedPairs<P::In, P::Out>,
-)
-    requires within { length opened.old.list ≤ length leases.now.list }
-    requires ports { ArePorts (ports_of leases.now.list) }
-    requires open { WhereTold (P.told ports.old) (AllOpen (addresses_of interface (take (length opened.old.list) leases.now.list))) }
-    requires uncalled { AreUncalled P.In.told P.Out.told opened.old.list }
-    ensures closes { Gained (P.told ports.old) (P.told ports.new) (AllZip ClosesUncalled (addresses_of interface (take (length opened.old.list) leases.now.list))) }
-    ensures none { opened.new.list ≡ [] }
-    ensures room { opened.new.room ≡ opened.old.room }
-    ensures later { P.faults ports.old ≤ P.faults ports.new }
-{
-    for index in 0..opened.len() {
-        close_first(ports, interface, leases.get(index), opened);
-    }
-}
-
 /// Closes what was opened, in the order of the openings: the opened pairs, which are those of the first leases, and the port
 /// for RTP of the next lease, where that is open.
 fn undo<P: PortMaker>(
@@ -112,8 +70,8 @@ fn undo<P: PortMaker>(
     requires within { length opened.old.list < length leases.now.list }
     requires ports { ArePorts (ports_of leases.now.list) }
     requires open { WhereTold (P.told ports.old) (AllOpen (take (2 * length opened.old.list + half_count half) (addresses_of interface leases.now.list))) }
-    requires uncalled { AreUncalled P.In.told P.Out.told opened.old.list }
-    requires half_uncalled { IsHalfUncalled P.In.told P.Out.told half }
+    requires opened { AreOpened P.In.told P.Out.told interface (take (length opened.old.list) leases.now.list) opened.old.list }
+    requires half_opened { (lease : Lease) → slice_get leases.now.list (length opened.old.list) ≡ Some lease → IsHalfOpened P.In.told P.Out.told interface lease half }
     ensures count { result.opened ≡ 2 * length opened.old.list + half_count half }
     ensures closes { Gained (P.told ports.old) (P.told ports.new) (AllZip ClosesUncalled (take (2 * length opened.old.list + half_count half) (addresses_of interface leases.now.list))) }
     ensures none { opened.new.list ≡ [] }
@@ -153,7 +111,7 @@ pub fn open_pairs<P: PortMaker>(
     // Two openings for each lease, and the ends of each pair.
     ensures opens { OnOk result (Gained (P.told ports.old) (P.told ports.new) (OpensPairs interface leases.now.list)) }
     ensures pairs { OnOk result (length opened.new.list ≡ length leases.now.list) }
-    ensures uncalled { OnOk result (AreUncalled P.In.told P.Out.told opened.new.list) }
+    ensures opened { OnOk result (AreOpened P.In.told P.Out.told interface leases.now.list opened.new.list) }
 
     // After a fault everything is closed again.
     ensures then_fails { IfErr result (λ fault. Gained (P.told ports.old) (P.told ports.new) (OpensUpTo (addresses_of interface leases.now.list) fault.opened)) }

@@ -1,8 +1,9 @@
 -- What a list without an entry says of each place, and of what comes first.
-use Rattle.std.proofs.Common.{◌≡◌, refl, sym, ◌∙◌, ap, subst, ℕ, zero, suc, List, [], ◌∷◌, ◌++◌, Option, arith}
+use Rattle.std.proofs.Common.{◌≡◌, refl, sym, ◌∙◌, ap, subst, ℕ, zero, suc, List, [], ◌∷◌, ◌++◌, arith}
 use Rattle.std.specs.List.{AllPairs, filter_map}
 use Rattle.relay_outside.specs.declared.ports.OutCall.{OutCall}
 use Rattle.relay_outside.specs.declared.settings.Config.{Config}
+use Rattle.relay_outside.specs.Told.{EndTold}
 use Rattle.histories.specs.Words.{In, here, there}
 use Rattle.histories.proofs.Lists.{maps}
 use Rattle.turn_table.specs.declared.hands.Hand.{Hand}
@@ -18,7 +19,7 @@ use Rattle.call_cell.specs.Preparing.{CanCome, AreTwo, PrepareFor, added}
 use Rattle.relay_core.specs.Entries.{Entry, history, cell_history, box_event, cell_entry}
 use Rattle.relay_core.specs.Made.{Made}
 use Rattle.relay_core.specs.Standing.{BringsNewKeys}
-use Rattle.relay_core.specs.Steps.{AreUncalled}
+use Rattle.relay_core.specs.Steps.{AreOpened}
 use Rattle.relay_core.specs.Turning.{GainsNested, made_by}
 use Rattle.nested_steps.specs.Nesting.{IsShut}
 use Rattle.nested_steps.specs.InCells.{HasNewKeys, CanPrepare, HasRoom, in_cell_of}
@@ -60,8 +61,8 @@ first_room l place signal contexts none n above =
 no_leg : {O : Type 0} (signal : prepared.Prepare O) → added signal ≡ [] → (leg : Holder) → In leg (added signal) → ⊥
 no_leg signal none leg i = elim (subst (λ (l : List Holder). In leg l) none i) [ ]
 
-pub first_uncalled : {O : Type 0} (told : O → Option (List OutCall)) (signal : prepared.Prepare O) → added signal ≡ [] → AreUncalled told signal
-first_uncalled {O} told signal none leg i = absurd (no_leg signal none leg.holder (maps (λ (l : Leg O). l.holder) signal.legs.items i))
+pub first_opened : {O : Type 0} (told : O → EndTold OutCall) (config : Config) (signal : prepared.Prepare O) → added signal ≡ [] → AreOpened told config signal
+first_opened {O} told config signal none leg i = absurd (no_leg signal none leg.holder (maps (λ (l : Leg O). l.holder) signal.legs.items i))
 
 comes_first : {O : Type 0} (config : Config) (signal : prepared.Prepare O) (call : ℕ) (key : NewKey) (dropped : List ℕ) → added signal ≡ []
     → CanCome config [] signal call (key ∷ []) dropped

@@ -4,7 +4,7 @@ use Rattle.std.specs.List.{filter_map}
 use Rattle.relay_outside.specs.declared.settings.Config.{Config}
 use Rattle.relay_outside.specs.declared.ports.InCall.{InCall}
 use Rattle.relay_outside.specs.declared.ports.OutCall.{OutCall}
-use Rattle.std.specs.Prelude.{Option}
+use Rattle.relay_outside.specs.Told.{EndTold}
 use Rattle.rtp_packet.specs.declared.head.Half.TheVariants.{Rtp}
 use Rattle.histories.specs.Words.{In, here, there, has}
 use Rattle.histories.proofs.Lists.{filtered}
@@ -73,7 +73,7 @@ module _ {O : Type 0} where
       (subst (λ (l : List (Lease × O × O)). AreLeasesOf config l (map (λ (leg : Leg O). leg.holder) old.legs.items)) (sym went)
       (leases_of config (since_end h) old.legs.items (λ leg i. each_in config (since_end h) old.legs.items leg for.legs_for i)))
 
-module _ {M I O T : Type 0} {g : _} (it : I → Option (List InCall)) (ic : I → ℕ) (ot : O → Option (List OutCall)) (oc : O → ℕ) where
+module _ {M I O T : Type 0} {g : _} (it : I → EndTold InCall) (ic : I → ℕ) (ot : O → EndTold OutCall) (oc : O → ℕ) where
   -- the legs of the cell that was given are those of the list
   legs_given : (config : Config) (hand : Hand M (Part I O) Made T g) (place n : ℕ) (old : cell.Cell O) (h : List CellEntry)
       → IsCellAt it ic ot oc config hand place old h → IsAbove (made_by hand) place n → legs (since_end h) ≡ legs (since_end (cell_history (made_by hand) place n))

@@ -4,4 +4,5 @@ pub mod Celling
 pub mod Signalling
 pub mod After
 pub mod Leaving
+pub mod Homing
 pub mod First

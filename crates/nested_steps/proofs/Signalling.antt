@@ -1,9 +1,10 @@
 -- What an offer and an answer make of a cell.
-use Rattle.std.proofs.Common.{◌≡◌, refl, sym, ◌∙◌, ap, subst, ℕ, ◌≤◌, inl, inr, max, List, [], ◌∷◌, Option, arith}
+use Rattle.std.proofs.Common.{◌≡◌, refl, sym, ◌∙◌, ap, subst, ℕ, ◌≤◌, inl, inr, max, List, [], ◌∷◌, arith}
 use Rattle.std.proofs.lemmas.List.Sums.{count_by-le-length}
 use Rattle.relay_outside.specs.declared.settings.Config.{Config}
 use Rattle.relay_outside.specs.declared.ports.InCall.{InCall}
 use Rattle.relay_outside.specs.declared.ports.OutCall.{OutCall}
+use Rattle.relay_outside.specs.Told.{EndTold}
 use Rattle.turn_table.specs.declared.hands.Hand.{Hand}
 use Rattle.turn_table.specs.Hands.{EndsTurn}
 use Rattle.port_pool.specs.declared.pairs.Lease.{Lease}
@@ -26,10 +27,10 @@ use Rattle.relay_core.specs.declared.part.Part.TheVariants as part
 use Rattle.relay_core.specs.Entries.{Entry, Cell, cell_history}
 use Rattle.relay_core.specs.Made.{Left, Made}
 use Rattle.relay_core.specs.Standing.{CellIs, nested_of}
-use Rattle.relay_core.specs.Steps.{Relates, AreUncalled}
+use Rattle.relay_core.specs.Steps.{Relates}
 use Rattle.relay_core.specs.Turning.{IsAbove, made_by}
 use Rattle.nested_steps.specs.Nesting.{leaving, gone_left}
-use Rattle.nested_steps.specs.InCells.{moment_in, HasSpace, OfferComes, AnswerComes, TakesOffer, TakesAnswer, PreparesPart, CommitsPart, Prepares, Commits}
+use Rattle.nested_steps.specs.InCells.{moment_in, HasSpace, OfferComes, AnswerComes, TakesOffer, TakesAnswer, PreparesPart, CommitsPart, Prepares, Commits, OpenedFor}
 use Rattle.nested_steps.proofs.Boxing.{Gives}
 
 -- Offers, answers and ends are nested.
@@ -137,20 +138,20 @@ module _ {I O : Type 0} where
       subst (λ (z : Part I O). PreparesPart z (part.Cell new) signal call keys dropped now gone) (sym is)
       (λ config h for comes. steps config h keys dropped for o.tells comes)
 
-module _ {I O : Type 0} (it : I → Option (List InCall)) (ic : I → ℕ) (ot : O → Option (List OutCall)) (oc : O → ℕ) where
+module _ {I O : Type 0} (it : I → EndTold InCall) (ic : I → ℕ) (ot : O → EndTold OutCall) (oc : O → ℕ) where
   pub prepare_relates : (x : Part I O) (old new : cell.Cell O) (signal : prepared.Prepare O) (call : ℕ) (keys : List NewKey) (dropped : List ℕ) (now : ℕ)
-      (gone : List (Lease × O × O)) (number : ℕ) → x ≡ part.Cell old → TakesOffer x signal call keys dropped → AreUncalled ot signal
+      (gone : List (Lease × O × O)) (number : ℕ) → x ≡ part.Cell old → TakesOffer x signal call keys dropped → OpenedFor ot x signal
       → ((config : Config) (h : List CellEntry) (k : List NewKey) (d : List ℕ) → CellFor config old h → PrepareFor signal k d → CanCome config (since_end h) signal call k d
       → CellPrepares config old new h signal call k d now gone)
       → Relates it ic ot oc x (leaving number now (max now (moment_in x)) (Cell (Prepare call (added signal) keys dropped)) (gone_left ot gone)) (part.Cell new)
-  prepare_relates x old new signal call keys dropped now gone number is takes uncalled steps =
+  prepare_relates x old new signal call keys dropped now gone number is takes opened steps =
       let o = offer_of x old signal call keys dropped is takes in
       let at : (config : Config) (h : List CellEntry) → CellFor config old h → o.config ≡ config = λ config h for. sym o.stands.config_is ∙ for.config_is in
       subst (λ (z : Part I O). Relates it ic ot oc z (leaving number now (max now (moment_in z)) (Cell (Prepare call (added signal) keys dropped)) (gone_left ot gone)) (part.Cell new)) (sym is)
       (record {
         signal = signal;
         legs_are = refl;
-        uncalled = uncalled;
+        opened = subst (λ (z : Part I O). OpenedFor ot z signal) is opened;
         gone = gone;
         left_are = refl;
         steps = λ config h for new_keys. (
@@ -179,7 +180,7 @@ module _ {I O : Type 0} (it : I → Option (List InCall)) (ic : I → ℕ) (ot :
         );
       })
 
-module _ {M I O T : Type 0} {g : _} (it : I → Option (List InCall)) (ic : I → ℕ) (ot : O → Option (List OutCall)) (oc : O → ℕ) where
+module _ {M I O T : Type 0} {g : _} (it : I → EndTold InCall) (ic : I → ℕ) (ot : O → EndTold OutCall) (oc : O → ℕ) where
   pub prepares_by : (config : Config) (hand : Hand M (Part I O) Made T g) (place n : ℕ) (signal : prepared.Prepare O) (call : ℕ) (keys : List NewKey)
       (dropped : List ℕ) (now : ℕ) (x y : Part I O) (gone : List (Lease × O × O))
       → Gives it ic ot oc hand place n x × CellIs config x (nested_of (cell_history (made_by hand) place n))

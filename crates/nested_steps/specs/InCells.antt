@@ -1,8 +1,9 @@
 -- What a nested step does to a cell.
-use Rattle.std.specs.Prelude.{◌≡◌, ◌≤◌, ℕ, Bool, List, Option, ◌⊎◌}
+use Rattle.std.specs.Prelude.{◌≡◌, ◌≤◌, ℕ, Bool, List, ◌⊎◌}
 use Rattle.relay_outside.specs.declared.settings.Config.{Config}
 use Rattle.relay_outside.specs.declared.ports.InCall.{InCall}
 use Rattle.relay_outside.specs.declared.ports.OutCall.{OutCall}
+use Rattle.relay_outside.specs.Told.{EndTold}
 use Rattle.turn_table.specs.declared.hands.Hand.{Hand}
 use Rattle.port_pool.specs.declared.pairs.Lease.{Lease}
 use Rattle.turn_table.specs.Hands.{IsGiven}
@@ -12,18 +13,21 @@ use Rattle.call_cell.specs.declared.cell.Cell as cell
 use Rattle.call_cell.specs.declared.prepare.Prepare as prepared
 use Rattle.call_cell.specs.Cells.{CellEvent, CellEntry, Prepare, since_end}
 use Rattle.port_pool.specs.declared.holder.Holder.{Holder}
+use Rattle.port_pool.specs.declared.reports.LegReport.{LegReport}
 use Rattle.call_cell.specs.Preparing.{PrepareFor, CanCome, CellPrepares}
 use Rattle.call_cell.specs.Committing.{NamesKeys, CellCommits, contexts_due_after}
 use Rattle.call_cell.specs.CellStanding.{CellFor}
 use Rattle.call_cell.specs.Ending.{CellEnds}
 use Rattle.call_cell.specs.Expiring.{CellExpires}
+use Rattle.call_cell.specs.Asked.{CountsBelow}
+use Rattle.call_cell.specs.Reading.{CellReads}
 use Rattle.relay_core.specs.declared.part.Part.{Part}
 use Rattle.relay_core.specs.declared.part.Part.TheVariants as part
 use Rattle.relay_core.specs.Entries.{Cell, Entry, cell_history}
 use Rattle.relay_core.specs.Scripts.{Owed}
 use Rattle.relay_core.specs.Made.{Made}
 use Rattle.relay_core.specs.Standing.{BringsNewKeys, nested_of}
-use Rattle.relay_core.specs.Steps.{Relates, IsReserved}
+use Rattle.relay_core.specs.Steps.{Relates, IsReserved, AreOpened}
 use Rattle.relay_core.specs.Turning.{IsAbove, made_by}
 
 -- an event of a cell
@@ -70,14 +74,30 @@ pub record AnswerComes {O : Type 0} (cell : cell.Cell O) (signal : List SectionS
   pub names : NamesKeys (since_end history) signal
   pub room : contexts_due_after (since_end history) signal ≤ contexts
 
+-- the cell stands for a history whose counts are below 2 ^ 63
+pub record CountsStand {O : Type 0} (cell : cell.Cell O) : Type 0 where
+  pub config : Config
+  pub history : List CellEntry
+  pub stands : CellFor config cell history
+  pub below : CountsBelow (since_end history)
+
 module _ {I O : Type 0} where
   abbrev pub TakesOffer : Part I O → prepared.Prepare O → ℕ → List NewKey → List ℕ → Type 0
   TakesOffer (part.Cell cell) signal call keys dropped = OfferComes cell signal call keys dropped
   TakesOffer _ signal call keys dropped = ⊥
 
+  -- what the offer adds has the out ends that were opened for it by the cell's configuration, and not called since
+  abbrev pub OpenedFor : (O → EndTold OutCall) → Part I O → prepared.Prepare O → Type 0
+  OpenedFor told (part.Cell cell) signal = AreOpened told cell.config signal
+  OpenedFor told _ signal = ⊥
+
   abbrev pub TakesAnswer : Part I O → List SectionSignal → ℕ → Type 0
   TakesAnswer (part.Cell cell) signal contexts = AnswerComes cell signal contexts
   TakesAnswer _ signal contexts = ⊥
+
+  abbrev pub TakesReading : Part I O → Type 0
+  TakesReading (part.Cell cell) = CountsStand cell
+  TakesReading _ = ⊥
 
   -- the last moment of a cell
   abbrev pub moment_in : Part I O → ℕ
@@ -94,6 +114,11 @@ module _ {I O : Type 0} where
   ExpiresPart (part.Cell old) (part.Cell new) now due = (config : Config) (h : List CellEntry) → CellFor config old h → CellExpires config old new h now due
   ExpiresPart _ new now due = ⊥
 
+  -- the cell told this of its legs
+  abbrev pub ReadsPart : Part I O → List LegReport → Type 0
+  ReadsPart (part.Cell cell) told = (config : Config) (h : List CellEntry) → CellFor config cell h → CellReads config cell h told
+  ReadsPart _ told = ⊥
+
   -- the cell took the offer at that moment, and these legs went
   abbrev pub PreparesPart : Part I O → Part I O → prepared.Prepare O → ℕ → List NewKey → List ℕ → ℕ → List (Lease × O × O) → Type 0
   PreparesPart (part.Cell old) (part.Cell new) signal call keys dropped now gone = (config : Config) (h : List CellEntry) → CellFor config old h
@@ -106,7 +131,7 @@ module _ {I O : Type 0} where
       → NamesKeys (since_end h) signal → CellCommits config old new h signal now gone
   CommitsPart _ new signal now gone = ⊥
 
-module _ {I O : Type 0} (in_told : I → Option (List InCall)) (in_faults : I → ℕ) (out_told : O → Option (List OutCall)) (out_faults : O → ℕ) where
+module _ {I O : Type 0} (in_told : I → EndTold InCall) (in_faults : I → ℕ) (out_told : O → EndTold OutCall) (out_faults : O → ℕ) where
   -- The cell that the hand's turn gave. It stands for a history, of which the hand's list has all but the relays
   pub record IsCellAt {M T : Type 0} {g : _} (config : Config) (hand : Hand M (Part I O) Made T g) (place : ℕ) (cell : cell.Cell O) (history : List CellEntry) : Type 0 where
     pub number : ℕ
@@ -129,6 +154,13 @@ module _ {I O : Type 0} (in_told : I → Option (List InCall)) (in_faults : I �
     pub history : List CellEntry
     pub was : IsCellAt config hand place old history
     pub expires : CellExpires config old new history now due
+
+  -- the cell told this of its legs
+  pub record Reads {M T : Type 0} {g : _} (config : Config) (hand : Hand M (Part I O) Made T g) (place : ℕ) (told : List LegReport) : Type 0 where
+    pub cell : cell.Cell O
+    pub history : List CellEntry
+    pub was : IsCellAt config hand place cell history
+    pub reads : CellReads config cell history told
 
   -- the cell took the offer at that moment, and these legs went
   pub record Prepares {M T : Type 0} {g : _} (config : Config) (hand : Hand M (Part I O) Made T g) (place : ℕ) (signal : prepared.Prepare O) (call : ℕ) (keys : List NewKey)

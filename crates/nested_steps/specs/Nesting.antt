@@ -1,8 +1,9 @@
 -- Who may make nested steps, and what such a step tells.
-use Rattle.std.specs.Prelude.{◌≡◌, ◌++◌, ℕ, List, [], ◌∷◌, Option, Some, None, IsSome}
+use Rattle.std.specs.Prelude.{◌≡◌, ◌++◌, ℕ, List, [], ◌∷◌, Some, None, IsSome}
 use Rattle.relay_outside.specs.declared.settings.Config.{Config}
 use Rattle.relay_outside.specs.declared.ports.InCall.{InCall}
 use Rattle.relay_outside.specs.declared.ports.OutCall.{OutCall}
+use Rattle.relay_outside.specs.Told.{EndTold}
 use Rattle.turn_table.specs.declared.hands.Turns.{Turns}
 use Rattle.turn_table.specs.declared.hands.Hand.{Hand}
 use Rattle.turn_table.specs.declared.machine.Entry as table
@@ -38,11 +39,11 @@ abbrev pub nested : (number handed moment : ℕ) → Event → Made
 nested number handed moment event = leaving number handed moment event nothing_left
 
 -- the in ends of a box leave
-abbrev pub ends_left : {I : Type 0} → (I → Option (List InCall)) → I × I → Left
-ends_left told ends = record { rtp = told ends.0; rtcp = told ends.1; legs = [] }
+abbrev pub ends_left : {I : Type 0} → (I → EndTold InCall) → I × I → Left
+ends_left told ends = record { rtp = (told ends.0).calls; rtcp = (told ends.1).calls; legs = [] }
 
 -- legs of a cell go
-abbrev pub gone_left : {O : Type 0} → (O → Option (List OutCall)) → List (Lease × O × O) → Left
+abbrev pub gone_left : {O : Type 0} → (O → EndTold OutCall) → List (Lease × O × O) → Left
 gone_left told gone = record { rtp = Some []; rtcp = Some []; legs = legs_left told gone }
 
 -- the hand's list gained one row of that place, with this event, and by which this left
@@ -66,7 +67,7 @@ IsOpen l place = (n : ℕ) → IsAbove l place n → IsSome (holder (box_history
 abbrev pub closing_of : Config → ℕ → Owed
 closing_of config pair = record { place = box_of config pair; event = Box Close }
 
-module _ {I O : Type 0} (in_told : I → Option (List InCall)) (in_faults : I → ℕ) (out_told : O → Option (List OutCall)) (out_faults : O → ℕ) where
+module _ {I O : Type 0} (in_told : I → EndTold InCall) (in_faults : I → ℕ) (out_told : O → EndTold OutCall) (out_faults : O → ℕ) where
   -- at the place, the step was made from this state, which is what the entries there before it leave, to that one
   pub record IsStep {M T : Type 0} {g : _} (hand : Hand M (Part I O) Made T g) (place : ℕ) (old : Part I O) (made : Made) (new : Part I O) : Type 0 where
     pub number : ℕ

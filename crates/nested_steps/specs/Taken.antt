@@ -1,7 +1,10 @@
 -- What a turn gave, as the step needs it.
 use Rattle.std.specs.Prelude.{◌≡◌, ◌≤◌, Some, None, IsSome}
 use Rattle.port_pool.specs.declared.holder.Holder.{Holder}
-use Rattle.port_pool.specs.PairBoxes.{holder_in, ends_in, cells_of}
+use Rattle.relay_outside.specs.declared.ports.InCall.{InCall}
+use Rattle.relay_outside.specs.Told.{EndTold, IsOpenedFor}
+use Rattle.port_pool.specs.PairBoxes.{holder_in, ends_in, at_of, cells_of}
+use Rattle.port_pool.specs.Ports.{rtcp_address}
 use Rattle.relay_core.specs.declared.part.Part.{Part}
 use Rattle.relay_core.specs.declared.part.Part.TheVariants as part
 
@@ -10,6 +13,11 @@ module _ {I O : Type 0} where
   abbrev pub CanOpen : Holder → Part I O → Type 0
   CanOpen leg (part.Pair box) = (holder_in box ≡ None) × (1 ≤ leg.cell) × (leg.cell ≤ cells_of box)
   CanOpen leg _ = ⊥
+
+  -- ends that were opened for the ports of the box's pair, and not called since
+  abbrev pub FitEnds : (I → EndTold InCall) → Part I O → I × I → Type 0
+  FitEnds told (part.Pair box) ends = IsOpenedFor (at_of box) (told ends.0) × IsOpenedFor (rtcp_address (at_of box)) (told ends.1)
+  FitEnds told _ ends = ⊥
 
   -- an open box
   abbrev pub CanShut : Part I O → Type 0

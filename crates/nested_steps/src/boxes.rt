@@ -1,15 +1,16 @@
 //! The box of a port pair, opened and shut.
 ghost use Rattle.std.specs.Prelude.{◌≡◌, ◌≤◌, ◌<◌, ℕ, [], ◌∷◌};
-ghost use Rattle.relay_outside.specs.Told.{StartsEmpty};
+ghost use Rattle.relay_outside.specs.Told.{IsOpenedFor};
+ghost use Rattle.rtp_packet.specs.declared.head.Half.TheVariants.{Rtp, Rtcp};
 ghost use Rattle.turn_table.specs.Hands.{IsSameHand, SameTurns};
 ghost use Rattle.port_pool.specs.Boxes.{Open, Close};
-ghost use Rattle.port_pool.specs.Ports.{pair_count};
+ghost use Rattle.port_pool.specs.Ports.{pair_count, port_address, AreOfPair};
 ghost use Rattle.relay_core.specs.Entries.{Box, box_of};
 ghost use Rattle.relay_core.specs.Scripts.{opening};
 ghost use Rattle.relay_core.specs.Steps.{Relates};
 ghost use Rattle.relay_core.specs.Turning.{GainsNested, made_by};
 ghost use Rattle.nested_steps.specs.Nesting.{MayNest, nested, leaving, ends_left, AddsRow, IsShut, IsOpen, closing_of, Opens, Shuts};
-ghost use Rattle.nested_steps.specs.Taken.{CanOpen, CanShut, HasEnds};
+ghost use Rattle.nested_steps.specs.Taken.{CanOpen, CanShut, FitEnds, HasEnds};
 
 use crate::nest::Nest;
 use crate::puts::{put_closing, put_opening};
@@ -29,7 +30,7 @@ fn box_place(config: &Config, pair: u32) -> usize
 
 fn open_part<I: InEnd, O: OutEnd>(part: &mut Part<I, O>, holder: Holder, rtp_end: I, rtcp_end: I)
     requires shut { CanOpen holder part.old }
-    requires ends { StartsEmpty (I.told rtp_end) × StartsEmpty (I.told rtcp_end) }
+    requires ends { FitEnds I.told part.old (rtp_end, rtcp_end) }
     ensures step { (number handed : ℕ) → Relates I.told I.faults O.told O.faults part.old (nested number handed 0 (Box (Open holder))) part.new }
     ensures ends { HasEnds part.new (rtp_end, rtcp_end) }
 {
@@ -52,8 +53,8 @@ fn shut_part<I: InEnd, O: OutEnd>(part: &mut Part<I, O>) -> (I, I)
     }
 }
 
-/// Opens the box of a leg's pair for the leg, with the in ends of the pair's ports for RTP and for RTCP, which have not been
-/// called. The box is shut.
+/// Opens the box of a leg's pair for the leg, with the in ends that were opened for the pair's ports for RTP and for RTCP, and not
+/// called since. The box is shut.
 pub fn open_box<I: InEnd, O: OutEnd, R: Wait>(
     rt: &R,
     turns: &Turns<Relay<I, O>>,
@@ -68,7 +69,7 @@ pub fn open_box<I: InEnd, O: OutEnd, R: Wait>(
     requires pair { holder.pair < pair_count config.now }
     requires cell { (1 ≤ holder.cell) × (holder.cell ≤ config.now.max_sessions) }
     requires shut { IsShut (made_by hand.old) (box_of config.now holder.pair) }
-    requires ends { StartsEmpty (I.told rtp_end) × StartsEmpty (I.told rtcp_end) }
+    requires ends { IsOpenedFor (port_address config.now holder.pair Rtp) (I.told rtp_end) × IsOpenedFor (port_address config.now holder.pair Rtcp) (I.told rtcp_end) }
     ensures same { IsSameHand hand.old hand.new × SameTurns hand.old hand.new }
     ensures may { MayNest config.now turns.now hand.new }
     ensures gained { GainsNested nest.number nest.moment (opening config.now holder ∷ []) hand.old hand.new }
@@ -79,7 +80,7 @@ pub fn open_box<I: InEnd, O: OutEnd, R: Wait>(
     put_opening::<I, O, Brand>(turns, hand, turn, nest, holder);
 }
 
-/// Shuts the box of a pair and gives its ends back, that for RTP first. The box is open.
+/// Shuts the box of a pair and gives its ends back, that for RTP first: those that were opened for the pair's ports. The box is open.
 pub fn shut_box<I: InEnd, O: OutEnd, R: Wait>(
     rt: &R,
     turns: &Turns<Relay<I, O>>,
@@ -95,6 +96,7 @@ pub fn shut_box<I: InEnd, O: OutEnd, R: Wait>(
     ensures may { MayNest config.now turns.now hand.new }
     ensures gained { GainsNested nest.number nest.moment (closing_of config.now pair ∷ []) hand.old hand.new }
     ensures row { AddsRow (box_of config.now pair) (Box Close) (ends_left I.told result) hand.old hand.new }
+    ensures home { AreOfPair I.told (port_address config.now pair Rtp) result.0 result.1 }
     ensures ends { Shuts I.told I.faults O.told O.faults hand.old (box_of config.now pair) (leaving nest.number nest.moment 0 (Box Close) (ends_left I.told result)) result }
 {
     let mut turn = turns.turn(rt, hand, box_place(config, pair));

@@ -1,18 +1,21 @@
-//! The cell of a call: asked whether its call is due, and ended.
+//! The cell of a call: asked whether its call is due, asked what is told of its legs, and ended.
 ghost use Rattle.std.specs.Prelude.{◌≡◌, ◌≤◌, ℕ, [], ◌∷◌, max};
 ghost use Rattle.turn_table.specs.Hands.{IsSameHand, SameTurns};
-ghost use Rattle.call_cell.specs.Cells.{Expire, End};
+ghost use Rattle.histories.specs.Words.{In};
+ghost use Rattle.port_pool.specs.declared.reports.LegReport.{LegReport};
+ghost use Rattle.port_pool.specs.Reports.{CountsFit};
+ghost use Rattle.call_cell.specs.Cells.{Expire, Read, End};
 ghost use Rattle.relay_core.specs.Entries.{Cell};
-ghost use Rattle.relay_core.specs.Standing.{IsCellPart};
+ghost use Rattle.relay_core.specs.Standing.{IsCellPart, GoneHome};
 ghost use Rattle.relay_core.specs.Steps.{Relates};
 ghost use Rattle.relay_core.specs.Turning.{GainsNested, made_by};
 ghost use Rattle.nested_steps.specs.Nesting.{MayNest, nested, leaving, gone_left, AddsRow};
-ghost use Rattle.nested_steps.specs.InCells.{HasNewKeys, in_cell_of, moment_in, Ends, Expires, EndsPart, ExpiresPart};
+ghost use Rattle.nested_steps.specs.InCells.{HasNewKeys, in_cell_of, moment_in, Ends, Expires, Reads, EndsPart, ExpiresPart, ReadsPart, TakesReading};
 ghost use Rattle.nested_steps.specs.Leaving.{AllWent};
 
 use crate::nest::Nest;
-use crate::puts::{put_end, put_expiry};
-use call_cell::Gone;
+use crate::puts::{put_end, put_expiry, put_reading};
+use call_cell::{Gone, LegReports};
 use relay_core::{Part, Relay};
 use relay_outside::{Config, InEnd, OutEnd};
 use std::marker::Brand;
@@ -53,6 +56,19 @@ fn expire_part<I: InEnd, O: OutEnd>(part: &mut Part<I, O>, now: u64) -> bool
     }
 }
 
+fn read_part<I: InEnd, O: OutEnd>(part: &Part<I, O>, out: &mut LegReports)
+    requires { TakesReading part.now }
+    ensures step { (number handed : ℕ) → Relates I.told I.faults O.told O.faults part.now (nested number handed (moment_in part.now) (Cell (Read out.new))) part.now }
+    ensures reads { ReadsPart part.now out.new }
+    ensures counts { (report : LegReport) → In report out.new → CountsFit report }
+{
+    match part {
+        Part::Cell(cell) => cell.read_legs(out),
+        Part::Board(_) => unreachable!(),
+        Part::Pair(_) => unreachable!(),
+    }
+}
+
 /// Ends the call of a cell: the legs that it had go to `gone`, which is empty. Cells are numbered from 1.
 pub fn end_cell<I: InEnd, O: OutEnd, R: Wait>(
     rt: &R,
@@ -73,6 +89,7 @@ pub fn end_cell<I: InEnd, O: OutEnd, R: Wait>(
     ensures row { AddsRow cell (Cell End) (gone_left O.told gone.new) hand.old hand.new }
     ensures ended { Ends I.told I.faults O.told O.faults config.now hand.old cell gone.new }
     ensures went { AllWent config.now (made_by hand.old) cell gone.new }
+    ensures home { GoneHome O.told config.now gone.new }
 {
     let mut turn = turns.turn(rt, hand, cell_place(config, cell));
     end_part(turn.state(), gone);
@@ -101,4 +118,29 @@ pub fn expire_cell<I: InEnd, O: OutEnd, R: Wait>(
     let due = expire_part(turn.state(), nest.moment);
     put_expiry::<I, O, Brand>(turns, hand, turn, nest, due);
     due
+}
+
+/// Puts a report of each leg of the cell's committed sections in place of what `out` had, by section and then side A first.
+/// Nothing else changes. Cells are numbered from 1.
+pub fn read_cell<I: InEnd, O: OutEnd, R: Wait>(
+    rt: &R,
+    turns: &Turns<Relay<I, O>>,
+    hand: &mut Hand<Relay<I, O>>,
+    config: &Config,
+    nest: Nest,
+    cell: u32,
+    out: &mut LegReports,
+)
+    requires may { MayNest config.now turns.now hand.old }
+    requires cell { (1 ≤ cell) × (cell ≤ config.now.max_sessions) }
+    requires keys { HasNewKeys (made_by hand.old) cell }
+    ensures same { IsSameHand hand.old hand.new × SameTurns hand.old hand.new }
+    ensures may { MayNest config.now turns.now hand.new }
+    ensures gained { GainsNested nest.number nest.moment (in_cell_of cell (Read out.new) ∷ []) hand.old hand.new }
+    ensures told { Reads I.told I.faults O.told O.faults config.now hand.old cell out.new }
+    ensures counts { (report : LegReport) → In report out.new → CountsFit report }
+{
+    let mut turn = turns.turn(rt, hand, cell_place(config, cell));
+    read_part(turn.state(), out);
+    put_reading::<I, O, Brand>(turns, hand, turn, nest, out);
 }

@@ -2,7 +2,7 @@
 //! and adds one entry to the hand's list, which belongs to the board's entry.
 //!
 //! Module `boxes` opens and shuts the box of a port pair, `cells` ends the call of a cell and
-//! asks it whether it is due, `signals` prepares a cell by an offer and commits it by an answer; `brought` has what an offer
+//! asks it whether it is due and what is told of its legs, `signals` prepares a cell by an offer and commits it by an answer; `brought` has what an offer
 //! brings besides its legs. `puts` puts a turn back, one way for each kind of event. `nest` has
 //! the board's entry to which the steps belong. `specs/Nesting.antt` says who may make such steps and what a step tells.
 #![tactic(auto)]
@@ -16,6 +16,6 @@ mod signals;
 
 pub use boxes::{open_box, shut_box};
 pub use brought::{Brought, BroughtKey};
-pub use cells::{end_cell, expire_cell};
+pub use cells::{end_cell, expire_cell, read_cell};
 pub use nest::Nest;
 pub use signals::{commit_cell, prepare_cell};

@@ -3,7 +3,7 @@
 ghost use Rattle.std.specs.Prelude.{◌≡◌, max};
 ghost use Rattle.turn_table.specs.Hands.{IsHandOf, HasTurn, IsSameHand, IsMain, EndsTurn, place_of, front_of, state_of, taken_of};
 ghost use Rattle.port_pool.specs.Boxes.{Open, Close};
-ghost use Rattle.call_cell.specs.Cells.{Commit, Expire, End};
+ghost use Rattle.call_cell.specs.Cells.{Commit, Expire, Read, End};
 ghost use Rattle.call_cell.specs.Preparing.{added};
 ghost use Rattle.relay_core.specs.Entries.{Box, Cell};
 ghost use Rattle.relay_core.specs.Steps.{Relates};
@@ -13,7 +13,7 @@ ghost use Rattle.nested_steps.specs.Bringing.{brought_keys, brought_dropped};
 
 use crate::brought::Brought;
 use crate::nest::Nest;
-use call_cell::{Gone, Prepare};
+use call_cell::{Gone, LegReports, Prepare};
 use port_pool::{Holder, Signal};
 use relay_core::{Relay, Says, Told};
 use relay_outside::{InEnd, OutEnd};
@@ -88,6 +88,24 @@ pub(crate) fn put_expiry<I: InEnd, O: OutEnd, X: Says>(
     requires said { X.made ≡ nested nest.number nest.moment (max nest.moment (moment_in (taken_of turn))) (Cell (Expire due)) }
     ensures same { IsSameHand hand.old hand.new }
     ensures entry { EndsTurn (place_of turn) (front_of turn) (nested nest.number nest.moment (max nest.moment (moment_in (taken_of turn))) (Cell (Expire due))) tt hand.old hand.new }
+{
+    turns.put::<Told<X>>(hand, turn);
+}
+
+/// A cell told this of its legs.
+pub(crate) fn put_reading<I: InEnd, O: OutEnd, X: Says>(
+    turns: &Turns<Relay<I, O>>,
+    hand: &mut Hand<Relay<I, O>>,
+    turn: Turn<Relay<I, O>>,
+    nest: Nest,
+    out: &LegReports,
+)
+    requires table { IsHandOf turns.now hand.old × IsMain hand.old }
+    requires turn { HasTurn hand.old turn }
+    requires step { Relates I.told I.faults O.told O.faults (taken_of turn) (nested nest.number nest.moment (moment_in (taken_of turn)) (Cell (Read out.now))) (state_of turn) }
+    requires said { X.made ≡ nested nest.number nest.moment (moment_in (taken_of turn)) (Cell (Read out.now)) }
+    ensures same { IsSameHand hand.old hand.new }
+    ensures entry { EndsTurn (place_of turn) (front_of turn) (nested nest.number nest.moment (moment_in (taken_of turn)) (Cell (Read out.now))) tt hand.old hand.new }
 {
     turns.put::<Told<X>>(hand, turn);
 }

@@ -4,11 +4,12 @@ ghost use Rattle.turn_table.specs.Hands.{IsSameHand, SameTurns};
 ghost use Rattle.call_cell.specs.Cells.{Commit};
 ghost use Rattle.call_cell.specs.Preparing.{IsReady, PrepareFor, added};
 ghost use Rattle.relay_core.specs.Entries.{Cell};
-ghost use Rattle.relay_core.specs.Steps.{Relates, AreUncalled};
+ghost use Rattle.relay_core.specs.Standing.{GoneHome};
+ghost use Rattle.relay_core.specs.Steps.{Relates, AreOpened};
 ghost use Rattle.relay_core.specs.Turning.{GainsNested, made_by};
 ghost use Rattle.nested_steps.specs.Nesting.{MayNest, leaving, gone_left, AddsRow};
 ghost use Rattle.nested_steps.specs.Bringing.{brought_keys, brought_dropped};
-ghost use Rattle.nested_steps.specs.InCells.{HasNewKeys, in_cell_of, moment_in, preparing, CanPrepare, CanCommit, HasSpace, TakesOffer, TakesAnswer, PreparesPart, CommitsPart, Prepares, Commits};
+ghost use Rattle.nested_steps.specs.InCells.{HasNewKeys, in_cell_of, moment_in, preparing, CanPrepare, CanCommit, HasSpace, TakesOffer, OpenedFor, TakesAnswer, PreparesPart, CommitsPart, Prepares, Commits};
 ghost use Rattle.nested_steps.specs.Leaving.{DroppedWent, RejectedWent};
 
 use crate::brought::Brought;
@@ -34,7 +35,7 @@ fn prepare_part<I: InEnd, O: OutEnd>(
 )
     requires takes { TakesOffer part.old signal call (brought_keys brought.now) (brought_dropped brought.now) }
     requires ready { IsReady signal }
-    requires uncalled { AreUncalled O.told signal }
+    requires opened { OpenedFor O.told part.old signal }
     requires empty { gone.old ≡ [] }
     ensures step { (number : ℕ) → Relates I.told I.faults O.told O.faults part.old
         (leaving number now (max now (moment_in part.old)) (Cell (preparing call (added signal) (brought_keys brought.now) (brought_dropped brought.now))) (gone_left O.told gone.new)) part.new }
@@ -68,7 +69,8 @@ fn commit_part<I: InEnd, O: OutEnd>(
 }
 
 /// Takes into a cell what an offer brings to the call with this number: its legs and keys, which `brought` tells too. The legs
-/// of the sections that it drops go to `gone`, which is empty. The out ends of its legs have not been called. Cells are numbered from 1.
+/// of the sections that it drops go to `gone`, which is empty. The out ends of its legs were opened for the ports of their pairs, and not
+/// called since. Cells are numbered from 1.
 pub fn prepare_cell<I: InEnd, O: OutEnd, R: Wait>(
     rt: &R,
     turns: &Turns<Relay<I, O>>,
@@ -87,7 +89,7 @@ pub fn prepare_cell<I: InEnd, O: OutEnd, R: Wait>(
     requires tells { PrepareFor signal (brought_keys brought.now) (brought_dropped brought.now) }
     requires comes { CanPrepare config.now (made_by hand.old) cell signal call (brought_keys brought.now) (brought_dropped brought.now) }
     requires ready { IsReady signal }
-    requires uncalled { AreUncalled O.told signal }
+    requires opened { AreOpened O.told config.now signal }
     requires empty { gone.old ≡ [] }
     ensures same { IsSameHand hand.old hand.new × SameTurns hand.old hand.new }
     ensures may { MayNest config.now turns.now hand.new }
@@ -96,6 +98,7 @@ pub fn prepare_cell<I: InEnd, O: OutEnd, R: Wait>(
     ensures row { AddsRow cell (Cell (preparing call (added signal) (brought_keys brought.now) (brought_dropped brought.now))) (gone_left O.told gone.new) hand.old hand.new }
     ensures prepared { Prepares I.told I.faults O.told O.faults config.now hand.old cell signal call (brought_keys brought.now) (brought_dropped brought.now) nest.moment gone.new }
     ensures went { DroppedWent config.now (made_by hand.old) cell (brought_dropped brought.now) gone.new }
+    ensures home { GoneHome O.told config.now gone.new }
 {
     let legs = Snapshot::of(&signal);
     let mut turn = turns.turn(rt, hand, cell_place(config, cell));
@@ -128,6 +131,7 @@ pub fn commit_cell<I: InEnd, O: OutEnd, R: Wait>(
     ensures row { AddsRow cell (Cell (Commit signal.now)) (gone_left O.told gone.new) hand.old hand.new }
     ensures committed { Commits I.told I.faults O.told O.faults config.now hand.old cell signal.now nest.moment gone.new }
     ensures went { RejectedWent config.now (made_by hand.old) cell signal.now gone.new }
+    ensures home { GoneHome O.told config.now gone.new }
 {
     let mut turn = turns.turn(rt, hand, cell_place(config, cell));
     commit_part(turn.state(), signal, contexts, gone, nest.moment);

@@ -6,7 +6,7 @@ ghost use Rattle.offer_answer.specs.Offering.{pair_count, key_count};
 ghost use Rattle.media_ports.specs.Addresses.{addresses_of};
 ghost use Rattle.media_ports.specs.Calls.{OpensPairs, SameOpen, WhereBothTold};
 ghost use Rattle.media_ports.specs.Draws.{DrawsAll};
-ghost use Rattle.media_ports.specs.Ends.{AreUncalled};
+ghost use Rattle.media_ports.specs.Ends.{AreOpened};
 ghost use Rattle.media_ports.specs.Given.{GivesBackUncalled};
 ghost use Rattle.media_ports.specs.Held.{TellsHeld, HasBoth};
 ghost use Rattle.call_board.specs.Boards.{Shows, KeepsCalls, KeepsReplies, leases_of, pairs_in};
@@ -82,7 +82,7 @@ pub fn lease_offer<P: PortMaker, K: KeySource>(
     ensures leases { IfOk result (λ took. (v : View) → Shows config.now board.old v → took.leases.list ≡ leases_of config.now v (pairs_of_plan plan)) }
     ensures pairs { IfOk result (λ took. length took.leases.list ≡ pairs_of_plan plan) }
     ensures opened { IfOk result (λ took. length took.opened.list ≡ length took.leases.list) }
-    ensures uncalled { IfOk result (λ took. AreUncalled P.In.told P.Out.told took.opened.list) }
+    ensures are_opened { IfOk result (λ took. AreOpened P.In.told P.Out.told config.now.interface took.leases.list took.opened.list) }
     ensures opens { IfOk result (λ took. Gained (P.told ports.old) (P.told ports.new) (OpensPairs config.now.interface took.leases.list)) }
     ensures are_open { IfOk result (λ took. (held now : List ℕ) → TellsHeld config.now (P.told ports.old) held → HasBoth held (pairs_in took.leases.list) now → TellsHeld config.now (P.told ports.new) now) }
     ensures keys { IfOk result (λ took. length took.drawn.list ≡ keys_of_plan plan) }

@@ -4,12 +4,11 @@ ghost use Rattle.relay_outside.specs.Told.{Gained, WhereTold};
 ghost use Rattle.media_ports.specs.Addresses.{addresses_of, ports_of, ArePorts};
 ghost use Rattle.media_ports.specs.Calls.{OpensPairs, NoneOpen, SameOpen, WhereBothTold};
 ghost use Rattle.media_ports.specs.Draws.{DrawsAll};
-ghost use Rattle.media_ports.specs.Ends.{AreUncalled};
+ghost use Rattle.media_ports.specs.Ends.{AreOpened};
 ghost use Rattle.offer_leases.specs.Undoing.{ComesEarly, DrawsBefore, HasRisen, UndoesPorts};
 
-use crate::closing::close_opened;
 use crate::fault::LeaseFault;
-use media_ports::{DrawnList, OpenedPairs, draw_keys, open_pairs};
+use media_ports::{DrawnList, OpenedPairs, close_opened, draw_keys, open_pairs};
 use port_pool::Leases;
 use relay_outside::{Ip, KeySource, PortMaker};
 
@@ -31,7 +30,7 @@ pub(crate) fn open_and_draw<P: PortMaker, K: KeySource>(
 
     ensures opens { OnOk result (Gained (P.told ports.old) (P.told ports.new) (OpensPairs interface leases.now.list)) }
     ensures pairs { OnOk result (length opened.new.list ≡ length leases.now.list) }
-    ensures uncalled { OnOk result (AreUncalled P.In.told P.Out.told opened.new.list) }
+    ensures are_opened { OnOk result (AreOpened P.In.told P.Out.told interface leases.now.list opened.new.list) }
     ensures draws { IfOk result (λ drawn. Gained (K.told keys.old) (K.told keys.new) (DrawsAll drawn.list)) }
     ensures count { IfOk result (λ drawn. length drawn.list ≡ count) }
 

@@ -9,6 +9,7 @@ use Rattle.histories.proofs.Lists.{it_has}
 use Rattle.relay_outside.specs.declared.settings.Config.{Config}
 use Rattle.relay_outside.specs.declared.ports.InCall.{InCall}
 use Rattle.relay_outside.specs.declared.ports.OutCall.{OutCall}
+use Rattle.relay_outside.specs.Told.{EndTold}
 use Rattle.turn_table.specs.declared.hands.Hand.{Hand}
 use Rattle.turn_table.specs.Hands.{IsSameHand, entries}
 use Rattle.port_pool.specs.declared.holder.Holder.{Holder}
@@ -211,7 +212,7 @@ module _ {M S T : Type 0} {g : _} where
           let wrong : true ≡ false = sym (it_has leg.pair rest (subst (λ (n : ℕ). In n rest) (sym same) i)) ∙ apart in cc
       other owed (there j) p = elim j [ ]
 
-module _ {M I O T : Type 0} {g : _} (it : I → Option (List InCall)) (ic : I → ℕ) (ot : O → Option (List OutCall)) (oc : O → ℕ) where
+module _ {M I O T : Type 0} {g : _} (it : I → EndTold InCall) (ic : I → ℕ) (ot : O → EndTold OutCall) (oc : O → ℕ) where
   -- what was opened from a later state on was opened from an earlier one on
   pub opened_since : (config : Config) (number moment : ℕ) (old mid : Hand M (Part I O) Made T g) (leg : Holder) (ends : PairEnds I O) → IsSameHand old mid
       → IsOpened it ic ot oc config number moment mid leg ends → IsOpened it ic ot oc config number moment old leg ends

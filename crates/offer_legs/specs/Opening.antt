@@ -3,6 +3,7 @@ use Rattle.std.specs.Prelude.{ℕ, List, [], ◌∷◌, Option}
 use Rattle.relay_outside.specs.declared.settings.Config.{Config}
 use Rattle.relay_outside.specs.declared.ports.InCall.{InCall}
 use Rattle.relay_outside.specs.declared.ports.OutCall.{OutCall}
+use Rattle.relay_outside.specs.Told.{EndTold}
 use Rattle.turn_table.specs.declared.hands.Hand.{Hand}
 use Rattle.turn_table.specs.Hands.{IsSameHand}
 use Rattle.histories.specs.Words.{In}
@@ -29,7 +30,7 @@ leased_parts [] opened = []
 leased_parts (lease ∷ leases) [] = []
 leased_parts (lease ∷ leases) (ends ∷ opened) = leg_parts lease ends ∷ leased_parts leases opened
 
-module _ {I O : Type 0} (in_told : I → Option (List InCall)) (in_faults : I → ℕ) (out_told : O → Option (List OutCall)) (out_faults : O → ℕ) where
+module _ {I O : Type 0} (in_told : I → EndTold InCall) (in_faults : I → ℕ) (out_told : O → EndTold OutCall) (out_faults : O → ℕ) where
   -- the hand opened the box of the leg's pair for the leg, with the in ends of the pair
   pub record IsOpened {M T : Type 0} {g : _} (config : Config) (number moment : ℕ) (begun : Hand M (Part I O) Made T g) (leg : Holder) (ends : PairEnds I O) : Type 0 where
     pub hand : Hand M (Part I O) Made T g

@@ -2,7 +2,7 @@
 ghost use Rattle.std.specs.Prelude.{◌≡◌, ◌≤◌, ◌<◌, ◌+◌, ◌++◌, ℕ, List, [], ◌∷◌, length, map};
 ghost use Rattle.std.specs.List.{AllZip};
 ghost use Rattle.turn_table.specs.Hands.{IsSameHand, SameTurns};
-ghost use Rattle.port_pool.specs.Ports.{pair_count};
+ghost use Rattle.port_pool.specs.Ports.{pair_count, pair_port};
 ghost use Rattle.port_pool.specs.Signals.{NewKey};
 ghost use Rattle.offer_answer.specs.Offering as offering;
 ghost use Rattle.offer_answer.specs.Offering.{PlanFor};
@@ -11,7 +11,7 @@ ghost use Rattle.call_board.specs.Acts.{Call};
 ghost use Rattle.call_board.specs.Whole.{legs_of};
 ghost use Rattle.call_cell.specs.Preparing.{IsReady, PrepareFor, added, parts_added, leg_room, key_room};
 ghost use Rattle.media_ports.specs.Addresses.{AreLeased, pairs_of};
-ghost use Rattle.media_ports.specs.Ends.{IsUncalled, AreUncalled};
+ghost use Rattle.media_ports.specs.Ends as pair_ends;
 ghost use Rattle.relay_core.specs.Entries.{box_of};
 ghost use Rattle.relay_core.specs.Scripts.{opening};
 ghost use Rattle.relay_core.specs.Turning.{GainsNested, made_by};
@@ -48,7 +48,8 @@ fn open_leg<I: InEnd, O: OutEnd, R: Wait>(
     requires generation { lease.generation ≡ holder.generation }
     requires cell { (1 ≤ holder.cell) × (holder.cell ≤ config.now.max_sessions) }
     requires shut { IsShut (made_by hand.old) (box_of config.now holder.pair) }
-    requires uncalled { IsUncalled I.told O.told ends }
+    requires port { lease.rtp_port ≡ pair_port config.now holder.pair }
+    requires ends { pair_ends.IsOpened I.told O.told config.now.interface lease ends }
     requires room { (0 < leg_room prepare.old) × (length legs.old.list < legs.old.room) }
     ensures same { IsSameHand hand.old hand.new × SameTurns hand.old hand.new }
     ensures may { MayNest config.now turns.now hand.new }
@@ -95,7 +96,7 @@ pub fn open_legs<I: InEnd, O: OutEnd, R: Wait>(
     requires pairs { length opened.list ≡ offering.pair_count plan.now }
     requires leased { AreLeased config.now leases.list }
     requires shut { AreShut config.now (made_by hand.old) (pairs_of leases.list) }
-    requires uncalled { AreUncalled I.told O.told opened.list }
+    requires opened { pair_ends.AreOpened I.told O.told config.now.interface leases.list opened.list }
     requires room { (offering.pair_count plan.now ≤ leg_room prepare.old) × (offering.pair_count plan.now ≤ legs.old.room) }
     requires none { legs.old.list ≡ [] }
 

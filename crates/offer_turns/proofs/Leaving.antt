@@ -1,10 +1,11 @@
--- What an accepted offer leaves: its legs' out ends have not been called, and by its rows just the dropped legs go.
-use Rattle.std.proofs.Common.{◌≡◌, ◌∙◌, refl, sym, ap, subst, ℕ, ◌++◌, List, [], ◌∷◌, Option, map, true, append_assoc}
+-- What an accepted offer leaves: its legs have the out ends that were opened for them, and by its rows just the dropped legs go.
+use Rattle.std.proofs.Common.{◌≡◌, ◌∙◌, refl, sym, ap, subst, ℕ, ◌+◌, ◌++◌, List, [], ◌∷◌, Option, map, true, append_assoc}
 use Rattle.relay_outside.specs.declared.ports.InCall.{InCall}
 use Rattle.relay_outside.specs.declared.ports.OutCall.{OutCall}
 use Rattle.relay_outside.specs.declared.settings.Config.{Config}
 use Rattle.relay_outside.specs.Ports.{joined}
-use Rattle.relay_outside.specs.Told.{StartsEmpty}
+use Rattle.relay_outside.specs.Told.{EndTold, IsOpenedFor}
+use Rattle.rtp_packet.specs.declared.head.Half.TheVariants.{Rtp, Rtcp}
 use Rattle.histories.specs.Words.{In, here, there}
 use Rattle.histories.proofs.Lists.{maps}
 use Rattle.turn_table.specs.declared.machine.Entry as table
@@ -15,14 +16,17 @@ use Rattle.port_pool.specs.declared.holder.Holder.{Holder}
 use Rattle.call_cell.specs.declared.leg.Leg.{Leg}
 use Rattle.call_cell.specs.declared.prepare.Prepare as prepared
 use Rattle.call_cell.specs.Ending.{parts_of}
-use Rattle.call_cell.specs.Preparing.{parts_added}
+use Rattle.call_cell.specs.Preparing.{PrepareFor, parts_added}
+use Rattle.port_pool.specs.Ports.{pair_port, port_at, port_address}
+use Rattle.port_pool.specs.Signals.{NewKey}
+use Rattle.media_ports.specs.Addresses.{HavePorts}
 use Rattle.media_ports.specs.declared.ends.PairEnds.{PairEnds}
 use Rattle.media_ports.specs.Ends as ends
 use Rattle.media_ports.proofs.Given.{joined_to_nothing}
 use Rattle.relay_core.specs.Entries.{Event}
 use Rattle.relay_core.specs.Made.{Made, entry_of, list_of}
 use Rattle.relay_core.specs.Scripts.{Owed, owed_by, opening}
-use Rattle.relay_core.specs.Steps.{AreUncalled}
+use Rattle.relay_core.specs.Steps.{AreOpened}
 use Rattle.relay_core.specs.Told.{is_parting, ins_told, outs_told}
 use Rattle.relay_core.specs.Turning.{GainsNested}
 use Rattle.nested_steps.specs.Nesting.{AddsRow, gone_left}
@@ -30,24 +34,37 @@ use Rattle.board_turns.specs.Ties.{LegsLeave}
 use Rattle.board_turns.proofs.Tying.{NothingLeaves, NothingLeft, none_left, row_left, both_left, ins_append, outs_append, legs_leave}
 use Rattle.offer_legs.specs.Opening.{leased_parts}
 
-module _ {I O : Type 0} (taken : I → Option (List InCall)) (sent : O → Option (List OutCall)) where
-  -- neither out end of a leg's parts was called
-  pub record AreEmpty (part : Lease × O × O) : Type 0 where
-    pub rtp : StartsEmpty (sent part.1)
-    pub rtcp : StartsEmpty (sent part.2)
+module _ {I O : Type 0} (taken : I → EndTold InCall) (sent : O → EndTold OutCall) where
+  -- the out ends of a leg's parts were opened for the ports of its pair, and not called since
+  pub record AreNew (config : Config) (part : Lease × O × O) : Type 0 where
+    pub rtp : IsOpenedFor (port_address config part.0.pair Rtp) (sent part.1)
+    pub rtcp : IsOpenedFor (port_address config part.0.pair Rtcp) (sent part.2)
 
-  parts_empty : (leases : List Lease) (opened : List (PairEnds I O)) → ends.AreUncalled taken sent opened → (part : Lease × O × O) → In part (leased_parts leases opened) → AreEmpty part
-  parts_empty [] opened uncalled part i = elim i [ ]
-  parts_empty (lease ∷ leases) [] uncalled part i = elim i [ ]
-  parts_empty (lease ∷ leases) (first ∷ opened) uncalled part (here is) = subst AreEmpty (sym is) (record { rtp = uncalled.0.rtp_out; rtcp = uncalled.0.rtcp_out })
-  parts_empty (lease ∷ leases) (first ∷ opened) uncalled part (there i) = parts_empty leases opened uncalled.1 part i
+  new_part : (config : Config) (lease : Lease) (first : PairEnds I O) → lease.rtp_port ≡ pair_port config lease.pair → ends.IsOpened taken sent config.interface lease first
+      → AreNew config (lease, first.rtp_out, first.rtcp_out)
+  new_part config lease first is opened = record {
+    rtp = subst (λ (port : ℕ). IsOpenedFor (port_at config.interface port) (sent first.rtp_out)) is opened.rtp_out;
+    rtcp = subst (λ (port : ℕ). IsOpenedFor (port_at config.interface (port + 1)) (sent first.rtcp_out)) is opened.rtcp_out;
+  }
 
-  -- no out end of the prepared legs was called, which are those of pairs that were opened and not called
-  pub legs_uncalled : (signal : prepared.Prepare O) (leases : List Lease) (opened : List (PairEnds I O)) → parts_added signal ≡ leased_parts leases opened → ends.AreUncalled taken sent opened →
-      AreUncalled sent signal
-  legs_uncalled signal leases opened parts uncalled leg i =
-      let empty = parts_empty leases opened uncalled (parts_of leg) (subst (In (parts_of leg)) parts (maps (λ (l : Leg O). parts_of l) signal.legs.items i)) in
-      record { rtp = empty.rtp; rtcp = empty.rtcp }
+  parts_new : (config : Config) (leases : List Lease) (opened : List (PairEnds I O)) → HavePorts config leases → ends.AreOpened taken sent config.interface leases opened
+      → (part : Lease × O × O) → In part (leased_parts leases opened) → AreNew config part
+  parts_new config [] opened ports are part i = elim i [ ]
+  parts_new config (lease ∷ leases) [] ports are part i = elim i [ ]
+  parts_new config (lease ∷ leases) (first ∷ opened) ports are part (here is) = subst (AreNew config) (sym is) (new_part config lease first ports.0 are.0)
+  parts_new config (lease ∷ leases) (first ∷ opened) ports are part (there i) = parts_new config leases opened ports.1 are.1 part i
+
+  -- the out ends of the prepared legs, which are those of the pairs that were opened, were opened for the ports of the legs' pairs
+  pub legs_opened : (config : Config) (signal : prepared.Prepare O) (keys : List NewKey) (dropped : List ℕ) (leases : List Lease) (opened : List (PairEnds I O))
+      → parts_added signal ≡ leased_parts leases opened → HavePorts config leases → ends.AreOpened taken sent config.interface leases opened
+      → PrepareFor signal keys dropped → AreOpened sent config signal
+  legs_opened config signal keys dropped leases opened parts ports are for leg i =
+      let new = parts_new config leases opened ports are (parts_of leg) (subst (In (parts_of leg)) parts (maps (λ (l : Leg O). parts_of l) signal.legs.items i)) in
+      let pair : leg.lease.pair ≡ leg.holder.pair = (for.fresh leg i).pair in
+      record {
+        rtp = subst (λ (n : ℕ). IsOpenedFor (port_address config n Rtp) (sent leg.sending.rtp)) pair new.rtp;
+        rtcp = subst (λ (n : ℕ). IsOpenedFor (port_address config n Rtcp) (sent leg.sending.rtcp)) pair new.rtcp;
+      }
 
 module _ {T : Type 0} where
   -- nothing leaves by the openings of boxes
@@ -59,7 +76,7 @@ module _ {T : Type 0} where
       let rest : map owed_by (list_of rows) ≡ map (opening config) legs = (let e = owes in cc) in
       both_left (row ∷ []) rows (row_left row (subst (λ (w : Owed). NothingLeaves w.event) (sym first) (record { closing = refl; parting = refl }))) (opened_left config legs rows rest)
 
-module _ {M S T O : Type 0} {g : _} (sent : O → Option (List OutCall)) where
+module _ {M S T O : Type 0} {g : _} (sent : O → EndTold OutCall) where
   -- boxes were opened, and then these legs went from a cell
   pub opened_leave : (config : Config) (number moment : ℕ) (holders : List Holder) (gone : List (Lease × O × O)) (place : ℕ) (event : Event) (old mid new : Hand M S Made T g) →
       is_parting event ≡ true → GainsNested number moment (map (opening config) holders) old mid → AddsRow place event (gone_left sent gone) mid new →

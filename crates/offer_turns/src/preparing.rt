@@ -8,9 +8,10 @@ ghost use Rattle.call_cell.specs.Preparing.{IsReady, PrepareFor, added, key_room
 ghost use Rattle.call_board.specs.Boards.{leases_of};
 ghost use Rattle.call_board.specs.Pairs.{new_keys};
 ghost use Rattle.call_board.specs.Views.{view_of};
-ghost use Rattle.media_ports.specs.Ends.{AreUncalled};
+ghost use Rattle.media_ports.specs.Ends.{AreOpened};
 ghost use Rattle.relay_core.specs.Entries.{board_history};
 ghost use Rattle.relay_core.specs.Legal.{Orderly};
+ghost use Rattle.relay_core.specs.Standing.{GoneHome};
 ghost use Rattle.relay_core.specs.Turning.{GainsNested, IsAbove, made_by};
 ghost use Rattle.nested_steps.specs.Nesting.{MayNest};
 ghost use Rattle.nested_steps.specs.Bringing.{brought_keys, brought_dropped};
@@ -109,7 +110,7 @@ pub(crate) fn prepare_offer<I: InEnd, O: OutEnd, R: Wait>(
     requires leases { leases.list ≡ leases_of config.now (view_of config.now (board_history (made_by hand.old) nest.number)) (pair_count plan.now.plan) }
     requires count { length leases.list ≡ pair_count plan.now.plan }
     requires opened { length opened.list ≡ pair_count plan.now.plan }
-    requires uncalled { AreUncalled I.told O.told opened.list }
+    requires ends { AreOpened I.told O.told config.now.interface leases.list opened.list }
     requires first { first_key ≡ next_key (board_history (made_by hand.old) nest.number) }
     requires low { first_key ≤ 2 ^ 63 }
     requires keys { length drawn.now.list ≡ key_count plan.now.plan }
@@ -121,6 +122,7 @@ pub(crate) fn prepare_offer<I: InEnd, O: OutEnd, R: Wait>(
         GainsNested nest.number nest.moment (bringing_of config.now (offer_of config.now (board_history (made_by hand.old) nest.number) id ask drawn.now.list)) hand.old hand.new }
     ensures went { (id : List ℕ) (ask : OfferAsk) → IsDue config.now (board_history (made_by hand.old) nest.number) id ask plan.now drawn.now.list →
         AreLeasesOf config.now gone.new (dropped_legs (board_history (made_by hand.old) nest.number) (offer_of config.now (board_history (made_by hand.old) nest.number) id ask drawn.now.list)) }
+    ensures home { GoneHome O.told config.now gone.new }
     ensures leave { LegsLeave O.told gone.new (entries hand.old) (entries hand.new) }
 {
     let BringRoom {

@@ -13,7 +13,7 @@ ghost use Rattle.call_board.specs.Views.{view_of};
 ghost use Rattle.call_board.specs.Fits.{FitsBoard};
 ghost use Rattle.call_board.specs.Applied.{MayApply};
 ghost use Rattle.media_ports.specs.Asked.{OpensNone};
-ghost use Rattle.media_ports.specs.Ends.{AreUncalled};
+ghost use Rattle.media_ports.specs.Ends.{AreOpened};
 ghost use Rattle.media_ports.specs.Held.{TellsHeld};
 ghost use Rattle.relay_core.specs.Entries.{board_history};
 ghost use Rattle.relay_core.specs.Legal.{Orderly};
@@ -71,7 +71,7 @@ pub(crate) fn take_in<P: PortMaker, R: Wait>(
     requires leases { leases.list ≡ leases_of config.now (view_of config.now (board_history (made_by hand.old) nest.number)) (pair_count plan.plan) }
     requires count { length leases.list ≡ pair_count plan.plan }
     requires opened { length opened.list ≡ pair_count plan.plan }
-    requires uncalled { AreUncalled P.In.told P.Out.told opened.list }
+    requires ends { AreOpened P.In.told P.Out.told config.now.interface leases.list opened.list }
     requires first { first_key ≡ next_key (board_history (made_by hand.old) nest.number) }
     requires low { first_key ≤ 2 ^ 63 }
     requires keys { length drawn.now.list ≡ key_count plan.plan }

@@ -1,8 +1,9 @@
 //! The devices of a running program, behind the traits of `relay_outside`: UDP sockets, the system's clock,
 //! keys from a ChaCha20 stream, standard input and output.
 //! Sockets, clock and streams are the trusted edge: each is a few lines, counts its faults and tells nothing
-//! of what it takes and gives. Which sockets are readable is a hint, on which nothing rests. It is proved which bytes of the seed's stream each key is, and which lines a
-//! stream of known bytes gives.
+//! of what it takes and gives; the ends of a port tell the address that they were opened for. Which sockets are
+//! readable is a hint, on which nothing rests. It is proved which bytes of the seed's stream each key is, and which
+//! lines a stream of known bytes gives.
 #![tactic(auto)]
 
 mod address;

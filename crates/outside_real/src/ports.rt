@@ -1,3 +1,5 @@
+ghost use Rattle.std.specs.Prelude.{◌≡◌, IfOk};
+
 use crate::address::{addr_of, socket_addr};
 use crate::faults::Faults;
 use crate::readiness::Readiness;
@@ -5,12 +7,13 @@ use relay_outside::{Addr, Failed, InCall, InEnd, OutCall, OutEnd, PortCall, Port
 use std::io::{self, ErrorKind};
 use std::net::{Net, UdpSocket};
 
-/// The receiving end of a UDP port. It tells nothing.
+/// The receiving end of a UDP port. It tells the address that it was opened for, and nothing of its calls.
 ///
 /// A take never waits. Each error of the system is a fault, but for those that say that nothing is there or
 /// that a signal came; that an earlier datagram reached nobody (ICMP) is not told to a socket without a fixed peer.
 #[derive(Drop)]
 pub struct UdpIn {
+    at: Addr,
     socket: UdpSocket,
     faults: Faults,
 }
@@ -18,7 +21,7 @@ pub struct UdpIn {
 impl InEnd for UdpIn {
     ghost use Rattle.std.specs.Prelude.{None};
 
-    ghost told = { λ end. None };
+    ghost told = { λ end. record { at = end.at; calls = None } };
 
     ghost faults = { λ end. end.faults };
 
@@ -33,11 +36,12 @@ impl InEnd for UdpIn {
     }
 }
 
-/// The sending end of a UDP port. It tells nothing.
+/// The sending end of a UDP port. It tells the address that it was opened for, and nothing of its calls.
 ///
 /// A send never waits: where the system has no room for the datagram, that is a fault as any other error.
 #[derive(Drop)]
 pub struct UdpOut {
+    at: Addr,
     socket: UdpSocket,
     faults: Faults,
 }
@@ -45,7 +49,7 @@ pub struct UdpOut {
 impl OutEnd for UdpOut {
     ghost use Rattle.std.specs.Prelude.{None};
 
-    ghost told = { λ end. None };
+    ghost told = { λ end. record { at = end.at; calls = None } };
 
     ghost faults = { λ end. end.faults };
 
@@ -80,15 +84,19 @@ impl<'a, R: Net> UdpMaker<'a, R> {
 }
 
 /// The two ends of a socket that is bound here, never waits, and is watched.
-fn open<R: Net>(net: &R, readiness: &Readiness, at: Addr) -> io::Result<(UdpIn, UdpOut)> {
+fn open<R: Net>(net: &R, readiness: &Readiness, at: Addr) -> io::Result<(UdpIn, UdpOut)>
+    ensures { IfOk result (λ ends. (ends.0.at ≡ at) × (ends.1.at ≡ at)) }
+{
     let socket = UdpSocket::bind(net, socket_addr(at))?;
     socket.set_nonblocking(true)?;
     let sending = UdpOut {
+        at,
         socket: socket.try_clone()?,
         faults: Faults::new(),
     };
     readiness.watch(&socket, at.port);
     let receiving = UdpIn {
+        at,
         socket,
         faults: Faults::new(),
     };

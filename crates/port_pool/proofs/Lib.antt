@@ -1,2 +1,3 @@
 pub mod Queue
+pub mod Addresses
 pub mod Standing

@@ -1,5 +1,6 @@
 -- What a box stands for.
 use Rattle.std.specs.Prelude.{◌≡◌, ◌≤◌, ℕ, List, Option, Some, None, IfSome}
+use Rattle.relay_outside.specs.declared.address.Addr.{Addr}
 use Rattle.port_pool.specs.declared.holder.Holder.{Holder}
 use Rattle.port_pool.specs.declared.boxes.Opened.{Opened}
 use Rattle.port_pool.specs.declared.boxes.PairBox.{PairBox}
@@ -21,6 +22,10 @@ module _ {I : Type 0} where
   -- the ends for RTP and for RTCP, where it is open
   abbrev pub ends_in : PairBox I → Option (I × I)
   ends_in box = ends_of box.opened
+
+  -- the address of the pair's port for RTP
+  abbrev pub at_of : PairBox I → Addr
+  at_of box = box.at
 
   -- how many cells there are, numbered from 1
   abbrev pub cells_of : PairBox I → ℕ

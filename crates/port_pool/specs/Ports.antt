@@ -1,8 +1,11 @@
 -- The ports of the pairs of a configuration. A pair is an even port and the next one, both in the range.
-use Rattle.std.specs.Prelude.{ℕ, ◌+◌, ◌-◌, ◌*◌, ◌/◌, ◌%◌}
+use Rattle.std.specs.Prelude.{◌≡◌, ℕ, ◌+◌, ◌-◌, ◌*◌, ◌/◌, ◌%◌}
 use Rattle.rtp_packet.specs.declared.head.Half.{Half}
 use Rattle.rtp_packet.specs.declared.head.Half.TheVariants.{Rtp, Rtcp}
+use Rattle.relay_outside.specs.declared.address.Addr.{Addr}
+use Rattle.relay_outside.specs.declared.address.Ip.{Ip}
 use Rattle.relay_outside.specs.declared.settings.Config.{Config}
+use Rattle.relay_outside.specs.Told.{EndTold}
 
 -- the first even port of the range
 abbrev pub first_port : Config → ℕ
@@ -20,3 +23,20 @@ pair_port config pair = first_port config + 2 * pair
 abbrev pub half_port : Config → ℕ → Half → ℕ
 half_port config pair Rtp = pair_port config pair
 half_port config pair Rtcp = pair_port config pair + 1
+
+-- a port of an interface
+abbrev pub port_at : Ip → ℕ → Addr
+port_at interface port = record { ip = interface; port = port }
+
+-- the address of the port of a pair's half, on the configuration's interface
+abbrev pub port_address : Config → (pair : ℕ) → Half → Addr
+port_address config pair half = port_at config.interface (half_port config pair half)
+
+-- the address of the port for RTCP of a pair, by that of its port for RTP
+abbrev pub rtcp_address : Addr → Addr
+rtcp_address at = port_at at.ip (at.port + 1)
+
+-- the two ends, for RTP and for RTCP, were opened for the ports of the pair whose port for RTP has this address
+pub record AreOfPair {E C : Type 0} (told : E → EndTold C) (at : Addr) (rtp rtcp : E) : Type 0 where
+  pub rtp_at : (told rtp).at ≡ at
+  pub rtcp_at : (told rtcp).at ≡ rtcp_address at

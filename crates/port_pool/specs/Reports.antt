@@ -1,13 +1,10 @@
--- What is told of a leg.
-use Rattle.std.specs.Prelude.{ℕ}
-use Rattle.relay_outside.specs.declared.address.Addr.{Addr}
-use Rattle.port_pool.specs.declared.holder.Holder.{Holder}
+-- Reports of legs whose counts are integers of 64 bits with a sign too.
+use Rattle.std.specs.Prelude.{◌<◌, ◌^◌}
+use Rattle.port_pool.specs.declared.reports.LegReport.{LegReport}
 
--- a committed leg, where its RTP goes, and how many packets of each half were accepted from it and sent to it
-pub record LegReport : Type 0 where
-  pub leg : Holder
-  pub endpoint : Addr
-  pub rtp_accepted : ℕ
-  pub rtp_sent : ℕ
-  pub rtcp_accepted : ℕ
-  pub rtcp_sent : ℕ
+-- each count of the report is below 2 ^ 63
+pub record CountsFit (told : LegReport) : Type 0 where
+  pub rtp_accepted : told.rtp_accepted < 2 ^ 63
+  pub rtp_sent : told.rtp_sent < 2 ^ 63
+  pub rtcp_accepted : told.rtcp_accepted < 2 ^ 63
+  pub rtcp_sent : told.rtcp_sent < 2 ^ 63

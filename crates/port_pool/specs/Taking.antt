@@ -4,7 +4,7 @@ use Rattle.relay_outside.specs.declared.ports.InCall.{InCall}
 use Rattle.relay_outside.specs.declared.ports.InCall.TheVariants as into
 use Rattle.relay_outside.specs.declared.ports.InGiven.{InGiven}
 use Rattle.relay_outside.specs.declared.ports.InGiven.TheVariants as given
-use Rattle.relay_outside.specs.Told.{Gains, Rose}
+use Rattle.relay_outside.specs.Told.{EndTold, EndGains, Rose}
 use Rattle.rtp_packet.specs.declared.head.Half.{Half}
 use Rattle.rtp_packet.specs.declared.head.Half.TheVariants.{Rtp, Rtcp}
 use Rattle.port_pool.specs.declared.boxes.BoxTake.{BoxTake}
@@ -33,11 +33,11 @@ abbrev pub HasFault : ℕ → ℕ → Taken → Type 0
 HasFault before now box.Fault = Rose before now
 HasFault before now _ = Unit {0}
 
-module _ {I : Type 0} (told : I → Option (List InCall)) (faults : I → ℕ) where
-  -- the end's list gained one take into 2,001 bytes, which gave what the history is told
+module _ {I : Type 0} (told : I → EndTold InCall) (faults : I → ℕ) where
+  -- the end, of the same port, gained one take into 2,001 bytes, which gave what the history is told
   abbrev pub GainsTake : I → I → Option InGiven → Type 0
   GainsTake old new None = ⊥
-  GainsTake old new (Some gave) = Gains (told old) (told new) (into.Take 2001 gave)
+  GainsTake old new (Some gave) = EndGains (told old) (told new) (into.Take 2001 gave)
 
   -- the end was taken from once
   pub record IsTaken (old new : I) (taken : Taken) : Type 0 where

@@ -1,7 +1,7 @@
 ghost use Rattle.std.specs.Prelude.{◌≡◌, ◌≤◌, ◌↔◌, [], ◌∷◌, List, Some, None, IsSome};
 ghost use Rattle.port_pool.specs.Boxes.{BoxEvent, Open, Take, Close, FitsTaken, FitsBox};
 ghost use Rattle.port_pool.specs.Taking.{taken_of, IsTaken, IsTakenFrom, EndsTaken};
-ghost use Rattle.port_pool.specs.PairBoxes.{holder_in, ends_in, cells_of, BoxFor};
+ghost use Rattle.port_pool.specs.PairBoxes.{holder_in, ends_in, at_of, cells_of, BoxFor};
 
 use crate::holder::Holder;
 use relay_outside::{Addr, InEnd};
@@ -50,6 +50,8 @@ struct Opened<I> {
 pub struct PairBox<I> {
     /// How many cells there are; they are numbered from 1.
     cells: u32,
+    /// The address of the pair's port for RTP.
+    at: Addr,
     /// The holder and the ends, while the pair is held.
     opened: Option<Opened<I>>,
 }
@@ -91,14 +93,16 @@ impl<I: InEnd> Opened<I> {
 }
 
 impl<I: InEnd> PairBox<I> {
-    /// The closed box of a pair that was never held, where there are so many cells.
-    pub fn empty(cells: u32) -> PairBox<I>
+    /// The closed box of a pair that was never held, where there are so many cells, and its port for RTP has this address.
+    pub fn empty(cells: u32, at: Addr) -> PairBox<I>
         ensures history { BoxFor result [] }
         ensures ends { ends_in result ≡ None }
         ensures cells { cells_of result ≡ cells }
+        ensures at { at_of result ≡ at }
     {
         PairBox {
             cells,
+            at,
             opened: None,
         }
     }
@@ -111,6 +115,7 @@ impl<I: InEnd> PairBox<I> {
         ensures history { (h : List BoxEvent) → BoxFor self.old h → FitsBox h (Open holder) × BoxFor self.new (Open holder ∷ h) }
         ensures ends { ends_in self.new ≡ Some (rtp_end, rtcp_end) }
         ensures cells { cells_of self.new ≡ cells_of self.old }
+        ensures at { at_of self.new ≡ at_of self.old }
     {
         let opened = Opened {
             holder,
@@ -129,6 +134,7 @@ impl<I: InEnd> PairBox<I> {
             FitsBox h (Take half (taken_of result buf.new)) × BoxFor self.new (Take half (taken_of result buf.new) ∷ h) }
         ensures ends { EndsTaken I.told I.faults half (ends_in self.old) (ends_in self.new) (taken_of result buf.new) }
         ensures cells { cells_of self.new ≡ cells_of self.old }
+        ensures at { at_of self.new ≡ at_of self.old }
     {
         match &mut self.opened {
             Some(opened) => opened.take(half, buf),
@@ -143,6 +149,7 @@ impl<I: InEnd> PairBox<I> {
         ensures open { IsSome result ↔ IsSome (holder_in self.old) }
         ensures ends { ends_in self.new ≡ None }
         ensures cells { cells_of self.new ≡ cells_of self.old }
+        ensures at { at_of self.new ≡ at_of self.old }
     {
         let Opened {
             holder: _,

@@ -13,8 +13,7 @@ use Rattle.port_pool.specs.declared.holder.Holder.{Holder}
 use Rattle.port_pool.specs.Ports.{pair_count}
 use Rattle.port_pool.specs.Signals.{same_leg, is_rejected, NewKey}
 use Rattle.call_cell.specs.Cells.{CellEvent, CellEntry, Sending, Relayed, Deed, Prepare, Commit, Relay, Expire, Read, End, ends, legs, legs_of, takes_away, since_end}
-use Rattle.call_cell.specs.Deeds.{found}
-use Rattle.call_cell.specs.Standing.{opposite_of, is_leaving}
+use Rattle.call_cell.specs.Deeds.{found, opposite_of, is_leaving}
 use Rattle.call_cell.proofs.Legs.{is_same_leg, same_leg_is, opposite_is}
 use Rattle.call_cell.proofs.Nested.{same_lasting, kept_since}
 use Rattle.call_cell.proofs.PrepareSteps.{any_false}

@@ -1,5 +1,5 @@
 -- Parts that are added one after the other.
-use Rattle.std.proofs.Common.{◌≡◌, refl, sym, ◌∙◌, ap, ℕ, zero, suc, ◌+◌, not, List, [], ◌∷◌, ◌++◌, length, filter, append_assoc, length-append}
+use Rattle.std.proofs.Common.{◌≡◌, refl, sym, ◌∙◌, ap, subst, arith, ℕ, zero, suc, ◌+◌, not, List, [], ◌∷◌, ◌++◌, length, filter, append_assoc, length-append}
 use Rattle.histories.specs.Words.{has, numbers}
 use Rattle.port_pool.specs.Ports.{pair_count}
 use Rattle.call_board.specs.declared.board.Board as board
@@ -20,9 +20,10 @@ module _ {I O : Type 0} where
   cells_and config [] x are is = (is, tt)
   cells_and config (y ∷ xs) x are is = (are.0, cells_and config xs x are.1 is)
 
-  boxes_and : (config : Config) (xs : List (Part I O)) (x : Part I O) → AreBoxes config xs → IsBox config x → AreBoxes config (xs ++ x ∷ [])
-  boxes_and config [] x are is = (is, tt)
-  boxes_and config (y ∷ xs) x are is = (are.0, boxes_and config xs x are.1 is)
+  boxes_and : (config : Config) (k : ℕ) (xs : List (Part I O)) (x : Part I O) → AreBoxes config k xs → IsBox config (length xs + k) x → AreBoxes config k (xs ++ x ∷ [])
+  boxes_and config k [] x are is = (subst (λ (n : ℕ). IsBox config n x) (omega arith) is, tt)
+  boxes_and config k (y ∷ xs) x are is =
+      (are.0, boxes_and config (suc k) xs x are.1 (subst (λ (n : ℕ). IsBox config n x) (omega arith) is))
 
   pub no_cells : (config : Config) (xs : List (Part I O)) → AddsCells config xs xs 0
   no_cells config xs = record { added = []; is = sym (nothing_behind xs); as_many = refl; are = tt }
@@ -39,13 +40,14 @@ module _ {I O : Type 0} where
     are = cells_and config adds.added x adds.are is;
   }
 
-  pub one_more_box : (config : Config) (old new newer : List (Part I O)) (count : ℕ) (x : Part I O) → AddsBoxes config old new count → IsBox config x
-      → newer ≡ new ++ x ∷ [] → AddsBoxes config old newer (count + 1)
+  pub one_more_box : (config : Config) (old new newer : List (Part I O)) (count : ℕ) (x : Part I O) → AddsBoxes config old new count
+      → IsBox config (count + (config.max_sessions + 1)) x → newer ≡ new ++ x ∷ [] → AddsBoxes config old newer (count + 1)
   one_more_box config old new newer count x adds is q = record {
     added = adds.added ++ x ∷ [];
     is = q ∙ ap (λ (xs : List (Part I O)). xs ++ x ∷ []) adds.is ∙ append_assoc old adds.added (x ∷ []);
     as_many = length-append adds.added (x ∷ []) ∙ ap (λ (n : ℕ). n + 1) adds.as_many;
-    are = boxes_and config adds.added x adds.are is;
+    are = boxes_and config (config.max_sessions + 1) adds.added x adds.are
+        (subst (λ (n : ℕ). IsBox config (n + (config.max_sessions + 1)) x) (sym adds.as_many) is);
   }
 
 numbers_count : (n count : ℕ) → length (numbers n count) ≡ count

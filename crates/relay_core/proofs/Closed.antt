@@ -13,6 +13,7 @@ use Rattle.turn_table.specs.Histories as table_lists
 use Rattle.turn_table.proofs.Lists.{below_in}
 use Rattle.histories.specs.Words.{In}
 use Rattle.relay_outside.specs.declared.address.Addr.{Addr}
+use Rattle.relay_outside.specs.Told.{EndTold}
 use Rattle.rtp_packet.specs.declared.head.Half.{Half}
 use Rattle.port_pool.specs.declared.holder.Holder.{Holder}
 use Rattle.port_pool.specs.Boxes.{Take, Datagram, FitsTaken, holder}
@@ -44,7 +45,7 @@ use Rattle.relay_core.proofs.Filled as right
 use Rattle.relay_core.proofs.Filled.{legal_filled, filled_tells}
 use Rattle.relay_core.proofs.Placing.{step_at, begins_kind, begins_stands, kind_stays, IsPlaced, ArePlaced, IsRight, step_placed, step_right}
 
-module _ {T I O : Type 0} (it : I → Option (List InCall)) (ic : I → ℕ) (ot : O → Option (List OutCall)) (oc : O → ℕ) where
+module _ {T I O : Type 0} (it : I → EndTold InCall) (ic : I → ℕ) (ot : O → EndTold OutCall) (oc : O → ℕ) where
   -- of the place with this number, which began so, the rows have the whole history
   pub record IsWhole (rows : List (table.Entry Made T)) (k : ℕ) (a : Part I O) : Type 0 where
     pub past : List (table.Entry Made T)
@@ -88,7 +89,7 @@ in_range [] k within = absurd (omega (arith, within))
 in_range (a ∷ starts) zero within = (a, refl)
 in_range (a ∷ starts) (suc k) within = in_range starts k (omega (arith, within))
 
-module _ {T I O : Type 0} (it : I → Option (List InCall)) (ic : I → ℕ) (ot : O → Option (List OutCall)) (oc : O → ℕ)
+module _ {T I O : Type 0} (it : I → EndTold InCall) (ic : I → ℕ) (ot : O → EndTold OutCall) (oc : O → ℕ)
     (starts : List (Part I O)) (rows : List (table.Entry Made T)) (range : InRange starts rows) (whole : AreWhole it ic ot oc starts rows) where
   -- where a row stands in the history of its place
   pub record Place (row : table.Entry Made T) : Type 0 where
@@ -335,7 +336,7 @@ module _ {T I O : Type 0} (it : I → Option (List InCall)) (ic : I → ℕ) (ot
   sound_timed config are sound row i = (row_right config are (sound.orderly closed_numbered) (sound.recorded closed_numbered) row i).1
 
 -- What the close answers says so of the rows.
-module _ {T I O : Type 0} (it : I → Option (List InCall)) (ic : I → ℕ) (ot : O → Option (List OutCall)) (oc : O → ℕ) where
+module _ {T I O : Type 0} (it : I → EndTold InCall) (ic : I → ℕ) (ot : O → EndTold OutCall) (oc : O → ℕ) where
   abbrev pub AreClosed : List (Part I O) → List (table.Entry Made T) → List (Part I O) → Type 0
   AreClosed starts rows states =
       (k : ℕ) (a : Part I O) → slice_get starts k ≡ Some a

@@ -6,7 +6,7 @@ use Rattle.relay_outside.specs.declared.ports.InCall.{InCall}
 use Rattle.relay_outside.specs.declared.ports.OutCall.{OutCall}
 use Rattle.relay_outside.specs.declared.settings.Config.{Config}
 use Rattle.relay_outside.specs.Ports.{joined}
-use Rattle.relay_outside.specs.Told.{WhereTold}
+use Rattle.relay_outside.specs.Told.{EndTold, WhereTold}
 use Rattle.rtp_packet.specs.declared.head.Half.{Half}
 use Rattle.turn_table.specs.declared.machine.Entry as table
 use Rattle.turn_table.specs.Histories.{Leaves, Named}
@@ -230,7 +230,7 @@ module _ {T : Type 0} where
       same true q = q
       same false q = refl
 
-module _ {T I O : Type 0} (it : I → Option (List InCall)) (ic : I → ℕ) (ot : O → Option (List OutCall)) (oc : O → ℕ)
+module _ {T I O : Type 0} (it : I → EndTold InCall) (ic : I → ℕ) (ot : O → EndTold OutCall) (oc : O → ℕ)
     (rows : List (table.Entry Made T)) (k : ℕ) (a : Part I O) (w : IsWhole it ic ot oc rows k a) where
   past_place : (row : table.Entry Made T) → table_lists.In row w.past → row.place ≡ k
   past_place row i = let g = in_get w.past row i in (w.is.named g.0 row g.1).0
@@ -264,7 +264,7 @@ module _ {I : Type 0} where
   no_ends None q = refl
   no_ends (Some o) q = absurd (let k : Some o.holder ≡ None = q in cc)
 
-module _ {I O : Type 0} (it : I → Option (List InCall)) (ic : I → ℕ) (ot : O → Option (List OutCall)) (oc : O → ℕ) where
+module _ {I O : Type 0} (it : I → EndTold InCall) (ic : I → ℕ) (ot : O → EndTold OutCall) (oc : O → ℕ) where
   -- a box of a place above the cells, which holds no ends at first
   record BeginsShut (config : Config) (a : Part I O) : Type 0 where
     is_box : IsBoxPart config.max_sessions a
@@ -294,7 +294,7 @@ where_each : {C : Type 0} (told : Option (List C)) (P : List C → Type 0) → (
 where_each None P each = tt
 where_each (Some calls) P each = each calls refl
 
-module _ {T I O : Type 0} (it : I → Option (List InCall)) (ic : I → ℕ) (ot : O → Option (List OutCall)) (oc : O → ℕ)
+module _ {T I O : Type 0} (it : I → EndTold InCall) (ic : I → ℕ) (ot : O → EndTold OutCall) (oc : O → ℕ)
     (starts : List (Part I O)) (rows : List (table.Entry Made T)) (range : InRange starts rows) (whole : AreWhole it ic ot oc starts rows) where
   closed_box : (config : Config) → AreParts config starts → Orderly config (list_of rows) → IsRecorded rows → AreRising (list_of rows) → (k : ℕ) (half : Half)
       → (a : Part I O) → slice_get starts k ≡ Some a → config.max_sessions < k → holder (box_history (list_of rows) k (front (list_of rows) k)) ≡ None

@@ -1,11 +1,13 @@
 -- What is known of the state that a turn gives.
-use Rattle.std.proofs.Common.{◌≡◌, refl, sym, ◌∙◌, ap, subst, ℕ, zero, suc, ◌<◌, ◌≤◌, ◌⊎◌, inl, inr, Bool, true, false, cond, List, [], ◌∷◌, ◌++◌, Option, Some, None, map, filter, length, ◌==◌, arith, slice_get, take}
+use Rattle.std.proofs.Common.{◌≡◌, refl, sym, ◌∙◌, ap, subst, ℕ, zero, suc, ◌+◌, ◌<◌, ◌≤◌, ◌⊎◌, inl, inr, Bool, true, false, cond, List, [], ◌∷◌, ◌++◌, Option, Some, None, map, filter, length, ◌==◌, arith, slice_get, take}
 use Rattle.std.specs.List.{filter_map, cons_option}
 use Rattle.std.proofs.Math.Seq.{take-length}
+use Rattle.std.proofs.lemmas.List.{length-map}
 use Rattle.std.proofs.lemmas.Option.{slice_get_within}
 use Rattle.relay_outside.specs.declared.ports.InCall.{InCall}
 use Rattle.relay_outside.specs.declared.ports.OutCall.{OutCall}
 use Rattle.relay_outside.specs.declared.settings.Config.{Config}
+use Rattle.relay_outside.specs.Told.{EndTold}
 use Rattle.turn_table.specs.declared.machine.Entry as table
 use Rattle.turn_table.specs.declared.view.View.{View}
 use Rattle.turn_table.specs.Steps.{Given}
@@ -15,13 +17,15 @@ use Rattle.port_pool.specs.Signals.{NewKey}
 use Rattle.port_pool.specs.Boxes.{BoxEvent, Open, Take, Close, holder}
 use Rattle.call_cell.specs.Cells.{CellEvent, CellEntry, Prepare, Commit, Relay, Expire, Read, End, keys_in, key_numbered}
 use Rattle.call_cell.specs.Good.{empty}
+use Rattle.call_cell.specs.CellStanding.{CellFor}
+use Rattle.call_cell.proofs.Counting.{picked_few}
 use Rattle.call_board.specs.Acts.{BoardEntry}
 use Rattle.call_board.specs.Boards.{BoardFor}
 use Rattle.call_board.specs.Fits.{IsFitting}
 use Rattle.relay_core.specs.declared.part.Part.{Part}
 use Rattle.relay_core.specs.declared.part.Part.TheVariants as part
 use Rattle.relay_core.specs.Entries.{Event, Board, Cell, Box, Entry, is_at, history, board_at, cell_at, box_in, board_entry, cell_entry, box_event, board_history, cell_history, box_history}
-use Rattle.relay_core.specs.Made.{Made, list_of}
+use Rattle.relay_core.specs.Made.{Made, entry_of, list_of}
 use Rattle.relay_core.specs.Recorded.{is_boards, IsRecorded}
 use Rattle.relay_core.specs.Steps.{is_reserved, IsReserved}
 use Rattle.relay_core.specs.Beginning.{AreParts, AreCells, AreBoxes, IsCell, IsBox, BeginsAs}
@@ -32,19 +36,36 @@ use Rattle.relay_core.proofs.Own.{IsOwn, own_history}
 -- What the places begin as.
 
 module _ {I O : Type 0} where
-  cell_or_box : (config : Config) (cells boxes : List (Part I O)) (j : ℕ) (x : Part I O) → AreCells config cells → AreBoxes config boxes
-      → slice_get (cells ++ boxes) j ≡ Some x → (IsCell config x × (j < length cells)) ⊎ (IsBox config x × (length cells ≤ j))
-  cell_or_box config [] [] j x cs bs q = absurd (let p : None ≡ Some x = q in cc)
-  cell_or_box config [] (b ∷ boxes) zero x cs bs q =
-      inr (let p : Some b ≡ Some x = q in let e : b ≡ x = cc in subst (λ (y : Part I O). IsBox config y) e bs.0, omega arith)
-  cell_or_box config [] (b ∷ boxes) (suc j) x cs bs q =
-      elim (cell_or_box config [] boxes j x cs bs.1 q) [ inl c ↦ absurd (let l = c.1 in omega (arith, l)) | inr b ↦ inr (b.0, omega arith) ]
-  cell_or_box config (c ∷ cells) boxes zero x cs bs q =
+  -- a box behind so many parts, where the first of the boxes has the place k
+  record IsBoxBehind (config : Config) (k cells j : ℕ) (x : Part I O) : Type 0 where
+    index : ℕ
+    behind : j ≡ cells + index
+    box : IsBox config (index + k) x
+
+  next_box : (config : Config) (k j : ℕ) (x : Part I O) → IsBoxBehind config (suc k) 0 j x → IsBoxBehind config k 0 (suc j) x
+  next_box config k j x b = record {
+    index = suc b.index;
+    behind = (let q = b.behind in omega (arith, q));
+    box = subst (λ (n : ℕ). IsBox config n x) (omega arith) b.box;
+  }
+
+  next_cell : (config : Config) (k cells j : ℕ) (x : Part I O) → IsBoxBehind config k cells j x → IsBoxBehind config k (suc cells) (suc j) x
+  next_cell config k cells j x b = record { index = b.index; behind = (let q = b.behind in omega (arith, q)); box = b.box }
+
+  cell_or_box : (config : Config) (k : ℕ) (cells boxes : List (Part I O)) (j : ℕ) (x : Part I O) → AreCells config cells → AreBoxes config k boxes
+      → slice_get (cells ++ boxes) j ≡ Some x → (IsCell config x × (j < length cells)) ⊎ IsBoxBehind config k (length cells) j x
+  cell_or_box config k [] [] j x cs bs q = absurd (let p : None ≡ Some x = q in cc)
+  cell_or_box config k [] (b ∷ boxes) zero x cs bs q =
+      inr (let p : Some b ≡ Some x = q in let e : b ≡ x = cc in
+      record { index = 0; behind = omega arith; box = subst (λ (n : ℕ). IsBox config n x) (omega arith) (subst (λ (y : Part I O). IsBox config k y) e bs.0) })
+  cell_or_box config k [] (b ∷ boxes) (suc j) x cs bs q =
+      elim (cell_or_box config (suc k) [] boxes j x cs bs.1 q) [ inl c ↦ absurd (let l = c.1 in omega (arith, l)) | inr b ↦ inr (next_box config k j x b) ]
+  cell_or_box config k (c ∷ cells) boxes zero x cs bs q =
       inl (let p : Some c ≡ Some x = q in let e : c ≡ x = cc in subst (λ (y : Part I O). IsCell config y) e cs.0, omega arith)
-  cell_or_box config (c ∷ cells) boxes (suc j) x cs bs q =
-      elim (cell_or_box config cells boxes j x cs.1 bs q) [
+  cell_or_box config k (c ∷ cells) boxes (suc j) x cs bs q =
+      elim (cell_or_box config k cells boxes j x cs.1 bs q) [
         | inl c ↦ inl (c.0, let l = c.1 in omega (arith, l))
-        | inr b ↦ inr (b.0, let l = b.1 in omega (arith, l))
+        | inr b ↦ inr (next_cell config k (length cells) j x b)
       ]
 
   begins_cell : (config : Config) (k : ℕ) (x : Part I O) → IsCell config x → 1 ≤ k → k ≤ config.max_sessions → BeginsAs config k x
@@ -52,7 +73,7 @@ module _ {I O : Type 0} where
   begins_cell config k (part.Cell c) is low high = (low, high, is)
   begins_cell config k (part.Pair b) is low high = absurd is
 
-  begins_box : (config : Config) (k : ℕ) (x : Part I O) → IsBox config x → config.max_sessions < k → BeginsAs config k x
+  begins_box : (config : Config) (k : ℕ) (x : Part I O) → IsBox config k x → config.max_sessions < k → BeginsAs config k x
   begins_box config k (part.Board b) is above = absurd is
   begins_box config k (part.Cell c) is above = absurd is
   begins_box config k (part.Pair b) is above = (above, is)
@@ -64,9 +85,10 @@ module _ {I O : Type 0} where
       let e : part.Board a.board ≡ x = cc in
       subst (λ (y : Part I O). BeginsAs config 0 y) e (refl, a.board_for)
   begins_in config parts a (suc j) x q =
-      elim (cell_or_box config a.cells a.boxes j x a.are_cells a.are_boxes q) [
+      elim (cell_or_box config (config.max_sessions + 1) a.cells a.boxes j x a.are_cells a.are_boxes q) [
         | inl c ↦ begins_cell config (suc j) x c.0 (omega arith) (let l = c.1 in let m = a.cell_count in omega (arith, l, m))
-        | inr b ↦ begins_box config (suc j) x b.0 (let l = b.1 in let m = a.cell_count in omega (arith, l, m))
+        | inr b ↦ (let l = b.behind in let m = a.cell_count in
+            begins_box config (suc j) x (subst (λ (n : ℕ). IsBox config n x) (omega (arith, l, m)) b.box) (omega (arith, l, m)))
       ]
 
   -- each place begins as a part of its kind, without a history
@@ -242,6 +264,17 @@ module _ {I O : Type 0} where
   cell_is config (part.Board b) h k is for q = absurd is
   cell_is config (part.Pair b) h k is for q = absurd is
 
+  -- the state is a cell that stands for a history of at most so many entries
+  abbrev pub IsShort : Config → Part I O → ℕ → Type 0
+  IsShort config (part.Cell c) n = (h : List CellEntry) × (length h ≤ n) × CellFor config c h
+  IsShort config _ n = ⊥
+
+  short_is : (config : Config) (x : Part I O) (h : List Entry) → IsCellPart x → Stands config x h → IsShort config x (length h)
+  short_is config (part.Cell c) h is for =
+      (for.history, omega (arith, length-map for.history told_entry, ap length for.is_recorded, picked_few cell_entry h), for.stands)
+  short_is config (part.Board b) h is for = absurd is
+  short_is config (part.Pair b) h is for = absurd is
+
   not_cell : (x : Part I O) → IsBoardPart x → IsCellPart x → ⊥
   not_cell (part.Board b) is cell = cell
   not_cell (part.Cell c) is cell = is
@@ -257,12 +290,19 @@ module _ {I O : Type 0} where
   box_not_board cells (part.Cell c) is board = is
   box_not_board cells (part.Pair b) is board = board
 
+onto_more : {T : Type 0} (rows : List (table.Entry Made T)) (h : List Entry) → length (onto rows h) ≡ length rows + length h
+onto_more [] h = omega arith
+onto_more (row ∷ rows) h = omega (arith, onto_more rows (entry_of row ∷ h))
+
+onto_long : {T : Type 0} (rows : List (table.Entry Made T)) → length (onto rows []) ≡ length rows
+onto_long rows = omega (arith, onto_more rows [])
+
 reserved_boards : (ev : Event) → is_boards ev ≡ true → is_reserved ev ≡ true
 reserved_boards (Board b) t = refl
 reserved_boards (Cell c) t = absurd (let k : false ≡ true = t in cc)
 reserved_boards (Box b) t = absurd (let k : false ≡ true = t in cc)
 
-module _ {T I O : Type 0} (it : I → Option (List InCall)) (ic : I → ℕ) (ot : O → Option (List OutCall)) (oc : O → ℕ) where
+module _ {T I O : Type 0} (it : I → EndTold InCall) (ic : I → ℕ) (ot : O → EndTold OutCall) (oc : O → ℕ) where
   abbrev pub Gives : ℕ → View (Part I O) Made T → ℕ → Part I O → Type 0
   Gives k v n x = Given (Steps {T = T} it ic ot oc) IsReserved k v n x
 
@@ -349,22 +389,43 @@ module _ {T I O : Type 0} (it : I → Option (List InCall)) (ic : I → ℕ) (ot
       ∙ ap (λ (xs : List Entry). holder (filter_map box_event xs)) (kept_history k v n x g main numbered)
       ∙ sym (box_kept (history (list_of v.entries) k n)))
 
+  -- the nested entries of a cell's whole history are the list's
+  same_nested : (k : ℕ) (v : View (Part I O) Made T) (n : ℕ) (x : Part I O) → (g : Gives k v n x) → v.main ≡ true → Numbered v.entries
+      → nested_of (filter_map cell_entry (onto g.history [])) ≡ nested_of (cell_history (list_of v.entries) k n)
+  same_nested k v n x g main numbered =
+      cell_kept (onto g.history [])
+      ∙ ap (λ (xs : List Entry). filter_map cell_entry xs) (kept_history k v n x g main numbered)
+      ∙ sym (cell_kept (history (list_of v.entries) k n))
+
+  -- so each key that it brought was new where it was by the list
+  pub given_brings : (k : ℕ) (v : View (Part I O) Made T) (n : ℕ) (x : Part I O) → (g : Gives k v n x) → v.main ≡ true → Numbered v.entries
+      → BringsNewKeys (cell_history (list_of v.entries) k n) → BringsNewKeys (filter_map cell_entry (onto g.history []))
+  given_brings k v n x g main numbered brings = brings_whole _ (subst BringsNewKeys (sym (same_nested k v n x g main numbered)) (brings_nested _ brings))
+
+  -- so a cell's turn, taken by the main hand, gives a cell that stands for its whole history
+  cell_given : (config : Config) (v : View (Part I O) Made T) (k n : ℕ) (x : Part I O) → AreParts config v.starts → 1 ≤ k → k ≤ config.max_sessions → (g : Gives k v n x)
+      → v.main ≡ true → Numbered v.entries → BringsNewKeys (cell_history (list_of v.entries) k n) → IsCellPart x × Stands config x (onto g.history [])
+  cell_given config v k n x are low high g main numbered brings =
+      let b = cell_begins config k g.start low high (begins_as config v.starts are k g.start g.starts) in
+      let new = given_brings k v n x g main numbered brings in (
+        cell_stays it ic ot oc g.start x g.history g.leaves b.0,
+        stands_onto it ic ot oc config g.start x g.history [] g.leaves (λ is. new) (λ is. absurd (not_cell g.start is b.0)) b.1,
+      )
+
+  -- of at most as many entries as the turn's number
+  pub given_short : (config : Config) (v : View (Part I O) Made T) (k n : ℕ) (x : Part I O) → AreParts config v.starts → 1 ≤ k → k ≤ config.max_sessions → Gives k v n x
+      → v.main ≡ true → Numbered v.entries → BringsNewKeys (cell_history (list_of v.entries) k n) → IsShort config x n
+  given_short config v k n x are low high g main numbered brings =
+      let c = cell_given config v k n x are low high g main numbered brings in
+      subst (λ (m : ℕ). IsShort config x m) (onto_long g.history ∙ g.long) (short_is config x (onto g.history []) c.0 c.1)
+
   -- a cell's turn, taken by the main hand, gives a cell whose history is the list's own but for relays
   pub given_cell : (config : Config) (v : View (Part I O) Made T) (k n : ℕ) (x : Part I O) → AreParts config v.starts → 1 ≤ k → k ≤ config.max_sessions → Gives k v n x
       → v.main ≡ true → Numbered v.entries → BringsNewKeys (cell_history (list_of v.entries) k n)
       → CellIs config x (nested_of (cell_history (list_of v.entries) k n))
   given_cell config v k n x are low high g main numbered brings =
-      let b = cell_begins config k g.start low high (begins_as config v.starts are k g.start g.starts) in
-      let same : nested_of (filter_map cell_entry (onto g.history [])) ≡ nested_of (cell_history (list_of v.entries) k n)
-      = cell_kept (onto g.history [])
-      ∙ ap (λ (xs : List Entry). filter_map cell_entry xs) (kept_history k v n x g main numbered)
-      ∙ sym (cell_kept (history (list_of v.entries) k n)) in
-      let new : BringsNewKeys (filter_map cell_entry (onto g.history []))
-      = brings_whole _ (subst BringsNewKeys (sym same) (brings_nested _ brings)) in
-      cell_is config x (onto g.history []) (nested_of (cell_history (list_of v.entries) k n))
-      (cell_stays it ic ot oc g.start x g.history g.leaves b.0)
-      (stands_onto it ic ot oc config g.start x g.history [] g.leaves (λ is. new) (λ is. absurd (not_cell g.start is b.0)) b.1)
-      same
+      let c = cell_given config v k n x are low high g main numbered brings in
+      cell_is config x (onto g.history []) (nested_of (cell_history (list_of v.entries) k n)) c.0 c.1 (same_nested k v n x g main numbered)
 
   -- a cell's turn, taken by a hand with all parts, gives a cell that stands for the list's own history
   pub given_whole_cell : (config : Config) (v : View (Part I O) Made T) (k n : ℕ) (x : Part I O) → AreParts config v.starts → 1 ≤ k → k ≤ config.max_sessions → Gives k v n x

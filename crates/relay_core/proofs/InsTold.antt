@@ -3,12 +3,13 @@ use Rattle.std.proofs.Common.{◌≡◌, ◌∙◌, sym, ap, subst, refl, ℕ, �
 use Rattle.std.specs.Prelude.{IfSome}
 use Rattle.std.specs.Option.{option_map}
 use Rattle.std.specs.List.{filter_map, cons_option}
+use Rattle.relay_outside.specs.declared.address.Addr.{Addr}
 use Rattle.relay_outside.specs.declared.ports.InCall.{InCall}
 use Rattle.relay_outside.specs.declared.ports.InCall.TheVariants as into
 use Rattle.relay_outside.specs.declared.ports.InGiven.{InGiven}
 use Rattle.relay_outside.specs.declared.ports.OutCall.{OutCall}
 use Rattle.relay_outside.specs.Ports.{joined}
-use Rattle.relay_outside.specs.Told.{Gains, StartsEmpty}
+use Rattle.relay_outside.specs.Told.{EndTold, Gains, StartsEmpty}
 use Rattle.rtp_packet.specs.declared.head.Half.{Half}
 use Rattle.rtp_packet.specs.declared.head.Half.TheVariants.{Rtp, Rtcp}
 use Rattle.turn_table.specs.declared.machine.Entry as table
@@ -18,7 +19,7 @@ use Rattle.port_pool.specs.declared.boxes.PairBox.{PairBox}
 use Rattle.port_pool.specs.declared.holder.Holder.{Holder}
 use Rattle.port_pool.specs.Boxes.{Taken, BoxEvent, Open, Take, Close, FitsTaken, holder}
 use Rattle.port_pool.specs.Boxes as boxes
-use Rattle.port_pool.specs.PairBoxes.{BoxFor, ends_of, ends_in, holder_of, holder_in}
+use Rattle.port_pool.specs.PairBoxes.{BoxFor, ends_of, ends_in, holder_of, holder_in, at_of}
 use Rattle.port_pool.specs.Taking.{given_of, GainsTake, IsTakenFrom, EndsTaken}
 use Rattle.relay_core.specs.declared.part.Part.{Part}
 use Rattle.relay_core.specs.declared.part.Part.TheVariants as part
@@ -81,28 +82,28 @@ gains_grew (Some old) (Some new) call gains calls q =
 gains_grew None (Some new) call gains calls q = absurd gains
 gains_grew before None call gains calls q = absurd (let k : None ≡ Some calls = q in cc)
 
-module _ {I : Type 0} (told : I → Option (List InCall)) (faults : I → ℕ) where
+module _ {I : Type 0} (told : I → EndTold InCall) (faults : I → ℕ) where
   abbrev end_of : Half → I × I → I
   end_of Rtp ends = ends.0
   end_of Rtcp ends = ends.1
 
   abbrev pub held : Half → Option (I × I) → Option (List InCall)
   held half None = Some []
-  held half (Some ends) = told (end_of half ends)
+  held half (Some ends) = (told (end_of half ends)).calls
 
   -- a take of an end
-  taken_grew : (old new : I) (taken : Taken) → GainsTake told faults old new (given_of taken) → Grew (told old) (told new) (option_map (into.Take 2001) (given_of taken))
+  taken_grew : (old new : I) (taken : Taken) → GainsTake told faults old new (given_of taken) → Grew (told old).calls (told new).calls (option_map (into.Take 2001) (given_of taken))
   taken_grew old new taken gains = by_given (given_of taken) gains
     where
-      by_given : (g : Option InGiven) → GainsTake told faults old new g → Grew (told old) (told new) (option_map (into.Take 2001) g)
+      by_given : (g : Option InGiven) → GainsTake told faults old new g → Grew (told old).calls (told new).calls (option_map (into.Take 2001) g)
       by_given None gains = absurd gains
-      by_given (Some gave) gains = gains_grew (told old) (told new) (into.Take 2001 gave) gains
+      by_given (Some gave) gains = gains_grew (told old).calls (told new).calls (into.Take 2001 gave) gains.gains
 
   taken_from : (half other : Half) (old new : I × I) (taken : Taken) → IsTakenFrom told faults other old new taken
-      → Grew (told (end_of half old)) (told (end_of half new)) (taken_by half (Take other taken))
+      → Grew (told (end_of half old)).calls (told (end_of half new)).calls (taken_by half (Take other taken))
   taken_from Rtp Rtp old new taken is = taken_grew old.0 new.0 taken is.0.gains
-  taken_from Rtp Rtcp old new taken is = same_grew (told old.0) (told new.0) (ap told is.0)
-  taken_from Rtcp Rtp old new taken is = same_grew (told old.1) (told new.1) (ap told is.1)
+  taken_from Rtp Rtcp old new taken is = same_grew (told old.0).calls (told new.0).calls (ap (λ (e : I). (told e).calls) is.0)
+  taken_from Rtcp Rtp old new taken is = same_grew (told old.1).calls (told new.1).calls (ap (λ (e : I). (told e).calls) is.1)
   taken_from Rtcp Rtcp old new taken is = taken_grew old.1 new.1 taken is.1.gains
 
   closed_none : (half other : Half) → taken_by half (Take other boxes.Closed) ≡ None
@@ -119,13 +120,13 @@ module _ {I : Type 0} (told : I → Option (List InCall)) (faults : I → ℕ) w
   take_grew half other (Some old) None taken closed is = absurd is
   take_grew half other (Some old) (Some new) taken closed is = taken_from half other old new taken is
 
-  open_grew : (half : Half) (old new : Option (I × I)) → old ≡ None → GetsEnds told new → Grew (held half old) (held half new) None
-  open_grew half old new shut gets calls q =
+  open_grew : (half : Half) (at : Addr) (old new : Option (I × I)) → old ≡ None → GetsEnds told at new → Grew (held half old) (held half new) None
+  open_grew half at old new shut gets calls q =
       ([], ap (held half) shut, start half (subst (λ (n : Option (I × I)). held half n ≡ Some calls) gets.are_in q))
     where
       start : (h : Half) → held h (Some (gets.rtp, gets.rtcp)) ≡ Some calls → calls ≡ []
-      start Rtp e = subst StartsEmpty e gets.rtp_is_new
-      start Rtcp e = subst StartsEmpty e gets.rtcp_is_new
+      start Rtp e = subst StartsEmpty e gets.rtp_is_new.uncalled
+      start Rtcp e = subst StartsEmpty e gets.rtcp_is_new.uncalled
 
   leaves_held : (half : Half) (old : Option (I × I)) (left : Left) → LeavesEnds told old left → held half old ≡ in_left half left
   leaves_held Rtp None left is = sym is.0
@@ -151,7 +152,7 @@ module _ {I : Type 0} (told : I → Option (List InCall)) (faults : I → ℕ) w
       → (t : Bool) → is_closing event ≡ t
       → cond t ((held half (ends_in new) ≡ Some []) × (held half (ends_in old) ≡ in_left half made.left) × (event_call half event ≡ None))
       (Grew (held half (ends_in old)) (held half (ends_in new)) (event_call half event))
-  box_told half old new made (Box (Open leg)) step false q = open_grew half (ends_in old) (ends_in new) step.ends.0 step.ends.1
+  box_told half old new made (Box (Open leg)) step false q = open_grew half (at_of old) (ends_in old) (ends_in new) step.ends.0 step.ends.1
   box_told half old new made (Box (Open leg)) step true q = absurd (let k : false ≡ true = q in cc)
   box_told half old new made (Box (Take other taken)) step false q =
       take_grew half other (ends_in old) (ends_in new) taken (λ none. (step.stands [] (stands_empty old none)).0) step.ends
@@ -162,7 +163,7 @@ module _ {I : Type 0} (told : I → Option (List InCall)) (faults : I → ℕ) w
   box_told half old new made (Cell c) step t q = absurd step
   box_told half old new made (Board b) step t q = absurd step
 
-module _ {I O : Type 0} (it : I → Option (List InCall)) (ic : I → ℕ) (ot : O → Option (List OutCall)) (oc : O → ℕ) where
+module _ {I O : Type 0} (it : I → EndTold InCall) (ic : I → ℕ) (ot : O → EndTold OutCall) (oc : O → ℕ) where
   abbrev pub held_in : Half → Part I O → Option (List InCall)
   held_in half (part.Pair box) = held it ic half (ends_in box)
   held_in half (part.Cell cell) = Some []
@@ -197,7 +198,7 @@ module _ {T : Type 0} where
   calls_of half [] = []
   calls_of half (row ∷ rows) = behind [] (event_call half row.event.event) ++ calls_of half rows
 
-  module _ {I O : Type 0} (it : I → Option (List InCall)) (ic : I → ℕ) (ot : O → Option (List OutCall)) (oc : O → ℕ) where
+  module _ {I O : Type 0} (it : I → EndTold InCall) (ic : I → ℕ) (ot : O → EndTold OutCall) (oc : O → ℕ) where
     -- the ends of the box told so much before these rows, and what they tell with them is that and the calls of the rows
     pub record Tells (half : Half) (a : Part I O) (rows : List (table.Entry Made T)) (calls : List InCall) : Type 0 where
       pub earlier : List InCall

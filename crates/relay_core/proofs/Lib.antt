@@ -53,6 +53,8 @@ pub mod Known
 pub mod Placing
 pub mod InsTold
 pub mod OutsTold
+pub mod Homes
+pub mod GivenHomes
 pub mod Closed
 pub mod Closings
 pub mod Partings

@@ -9,7 +9,7 @@ use Rattle.relay_outside.specs.declared.ports.OutCall.{OutCall}
 use Rattle.relay_outside.specs.declared.ports.OutCall.TheVariants as out
 use Rattle.relay_outside.specs.declared.address.Addr.{Addr}
 use Rattle.relay_outside.specs.declared.settings.Config.{Config}
-use Rattle.relay_outside.specs.Told.{StartsEmpty, WhereTold}
+use Rattle.relay_outside.specs.Told.{EndTold, StartsEmpty, WhereTold}
 use Rattle.rtp_packet.specs.declared.head.Half.{Half}
 use Rattle.rtp_packet.specs.declared.head.Half.TheVariants.{Rtp, Rtcp}
 use Rattle.srtp_sources.specs.Notes.{is_half}
@@ -25,16 +25,16 @@ use Rattle.call_cell.specs.declared.prepare.Prepare as prepared
 use Rattle.call_cell.specs.declared.cell.Cell as cell
 use Rattle.call_cell.specs.declared.outcome.Outcome.{Outcome}
 use Rattle.call_cell.specs.Cells.{CellEvent, CellEntry, Sending, Receipt, Relayed, Prepare, Commit, Relay, Expire, Read, End, legs, since_end}
-use Rattle.call_cell.specs.Deeds.{deed, found}
+use Rattle.call_cell.specs.Deeds.{deed, found, opposite_of, is_leaving}
 use Rattle.call_cell.specs.Parts.{ends_of, SendsBy}
-use Rattle.call_cell.specs.Standing.{opposite_of, is_leaving, EndsFor, LegsFor, sent_ok}
+use Rattle.call_cell.specs.Standing.{EndsFor, LegsFor, sent_ok}
 use Rattle.call_cell.specs.CellStanding.{CellFor, CellRelays, relayed_at}
 use Rattle.call_cell.specs.Preparing.{added, CellPrepares}
 use Rattle.call_cell.specs.Committing.{stays_by, CellCommits}
 use Rattle.call_cell.specs.Ending.{parts_of}
 use Rattle.call_cell.proofs.Few.{in_at, pairs_of, each_in}
 use Rattle.relay_core.specs.Made.{LegLeft}
-use Rattle.relay_core.specs.Steps.{legs_left, IsUncalled, AreUncalled}
+use Rattle.relay_core.specs.Steps.{legs_left, IsOpened, AreOpened}
 use Rattle.relay_core.specs.Entries.{Cell}
 use Rattle.relay_core.specs.Told.{is_parting, behind, out_left, sent_of, sends_since, legs_going, HasTold}
 use Rattle.relay_core.specs.Made.{Made}
@@ -69,7 +69,7 @@ partner f g (x ∷ xs) (y ∷ ys) p q (there i) =
     partner_more f g y ys
     (partner f g xs ys (tail_same (f x) (f y) (map f xs) (map f ys) p) (tail_same (g x) (g y) (map g xs) (map g ys) q) i)
 
-filter_mapped : {A B : Type 0} (p : B → Bool) (f : A → B) (xs : List A) → filter p (map f xs) ≡ map f (filter (λ (x : A). p (f x)) xs)
+pub filter_mapped : {A B : Type 0} (p : B → Bool) (f : A → B) (xs : List A) → filter p (map f xs) ≡ map f (filter (λ (x : A). p (f x)) xs)
 filter_mapped p f [] = refl
 filter_mapped {A} {B} p f (x ∷ xs) = by_case (p (f x)) (filter_mapped p f xs)
   where
@@ -82,7 +82,7 @@ all_kept : {A : Type 0} (xs : List A) → filter (λ (x : A). true) xs ≡ xs
 all_kept [] = refl
 all_kept {A} (x ∷ xs) = ap (λ (ys : List A). x ∷ ys) (all_kept xs)
 
-nothing_in : {A : Type 0} (xs : List A) → length xs ≡ 0 → xs ≡ []
+pub nothing_in : {A : Type 0} (xs : List A) → length xs ≡ 0 → xs ≡ []
 nothing_in [] q = refl
 nothing_in (x ∷ xs) q = absurd (omega (arith, q))
 
@@ -122,7 +122,7 @@ split_apart (x ∷ ks) ns apart (there i) j q =
     split_apart ks ns (λ a b d less below same. apart (suc a) (suc b) d (omega (arith, less)) (omega (arith, below)) same) i j q
 
 module _ {O : Type 0} where
-  abbrev holder_of : Leg O → Holder
+  abbrev pub holder_of : Leg O → Holder
   holder_of leg = leg.holder
 
   holders_apart : (config : Config) (h : List CellEntry) (those : List (Leg O)) → LegsFor config h those → (leg : Leg O) → (i j : ℕ) (d : Holder) → i < j → j < length (map holder_of those)
@@ -135,37 +135,40 @@ module _ {O : Type 0} where
       (subst (λ (x : Holder). same_leg x (get_or those j leg).holder ≡ true) (get_or-map holder_of those i leg d a)
       (subst (λ (x : Holder). same_leg (get_or (map holder_of those) i d) x ≡ true) (get_or-map holder_of those j leg d b) same))
 
-module _ {O : Type 0} (told : O → Option (List OutCall)) (faults : O → ℕ) where
+module _ {O : Type 0} (told : O → EndTold OutCall) (faults : O → ℕ) where
   -- each leg's out ends told what was sent by them since the leg was added
   abbrev pub AreTold : List (Leg O) → List CellEntry → Type 0
-  AreTold those h = (leg : Leg O) → In leg those → (half : Half) → WhereTold (told (ends_of half leg.sending)) (λ calls. calls ≡ sends_since leg.holder half h)
+  AreTold those h = (leg : Leg O) → In leg those → (half : Half) → WhereTold (told (ends_of half leg.sending)).calls (λ calls. calls ≡ sends_since leg.holder half h)
 
   -- the leg that another is a form of has the same out ends
-  end_told : (leg other : Leg O) → parts_of leg ≡ parts_of other → (half : Half) → told (ends_of half leg.sending) ≡ told (ends_of half other.sending)
+  pub end_told : (leg other : Leg O) → parts_of leg ≡ parts_of other → (half : Half) → told (ends_of half leg.sending) ≡ told (ends_of half other.sending)
   end_told leg other q Rtp = ap (λ (p : Lease × O × O). told p.1) q
   end_told leg other q Rtcp = ap (λ (p : Lease × O × O). told p.2) q
+
+  abbrev calls_of : O → Option (List OutCall)
+  calls_of end = (told end).calls
 
   -- A relay.
 
   sends_grew : (half other : Half) (to : Addr) (bytes : List ℕ) (ok : Bool) (old new : parts.Sending O) → SendsBy told faults other to bytes ok old new
-      → Grew (told (ends_of half old)) (told (ends_of half new)) (cond (is_half half other) (Some (out.Send to bytes ok)) None)
-  sends_grew Rtp Rtp to bytes ok old new s = gains_grew (told old.rtp) (told new.rtp) (out.Send to bytes ok) s.gains
-  sends_grew Rtp Rtcp to bytes ok old new s = same_grew (told old.rtp) (told new.rtp) (ap told s.other)
-  sends_grew Rtcp Rtp to bytes ok old new s = same_grew (told old.rtcp) (told new.rtcp) (ap told s.other)
-  sends_grew Rtcp Rtcp to bytes ok old new s = gains_grew (told old.rtcp) (told new.rtcp) (out.Send to bytes ok) s.gains
+      → Grew (told (ends_of half old)).calls (told (ends_of half new)).calls (cond (is_half half other) (Some (out.Send to bytes ok)) None)
+  sends_grew Rtp Rtp to bytes ok old new s = gains_grew (told old.rtp).calls (told new.rtp).calls (out.Send to bytes ok) s.gains.gains
+  sends_grew Rtp Rtcp to bytes ok old new s = same_grew (told old.rtp).calls (told new.rtp).calls (ap calls_of s.other)
+  sends_grew Rtcp Rtp to bytes ok old new s = same_grew (told old.rtcp).calls (told new.rtcp).calls (ap calls_of s.other)
+  sends_grew Rtcp Rtcp to bytes ok old new s = gains_grew (told old.rtcp).calls (told new.rtcp).calls (out.Send to bytes ok) s.gains.gains
 
-  kept_grew : (half : Half) (old new : parts.Sending O) → (new.rtp ≡ old.rtp) × (new.rtcp ≡ old.rtcp) → Grew (told (ends_of half old)) (told (ends_of half new)) None
-  kept_grew Rtp old new same = same_grew (told old.rtp) (told new.rtp) (ap told same.0)
-  kept_grew Rtcp old new same = same_grew (told old.rtcp) (told new.rtcp) (ap told same.1)
+  kept_grew : (half : Half) (old new : parts.Sending O) → (new.rtp ≡ old.rtp) × (new.rtcp ≡ old.rtcp) → Grew (told (ends_of half old)).calls (told (ends_of half new)).calls None
+  kept_grew Rtp old new same = same_grew (told old.rtp).calls (told new.rtp).calls (ap calls_of same.0)
+  kept_grew Rtcp old new same = same_grew (told old.rtcp).calls (told new.rtcp).calls (ap calls_of same.1)
 
   ends_grew : (half : Half) (leaves : Bool) (sending : Option Sending) (ok : Bool) (old new : parts.Sending O) → EndsFor told faults leaves sending ok old new
-      → Grew (told (ends_of half old)) (told (ends_of half new)) (cond leaves (sent_of half ok sending) None)
+      → Grew (told (ends_of half old)).calls (told (ends_of half new)).calls (cond leaves (sent_of half ok sending) None)
   ends_grew half true None ok old new e = kept_grew half old new e
   ends_grew half false None ok old new e = kept_grew half old new e
   ends_grew half false (Some w) ok old new e = kept_grew half old new e
   ends_grew half true (Some w) ok old new e = sends_grew half w.half w.to w.bytes ok old new e
 
-  legs_relayed : (config : Config) (old new : cell.Cell O) (h : List CellEntry) (p : Receipt) (now : ℕ) (buf : List ℕ) (result : Outcome) → CellFor config old h
+  pub legs_relayed : (config : Config) (old new : cell.Cell O) (h : List CellEntry) (p : Receipt) (now : ℕ) (buf : List ℕ) (result : Outcome) → CellFor config old h
       → CellRelays told faults config old new h p now buf result → map holder_of new.legs.items ≡ map holder_of old.legs.items
   legs_relayed config old new h p now buf result for relays =
       relays.stands.legs_for.holders
@@ -193,9 +196,9 @@ module _ {O : Type 0} (told : O → Option (List OutCall)) (faults : O → ℕ) 
       let d = deed config (since_end h) p (sent_ok result) in
       let grew = ends_grew half (is_leaving (opposite_of (since_end h) (found (since_end h) p)) x.holder) d.sending (sent_ok result) x.sending
       (get_or new.legs.items a.at leg).sending (relays.ends a.at leg was) in
-      subst (λ (l : Leg O). WhereTold (told (ends_of half l.sending)) (λ calls. calls ≡ sends_since leg.holder half (relayed_at config h p now result ∷ since_end h))) (a.is leg)
-      (subst (λ (k : Holder). WhereTold (told (ends_of half (get_or new.legs.items a.at leg).sending)) (λ calls. calls ≡ sends_since k half (relayed_at config h p now result ∷ since_end h))) (sym holder)
-      (grew_told (told (ends_of half x.sending)) (told (ends_of half (get_or new.legs.items a.at leg).sending))
+      subst (λ (l : Leg O). WhereTold (told (ends_of half l.sending)).calls (λ calls. calls ≡ sends_since leg.holder half (relayed_at config h p now result ∷ since_end h))) (a.is leg)
+      (subst (λ (k : Holder). WhereTold (told (ends_of half (get_or new.legs.items a.at leg).sending)).calls (λ calls. calls ≡ sends_since k half (relayed_at config h p now result ∷ since_end h))) (sym holder)
+      (grew_told (told (ends_of half x.sending)).calls (told (ends_of half (get_or new.legs.items a.at leg).sending)).calls
       (cond (is_leaving (opposite_of (since_end h) (found (since_end h) p)) x.holder) (sent_of half (sent_ok result) d.sending) None)
       (sends_since x.holder half (since_end h)) (before x (at_in_legs old.legs.items a.at leg was) half) grew))
     where
@@ -208,11 +211,11 @@ module _ {O : Type 0} (told : O → Option (List OutCall)) (faults : O → ℕ) 
 
   -- a leg that is a form of one that was told, after an event that adds and sends nothing for it
   stays_told : (leg other : Leg O) (half : Half) (h : List CellEntry) (all : List OutCall) → leg.holder ≡ other.holder → parts_of leg ≡ parts_of other
-      → WhereTold (told (ends_of half other.sending)) (λ calls. calls ≡ sends_since other.holder half h) → all ≡ sends_since leg.holder half h
-      → WhereTold (told (ends_of half leg.sending)) (λ calls. calls ≡ all)
+      → WhereTold (told (ends_of half other.sending)).calls (λ calls. calls ≡ sends_since other.holder half h) → all ≡ sends_since leg.holder half h
+      → WhereTold (told (ends_of half leg.sending)).calls (λ calls. calls ≡ all)
   stays_told leg other half h all holder parts those is =
-      subst (λ (o : Option (List OutCall)). WhereTold o (λ calls. calls ≡ all)) (sym (end_told leg other parts half))
-      (subst (λ (cs : List OutCall). WhereTold (told (ends_of half other.sending)) (λ calls. calls ≡ cs)) (ap (λ (k : Holder). sends_since k half h) (sym holder) ∙ sym is) those)
+      subst (λ (o : Option (List OutCall)). WhereTold o (λ calls. calls ≡ all)) (sym (ap (λ (t : EndTold OutCall). t.calls) (end_told leg other parts half)))
+      (subst (λ (cs : List OutCall). WhereTold (told (ends_of half other.sending)).calls (λ calls. calls ≡ cs)) (ap (λ (k : Holder). sends_since k half h) (sym holder) ∙ sym is) those)
 
   went_told : (config : Config) (h : List CellEntry) (those : List (Leg O)) → ((leg : Leg O) → In leg those → (leg.lease.pair ≡ leg.holder.pair) × (leg.lease.generation ≡ leg.holder.generation))
       → AreTold those h → AllZip (HasTold h) (legs_left told (map (λ (leg : Leg O). parts_of leg) those)) (map holder_of those)
@@ -226,8 +229,8 @@ module _ {O : Type 0} (told : O → Option (List OutCall)) (faults : O → ℕ) 
     went_told config h more (λ l i. leases l (there i)) (λ l i. those l (there i)),
   )
     where
-      each : (half : Half) → WhereTold (told (ends_of half leg.sending)) (λ calls. calls ≡ sends_since leg.holder half h)
-          → WhereTold (out_left half (record { lease = leg.lease; rtp = told leg.sending.rtp; rtcp = told leg.sending.rtcp })) (λ calls. calls ≡ sends_since leg.holder half h)
+      each : (half : Half) → WhereTold (told (ends_of half leg.sending)).calls (λ calls. calls ≡ sends_since leg.holder half h)
+          → WhereTold (out_left half (record { lease = leg.lease; rtp = (told leg.sending.rtp).calls; rtcp = (told leg.sending.rtcp).calls })) (λ calls. calls ≡ sends_since leg.holder half h)
       each Rtp t = t
       each Rtcp t = t
 
@@ -261,15 +264,15 @@ module _ {O : Type 0} (told : O → Option (List OutCall)) (faults : O → ℕ) 
 
   -- An offer.
 
-  fresh : (half : Half) (leg : Leg O) → IsUncalled told leg → StartsEmpty (told (ends_of half leg.sending))
-  fresh Rtp leg u = u.rtp
-  fresh Rtcp leg u = u.rtcp
+  fresh : (half : Half) (config : Config) (leg : Leg O) → IsOpened told config leg → StartsEmpty (told (ends_of half leg.sending)).calls
+  fresh Rtp config leg u = u.rtp.uncalled
+  fresh Rtcp config leg u = u.rtcp.uncalled
 
   prepare_told : (config : Config) (old new : cell.Cell O) (h : List CellEntry) (signal : prepared.Prepare O) (call : ℕ) (keys : List NewKey) (dropped : List ℕ) (now : ℕ)
-      (gone : List (Lease × O × O)) (moment : ℕ) → CellFor config old h → CellPrepares config old new h signal call keys dropped now gone → AreUncalled told signal
+      (gone : List (Lease × O × O)) (moment : ℕ) → CellFor config old h → CellPrepares config old new h signal call keys dropped now gone → AreOpened told old.config signal
       → AreTold old.legs.items (since_end h)
       → AreTold new.legs.items ((record { moment = moment; event = Prepare call (added signal) keys dropped }) ∷ since_end h)
-  prepare_told config old new h signal call keys dropped now gone moment for prepares uncalled before leg i half =
+  prepare_told config old new h signal call keys dropped now gone moment for prepares opened before leg i half =
       let keep : Holder → Bool = λ (l : Holder). not (has dropped l.section) in
       let stay : List (Leg O) = filter (λ (l : Leg O). not (has dropped l.holder.section)) old.legs.items in
       let kept : filter keep (legs (since_end h)) ≡ map holder_of stay = ap (filter keep) (sym for.legs_for.holders) ∙ filter_mapped keep holder_of old.legs.items in
@@ -290,7 +293,7 @@ module _ {O : Type 0} (told : O → Option (List OutCall)) (faults : O → ℕ) 
       by_case : (p : Partner holder_of (λ (l : Leg O). parts_of l) leg (filter (λ (l : Leg O). not (has dropped l.holder.section)) old.legs.items ++ signal.legs.items))
           → In p.other (filter (λ (l : Leg O). not (has dropped l.holder.section)) old.legs.items) ⊎ In p.other signal.legs.items
           → (In p.other (filter (λ (l : Leg O). not (has dropped l.holder.section)) old.legs.items) → (n : Holder) → In n (added signal) → same_leg p.other.holder n ≡ true → ⊥)
-          → WhereTold (told (ends_of half leg.sending)) (λ calls. calls ≡ sends_since leg.holder half ((record { moment = moment; event = Prepare call (added signal) keys dropped }) ∷ since_end h))
+          → WhereTold (told (ends_of half leg.sending)).calls (λ calls. calls ≡ sends_since leg.holder half ((record { moment = moment; event = Prepare call (added signal) keys dropped }) ∷ since_end h))
       by_case p (inl j) apart =
           let none : list_any (same_leg leg.holder) (added signal) ≡ false
           = any_false (same_leg leg.holder) (added signal) (λ n k same. apart j n k (subst (λ (x : Holder). same_leg x n ≡ true) p.one same)) in
@@ -302,10 +305,10 @@ module _ {O : Type 0} (told : O → Option (List OutCall)) (faults : O → ℕ) 
           = any_true (same_leg leg.holder) p.other.holder (added signal) (maps holder_of signal.legs.items j)
           (subst (λ (x : Holder). same_leg leg.holder x ≡ true) p.one (same_itself leg.holder)) in
           subst (λ (o : Option (List OutCall)). WhereTold o (λ calls. calls ≡ sends_since leg.holder half ((record { moment = moment; event = Prepare call (added signal) keys dropped }) ∷ since_end h)))
-          (sym (end_told leg p.other p.two half))
-          (subst (λ (cs : List OutCall). WhereTold (told (ends_of half p.other.sending)) (λ calls. calls ≡ cs))
+          (sym (ap (λ (t : EndTold OutCall). t.calls) (end_told leg p.other p.two half)))
+          (subst (λ (cs : List OutCall). WhereTold (told (ends_of half p.other.sending)).calls (λ calls. calls ≡ cs))
           (sym (ap (λ (t : Bool). cond t [] (sends_since leg.holder half (since_end h))) new_one))
-          (starts_empty (told (ends_of half p.other.sending)) (fresh half p.other (uncalled p.other j))))
+          (starts_empty (told (ends_of half p.other.sending)).calls (fresh half old.config p.other (opened p.other j))))
 
   -- Any event of a cell.
 
@@ -326,7 +329,7 @@ module _ {O : Type 0} (told : O → Option (List OutCall)) (faults : O → ℕ) 
       let s = step.steps config h for fresh in
       record {
         after = subst (λ (ls : List Holder). AreTold new.legs.items ((record { moment = moment; event = Prepare call ls keys dropped }) ∷ since_end h)) step.legs_are
-            (prepare_told config old new h step.signal call keys dropped made.handed step.gone moment for s.1 step.uncalled before);
+            (prepare_told config old new h step.signal call keys dropped made.handed step.gone moment for s.1 step.opened before);
         going = λ t. gone_told config old h (λ (l : Holder). has dropped l.section) step.gone made.left.legs for before s.1.went step.left_are;
       }
   cell_tells config old new made (Commit signal) h moment fresh step for before =
@@ -349,7 +352,11 @@ module _ {O : Type 0} (told : O → Option (List OutCall)) (faults : O → ℕ) 
         after = λ leg i half. before leg (subst (λ (c : cell.Cell O). In leg c.legs.items) s.1.rest i) half;
         going = λ t. absurd (let k : false ≡ true = t in cc);
       }
-  cell_tells config old new made (Read reports) h moment fresh step for before = absurd step
+  cell_tells config old new made (Read reports) h moment fresh step for before =
+      record {
+        after = λ leg i half. before leg (subst (λ (c : cell.Cell O). In leg c.legs.items) step.same i) half;
+        going = λ t. absurd (let k : false ≡ true = t in cc);
+      }
   cell_tells config old new made End h moment fresh step for before =
       let s = step.steps config h for in
       record {

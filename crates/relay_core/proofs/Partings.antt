@@ -1,9 +1,10 @@
 -- At the close, what the out ends told of each leg that went from a cell is what the list has of the sends by them.
-use Rattle.std.proofs.Common.{◌≡◌, sym, subst, refl, ℕ, suc, ◌≤◌, List, [], ◌∷◌, true, false, Option, arith, length, take}
+use Rattle.std.proofs.Common.{◌≡◌, sym, subst, refl, ℕ, suc, ◌≤◌, List, [], ◌∷◌, true, false, arith, length, take}
 use Rattle.std.specs.List.{filter_map, cons_option}
 use Rattle.relay_outside.specs.declared.ports.InCall.{InCall}
 use Rattle.relay_outside.specs.declared.ports.OutCall.{OutCall}
 use Rattle.relay_outside.specs.declared.settings.Config.{Config}
+use Rattle.relay_outside.specs.Told.{EndTold}
 use Rattle.turn_table.specs.declared.machine.Entry as table
 use Rattle.turn_table.specs.Histories.{Leaves}
 use Rattle.turn_table.specs.Histories as table_lists
@@ -33,7 +34,7 @@ parting_at config k (Cell c) t at = at
 parting_at config k (Box b) t at = absurd (let q : false ≡ true = t in cc)
 parting_at config k (Board b) t at = absurd (let q : false ≡ true = t in cc)
 
-module _ {I O : Type 0} (it : I → Option (List InCall)) (ic : I → ℕ) (ot : O → Option (List OutCall)) (oc : O → ℕ) where
+module _ {I O : Type 0} (it : I → EndTold InCall) (ic : I → ℕ) (ot : O → EndTold OutCall) (oc : O → ℕ) where
   -- the out ends of a cell's legs told what its history says
   abbrev IsTold : Config → Part I O → List Entry → Type 0
   IsTold config (part.Cell cell) h = AreTold ot oc cell.legs.items (since_end (fill_history config (filter_map cell_entry h)))
@@ -87,7 +88,7 @@ module _ {I O : Type 0} (it : I → Option (List InCall)) (ic : I → ℕ) (ot :
   begins_told config k (part.Board board) is = tt
   begins_told config k (part.Pair box) is = tt
 
-module _ {T I O : Type 0} (it : I → Option (List InCall)) (ic : I → ℕ) (ot : O → Option (List OutCall)) (oc : O → ℕ)
+module _ {T I O : Type 0} (it : I → EndTold InCall) (ic : I → ℕ) (ot : O → EndTold OutCall) (oc : O → ℕ)
     (starts : List (Part I O)) (rows : List (table.Entry Made T)) (range : InRange starts rows) (whole : AreWhole it ic ot oc starts rows) where
   row_goes : (config : Config) → AreParts config starts → Orderly config (list_of rows) → IsRecorded rows → (row : table.Entry Made T) → table_lists.In row rows
       → is_parting row.event.event ≡ true

@@ -1,9 +1,10 @@
 -- Of each place: its steps are of its kind, are those that its history demands, and have the moments that they were handed.
-use Rattle.std.proofs.Common.{◌≡◌, ◌∙◌, sym, ap, subst, refl, ℕ, zero, suc, ◌<◌, ◌≤◌, true, List, [], ◌∷◌, Option, Some, None, map, arith, slice_get, take}
+use Rattle.std.proofs.Common.{◌≡◌, ◌∙◌, sym, ap, subst, refl, ℕ, zero, suc, ◌<◌, ◌≤◌, true, List, [], ◌∷◌, Some, None, map, arith, slice_get, take}
 use Rattle.std.specs.List.{filter_map, cons_option}
 use Rattle.relay_outside.specs.declared.ports.InCall.{InCall}
 use Rattle.relay_outside.specs.declared.ports.OutCall.{OutCall}
 use Rattle.relay_outside.specs.declared.settings.Config.{Config}
+use Rattle.relay_outside.specs.Told.{EndTold}
 use Rattle.turn_table.specs.declared.machine.Entry as table
 use Rattle.turn_table.specs.Histories.{Leaves}
 use Rattle.histories.specs.Words.{In, here, there, greatest}
@@ -81,13 +82,13 @@ board_placed config k old new made (Board e) step is = (is, λ above. absurd (om
 board_placed config k old new made (Cell e) step is = absurd step
 board_placed config k old new made (Box e) step is = absurd step
 
-cell_placed : {O : Type 0} (ot : O → Option (List OutCall)) (oc : O → ℕ) (config : Config) (k : ℕ) (old new : cell.Cell O) (made : Made) (v : Event)
+cell_placed : {O : Type 0} (ot : O → EndTold OutCall) (oc : O → ℕ) (config : Config) (k : ℕ) (old new : cell.Cell O) (made : Made) (v : Event)
     → CellSteps ot oc old made v new → (1 ≤ k) × (k ≤ config.max_sessions) → IsPlaced config k made.moment v
 cell_placed ot oc config k old new made (Cell e) step is = (is, λ above. absurd (let low = is.1 in omega (arith, low, above)))
 cell_placed ot oc config k old new made (Board e) step is = absurd step
 cell_placed ot oc config k old new made (Box e) step is = absurd step
 
-box_placed : {I : Type 0} (it : I → Option (List InCall)) (ic : I → ℕ) (config : Config) (k : ℕ) (old new : PairBox I) (made : Made) (v : Event)
+box_placed : {I : Type 0} (it : I → EndTold InCall) (ic : I → ℕ) (config : Config) (k : ℕ) (old new : PairBox I) (made : Made) (v : Event)
     → BoxSteps it ic old made v new → config.max_sessions < k → IsPlaced config k made.moment v
 box_placed it ic config k old new made (Box e) step is = (is, λ above. step.moment_is)
 box_placed it ic config k old new made (Board e) step is = absurd step
@@ -160,14 +161,14 @@ board_right config k old new made (Board e) past records steps for placed is =
 board_right config k old new made (Cell e) past records steps for placed is = absurd steps
 board_right config k old new made (Box e) past records steps for placed is = absurd steps
 
-box_right : {I : Type 0} (it : I → Option (List InCall)) (ic : I → ℕ) (config : Config) (k : ℕ) (old new : PairBox I) (made : Made) (v : Event) (past : List Entry)
+box_right : {I : Type 0} (it : I → EndTold InCall) (ic : I → ℕ) (config : Config) (k : ℕ) (old new : PairBox I) (made : Made) (v : Event) (past : List Entry)
     → BoxSteps it ic old made v new → BoxFor old (filter_map box_event past) → ArePlaced config k past → config.max_sessions < k → IsRight config past made v
 box_right it ic config k old new made (Box e) past step for placed above =
     ((step.stands (filter_map box_event past) for).0, step.moment_is ∙ sym (box_moments config k past placed above))
 box_right it ic config k old new made (Board e) past step for placed above = absurd step
 box_right it ic config k old new made (Cell e) past step for placed above = absurd step
 
-cell_timed : {O : Type 0} (ot : O → Option (List OutCall)) (oc : O → ℕ) (config : Config) (old new : cell.Cell O) (made : Made) (c : CellEvent)
+cell_timed : {O : Type 0} (ot : O → EndTold OutCall) (oc : O → ℕ) (config : Config) (old new : cell.Cell O) (made : Made) (c : CellEvent)
     (recorded : List CellEntry) → ((key : NewKey) → In key (keys_of c) → key_numbered recorded key.number ≡ None)
     → CellStepsBy ot oc old made c new → (for : CellStands config old recorded)
     → made.moment ≡ moment_of (Cell c) made.handed (cells.last_moment for.history)
@@ -176,7 +177,7 @@ cell_timed ot oc config old new made (Prepare call legs keys dropped) recorded f
 cell_timed ot oc config old new made (Commit signal) recorded fresh step for = (step.steps config for.history for.stands).0
 cell_timed ot oc config old new made (Relay x) recorded fresh step for = (step.steps config for.history for.stands).0
 cell_timed ot oc config old new made (Expire due) recorded fresh step for = (step config for.history for.stands).0
-cell_timed ot oc config old new made (Read reports) recorded fresh step for = absurd step
+cell_timed ot oc config old new made (Read reports) recorded fresh step for = (step.steps config for.history for.stands).0
 cell_timed ot oc config old new made End recorded fresh step for = (step.steps config for.history for.stands).0
 
 fits_head : {config : Config} {e : CellEntry} {h : List CellEntry} → FittingCell config (e ∷ h) → FitsCell config h e
@@ -186,7 +187,7 @@ abbrev head_event : CellEvent → List CellEntry → CellEvent
 head_event c [] = c
 head_event c (e ∷ h) = e.event
 
-cell_right : {O : Type 0} (ot : O → Option (List OutCall)) (oc : O → ℕ) (config : Config) (k : ℕ) (old new : cell.Cell O) (made : Made) (v : Event)
+cell_right : {O : Type 0} (ot : O → EndTold OutCall) (oc : O → ℕ) (config : Config) (k : ℕ) (old new : cell.Cell O) (made : Made) (v : Event)
     (past : List Entry) → BringsNewKeys (cons_option (cell_at made.moment v) (filter_map cell_entry past)) → CellSteps ot oc old made v new
     → CellStands config old (filter_map cell_entry past) → CellStands config new (cons_option (cell_at made.moment v) (filter_map cell_entry past))
     → ArePlaced config k past → (1 ≤ k) × (k ≤ config.max_sessions) → IsRight config past made v
@@ -203,7 +204,7 @@ cell_right ot oc config k old new made (Box e) past fresh step for next placed i
 
 -- Any place.
 
-module _ {T I O : Type 0} (it : I → Option (List InCall)) (ic : I → ℕ) (ot : O → Option (List OutCall)) (oc : O → ℕ) where
+module _ {T I O : Type 0} (it : I → EndTold InCall) (ic : I → ℕ) (ot : O → EndTold OutCall) (oc : O → ℕ) where
   kind_step : (config : Config) (k : ℕ) (old new : Part I O) (made : Made) (o : T) → Steps it ic ot oc old made o new → IsAtPlace config k old → IsAtPlace config k new
   kind_step config k (part.Board old) (part.Board new) made o step is = is
   kind_step config k (part.Cell old) (part.Cell new) made o step is = is

@@ -9,7 +9,7 @@ use Rattle.histories.proofs.Lists.{in_append, keeps, mapped, maps, equal}
 use Rattle.port_pool.specs.declared.holder.Holder.{Holder}
 use Rattle.port_pool.specs.Boxes.{BoxEvent, Open, Close, holder}
 use Rattle.call_cell.specs.Cells.{Prepare}
-use Rattle.port_pool.specs.Reports.{LegReport}
+use Rattle.port_pool.specs.declared.reports.LegReport.{LegReport}
 use Rattle.ng_command.specs.Said.{Said, Ping, Offer, Answer, Delete, Query, Listing}
 use Rattle.ng_reply.specs.declared.code.ErrorCode.{ErrorCode}
 use Rattle.std.specs.Prelude.{Result, Ok, Err}

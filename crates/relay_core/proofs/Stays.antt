@@ -4,14 +4,21 @@ use Rattle.std.specs.List.{filter_map, cons_option}
 use Rattle.relay_outside.specs.declared.ports.InCall.{InCall}
 use Rattle.relay_outside.specs.declared.ports.OutCall.{OutCall}
 use Rattle.relay_outside.specs.declared.settings.Config.{Config}
+use Rattle.relay_outside.specs.Told.{EndTold}
 use Rattle.turn_table.specs.declared.machine.Entry as table
 use Rattle.turn_table.specs.Histories.{Leaves}
 use Rattle.histories.specs.Words.{In, first}
 use Rattle.port_pool.specs.declared.boxes.PairBox.{PairBox}
 use Rattle.port_pool.specs.declared.holder.Holder.{Holder}
 use Rattle.port_pool.specs.Signals.{NewKey}
-use Rattle.port_pool.specs.Boxes.{BoxEvent}
-use Rattle.port_pool.specs.PairBoxes.{BoxFor, cells_of}
+use Rattle.relay_outside.specs.declared.address.Addr.{Addr}
+use Rattle.relay_outside.specs.declared.ports.InGiven.{InGiven}
+use Rattle.rtp_packet.specs.declared.head.Half.{Half}
+use Rattle.rtp_packet.specs.declared.head.Half.TheVariants.{Rtp, Rtcp}
+use Rattle.port_pool.specs.Ports.{AreOfPair, port_address}
+use Rattle.port_pool.specs.Taking.{given_of, GainsTake, IsTakenFrom, EndsTaken}
+use Rattle.port_pool.specs.Boxes.{BoxEvent, Taken, Open, Take, Close}
+use Rattle.port_pool.specs.PairBoxes.{BoxFor, at_of, cells_of, ends_in}
 use Rattle.call_cell.specs.declared.cell.Cell as cell
 use Rattle.call_cell.specs.Cells.{CellEvent, CellEntry, Prepare, Commit, Relay, Expire, Read, End, since_end, keys_of, keys_in, key_numbered}
 use Rattle.call_cell.specs.Good.{FittingCell, longer}
@@ -21,6 +28,7 @@ use Rattle.call_cell.specs.Deeds.{deed}
 use Rattle.call_cell.specs.Asked.{FitsCell}
 use Rattle.call_cell.specs.Standing.{sent_ok}
 use Rattle.call_cell.specs.Preparing.{added}
+use Rattle.call_cell.specs.Reading.{read_after}
 use Rattle.call_cell.specs.CellStanding.{CellFor, relayed_at}
 use Rattle.call_board.specs.declared.board.Board as board
 use Rattle.call_board.specs.Acts.{BoardEvent, BoardEntry}
@@ -30,10 +38,10 @@ use Rattle.call_cell.proofs.NewKeys.{none_since}
 use Rattle.relay_core.specs.declared.part.Part.{Part}
 use Rattle.relay_core.specs.declared.part.Part.TheVariants as part
 use Rattle.relay_core.specs.Entries.{Event, Board, Cell, Box, Entry, board_at, cell_at, box_in, board_entry, cell_entry, box_event}
-use Rattle.relay_core.specs.Made.{Made, entry_of, told_cell, told_relay}
+use Rattle.relay_core.specs.Made.{Left, Made, entry_of, told_cell, told_relay}
 use Rattle.relay_core.specs.Recorded.{is_boards}
-use Rattle.relay_core.specs.Steps.{board_made, BoardStep, BoardSteps, BoxSteps, CellStepsBy, CellSteps, Relates, AreNew}
-use Rattle.relay_core.specs.Standing.{told_entry, FittingBox, CellStands, BringsNewKeys, Stands, IsBoardPart, IsCellPart, IsBoxPart}
+use Rattle.relay_core.specs.Steps.{board_made, BoardStep, BoardSteps, BoxEnds, BoxSteps, CellStepsBy, CellSteps, Relates, AreNew}
+use Rattle.relay_core.specs.Standing.{told_entry, FittingBox, CellStands, BringsNewKeys, Stands, IsBoardPart, IsCellPart, IsBoxPart, AreHome, BoxHome}
 
 -- The keys that were brought.
 
@@ -80,17 +88,57 @@ after_board config old new made (Board e) h records steps for =
 after_board config old new made (Cell e) h records steps for = absurd steps
 after_board config old new made (Box e) h records steps for = absurd steps
 
-after_box : {I : Type 0} (it : I → Option (List InCall)) (ic : I → ℕ) (old new : PairBox I) (made : Made) (ev : Event) (h : List BoxEvent)
+after_box : {I : Type 0} (it : I → EndTold InCall) (ic : I → ℕ) (old new : PairBox I) (made : Made) (ev : Event) (h : List BoxEvent)
     → BoxSteps it ic old made ev new → FittingBox h × BoxFor old h → FittingBox (cons_option (box_in ev) h) × BoxFor new (cons_option (box_in ev) h)
 after_box it ic old new made (Box e) h step for = let s = step.stands h for.1 in ((s.0, for.0), s.1)
 after_box it ic old new made (Cell e) h step for = absurd step
 after_box it ic old new made (Board e) h step for = absurd step
 
-box_cells : {I : Type 0} (it : I → Option (List InCall)) (ic : I → ℕ) (cells : ℕ) (old new : PairBox I) (made : Made) (ev : Event)
+box_cells : {I : Type 0} (it : I → EndTold InCall) (ic : I → ℕ) (cells : ℕ) (old new : PairBox I) (made : Made) (ev : Event)
     → BoxSteps it ic old made ev new → cells_of old ≡ cells → cells_of new ≡ cells
 box_cells it ic cells old new made (Box e) step is = step.cells_are ∙ is
 box_cells it ic cells old new made (Cell e) step is = absurd step
 box_cells it ic cells old new made (Board e) step is = absurd step
+
+-- The ends of a box.
+
+-- an end that was taken from once is of the same port
+taken_at : {I : Type 0} (told : I → EndTold InCall) (faults : I → ℕ) (old new : I) (g : Option InGiven) → GainsTake told faults old new g → (told new).at ≡ (told old).at
+taken_at told faults old new None gains = absurd gains
+taken_at told faults old new (Some gave) gains = gains.same
+
+home_from : {I : Type 0} (told : I → EndTold InCall) (faults : I → ℕ) (half : Half) (at : Addr) (old new : I × I) (taken : Taken)
+    → IsTakenFrom told faults half old new taken → AreOfPair told at old.0 old.1 → AreOfPair told at new.0 new.1
+home_from told faults Rtp at old new taken is home = record {
+  rtp_at = taken_at told faults old.0 new.0 (given_of taken) is.0.gains ∙ home.rtp_at;
+  rtcp_at = ap (λ (e : _). (told e).at) is.1 ∙ home.rtcp_at;
+}
+home_from told faults Rtcp at old new taken is home = record {
+  rtp_at = ap (λ (e : _). (told e).at) is.0 ∙ home.rtp_at;
+  rtcp_at = taken_at told faults old.1 new.1 (given_of taken) is.1.gains ∙ home.rtcp_at;
+}
+
+home_taken : {I : Type 0} (told : I → EndTold InCall) (faults : I → ℕ) (half : Half) (at : Addr) (old new : Option (I × I)) (taken : Taken)
+    → EndsTaken told faults half old new taken → AreHome told at old → AreHome told at new
+home_taken {I} told faults half at None new taken is home = subst (λ (o : Option (I × I)). AreHome told at o) (sym is) tt
+home_taken told faults half at (Some old) None taken is home = absurd is
+home_taken told faults half at (Some old) (Some new) taken is home = home_from told faults half at old new taken is home
+
+home_by : {I : Type 0} (told : I → EndTold InCall) (faults : I → ℕ) (at : Addr) (e : BoxEvent) (left : Left) (old new : Option (I × I))
+    → BoxEnds told faults at e left old new → AreHome told at old → AreHome told at new
+home_by {I} told faults at (Open leg) left old new ends home =
+    subst (λ (o : Option (I × I)). AreHome told at o) (sym ends.1.are_in) (record { rtp_at = ends.1.rtp_is_new.at_is; rtcp_at = ends.1.rtcp_is_new.at_is })
+home_by told faults at (Take half taken) left old new ends home = home_taken told faults half at old new taken ends home
+home_by {I} told faults at Close left old new ends home = subst (λ (o : Option (I × I)). AreHome told at o) (sym ends.0) tt
+
+box_home : {I : Type 0} (told : I → EndTold InCall) (faults : I → ℕ) (at : Addr) (old new : PairBox I) (made : Made) (ev : Event)
+    → BoxSteps told faults old made ev new → (at_of old ≡ at) × AreHome told (at_of old) (ends_in old) → (at_of new ≡ at) × AreHome told (at_of new) (ends_in new)
+box_home told faults at old new made (Box e) step is = (
+  step.at_is ∙ is.0,
+  subst (λ (a : Addr). AreHome told a (ends_in new)) (sym step.at_is) (home_by told faults (at_of old) e made.left (ends_in old) (ends_in new) step.ends is.1),
+)
+box_home told faults at old new made (Cell e) step is = absurd step
+box_home told faults at old new made (Board e) step is = absurd step
 
 -- a cell that makes one more entry, which is recorded so
 one_more : {O : Type 0} (config : Config) (new : cell.Cell O) (history recorded : List CellEntry) (e r : CellEntry) → map told_entry history ≡ recorded
@@ -106,7 +154,7 @@ at_same : (a b : ℕ) (event : CellEvent) → a ≡ b → told_cell event ≡ ev
 at_same a b event p q =
     ap (λ (m : ℕ). told_entry (record { moment = m; event = event })) p ∙ ap (λ (c : CellEvent). record { moment = b; event = c }) q
 
-after_cell_by : {O : Type 0} (ot : O → Option (List OutCall)) (oc : O → ℕ) (config : Config) (old new : cell.Cell O) (made : Made) (ev : CellEvent)
+after_cell_by : {O : Type 0} (ot : O → EndTold OutCall) (oc : O → ℕ) (config : Config) (old new : cell.Cell O) (made : Made) (ev : CellEvent)
     (recorded : List CellEntry) → ((key : NewKey) → In key (keys_of ev) → key_numbered recorded key.number ≡ None)
     → CellStepsBy ot oc old made ev new → CellStands config old recorded
     → CellStands config new ((record { moment = made.moment; event = ev }) ∷ recorded)
@@ -129,12 +177,16 @@ after_cell_by ot oc config old new made (Relay x) recorded fresh step for =
 after_cell_by ot oc config old new made (Expire due) recorded fresh step for =
     let s = step config for.history for.stands in
     one_more config new for.history recorded _ _ for.is_recorded for.fitting s.1.fits s.1.stands (at_same _ _ (Expire due) (sym s.0) refl)
-after_cell_by ot oc config old new made (Read reports) recorded fresh step for = absurd step
+after_cell_by ot oc config old new made (Read reports) recorded fresh step for =
+    let s = step.steps config for.history for.stands in
+    let e = read_after for.history reports in
+    one_more config new for.history recorded e (record { moment = made.moment; event = Read reports }) for.is_recorded for.fitting s.1.fits
+    (subst (λ (c : cell.Cell _). CellFor config c (e ∷ for.history)) (sym step.same) s.1.stands) (at_same _ _ (Read reports) (sym s.0) refl)
 after_cell_by ot oc config old new made End recorded fresh step for =
     let s = step.steps config for.history for.stands in
     one_more config new for.history recorded _ _ for.is_recorded for.fitting s.1.fits s.1.stands (at_same _ _ End (sym s.0) refl)
 
-after_cell : {O : Type 0} (ot : O → Option (List OutCall)) (oc : O → ℕ) (config : Config) (old new : cell.Cell O) (made : Made) (ev : Event)
+after_cell : {O : Type 0} (ot : O → EndTold OutCall) (oc : O → ℕ) (config : Config) (old new : cell.Cell O) (made : Made) (ev : Event)
     (recorded : List CellEntry) → BringsNewKeys (cons_option (cell_at made.moment ev) recorded)
     → CellSteps ot oc old made ev new → CellStands config old recorded → CellStands config new (cons_option (cell_at made.moment ev) recorded)
 after_cell ot oc config old new made (Cell e) recorded fresh step for = after_cell_by ot oc config old new made e recorded fresh.0 step for
@@ -174,7 +226,7 @@ module _ {T : Type 0} where
   records_taken (suc n) [] h r = tt
   records_taken (suc n) (row ∷ rows) h r = (r.0, records_taken n rows (entry_of row ∷ h) r.1)
 
-  module _ {I O : Type 0} (it : I → Option (List InCall)) (ic : I → ℕ) (ot : O → Option (List OutCall)) (oc : O → ℕ) where
+  module _ {I O : Type 0} (it : I → EndTold InCall) (ic : I → ℕ) (ot : O → EndTold OutCall) (oc : O → ℕ) where
     abbrev pub Steps : Part I O → Made → T → Part I O → Type 0
     Steps old made outcome new = Relates it ic ot oc old made new
 
@@ -231,6 +283,12 @@ module _ {T : Type 0} where
     box_step cells (part.Pair old) (part.Pair new) made o step is = box_cells it ic cells old new made made.event step is
     box_step cells _ _ made o step is = absurd step
 
+    home_step : (config : Config) (pair : ℕ) (a b : Part I O) (made : Made) (outcome : T) → Steps a made outcome b → BoxHome it config pair a → BoxHome it config pair b
+    home_step config pair (part.Board old) (part.Board new) made o step is = is
+    home_step config pair (part.Cell old) (part.Cell new) made o step is = is
+    home_step config pair (part.Pair old) (part.Pair new) made o step is = box_home it ic (port_address config pair Rtp) old new made made.event step is
+    home_step config pair _ _ made o step is = absurd step
+
     stays : (P : Part I O → Type 0) → ((a b : Part I O) (made : Made) (o : T) → Steps a made o b → P a → P b)
         → (a b : Part I O) (rows : List (table.Entry Made T)) → Leaves Steps a rows b → P a → P b
     stays P step a b [] same is = subst P same is
@@ -244,3 +302,7 @@ module _ {T : Type 0} where
 
     pub box_stays : (cells : ℕ) (a b : Part I O) (rows : List (table.Entry Made T)) → Leaves Steps a rows b → IsBoxPart cells a → IsBoxPart cells b
     box_stays cells a b rows l is = stays (IsBoxPart cells) (box_step cells) a b rows l is
+
+    -- the ends of a box stay those of its pair's ports
+    pub home_stays : (config : Config) (pair : ℕ) (a b : Part I O) (rows : List (table.Entry Made T)) → Leaves Steps a rows b → BoxHome it config pair a → BoxHome it config pair b
+    home_stays config pair a b rows l is = stays (BoxHome it config pair) (home_step config pair) a b rows l is

@@ -6,7 +6,7 @@ use Rattle.ng_command.specs.Said.{Said, Query}
 use Rattle.ng_reply.specs.declared.code.ErrorCode.{ErrorCode}
 use Rattle.histories.specs.Words.{has}
 use Rattle.port_pool.specs.declared.holder.Holder.{Holder}
-use Rattle.port_pool.specs.Reports.{LegReport}
+use Rattle.port_pool.specs.declared.reports.LegReport.{LegReport}
 use Rattle.port_pool.specs.Boxes.{Open, Close}
 use Rattle.call_cell.specs.Cells.{CellEvent, Prepare, Commit, Expire, Read, End}
 use Rattle.call_board.specs.Acts as act

@@ -1,8 +1,17 @@
 -- For which history of its place a state stands.
-use Rattle.std.specs.Prelude.{◌≡◌, ℕ, List, [], ◌∷◌, map, filter, filter_map, Option}
+use Rattle.std.specs.Prelude.{◌≡◌, ℕ, List, [], ◌∷◌, map, filter, filter_map, Option, Some, None}
+use Rattle.relay_outside.specs.declared.address.Addr.{Addr}
+use Rattle.relay_outside.specs.declared.ports.InCall.{InCall}
+use Rattle.relay_outside.specs.declared.ports.OutCall.{OutCall}
 use Rattle.relay_outside.specs.declared.settings.Config.{Config}
+use Rattle.relay_outside.specs.Told.{EndTold}
+use Rattle.rtp_packet.specs.declared.head.Half.TheVariants.{Rtp}
+use Rattle.histories.specs.Words.{In}
+use Rattle.call_cell.specs.declared.leg.Leg.{Leg}
 use Rattle.port_pool.specs.Boxes.{BoxEvent, FitsBox}
-use Rattle.port_pool.specs.PairBoxes.{BoxFor, cells_of, holder_in}
+use Rattle.port_pool.specs.PairBoxes.{BoxFor, at_of, cells_of, ends_in, holder_in}
+use Rattle.port_pool.specs.Ports.{AreOfPair, port_address}
+use Rattle.port_pool.specs.declared.pairs.Lease.{Lease}
 use Rattle.call_cell.specs.declared.cell.Cell as cell
 use Rattle.port_pool.specs.declared.holder.Holder.{Holder}
 use Rattle.call_cell.specs.Cells.{CellEntry}
@@ -52,6 +61,30 @@ module _ {I O : Type 0} where
   abbrev pub IsBoxPart : ℕ → Part I O → Type 0
   IsBoxPart cells (part.Pair box) = cells_of box ≡ cells
   IsBoxPart cells _ = ⊥
+
+-- the ends of a box, where it is open, were opened for its ports
+abbrev pub AreHome : {I : Type 0} → (I → EndTold InCall) → Addr → Option (I × I) → Type 0
+AreHome told at None = Unit {0}
+AreHome told at (Some ends) = AreOfPair told at ends.0 ends.1
+
+-- the out ends of each of these legs were opened for the ports of the leg's pair
+abbrev pub LegsHome : {O : Type 0} → (O → EndTold OutCall) → Config → List (Leg O) → Type 0
+LegsHome {O} told config those = (leg : Leg O) → In leg those → AreOfPair told (port_address config leg.holder.pair Rtp) leg.sending.rtp leg.sending.rtcp
+
+-- the same of legs that went from a cell, by their leases
+abbrev pub GoneHome : {O : Type 0} → (O → EndTold OutCall) → Config → List (Lease × O × O) → Type 0
+GoneHome {O} told config gone = (leg : Lease × O × O) → In leg gone → AreOfPair told (port_address config leg.0.pair Rtp) leg.1 leg.2
+
+module _ {I O : Type 0} where
+  -- the state is the box of a pair, and its ends were opened for the pair's ports
+  abbrev pub BoxHome : (I → EndTold InCall) → Config → (pair : ℕ) → Part I O → Type 0
+  BoxHome told config pair (part.Pair box) = (at_of box ≡ port_address config pair Rtp) × AreHome told (at_of box) (ends_in box)
+  BoxHome told config pair _ = ⊥
+
+  -- the state is a cell, and its legs have the out ends that were opened for their pairs
+  abbrev pub CellHome : (O → EndTold OutCall) → Config → Part I O → Type 0
+  CellHome told config (part.Cell cell) = LegsHome told config cell.legs.items
+  CellHome told config _ = ⊥
 
 -- the entries of a cell but for relays
 abbrev pub nested_of : List CellEntry → List CellEntry

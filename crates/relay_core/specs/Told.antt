@@ -21,8 +21,7 @@ use Rattle.port_pool.specs.Ports.{pair_count}
 use Rattle.port_pool.specs.declared.holder.Holder.{Holder}
 use Rattle.port_pool.specs.Signals.{same_leg}
 use Rattle.call_cell.specs.Cells.{CellEvent, CellEntry, Sending, Prepare, Commit, Relay, End, legs, legs_of, takes_away, since_end}
-use Rattle.call_cell.specs.Deeds.{found}
-use Rattle.call_cell.specs.Standing.{opposite_of, is_leaving}
+use Rattle.call_cell.specs.Deeds.{found, opposite_of, is_leaving}
 use Rattle.relay_core.specs.Entries.{Event, Cell, Box, Entry, is_nested, cell_history, box_history, box_of, front}
 use Rattle.relay_core.specs.Made.{LegLeft, Left, Made, list_of}
 

@@ -1,12 +1,13 @@
 //! The places of a relay before its first step.
 
-ghost use Rattle.std.specs.Prelude.{IfOk, OnOk};
+ghost use Rattle.std.specs.Prelude.{◌≡◌, IfOk, OnOk};
+ghost use Rattle.port_pool.specs.Ports.{pair_count};
 ghost use Rattle.relay_core.specs.Beginning.{AreParts, AddsCells, AddsBoxes};
 
 use crate::part::Part;
 use call_board::Board;
 use call_cell::Cell;
-use port_pool::PairBox;
+use port_pool::{PairBox, rtp_address};
 use relay_outside::{Config, InEnd, OutEnd, OutOfMemory};
 use std::alloc::Global;
 
@@ -26,16 +27,18 @@ fn add_cells<I: InEnd + Drop, O: OutEnd + Drop>(
     Ok(())
 }
 
-/// Adds a closed box for each of so many port pairs.
+/// Adds a closed box for each of the configuration's port pairs, in their order.
 fn add_boxes<I: InEnd + Drop, O: OutEnd + Drop>(
     parts: &mut Vec<Part<I, O>>,
     config: &Config,
     pairs: usize,
 ) -> Result<(), OutOfMemory>
+    requires { pairs ≡ pair_count config.now }
     ensures { OnOk result (AddsBoxes config.now parts.old.items parts.new.items pairs) }
 {
-    for _ in 0..pairs {
-        let Ok(()) = parts.push(Part::Pair(PairBox::empty(config.max_sessions))) else {
+    for pair in 0..pairs {
+        let at = rtp_address(config, pair);
+        let Ok(()) = parts.push(Part::Pair(PairBox::empty(config.max_sessions, at))) else {
             return Err(OutOfMemory);
         };
     }

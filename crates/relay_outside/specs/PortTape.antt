@@ -6,12 +6,13 @@ use Rattle.relay_outside.specs.declared.ports.OutCall.{OutCall}
 use Rattle.relay_outside.specs.declared.ports.PortCall.{PortCall}
 use Rattle.relay_outside.specs.declared.memory.ports.Packet.{Packet}
 use Rattle.relay_outside.specs.Failures.{Failures, uncalled}
+use Rattle.relay_outside.specs.Told.{EndTold, opened_for}
 use Rattle.relay_outside.specs.Ports.{same_addr}
 use Rattle.relay_outside.specs.declared.memory.ports.Packet.TheVariants as packet
 
 -- an in end in memory: what it tells, and what its takes are still to give
 pub record InTape : Type 0 where
-  pub told : Option (List InCall)
+  pub told : EndTold InCall
   pub packets : List Packet
 
 -- a take gives the front of the list, a datagram cut at the room of the buffer; after the list, nothing
@@ -48,13 +49,13 @@ GoesBack old at (packet ∷ packets) new =
 
 -- an in end in memory whose takes may fail
 pub record InState : Type 0 where
-  pub told : Option (List InCall)
+  pub told : EndTold InCall
   pub packets : List Packet
   pub failures : Failures
 
 -- an out end in memory whose sends may fail
 pub record OutState : Type 0 where
-  pub told : Option (List OutCall)
+  pub told : EndTold OutCall
   pub failures : Failures
 
 -- what the ends at one address are to give, and the numbers of their takes and sends that fail
@@ -74,13 +75,13 @@ pub record MakerState : Type 0 where
 abbrev pub nothing_at : Addr → PortState
 nothing_at at = record { at = at; packets = []; takes = []; sends = [] }
 
--- the in end that gets what an entry holds: it tells, it was not called, and it counts from its opening
-abbrev pub in_from : PortState → InState
-in_from port = record { told = Some []; packets = port.packets; failures = uncalled port.takes }
+-- the in end for an address that gets what an entry holds: it tells, it was not called, and it counts from its opening
+abbrev pub in_from : Addr → PortState → InState
+in_from at port = record { told = opened_for at; packets = port.packets; failures = uncalled port.takes }
 
 -- the out end that gets what an entry holds, in the same way
-abbrev pub out_from : PortState → OutState
-out_from port = record { told = Some []; failures = uncalled port.sends }
+abbrev pub out_from : Addr → PortState → OutState
+out_from at port = record { told = opened_for at; failures = uncalled port.sends }
 
 -- an entry that gets back what its ends are left with: the packets that were not given, and the numbers of
 -- their failing calls, which count anew at the next opening
@@ -96,10 +97,10 @@ returned at receiving sending = record {
 abbrev pub MovesOut : List PortState → Addr → InState → OutState → List PortState → Type 0
 MovesOut old at receiving sending new =
     MatchOption (position (λ port. same_addr port.at at) old)
-    ((receiving ≡ in_from (nothing_at at)) × (sending ≡ out_from (nothing_at at)) × (new ≡ old))
+    ((receiving ≡ in_from at (nothing_at at)) × (sending ≡ out_from at (nothing_at at)) × (new ≡ old))
     (λ place.
     let port = slice_index_or old place (nothing_at at) in
-    (receiving ≡ in_from port) × (sending ≡ out_from port) × (new ≡ slice_set old place (nothing_at port.at)))
+    (receiving ≡ in_from at port) × (sending ≡ out_from at port) × (new ≡ slice_set old place (nothing_at port.at)))
 
 -- what the ends are left with goes back to the first entry for their address, if there is one
 abbrev pub MovesBack : List PortState → Addr → InState → OutState → List PortState → Type 0

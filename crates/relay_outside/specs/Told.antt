@@ -1,5 +1,6 @@
 -- What a device tells of its calls, and when its count of faults rises.
 -- A device tells `Some` list of its calls, each with its answer, or `None` where it tells nothing (any more).
+use Rattle.relay_outside.specs.declared.address.Addr.{Addr}
 use Rattle.std.specs.Prelude.{◌≡◌, ℕ, ◌+◌, ◌-◌, ◌^◌, ◌≤◌, min, Bool, true, false, Option, Some, None, Result, Ok, Err, OnErr, List, [], ◌∷◌, ◌++◌}
 
 -- the calls, where the device tells them
@@ -24,6 +25,25 @@ Gained (Some old) (Some new) P = (more : List _) × (new ≡ old ++ more) × P m
 abbrev pub StartsEmpty : {C : Type 0} → Option (List C) → Type 0
 StartsEmpty None = Unit {0}
 StartsEmpty (Some calls) = calls ≡ []
+
+-- what an end of a port tells: the address that it was opened for, and its calls since then, where it tells them
+pub record EndTold (C : Type 0) : Type 0 where
+  pub at : Addr
+  pub calls : Option (List C)
+
+-- the end of the same address gained this call
+pub record EndGains {C : Type 0} (old new : EndTold C) (call : C) : Type 0 where
+  pub same : new.at ≡ old.at
+  pub gains : Gains old.calls new.calls call
+
+-- an end that was just opened for the address: where it tells its calls, it has not been called
+pub record IsOpenedFor {C : Type 0} (at : Addr) (told : EndTold C) : Type 0 where
+  pub at_is : told.at ≡ at
+  pub uncalled : StartsEmpty told.calls
+
+-- what an end tells that was just opened for the address, and tells
+abbrev pub opened_for : {C : Type 0} → Addr → EndTold C
+opened_for at = record { at = at; calls = Some [] }
 
 -- what holds of the list, where it is told
 abbrev pub WhereTold : {C : Type 0} → Option (List C) → (List C → Type 0) → Type 0

@@ -46,14 +46,14 @@ pub enum OutCall {
 
 /// The receiving end of an open port.
 pub trait InEnd {
-    ghost use Rattle.std.specs.Prelude.{ℕ, ◌<◌, Option, List, length};
-    ghost use Rattle.relay_outside.specs.Told.{Gains, HasCause};
+    ghost use Rattle.std.specs.Prelude.{ℕ, ◌<◌, length};
+    ghost use Rattle.relay_outside.specs.Told.{EndTold, EndGains, HasCause};
     ghost use Rattle.relay_outside.specs.Ports.{FitsTake, in_given};
     ghost use Rattle.relay_outside.specs.declared.ports.InCall.{InCall};
     ghost use Rattle.relay_outside.specs.declared.ports.InCall.TheVariants.{Take};
 
-    /// The calls since the end was opened, where it tells them.
-    ghost told: { Self → Option (List InCall) };
+    /// The address that the end was opened for, and its calls since then, where it tells them.
+    ghost told: { Self → EndTold InCall };
 
     /// The count of faults.
     ghost faults: { Self → ℕ };
@@ -63,26 +63,26 @@ pub trait InEnd {
     fn take(&mut self, buf: &mut [u8]) -> Result<Option<(Addr, usize)>, Failed>
         requires { 0 < length buf.old }
         ensures within { FitsTake result (length buf.old) }
-        ensures told { Gains (told self.old) (told self.new) (Take (length buf.old) (in_given result buf.new)) }
+        ensures told { EndGains (told self.old) (told self.new) (Take (length buf.old) (in_given result buf.new)) }
         ensures cause { HasCause (faults self.old) (faults self.new) result };
 }
 
 /// The sending end of an open port.
 pub trait OutEnd {
-    ghost use Rattle.std.specs.Prelude.{ℕ, Option, List};
-    ghost use Rattle.relay_outside.specs.Told.{Gains, HasCause, is_done};
+    ghost use Rattle.std.specs.Prelude.{ℕ};
+    ghost use Rattle.relay_outside.specs.Told.{EndTold, EndGains, HasCause, is_done};
     ghost use Rattle.relay_outside.specs.declared.ports.OutCall.{OutCall};
     ghost use Rattle.relay_outside.specs.declared.ports.OutCall.TheVariants.{Send};
 
-    /// The calls since the end was opened, where it tells them.
-    ghost told: { Self → Option (List OutCall) };
+    /// The address that the end was opened for, and its calls since then, where it tells them.
+    ghost told: { Self → EndTold OutCall };
 
     /// The count of faults.
     ghost faults: { Self → ℕ };
 
     /// Sends one datagram from the port.
     fn send(&mut self, to: Addr, bytes: &[u8]) -> Result<(), Failed>
-        ensures told { Gains (told self.old) (told self.new) (Send to bytes.now (is_done result)) }
+        ensures told { EndGains (told self.old) (told self.new) (Send to bytes.now (is_done result)) }
         ensures cause { HasCause (faults self.old) (faults self.new) result };
 }
 
@@ -109,8 +109,8 @@ pub enum PortCall {
 
 /// What opens and closes the ports of media.
 pub trait PortMaker {
-    ghost use Rattle.std.specs.Prelude.{ℕ, ◌≤◌, Option, List, IfOk};
-    ghost use Rattle.relay_outside.specs.Told.{Gains, HasCause, StartsEmpty, WhereTold, is_done};
+    ghost use Rattle.std.specs.Prelude.{◌≡◌, ℕ, ◌≤◌, Option, List, IfOk};
+    ghost use Rattle.relay_outside.specs.Told.{Gains, HasCause, IsOpenedFor, WhereTold, is_done};
     ghost use Rattle.relay_outside.specs.Ports.{IsOpen};
     ghost use Rattle.relay_outside.specs.declared.ports.PortCall.{PortCall};
     ghost use Rattle.relay_outside.specs.declared.ports.PortCall.TheVariants.{Open, Close};
@@ -128,17 +128,18 @@ pub trait PortMaker {
     /// The count of faults.
     ghost faults: { Self → ℕ };
 
-    /// Opens an address that isn't open. Its ends have not been called.
+    /// Opens an address that isn't open. Its ends are opened for it, and have not been called.
     fn open(&mut self, at: Addr) -> Result<(Self::In, Self::Out), Failed>
         requires { WhereTold (told self.old) (λ calls. IsOpen calls at → ⊥) }
         ensures told { Gains (told self.old) (told self.new) (Open at (is_done result)) }
-        ensures receiving { IfOk result (λ ends. StartsEmpty (Self.In.told ends.0)) }
-        ensures sending { IfOk result (λ ends. StartsEmpty (Self.Out.told ends.1)) }
+        ensures receiving { IfOk result (λ ends. IsOpenedFor at (Self.In.told ends.0)) }
+        ensures sending { IfOk result (λ ends. IsOpenedFor at (Self.Out.told ends.1)) }
         ensures cause { HasCause (faults self.old) (faults self.new) result };
 
-    /// Closes an open address and takes its ends back. It can't fail.
+    /// Closes an open address and takes its ends back: those that were opened for it. It can't fail.
     fn close(&mut self, at: Addr, receiving: Self::In, sending: Self::Out)
-        requires { WhereTold (told self.old) (λ calls. IsOpen calls at) }
-        ensures told { Gains (told self.old) (told self.new) (Close at (Self.In.told receiving) (Self.Out.told sending)) }
+        requires open { WhereTold (told self.old) (λ calls. IsOpen calls at) }
+        requires ends { ((Self.In.told receiving).at ≡ at) × ((Self.Out.told sending).at ≡ at) }
+        ensures told { Gains (told self.old) (told self.new) (Close at (Self.In.told receiving).calls (Self.Out.told sending).calls) }
         ensures later { faults self.old ≤ faults self.new };
 }

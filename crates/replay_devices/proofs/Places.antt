@@ -40,7 +40,7 @@ key_used steps next step place found begins is =
     ∙ ap (λ (xs : List Step). cons_option (key_of found) (filter_map key_of xs)) (drop-drop (place + 1) next (take step steps)))
 
 takes_line : (before : InState) (answer : Result (Option (Addr × ℕ)) Failed) (buf : List ℕ) (index : ℕ) →
-    Some index ≡ next_line before.steps before.at before.next →
+    Some index ≡ next_line before.steps before.told.at before.next →
     GivesLine (take_fails before.steps index) (slice_get before.steps index) answer buf →
     Takes before (record before { next = index + 1 }) answer buf
 takes_line before answer buf index is gives =
@@ -61,7 +61,7 @@ gives_packet_of false step answer buf is gives = gives
 
 -- a take gives the packet of the line that was found
 pub gives_packet : (before : InState) (buf : List ℕ) (index : ℕ) (from : Addr) (bytes : List ℕ) (len : ℕ) →
-    Some index ≡ next_line before.steps before.at before.next → take_fails before.steps index ≡ false →
+    Some index ≡ next_line before.steps before.told.at before.next → take_fails before.steps index ≡ false →
     packet_at (slice_get before.steps index) ≡ Some (from, bytes) → len ≡ min (length bytes) (length buf) →
     take len buf ≡ take len bytes → Takes before (record before { next = index + 1 }) (Ok (Some (from, len))) buf
 gives_packet before buf index from bytes len is passes packet len_is front =

@@ -8,6 +8,7 @@ use Rattle.relay_outside.specs.declared.answers.Failed.{Failed}
 use Rattle.relay_outside.specs.declared.ports.InCall.{InCall}
 use Rattle.relay_outside.specs.declared.ports.OutCall.{OutCall}
 use Rattle.relay_outside.specs.declared.ports.PortCall.{PortCall}
+use Rattle.relay_outside.specs.Told.{EndTold, opened_for}
 use Rattle.relay_script.specs.declared.step.Step.{Step}
 use Rattle.relay_script.specs.declared.step.Step.TheVariants as line
 use Rattle.relay_script.specs.declared.step.FailKind.TheVariants as kind
@@ -30,21 +31,19 @@ fails_behind (step ∷ past) later =
 abbrev pub take_fails : List Step → ℕ → Bool
 take_fails steps index = fails_behind (reverse (take index steps)) 0
 
--- the receiving end of a port in a replay: what it tells; the script; the address of the port; the index of the first line that
--- it may give something for; the count of faults
+-- the receiving end of a port in a replay: what it tells, the address of its port among it; the script; the index of the first
+-- line that it may give something for; the count of faults
 pub record InState : Type 0 where
-  pub told : Option (List InCall)
+  pub told : EndTold InCall
   pub steps : List Step
-  pub at : Addr
   pub next : ℕ
   pub faults : ℕ
 
--- the sending end: what it tells; the lines in which its failing sends stand, and the number of its port; how many sends were
--- made; the count of faults
+-- the sending end: what it tells, the address of its port among it; the lines in which its failing sends stand; how many sends
+-- were made; the count of faults
 pub record OutState : Type 0 where
-  pub told : Option (List OutCall)
+  pub told : EndTold OutCall
   pub window : List Step
-  pub port : ℕ
   pub sends : ℕ
   pub faults : ℕ
 
@@ -85,13 +84,13 @@ GivesLine false step answer buf = GivesPacket (packet_at step) answer buf
 -- a take is that of the first line at the port that no take was made for, and gives nothing where there is none
 abbrev pub Takes : InState → InState → Result (Option (Addr × ℕ)) Failed → List ℕ → Type 0
 Takes before after answer buf =
-    MatchOption (next_line before.steps before.at before.next)
+    MatchOption (next_line before.steps before.told.at before.next)
     ((answer ≡ Ok None) × (after.next ≡ before.next))
     (λ index. GivesLine (take_fails before.steps index) (slice_get before.steps index) answer buf × (after.next ≡ index + 1))
 
 -- the next send fails
 abbrev pub send_fails : OutState → Bool
-send_fails end = list_any (fails_send end.port (end.sends + 1)) end.window
+send_fails end = list_any (fails_send end.told.at.port (end.sends + 1)) end.window
 
 -- the lesser of two numbers, of which there may be one alone
 abbrev pub lesser : Option ℕ → ℕ → ℕ
@@ -106,13 +105,12 @@ pub record IsNextFailing (port sends : ℕ) (window : List Step) (least : Option
 -- the ends that an open makes: the receiving one gives what the lines behind the present one give, the sending one fails by
 -- the lines between the last open of this port's number that made ends and the present line
 pub record Opens (maker : PortsState) (at : Addr) (receiving : InState) (sending : OutState) : Type 0 where
-  pub receiving_is : receiving ≡ record { told = Some []; steps = maker.steps; at = at; next = maker.step + 1; faults = 0 }
+  pub receiving_is : receiving ≡ record { told = opened_for at; steps = maker.steps; next = maker.step + 1; faults = 0 }
   pub sending_is :
       sending
       ≡ record {
-        told = Some [];
+        told = opened_for at;
         window = between maker.steps (slice_index_or maker.since at.port 0) maker.step;
-        port = at.port;
         sends = 0;
         faults = 0;
       }

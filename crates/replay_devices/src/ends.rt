@@ -1,5 +1,5 @@
 ghost use Rattle.std.specs.Prelude.{◌≡◌, ◌↔◌, ◌≤◌, ◌<◌, ◌+◌, ℕ, true, Some, None, Ok, [], List, IsTrue, IsSome, IfOk, OnErr, MatchOption, length, not};
-ghost use Rattle.relay_outside.specs.Told.{Gains, HasCause, is_done};
+ghost use Rattle.relay_outside.specs.Told.{EndGains, HasCause, is_done, opened_for};
 ghost use Rattle.relay_outside.specs.Ports.{FitsTake, in_given};
 ghost use Rattle.relay_outside.specs.Failures.{next_count};
 ghost use Rattle.replay_devices.specs.Countdowns.{faults_after};
@@ -31,18 +31,18 @@ impl<'a> Model for ReplayIn<'a> {
 
     ghost Value = { InState };
 
-    ghost view = { λ end. record { told = end.told; steps = end.timetable.now; at = end.at; next = end.next; faults = end.faults } };
+    ghost view = { λ end. record { told = record { at = end.at; calls = end.told }; steps = end.timetable.now; next = end.next; faults = end.faults } };
 }
 
 impl<'a> ReplayIn<'a> {
-    /// An end that was not called yet, with the lines from an index on.
+    /// An end for an address that was not called yet, with the lines from an index on.
     pub(crate) fn new(
         alloc: Global,
         timetable: &'a Timetable<'a>,
         at: Addr,
         next: usize,
     ) -> ReplayIn<'a>
-        ensures { result ≡ record { told = Some []; steps = timetable.now; at = at; next = next; faults = 0 } }
+        ensures { result ≡ record { told = opened_for at; steps = timetable.now; next = next; faults = 0 } }
     {
         ReplayIn {
             alloc,
@@ -56,14 +56,14 @@ impl<'a> ReplayIn<'a> {
 
     /// Whether the end still tells its list.
     pub fn tells(&self) -> bool
-        ensures { IsTrue result ↔ IsSome self.now.told }
+        ensures { IsTrue result ↔ IsSome self.now.told.calls }
     {
         self.told.tells()
     }
 
-    /// What the end told.
+    /// What the end told of its calls.
     pub(crate) fn into_list(self) -> CallList<InCall>
-        ensures { result ≡ self.entry.told }
+        ensures { result ≡ self.entry.told.calls }
     {
         let ReplayIn { told, .. } = self;
         told
@@ -72,7 +72,7 @@ impl<'a> ReplayIn<'a> {
 
 impl<'a> InEnd for ReplayIn<'a> {
     ghost use Rattle.std.specs.Prelude.{◌≡◌, ◌<◌, OnErr, length};
-    ghost use Rattle.relay_outside.specs.Told.{Gains, HasCause, is_done};
+    ghost use Rattle.relay_outside.specs.Told.{EndGains, HasCause, is_done};
     ghost use Rattle.relay_outside.specs.Ports.{FitsTake, in_given};
     ghost use Rattle.replay_devices.specs.Countdowns.{faults_after};
     ghost use Rattle.replay_devices.specs.Ports.{Takes};
@@ -84,7 +84,7 @@ impl<'a> InEnd for ReplayIn<'a> {
     fn take(&mut self, buf: &mut [u8]) -> Result<Option<(Addr, usize)>, Failed>
         requires { 0 < length buf.old }
         ensures within { FitsTake result (length buf.old) }
-        ensures told { Gains self.old.told self.new.told (InCall.Take (length buf.old) (in_given result buf.new)) }
+        ensures told { EndGains self.old.told self.new.told (InCall.Take (length buf.old) (in_given result buf.new)) }
         ensures cause { HasCause self.old.faults self.new.faults result }
         ensures counted { self.new.faults ≡ faults_after (is_done result) self.old.faults }
         ensures takes { Takes self.old self.new result buf.new }
@@ -162,7 +162,7 @@ pub struct ReplayOut<'a> {
     alloc: Global,
     told: CallList<OutCall>,
     window: &'a [Step],
-    port: u16,
+    at: Addr,
     sends: u64,
     /// The number of the next send that fails.
     failing: Option<u32>,
@@ -174,37 +174,37 @@ impl<'a> Model for ReplayOut<'a> {
 
     ghost Value = { OutState };
 
-    ghost view = { λ end. record { told = end.told; window = end.window.now; port = end.port; sends = end.sends; faults = end.faults } };
+    ghost view = { λ end. record { told = record { at = end.at; calls = end.told }; window = end.window.now; sends = end.sends; faults = end.faults } };
 
-    ghost invariant = { λ end. IsNextFailing end.port end.sends end.window.now end.failing };
+    ghost invariant = { λ end. IsNextFailing end.at.port end.sends end.window.now end.failing };
 }
 
 impl<'a> ReplayOut<'a> {
-    /// An end that was not called yet, at the port of this number, whose sends fail by these lines.
-    pub(crate) fn new(alloc: Global, window: &'a [Step], port: u16) -> ReplayOut<'a>
-        ensures { result ≡ record { told = Some []; window = window.now; port = port; sends = 0; faults = 0 } }
+    /// An end for an address that was not called yet, whose sends fail by these lines.
+    pub(crate) fn new(alloc: Global, window: &'a [Step], at: Addr) -> ReplayOut<'a>
+        ensures { result ≡ record { told = opened_for at; window = window.now; sends = 0; faults = 0 } }
     {
         ReplayOut {
             alloc,
             told: CallList::new(alloc),
             window,
-            port,
+            at,
             sends: 0,
-            failing: next_failing(window, port, 0),
+            failing: next_failing(window, at.port, 0),
             faults: 0,
         }
     }
 
     /// Whether the end still tells its list.
     pub fn tells(&self) -> bool
-        ensures { IsTrue result ↔ IsSome self.now.told }
+        ensures { IsTrue result ↔ IsSome self.now.told.calls }
     {
         self.told.tells()
     }
 
-    /// What the end told.
+    /// What the end told of its calls.
     pub(crate) fn into_list(self) -> CallList<OutCall>
-        ensures { result ≡ self.entry.told }
+        ensures { result ≡ self.entry.told.calls }
     {
         let ReplayOut { told, .. } = self;
         told
@@ -213,7 +213,7 @@ impl<'a> ReplayOut<'a> {
 
 impl<'a> OutEnd for ReplayOut<'a> {
     ghost use Rattle.std.specs.Prelude.{◌≡◌, not};
-    ghost use Rattle.relay_outside.specs.Told.{Gains, HasCause, is_done};
+    ghost use Rattle.relay_outside.specs.Told.{EndGains, HasCause, is_done};
     ghost use Rattle.relay_outside.specs.Failures.{next_count};
     ghost use Rattle.replay_devices.specs.Countdowns.{faults_after};
     ghost use Rattle.replay_devices.specs.Ports.{send_fails};
@@ -223,7 +223,7 @@ impl<'a> OutEnd for ReplayOut<'a> {
     ghost faults = { λ end. end.faults };
 
     fn send(&mut self, to: Addr, bytes: &[u8]) -> Result<(), Failed>
-        ensures told { Gains self.old.told self.new.told (OutCall.Send to bytes.now (is_done result)) }
+        ensures told { EndGains self.old.told self.new.told (OutCall.Send to bytes.now (is_done result)) }
         ensures cause { HasCause self.old.faults self.new.faults result }
         ensures counted { self.new.faults ≡ faults_after (is_done result) self.old.faults }
         ensures fails { send_fails self.old ≡ not (is_done result) }
@@ -233,7 +233,7 @@ impl<'a> OutEnd for ReplayOut<'a> {
         let fails = is_number(self.failing, number);
         self.sends = number;
         if fails {
-            self.failing = next_failing(self.window, self.port, number);
+            self.failing = next_failing(self.window, self.at.port, number);
         }
         let call = departure_call(self.alloc, to, bytes, !fails);
         self.told.note(call);

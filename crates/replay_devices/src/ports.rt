@@ -1,5 +1,5 @@
 ghost use Rattle.std.specs.Prelude.{◌≡◌, ◌↔◌, ◌≤◌, ◌<◌, ◌+◌, ℕ, Some, None, [], IsTrue, IsSome, IfOk, IfSome, MatchOption, MatchResult, length, min, not, replicate, slice_get, slice_set};
-ghost use Rattle.relay_outside.specs.Told.{Gains, HasCause, StartsEmpty, WhereTold, is_done};
+ghost use Rattle.relay_outside.specs.Told.{Gains, HasCause, IsOpenedFor, WhereTold, is_done};
 ghost use Rattle.relay_outside.specs.Ports.{IsOpen};
 ghost use Rattle.relay_script.specs.declared.step.FailKind.TheVariants as kind;
 ghost use Rattle.replay_devices.specs.Countdowns.{next_fails, counted, faults_after};
@@ -101,8 +101,8 @@ impl<'a> ReplayPorts<'a> {
 
 /// The record of a closing; `None` where an end tells nothing any more.
 fn close_call<'a>(at: Addr, receiving: ReplayIn<'a>, sending: ReplayOut<'a>) -> Option<PortCall>
-    ensures call { IfSome result (λ call. call ≡ PortCall.Close at receiving.entry.told sending.entry.told) }
-    ensures told { IsSome result → IsSome receiving.entry.told × IsSome sending.entry.told }
+    ensures call { IfSome result (λ call. call ≡ PortCall.Close at receiving.entry.told.calls sending.entry.told.calls) }
+    ensures told { IsSome result → IsSome receiving.entry.told.calls × IsSome sending.entry.told.calls }
 {
     if !receiving.tells() || !sending.tells() {
         return None;
@@ -118,7 +118,7 @@ impl<'a> PortMaker for ReplayPorts<'a> {
     type Out = ReplayOut<'a>;
 
     ghost use Rattle.std.specs.Prelude.{◌≡◌, ◌≤◌, ◌+◌, IsSome, IfOk, MatchResult, not, slice_set};
-    ghost use Rattle.relay_outside.specs.Told.{Gains, HasCause, StartsEmpty, WhereTold, is_done};
+    ghost use Rattle.relay_outside.specs.Told.{Gains, HasCause, IsOpenedFor, WhereTold, is_done};
     ghost use Rattle.relay_outside.specs.Ports.{IsOpen};
     ghost use Rattle.replay_devices.specs.Countdowns.{next_fails, counted, faults_after};
     ghost use Rattle.replay_devices.specs.Ports.{Opens};
@@ -130,8 +130,8 @@ impl<'a> PortMaker for ReplayPorts<'a> {
     fn open(&mut self, at: Addr) -> Result<(ReplayIn<'a>, ReplayOut<'a>), Failed>
         requires { WhereTold self.old.told (λ calls. IsOpen calls at → ⊥) }
         ensures told { Gains self.old.told self.new.told (PortCall.Open at (is_done result)) }
-        ensures receiving { IfOk result (λ ends. StartsEmpty ends.0.told) }
-        ensures sending { IfOk result (λ ends. StartsEmpty ends.1.told) }
+        ensures receiving { IfOk result (λ ends. IsOpenedFor at ends.0.told) }
+        ensures sending { IfOk result (λ ends. IsOpenedFor at ends.1.told) }
         ensures cause { HasCause self.old.faults self.new.faults result }
         ensures counted { self.new.faults ≡ faults_after (is_done result) self.old.faults }
         ensures fails { next_fails self.old.opens.list ≡ not (is_done result) }
@@ -153,14 +153,15 @@ impl<'a> PortMaker for ReplayPorts<'a> {
         self.since[port] = from;
         self.told.note(Some(PortCall::Open { at, done: true }));
         let receiving = ReplayIn::new(self.alloc, self.timetable, at, from);
-        let sending = ReplayOut::new(self.alloc, window, at.port);
+        let sending = ReplayOut::new(self.alloc, window, at);
         Ok((receiving, sending))
     }
 
     fn close(&mut self, at: Addr, receiving: ReplayIn<'a>, sending: ReplayOut<'a>)
-        requires { WhereTold self.old.told (λ calls. IsOpen calls at) }
-        ensures told { Gains self.old.told self.new.told (PortCall.Close at receiving.entry.told sending.entry.told) }
-        ensures stops { IsSome self.new.told → IsSome receiving.entry.told × IsSome sending.entry.told }
+        requires open { WhereTold self.old.told (λ calls. IsOpen calls at) }
+        requires ends { (receiving.told.at ≡ at) × (sending.told.at ≡ at) }
+        ensures told { Gains self.old.told self.new.told (PortCall.Close at receiving.entry.told.calls sending.entry.told.calls) }
+        ensures stops { IsSome self.new.told → IsSome receiving.entry.told.calls × IsSome sending.entry.told.calls }
         ensures later { self.old.faults ≤ self.new.faults }
         ensures left { self.new ≡ record self.old { told = self.new.told } }
     {

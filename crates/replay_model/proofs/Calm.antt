@@ -7,7 +7,7 @@ use Rattle.relay_outside.specs.declared.address.Addr.{Addr}
 use Rattle.ng_command.specs.Said.{Said, Ping, Offer, Answer, Delete, Query, Listing}
 use Rattle.ng_reply.specs.declared.code.ErrorCode.{ErrorCode}
 use Rattle.ng_reply.specs.declared.code.ErrorCode.TheVariants.{E9, E10, E13, E14, E17}
-use Rattle.port_pool.specs.Reports.{LegReport}
+use Rattle.port_pool.specs.declared.reports.LegReport.{LegReport}
 use Rattle.offer_answer.specs.Rounds.{Round, OfferAsk, AnswerAsk, Demand}
 use Rattle.offer_answer.specs.Plan as plan
 use Rattle.call_board.specs.Acts as act
@@ -30,30 +30,30 @@ abbrev pub unless_starved : Config → (cookie : List ℕ) → Bool → Answerin
 unless_starved config cookie starved a = cond starved (record { bytes = reply_datagram config cookie (Fault E17); act = act.Starved }) (spelled config cookie a)
 
 -- the act is no want of memory, and a call that it asks after is read as it is
-abbrev pub IsCalm : List Entry → Act → Option (List LegReport) → Type 0
-IsCalm l act.Starved report = ⊥
-IsCalm l (act.Queried of) report = report ≡ Some (reports_now l of)
-IsCalm l _ report = Unit {0}
+abbrev pub IsCalm : Config → List Entry → Act → Option (List LegReport) → Type 0
+IsCalm config l act.Starved report = ⊥
+IsCalm config l (act.Queried of) report = report ≡ Some (reports_now config l of)
+IsCalm config l _ report = Unit {0}
 
 -- what the devices give for an offer, or for whatever else is answered so
-abbrev given_of : (ℕ → List ℕ) → List Entry → List Happening → Demand → (Given → Answering) → Given
-given_of stream l past demand answer = (outside_of stream l past (length demand.keys) (answer nothing_given).act).given
+abbrev given_of : Config → (ℕ → List ℕ) → List Entry → List Happening → Demand → (Given → Answering) → Given
+given_of config stream l past demand answer = (outside_of config stream l past (length demand.keys) (answer nothing_given).act).given
 
 abbrev Calms : Config → (cookie : List ℕ) → (ℕ → List ℕ) → List Entry → List Happening → Demand → (Given → Answering) → Type 0
 Calms config cookie stream l past demand answer =
-    IsCalm l
-    (unless_starved config cookie (given_of stream l past demand answer).starved (answer (given_of stream l past demand answer))).act
-    (given_of stream l past demand answer).report
+    IsCalm config l
+    (unless_starved config cookie (given_of config stream l past demand answer).starved (answer (given_of config stream l past demand answer))).act
+    (given_of config stream l past demand answer).report
 
 leased_calm : (config : Config) (cookie : List ℕ) (l : List Entry) (h : List BoardEntry) (given : Given) (ask : OfferAsk) (of : Call) (begins : Bool) (before : List Round) (pairs : List ℕ) (report : Option (List LegReport))
-    → (failed drew : Bool) → IsCalm l (spelled config cookie (leased_case config h given ask of begins before pairs failed drew)).act report
+    → (failed drew : Bool) → IsCalm config l (spelled config cookie (leased_case config h given ask of begins before pairs failed drew)).act report
 leased_calm config cookie l h given ask of begins before pairs report true drew = tt
 leased_calm config cookie l h given ask of begins before pairs report false true = tt
 leased_calm config cookie l h given ask of begins before pairs report false false = tt
 
 opened_calm : (config : Config) (cookie : List ℕ) (stream : ℕ → List ℕ) (l : List Entry) (h : List BoardEntry) (ask : OfferAsk) (of : Call) (begins : Bool) (before : List Round) (pairs : List ℕ)
     → (o : Opens) (keys : ℕ) → (failed : Bool)
-    → IsCalm l
+    → IsCalm config l
     (unless_starved config cookie
     (cond failed (record { given = record { starved = false; opens = o.answers; draws = []; draw_failed = false; report = None }; past = o.past })
     (with_draws o.answers (draws stream o.past keys))).given.starved
@@ -143,14 +143,14 @@ asked_calm config stream l past h source cookie body heard (Ok (Listing limit)) 
 
 kept_calm : (config : Config) (stream : ℕ → List ℕ) (l : List Entry) (past : List Happening) (h : List BoardEntry) (source : Addr) (cookie body : List ℕ) (heard : Heard)
     → (o : Option (List ℕ))
-    → IsCalm l
-    (answering_unless config h (asking source cookie body heard (outside_of stream l past (length (demanded config h (asking source cookie body heard nothing_given)).keys) (answering_unless config h (asking source cookie body heard nothing_given) o).act).given) o).act
-    (outside_of stream l past (length (demanded config h (asking source cookie body heard nothing_given)).keys) (answering_unless config h (asking source cookie body heard nothing_given) o).act).given.report
+    → IsCalm config l
+    (answering_unless config h (asking source cookie body heard (outside_of config stream l past (length (demanded config h (asking source cookie body heard nothing_given)).keys) (answering_unless config h (asking source cookie body heard nothing_given) o).act).given) o).act
+    (outside_of config stream l past (length (demanded config h (asking source cookie body heard nothing_given)).keys) (answering_unless config h (asking source cookie body heard nothing_given) o).act).given.report
 kept_calm config stream l past h source cookie body heard (Some bytes) = tt
 kept_calm config stream l past h source cookie body heard None =
     asked_calm config stream l past h source cookie body heard (asked config (asking source cookie body heard nothing_given).too_long heard.pairs)
 
 pub turn_calm : (config : Config) (stream : ℕ → List ℕ) (l : List Entry) (past : List Happening) (moment : ℕ) (source : Addr) (cookie body : List ℕ) (heard : Heard)
-    → IsCalm l (turned config stream l past moment source cookie body heard).act (turned config stream l past moment source cookie body heard).given.report
+    → IsCalm config l (turned config stream l past moment source cookie body heard).act (turned config stream l past moment source cookie body heard).given.report
 turn_calm config stream l past moment source cookie body heard =
     kept_calm config stream l past (board_now l) source cookie body heard (kept (board_now l) source cookie moment)

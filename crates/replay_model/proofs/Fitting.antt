@@ -34,9 +34,9 @@ use Rattle.replay_model.proofs.Calm.{unless_starved, IsCalm, turn_calm}
 -- What is answered by what is given in this way fits what the devices give for it.
 abbrev Goes : Config → (cookie : List ℕ) → (ℕ → List ℕ) → List Entry → List Happening → Demand → (Given → Answering) → Type 0
 Goes config cookie stream l past demand answer =
-    GivesFor demand (outside_of stream l past (length demand.keys) (answer nothing_given).act).given
-    (unless_starved config cookie (outside_of stream l past (length demand.keys) (answer nothing_given).act).given.starved
-    (answer (outside_of stream l past (length demand.keys) (answer nothing_given).act).given)).act
+    GivesFor demand (outside_of config stream l past (length demand.keys) (answer nothing_given).act).given
+    (unless_starved config cookie (outside_of config stream l past (length demand.keys) (answer nothing_given).act).given.starved
+    (answer (outside_of config stream l past (length demand.keys) (answer nothing_given).act).given)).act
 
 -- Offers.
 
@@ -196,12 +196,12 @@ same_answer config h source cookie body heard g x y None =
 kept_goes : (config : Config) (stream : ℕ → List ℕ) (l : List Entry) (past : List Happening) (h : List BoardEntry) (source : Addr) (cookie body : List ℕ) (heard : Heard)
     → (d : Demand) → d ≡ demanded_by h (asking source cookie body heard nothing_given) (asked config (asking source cookie body heard nothing_given).too_long heard.pairs)
     → (o : Option (List ℕ))
-    → GivesFor d (outside_of stream l past (length d.keys) (answering_unless config h (asking source cookie body heard nothing_given) o).act).given
-    (answering_unless config h (asking source cookie body heard (outside_of stream l past (length d.keys) (answering_unless config h (asking source cookie body heard nothing_given) o).act).given) o).act
+    → GivesFor d (outside_of config stream l past (length d.keys) (answering_unless config h (asking source cookie body heard nothing_given) o).act).given
+    (answering_unless config h (asking source cookie body heard (outside_of config stream l past (length d.keys) (answering_unless config h (asking source cookie body heard nothing_given) o).act).given) o).act
 kept_goes config stream l past h source cookie body heard d is (Some bytes) = (record { no_opens = refl; no_draws = refl; none_failed = refl }, refl)
 kept_goes config stream l past h source cookie body heard d is None =
-    subst (λ e. GivesFor e (outside_of stream l past (length e.keys) (answering_unless config h (asking source cookie body heard nothing_given) None).act).given
-    (answering_unless config h (asking source cookie body heard (outside_of stream l past (length e.keys) (answering_unless config h (asking source cookie body heard nothing_given) None).act).given) None).act)
+    subst (λ e. GivesFor e (outside_of config stream l past (length e.keys) (answering_unless config h (asking source cookie body heard nothing_given) None).act).given
+    (answering_unless config h (asking source cookie body heard (outside_of config stream l past (length e.keys) (answering_unless config h (asking source cookie body heard nothing_given) None).act).given) None).act)
     (sym is)
     (asked_goes config stream l past h source cookie body heard (asked config (asking source cookie body heard nothing_given).too_long heard.pairs))
 
@@ -224,7 +224,7 @@ turn_fits config stream l past moment source bytes cookie body heard framed hear
       gives = subst (λ d. GivesFor d g x.act) (same_demand h source cookie body heard nothing_given g (record { bytes = []; act = act.Told }) x r)
           (kept_goes config stream l past h source cookie body heard (demanded config h nothing) refl o);
       reports = λ starves queries. absurd (
-          subst (λ a. IsCalm l a (turned config stream l past moment source cookie body heard).given.report) starves
+          subst (λ a. IsCalm config l a (turned config stream l past moment source cookie body heard).given.report) starves
           (turn_calm config stream l past moment source cookie body heard));
       answers = same_answer config h source cookie body heard g (record { bytes = []; act = act.Told }) x o;
     }

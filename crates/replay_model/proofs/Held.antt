@@ -56,17 +56,17 @@ with_case : (stream : ℕ → List ℕ) (keys : ℕ) (past : List Happening) (o 
 with_case stream keys past o idle true n = idle n
 with_case stream keys past o idle false n = draws_idle stream o.past keys n ∙ idle n
 
-pub outside_idle : (stream : ℕ → List ℕ) (l : List Entry) (past : List Happening) (keys : ℕ) (a : Act) → Idle past (outside_of stream l past keys a).past
-outside_idle stream l past keys (act.Offered o) n =
+pub outside_idle : (config : Config) (stream : ℕ → List ℕ) (l : List Entry) (past : List Happening) (keys : ℕ) (a : Act) → Idle past (outside_of config stream l past keys a).past
+outside_idle config stream l past keys (act.Offered o) n =
     with_case stream keys past (opens past (ends_of o.legs)) (opens_idle past (ends_of o.legs)) (list_any not (opens past (ends_of o.legs)).answers) n
-outside_idle stream l past keys (act.Queried of) n = refl
-outside_idle stream l past keys act.Repeated n = refl
-outside_idle stream l past keys act.Starved n = refl
-outside_idle stream l past keys (act.Failed code) n = refl
-outside_idle stream l past keys (act.Undone code leases keys_drawn) n = refl
-outside_idle stream l past keys (act.Answered a) n = refl
-outside_idle stream l past keys (act.Deleted of) n = refl
-outside_idle stream l past keys act.Told n = refl
+outside_idle config stream l past keys (act.Queried of) n = refl
+outside_idle config stream l past keys act.Repeated n = refl
+outside_idle config stream l past keys act.Starved n = refl
+outside_idle config stream l past keys (act.Failed code) n = refl
+outside_idle config stream l past keys (act.Undone code leases keys_drawn) n = refl
+outside_idle config stream l past keys (act.Answered a) n = refl
+outside_idle config stream l past keys (act.Deleted of) n = refl
+outside_idle config stream l past keys act.Told n = refl
 
 pub send_idle : (past : List Happening) (ok : Bool) (o : Option Sending) → Idle past (after_send past ok o)
 send_idle past ok None n = refl

@@ -84,7 +84,7 @@ framed_lawful config stream r w s source bytes heard idle (Some parts) framed he
       is_handed = refl;
     })
     (λ n. idle (Replied (not (fails step.Replying past)) ∷ past) n
-    ∙ outside_idle stream r.entries r.past (length (demanded config (board_now r.entries) (asking source parts.0 parts.1 heard nothing_given)).keys)
+    ∙ outside_idle config stream r.entries r.past (length (demanded config (board_now r.entries) (asking source parts.0 parts.1 heard nothing_given)).keys)
     (answered_with config r.entries (turn_moment r) (asking source parts.0 parts.1 heard nothing_given)).act n)
 
 control_lawful : (config : Config) (stream : ℕ → List ℕ) (r : Replay) → Lawful config r → (s : Step) (source : Addr) (bytes : List ℕ) (heard : Heard)

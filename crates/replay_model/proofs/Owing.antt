@@ -6,7 +6,7 @@ use Rattle.relay_outside.specs.declared.settings.Config.{Config}
 use Rattle.histories.specs.Words.{In, here, there}
 use Rattle.histories.proofs.Lists.{mapped}
 use Rattle.port_pool.specs.declared.holder.Holder.{Holder}
-use Rattle.port_pool.specs.Reports.{LegReport}
+use Rattle.port_pool.specs.declared.reports.LegReport.{LegReport}
 use Rattle.call_cell.specs.Cells.{Prepare, Commit}
 use Rattle.call_board.specs.Acts as act
 use Rattle.call_board.specs.Acts.{Call, Act, Given, Control, Turn, Tick, BoardEntry}
@@ -32,11 +32,11 @@ then_closings config h e c first fits w (there i) = closings_anywhere config h e
 openings_anywhere : (config : Config) (legs : List Holder) (w : Owed) → In w (map (opening config) legs) → FitsAnywhere w.event
 openings_anywhere config legs w i = let m = mapped (opening config) legs i in subst (λ (v : Owed). FitsAnywhere v.event) m.makes tt
 
-reading_fits : (config : Config) (l : List Entry) (board handed : ℕ) (of : Call) (report : Option (List LegReport)) → report ≡ Some (reports_now l of)
+reading_fits : (config : Config) (l : List Entry) (board handed : ℕ) (of : Call) (report : Option (List LegReport)) → report ≡ Some (reports_now config l of)
     → AllFit config l board handed (reading (Some of) report)
 reading_fits config l board handed of report is = subst (λ r. AllFit config l board handed (reading (Some of) r)) (sym is) (refl, tt)
 
-pub act_fits : (config : Config) (l : List Entry) (board handed : ℕ) (h : List BoardEntry) (e : BoardEntry) (c : Control) (a : Act) → IsCalm l a c.given.report
+pub act_fits : (config : Config) (l : List Entry) (board handed : ℕ) (h : List BoardEntry) (e : BoardEntry) (c : Control) (a : Act) → IsCalm config l a c.given.report
     → AllFit config l board handed (script_of_act config h e c a)
 act_fits config l board handed h e c act.Repeated calm = tt
 act_fits config l board handed h e c act.Starved calm = absurd calm

@@ -9,7 +9,7 @@ use Rattle.ng_bencode.specs.Tree.{Entries}
 use Rattle.sdes_lines.specs.declared.crypto_line.CryptoLine.{CryptoLine}
 use Rattle.histories.specs.Words.{greatest}
 use Rattle.port_pool.specs.declared.holder.Holder.{Holder}
-use Rattle.port_pool.specs.Reports.{LegReport}
+use Rattle.port_pool.specs.declared.reports.LegReport.{LegReport}
 use Rattle.call_cell.specs.Cells.{since_end}
 use Rattle.call_cell.specs.Asked.{is_due, reports}
 use Rattle.call_board.specs.Acts as act
@@ -129,18 +129,18 @@ ends_of [] = []
 ends_of (leg ∷ legs) = (leg.pair, Rtp) ∷ (leg.pair, Rtcp) ∷ ends_of legs
 
 -- the reports of a call's cell
-abbrev pub reports_now : List Entry → Call → List LegReport
-reports_now l of = reports (since_end (cell_history l of.cell (front l of.cell)))
+abbrev pub reports_now : Config → List Entry → Call → List LegReport
+reports_now config l of = reports config (since_end (cell_history l of.cell (front l of.cell)))
 
 -- What the outside gives to a turn that does this where nothing fails: an offer opens the ports of its new legs and draws its
 -- keys, a query reads its call
-abbrev pub outside_of : (ℕ → List ℕ) → List Entry → List Happening → (keys : ℕ) → Act → Outside
-outside_of stream l past keys (act.Offered offer) = with_opens stream keys (opens past (ends_of offer.legs))
-outside_of stream l past keys (act.Queried of) = record {
-  given = record { starved = false; opens = []; draws = []; draw_failed = false; report = Some (reports_now l of) };
+abbrev pub outside_of : Config → (ℕ → List ℕ) → List Entry → List Happening → (keys : ℕ) → Act → Outside
+outside_of config stream l past keys (act.Offered offer) = with_opens stream keys (opens past (ends_of offer.legs))
+outside_of config stream l past keys (act.Queried of) = record {
+  given = record { starved = false; opens = []; draws = []; draw_failed = false; report = Some (reports_now config l of) };
   past = past;
 }
-outside_of stream l past keys _ = record { given = nothing_given; past = past }
+outside_of config stream l past keys _ = record { given = nothing_given; past = past }
 
 -- what a datagram is answered and does with that from the outside
 abbrev pub answered_with : Config → List Entry → (moment : ℕ) → Control → Answered
@@ -149,7 +149,7 @@ answered_with config l moment c = answering_unless config (board_now l) c (kept 
 -- what the outside gives in the turn of a datagram
 abbrev pub outside : Config → (ℕ → List ℕ) → List Entry → List Happening → (moment : ℕ) → Control → Outside
 outside config stream l past moment c =
-    outside_of stream l past (length (demanded config (board_now l) c).keys) (answered_with config l moment c).act
+    outside_of config stream l past (length (demanded config (board_now l) c).keys) (answered_with config l moment c).act
 
 abbrev pub turn_given : Config → List Entry → (moment : ℕ) → Addr → (cookie body : List ℕ) → Heard → Given → Control
 turn_given config l moment source cookie body heard given =

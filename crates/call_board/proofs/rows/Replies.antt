@@ -12,7 +12,6 @@ use Rattle.call_board.specs.Acts as act
 use Rattle.call_board.specs.Acts.{Act, Control, BoardEntry}
 use Rattle.call_board.specs.Asked.{asked}
 use Rattle.call_board.specs.Reports.{report_tree, listing_tree}
-use Rattle.call_board.specs.Answers.{spelled, answering_command}
 use Rattle.call_board.specs.Fits.{FitsControl, is_read, is_heard, asks_after}
 use Rattle.call_board.proofs.rows.Histories.{config, from_port, given, options, c1, c2, begins}
 use Rattle.call_board.proofs.rows.Turns.{turns, at, ping, ping_fits, offered, offered_fits}
@@ -68,22 +67,15 @@ call_id_is_missing = record {
   answers = refl;
 }
 
--- A list and a query, which are read and not answered yet.
-
-abbrev list : Control
-list = plain (codes "3") (codes "d7:command4:liste") (pair (codes "command") (codes "list") no_entries)
-    (codes "3 d12:error-reason20:unrecognized command6:result5:errore") (act.Failed E3)
+-- A list and a query.
 
 list_is_read : command_told (pair (codes "command") (codes "list") no_entries) ≡ Ok (Listing 32)
 list_is_read = refl
 
-listed : spelled config (codes "3") (answering_command config one_call list (Listing 32)) ≡ record { bytes = codes "3 d5:callsl2:c1e6:result2:oke"; act = act.Told }
+listed : FitsControl config one_call 0 (plain (codes "3") (codes "d7:command4:liste") (pair (codes "command") (codes "list") no_entries)
+    (codes "3 d5:callsl2:c1e6:result2:oke") act.Told)
 unfolding replies
-listed = refl
-
-list_is_not_built : FitsControl config one_call 0 list
-unfolding replies
-list_is_not_built = record {
+listed = record {
   framed = refl;
   length_is = refl;
   reads = λ read. record { ints = (tt, tt); deep = omega arith; spelled = refl };
@@ -94,20 +86,15 @@ list_is_not_built = record {
 }
 
 abbrev query : Control
-query = plain (codes "4") (codes "d7:call-id2:c17:command5:querye") (pair (codes "call-id") (codes "c1") (pair (codes "command") (codes "query") no_entries))
-    (codes "4 d12:error-reason20:unrecognized command6:result5:errore") (act.Failed E3)
+query = record (plain (codes "4") (codes "d7:call-id2:c17:command5:querye") (pair (codes "call-id") (codes "c1") (pair (codes "command") (codes "query") no_entries))
+    (codes "4 d7:createdi0e11:last signali0e6:result2:ok4:tagsd1:ad6:mediasleeee") (act.Queried c1)) { given = record given { report = Some [] } }
 
 query_is_read : command_told (pair (codes "call-id") (codes "c1") (pair (codes "command") (codes "query") no_entries)) ≡ Ok (Query (codes "c1"))
 query_is_read = refl
 
-queried : spelled config (codes "4") (answering_command config one_call (record query { given = record given { report = Some [] } }) (Query (codes "c1")))
-    ≡ record { bytes = codes "4 d7:createdi0e11:last signali0e6:result2:ok4:tagsd1:ad6:mediasleeee"; act = act.Queried c1 }
+queried : FitsControl config one_call 0 query
 unfolding replies
-queried = refl
-
-query_is_not_built : FitsControl config one_call 0 query
-unfolding replies
-query_is_not_built = record {
+queried = record {
   framed = refl;
   length_is = refl;
   reads = λ read. record { ints = (tt, (tt, tt)); deep = omega arith; spelled = refl };
@@ -117,7 +104,21 @@ query_is_not_built = record {
   answers = refl;
 }
 
--- a query that is short of memory may have read its call, and no other; so none is read that is not answered yet
+-- a query of a call that is not live reads none
+query_of_none : FitsControl config [] 0 (plain (codes "4") (codes "d7:call-id2:c17:command5:querye") (pair (codes "call-id") (codes "c1") (pair (codes "command") (codes "query") no_entries))
+    (codes "4 d12:error-reason15:unknown call-id6:result5:errore") (act.Failed E9))
+unfolding replies
+query_of_none = record {
+  framed = refl;
+  length_is = refl;
+  reads = λ read. record { ints = (tt, (tt, tt)); deep = omega arith; spelled = refl };
+  hears = λ heard. absurd (let e : false ≡ true = heard in cc);
+  gives = (record { no_opens = refl; no_draws = refl; none_failed = refl }, refl);
+  reports = λ starves. absurd (let e = starves in cc);
+  answers = refl;
+}
+
+-- a query that is short of memory may have read its call, and no other
 
 reads_its_call : asks_after one_call (Ok (Query (codes "c1"))) ≡ true
 unfolding replies
@@ -133,9 +134,21 @@ starved_query = record query {
   act = act.Starved;
 }
 
-starved_query_reads_none : FitsControl config one_call 0 starved_query → ⊥
+starved_query_reads : FitsControl config one_call 0 starved_query
 unfolding replies
-starved_query_reads_none fits = let e = fits.reports refl refl in cc
+starved_query_reads = record {
+  framed = refl;
+  length_is = refl;
+  reads = λ read. record { ints = (tt, (tt, tt)); deep = omega arith; spelled = refl };
+  hears = λ heard. absurd (let e : false ≡ true = heard in cc);
+  gives = record { no_opens = refl; no_draws = refl; none_failed = refl };
+  reports = λ starves strange. absurd (let e : true ≡ false = strange in cc);
+  answers = refl;
+}
+
+starved_query_of_none : FitsControl config [] 0 starved_query → ⊥
+unfolding replies
+starved_query_of_none fits = let e = fits.reports refl refl in cc
 
 -- a delete of an unknown call-id warns and changes nothing
 unknown_is_warned : FitsControl config one_call 0 (plain (codes "9") (codes "d7:call-id1:z7:command6:deletee") (pair (codes "call-id") (codes "z") (pair (codes "command") (codes "delete") no_entries))

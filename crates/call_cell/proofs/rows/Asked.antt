@@ -3,9 +3,12 @@ use Rattle.std.proofs.Common.{◌≡◌, ℕ, Bool, List, [], ◌∷◌, map, fa
 use Rattle.relay_outside.specs.declared.address.Addr.{Addr}
 use Rattle.rtp_packet.specs.declared.head.Half.TheVariants.{Rtp}
 use Rattle.rtp_packet.specs.Head.{rtp_head, rtcp_ssrc}
+use Rattle.port_pool.specs.Ports.{pair_port}
 use Rattle.port_pool.specs.declared.holder.Holder.{Holder}
+use Rattle.port_pool.specs.declared.holder.Side.{Side}
+use Rattle.port_pool.specs.declared.holder.Side.TheVariants.{A, B}
 use Rattle.port_pool.specs.declared.signal.SectionSignal.TheVariants as section
-use Rattle.port_pool.specs.Reports.{LegReport}
+use Rattle.port_pool.specs.declared.reports.LegReport.{LegReport}
 use Rattle.call_cell.specs.declared.outcome.Refused.TheVariants as refused
 use Rattle.call_cell.specs.Cells.{CellEntry, Relayed, Prepare, Commit, Expire, Read, End, since_end}
 use Rattle.call_cell.specs.Deeds.{deed, refused_deed}
@@ -92,38 +95,46 @@ empty_is_never_due = refl
 -- Reports.
 
 abbrev report : Holder → Addr → ℕ → ℕ → ℕ → ℕ → LegReport
-report leg at rtp_in rtp_out rtcp_in rtcp_out =
-    record { leg = leg; endpoint = at; rtp_accepted = rtp_in; rtp_sent = rtp_out; rtcp_accepted = rtcp_in; rtcp_sent = rtcp_out }
+report leg at rtp_in rtp_out rtcp_in rtcp_out = record {
+  section = leg.section;
+  side = leg.side;
+  port = pair_port config leg.pair;
+  endpoint = at;
+  rtp_accepted = rtp_in;
+  rtp_sent = rtp_out;
+  rtcp_accepted = rtcp_in;
+  rtcp_sent = rtcp_out;
+}
 
-unanswered_has_none : reports (steps [] (now prepared ∷ [])) ≡ []
+unanswered_has_none : reports config (steps [] (now prepared ∷ [])) ≡ []
 unfolding reports
 unanswered_has_none = refl
 
-unused_report : reports (answered side_a side_b) ≡ report leg_a at_a 0 0 0 0 ∷ report leg_b at_b 0 0 0 0 ∷ []
+unused_report : reports config (answered side_a side_b) ≡ report leg_a at_a 0 0 0 0 ∷ report leg_b at_b 0 0 0 0 ∷ []
 unfolding reports
 unused_report = refl
 
 -- side A sends two RTP packets, one of which fails, and one RTCP packet; side B one RTP packet and a malformed one
-used_report : reports (steps (answered side_a side_b) (packet (from_a first_place 1) ∷ fails (from_a first_place 2) ∷ packet (control_a second_place) ∷ packet (from_b at_b 1) ∷ packet (received leg_b Rtp at_b []) ∷ [])) ≡ report leg_a first_place 2 1 1 0 ∷ report leg_b at_b 1 1 0 1 ∷ []
+used_report : reports config (steps (answered side_a side_b) (packet (from_a first_place 1) ∷ fails (from_a first_place 2) ∷ packet (control_a second_place) ∷ packet (from_b at_b 1) ∷ packet (received leg_b Rtp at_b []) ∷ [])) ≡ report leg_a first_place 2 1 1 0 ∷ report leg_b at_b 1 1 0 1 ∷ []
 unfolding reports deed rtp_head rtcp_ssrc
 used_report = refl
 
 -- what is held back is accepted and not sent
-held_report : reports (steps (answered side_a (held side_b)) (packet (from_a at_a 1) ∷ [])) ≡ report leg_a at_a 1 0 0 0 ∷ report leg_b at_b 0 0 0 0 ∷ []
+held_report : reports config (steps (answered side_a (held side_b)) (packet (from_a at_a 1) ∷ [])) ≡ report leg_a at_a 1 0 0 0 ∷ report leg_b at_b 0 0 0 0 ∷ []
 unfolding reports deed rtp_head
 held_report = refl
 
 -- a new answer keeps the counts; a rejected section has no report
-answered_again_report : reports (steps (answered side_a side_b) (packet (from_a at_a 1) ∷ now (committed (plain third_place no_flags) side_b) ∷ [])) ≡ report leg_a third_place 1 0 0 0 ∷ report leg_b at_b 0 1 0 0 ∷ []
+answered_again_report : reports config (steps (answered side_a side_b) (packet (from_a at_a 1) ∷ now (committed (plain third_place no_flags) side_b) ∷ [])) ≡ report leg_a third_place 1 0 0 0 ∷ report leg_b at_b 0 1 0 0 ∷ []
 unfolding reports deed rtp_head
 answered_again_report = refl
 
-rejected_has_none : reports (steps (answered side_a side_b) (packet (from_a at_a 1) ∷ now rejected ∷ [])) ≡ []
+rejected_has_none : reports config (steps (answered side_a side_b) (packet (from_a at_a 1) ∷ now rejected ∷ [])) ≡ []
 unfolding reports deed rtp_head
 rejected_has_none = refl
 
 -- a later lease of the pair begins at 0
-later_lease_report : reports (steps (answered side_a side_b) (packet (from_a at_a 1) ∷ now rejected ∷ now (Prepare 0 (record leg_b { generation = 2 } ∷ record leg_a { generation = 2 } ∷ []) [] []) ∷ now (committed side_a side_b) ∷ [])) ≡ report (record leg_a { generation = 2 }) at_a 0 0 0 0 ∷ report (record leg_b { generation = 2 }) at_b 0 0 0 0 ∷ []
+later_lease_report : reports config (steps (answered side_a side_b) (packet (from_a at_a 1) ∷ now rejected ∷ now (Prepare 0 (record leg_b { generation = 2 } ∷ record leg_a { generation = 2 } ∷ []) [] []) ∷ now (committed side_a side_b) ∷ [])) ≡ report (record leg_a { generation = 2 }) at_a 0 0 0 0 ∷ report (record leg_b { generation = 2 }) at_b 0 0 0 0 ∷ []
 unfolding reports deed rtp_head
 later_lease_report = refl
 
@@ -137,7 +148,7 @@ second_b = record leg_b { section = 1; pair = 2 }
 abbrev two_sections : List CellEntry
 two_sections = steps [] (now (Prepare 0 (second_b ∷ second_a ∷ []) [] []) ∷ now (Prepare 0 (leg_b ∷ leg_a ∷ []) [] []) ∷ now (Commit (section.Commit side_a side_b ∷ section.Commit side_a side_b ∷ [])) ∷ [])
 
-sections_in_order : map (λ told. told.leg) (reports two_sections) ≡ leg_a ∷ leg_b ∷ second_a ∷ second_b ∷ []
+sections_in_order : map {B = ℕ × Side × ℕ} (λ told. (told.section, told.side, told.port)) (reports config two_sections) ≡ (0, A, 30002) ∷ (0, B, 30000) ∷ (1, A, 30006) ∷ (1, B, 30004) ∷ []
 unfolding reports
 sections_in_order = refl
 

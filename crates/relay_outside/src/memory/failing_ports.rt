@@ -1,5 +1,5 @@
 ghost use Rattle.std.specs.Prelude.{◌≡◌, ◌↔◌, ◌≤◌, ◌<◌, Some, None, [], not, IsTrue, IsSome, IfOk, MatchOption, MatchResult, position, length};
-ghost use Rattle.relay_outside.specs.Told.{Gains, HasCause, StartsEmpty, WhereTold, is_done};
+ghost use Rattle.relay_outside.specs.Told.{Gains, EndGains, HasCause, IsOpenedFor, WhereTold, is_done};
 ghost use Rattle.relay_outside.specs.Ports.{FitsTake, in_given, same_addr, IsOpen};
 ghost use Rattle.relay_outside.specs.PortTape.{GivesPacket, in_from, out_from, nothing_at, returned, MovesOut, MovesBack};
 ghost use Rattle.relay_outside.specs.Failures.{uncalled, next_fails, after_call};
@@ -35,14 +35,14 @@ impl Model for MemoryIn {
 impl MemoryIn {
     /// Whether the end still tells its list.
     pub fn tells(&self) -> bool
-        ensures { IsTrue result ↔ IsSome self.now.told }
+        ensures { IsTrue result ↔ IsSome self.now.told.calls }
     {
         self.end.tells()
     }
 
     /// What the end told, and the end with a new list in its place.
     fn without_list(self, alloc: Global) -> (CallList<InCall>, MemoryIn)
-        ensures list { result.0 ≡ self.told }
+        ensures list { result.0 ≡ self.told.calls }
         ensures packets { result.1.packets ≡ self.packets }
         ensures failures { result.1.failures ≡ self.failures }
     {
@@ -54,7 +54,7 @@ impl MemoryIn {
 
 impl InEnd for MemoryIn {
     ghost use Rattle.std.specs.Prelude.{◌≡◌, ◌<◌, MatchResult, length, not};
-    ghost use Rattle.relay_outside.specs.Told.{Gains, HasCause, is_done};
+    ghost use Rattle.relay_outside.specs.Told.{EndGains, HasCause, is_done};
     ghost use Rattle.relay_outside.specs.Ports.{FitsTake, in_given};
     ghost use Rattle.relay_outside.specs.PortTape.{GivesPacket};
     ghost use Rattle.relay_outside.specs.Failures.{next_fails, after_call};
@@ -66,7 +66,7 @@ impl InEnd for MemoryIn {
     fn take(&mut self, buf: &mut [u8]) -> Result<Option<(Addr, usize)>, Failed>
         requires { 0 < length buf.old }
         ensures within { FitsTake result (length buf.old) }
-        ensures told { Gains self.old.told self.new.told (InCall.Take (length buf.old) (in_given result buf.new)) }
+        ensures told { EndGains self.old.told self.new.told (InCall.Take (length buf.old) (in_given result buf.new)) }
         ensures cause { HasCause self.old.failures.faults self.new.failures.faults result }
         ensures fails { next_fails self.old.failures ≡ not (is_done result) }
         ensures counted { self.new.failures ≡ after_call self.old.failures }
@@ -99,26 +99,27 @@ impl Model for MemoryOut {
 impl MemoryOut {
     /// Whether the end still tells its list.
     pub fn tells(&self) -> bool
-        ensures { IsTrue result ↔ IsSome self.now.told }
+        ensures { IsTrue result ↔ IsSome self.now.told.calls }
     {
         self.end.tells()
     }
 
     /// What the end told, and the end with a new list in its place.
     fn without_list(self, alloc: Global) -> (CallList<OutCall>, MemoryOut)
-        ensures list { result.0 ≡ self.told }
+        ensures list { result.0 ≡ self.told.calls }
         ensures failures { result.1.failures ≡ self.failures }
     {
         let MemoryOut { end, failing } = self;
+        let at = end.address();
         let told = end.into_list();
-        let end = SteadyOut::new(alloc);
+        let end = SteadyOut::new(alloc, at);
         (told, MemoryOut { end, failing })
     }
 }
 
 impl OutEnd for MemoryOut {
     ghost use Rattle.std.specs.Prelude.{◌≡◌, not};
-    ghost use Rattle.relay_outside.specs.Told.{Gains, HasCause, is_done};
+    ghost use Rattle.relay_outside.specs.Told.{EndGains, HasCause, is_done};
     ghost use Rattle.relay_outside.specs.Failures.{next_fails, after_call};
 
     ghost told = { λ end. end.told };
@@ -126,7 +127,7 @@ impl OutEnd for MemoryOut {
     ghost faults = { λ end. end.failures.faults };
 
     fn send(&mut self, to: Addr, bytes: &[u8]) -> Result<(), Failed>
-        ensures told { Gains self.old.told self.new.told (OutCall.Send to bytes.now (is_done result)) }
+        ensures told { EndGains self.old.told self.new.told (OutCall.Send to bytes.now (is_done result)) }
         ensures cause { HasCause self.old.failures.faults self.new.failures.faults result }
         ensures fails { next_fails self.old.failures ≡ not (is_done result) }
         ensures counted { self.new.failures ≡ after_call self.old.failures }
@@ -169,20 +170,20 @@ impl MemoryPort {
         }
     }
 
-    /// The ends that get what is here, each with a counter of its own; nothing is left here.
-    fn move_out(&mut self, alloc: Global) -> (MemoryIn, MemoryOut)
-        ensures receiving { result.0 ≡ in_from self.old }
-        ensures sending { result.1 ≡ out_from self.old }
+    /// The ends for an address that get what is here, each with a counter of its own; nothing is left here.
+    fn move_out(&mut self, alloc: Global, at: Addr) -> (MemoryIn, MemoryOut)
+        ensures receiving { result.0 ≡ in_from at self.old }
+        ensures sending { result.1 ≡ out_from at self.old }
         ensures left { self.new ≡ nothing_at self.old.at }
     {
         let takes = mem::replace(&mut self.takes, Vec::new(alloc));
         let sends = mem::replace(&mut self.sends, Vec::new(alloc));
         let receiving = MemoryIn {
-            end: self.arrivals.move_out(alloc),
+            end: self.arrivals.move_out(alloc, at),
             failing: Failing::new(takes),
         };
         let sending = MemoryOut {
-            end: SteadyOut::new(alloc),
+            end: SteadyOut::new(alloc, at),
             failing: Failing::new(sends),
         };
         (receiving, sending)
@@ -215,11 +216,11 @@ fn ends_of(alloc: Global, ports: &mut Vec<MemoryPort>, at: Addr) -> (MemoryIn, M
 {
     let Some(index) = find(ports.as_slice(), at) else {
         return MemoryPort::new(at, Vec::new(alloc), Vec::new(alloc), Vec::new(alloc)).move_out(
-            alloc,
+            alloc, at,
         );
     };
     let port = &mut ports[index];
-    port.move_out(alloc)
+    port.move_out(alloc, at)
 }
 
 /// Gives what the ends are left with back to the first entry for their address.
@@ -291,7 +292,7 @@ impl PortMaker for MemoryMaker {
     type Out = MemoryOut;
 
     ghost use Rattle.std.specs.Prelude.{◌≡◌, ◌≤◌, IfOk, MatchResult, not};
-    ghost use Rattle.relay_outside.specs.Told.{Gains, HasCause, StartsEmpty, WhereTold, is_done};
+    ghost use Rattle.relay_outside.specs.Told.{Gains, HasCause, IsOpenedFor, WhereTold, is_done};
     ghost use Rattle.relay_outside.specs.Ports.{IsOpen};
     ghost use Rattle.relay_outside.specs.PortTape.{MovesOut, MovesBack};
     ghost use Rattle.relay_outside.specs.Failures.{next_fails, after_call};
@@ -303,8 +304,8 @@ impl PortMaker for MemoryMaker {
     fn open(&mut self, at: Addr) -> Result<(MemoryIn, MemoryOut), Failed>
         requires { WhereTold self.old.told (λ calls. IsOpen calls at → ⊥) }
         ensures told { Gains self.old.told self.new.told (PortCall.Open at (is_done result)) }
-        ensures receiving { IfOk result (λ ends. StartsEmpty ends.0.told) }
-        ensures sending { IfOk result (λ ends. StartsEmpty ends.1.told) }
+        ensures receiving { IfOk result (λ ends. IsOpenedFor at ends.0.told) }
+        ensures sending { IfOk result (λ ends. IsOpenedFor at ends.1.told) }
         ensures cause { HasCause self.old.failures.faults self.new.failures.faults result }
         ensures fails { next_fails self.old.failures ≡ not (is_done result) }
         ensures counted { self.new.failures ≡ after_call self.old.failures }
@@ -320,8 +321,9 @@ impl PortMaker for MemoryMaker {
     }
 
     fn close(&mut self, at: Addr, receiving: MemoryIn, sending: MemoryOut)
-        requires { WhereTold self.old.told (λ calls. IsOpen calls at) }
-        ensures told { Gains self.old.told self.new.told (PortCall.Close at receiving.told sending.told) }
+        requires open { WhereTold self.old.told (λ calls. IsOpen calls at) }
+        requires ends { (receiving.told.at ≡ at) × (sending.told.at ≡ at) }
+        ensures told { Gains self.old.told self.new.told (PortCall.Close at receiving.told.calls sending.told.calls) }
         ensures later { self.old.failures.faults ≤ self.new.failures.faults }
         ensures uncounted { self.new.failures ≡ self.old.failures }
         ensures back { MovesBack self.old.ports at receiving sending self.new.ports }

@@ -1,5 +1,5 @@
 ghost use Rattle.std.specs.Prelude.{◌≡◌, ◌↔◌, ◌≤◌, ◌<◌, ℕ, true, Some, None, Ok, [], List, IsTrue, IsSome, IsOk, IfOk, MatchOption, position, drop, length};
-ghost use Rattle.relay_outside.specs.Told.{Gains};
+ghost use Rattle.relay_outside.specs.Told.{Gains, EndGains, opened_for};
 ghost use Rattle.relay_outside.specs.Ports.{FitsTake, in_given, same_addr};
 ghost use Rattle.relay_outside.specs.PortTape.{GivesPacket, Moves, GoesBack};
 
@@ -66,6 +66,7 @@ fn departure_call(alloc: Global, to: Addr, bytes: &[u8], done: bool) -> Option<O
 #[derive(Drop)]
 pub struct SteadyIn {
     alloc: Global,
+    at: Addr,
     told: CallList<InCall>,
     packets: Vec<Packet>,
     next: usize,
@@ -77,17 +78,18 @@ impl Model for SteadyIn {
 
     ghost Value = { InTape };
 
-    ghost view = { λ end. record { told = end.told; packets = drop end.next end.packets.items } };
+    ghost view = { λ end. record { told = record { at = end.at; calls = end.told }; packets = drop end.next end.packets.items } };
 }
 
 impl SteadyIn {
-    /// An end that was not called yet, with the packets from a place on.
-    pub(super) fn with(alloc: Global, packets: Vec<Packet>, next: usize) -> SteadyIn
-        ensures told { result.told ≡ Some [] }
+    /// An end for an address that was not called yet, with the packets from a place on.
+    pub(super) fn with(alloc: Global, at: Addr, packets: Vec<Packet>, next: usize) -> SteadyIn
+        ensures told { result.told ≡ opened_for at }
         ensures packets { result.packets ≡ drop next packets.items }
     {
         SteadyIn {
             alloc,
+            at,
             told: CallList::new(alloc),
             packets,
             next,
@@ -103,22 +105,23 @@ impl SteadyIn {
 
     /// What the end told, and the end with a new list in its place.
     pub(super) fn without_list(self, alloc: Global) -> (CallList<InCall>, SteadyIn)
-        ensures list { result.0 ≡ self.told }
+        ensures list { result.0 ≡ self.told.calls }
         ensures packets { result.1.packets ≡ self.packets }
     {
         let SteadyIn {
             alloc: _,
+            at,
             told,
             packets,
             next,
         } = self;
-        (told, SteadyIn::with(alloc, packets, next))
+        (told, SteadyIn::with(alloc, at, packets, next))
     }
 
     /// Gives the next packet, if there is one, and tells of it.
     pub(super) fn give(&mut self, buf: &mut [u8]) -> Option<(Addr, usize)>
         ensures within { FitsTake (Ok result) (length buf.old) }
-        ensures told { Gains self.old.told self.new.told (InCall.Take (length buf.old) (in_given (Ok result) buf.new)) }
+        ensures told { EndGains self.old.told self.new.told (InCall.Take (length buf.old) (in_given (Ok result) buf.new)) }
         ensures packet { GivesPacket self.old.packets self.new.packets result buf.new }
     {
         let room = buf.len();
@@ -145,7 +148,7 @@ impl SteadyIn {
 
     /// Tells of a take that failed.
     pub(super) fn note_failed(&mut self, room: usize)
-        ensures told { Gains self.old.told self.new.told (InCall.Take room InGiven.Failed) }
+        ensures told { EndGains self.old.told self.new.told (InCall.Take room InGiven.Failed) }
         ensures packets { self.new.packets ≡ self.old.packets }
     {
         let given = InGiven::Failed;
@@ -154,7 +157,7 @@ impl SteadyIn {
 
     /// Whether the end still tells its list.
     pub fn tells(&self) -> bool
-        ensures { IsTrue result ↔ IsSome self.now.told }
+        ensures { IsTrue result ↔ IsSome self.now.told.calls }
     {
         self.told.tells()
     }
@@ -162,7 +165,7 @@ impl SteadyIn {
 
 impl InEnd for SteadyIn {
     ghost use Rattle.std.specs.Prelude.{◌≡◌, ◌<◌, IfOk, IsOk, length};
-    ghost use Rattle.relay_outside.specs.Told.{Gains, HasCause};
+    ghost use Rattle.relay_outside.specs.Told.{EndGains, HasCause};
     ghost use Rattle.relay_outside.specs.Ports.{FitsTake, in_given};
     ghost use Rattle.relay_outside.specs.PortTape.{GivesPacket};
 
@@ -173,7 +176,7 @@ impl InEnd for SteadyIn {
     fn take(&mut self, buf: &mut [u8]) -> Result<Option<(Addr, usize)>, Failed>
         requires { 0 < length buf.old }
         ensures within { FitsTake result (length buf.old) }
-        ensures told { Gains self.old.told self.new.told (InCall.Take (length buf.old) (in_given result buf.new)) }
+        ensures told { EndGains self.old.told self.new.told (InCall.Take (length buf.old) (in_given result buf.new)) }
         ensures cause { HasCause 0 0 result }
         ensures done { IsOk result }
         ensures packet { IfOk result (λ answer. GivesPacket self.old.packets self.new.packets answer buf.new) }
@@ -186,48 +189,61 @@ impl InEnd for SteadyIn {
 #[derive(Drop)]
 pub struct SteadyOut {
     alloc: Global,
+    at: Addr,
     told: CallList<OutCall>,
 }
 
 impl Model for SteadyOut {
-    ghost use Rattle.std.specs.Prelude.{Option, List};
+    ghost use Rattle.relay_outside.specs.Told.{EndTold};
     ghost use Rattle.relay_outside.specs.declared.ports.OutCall.{OutCall};
 
-    ghost Value = { Option (List OutCall) };
+    ghost Value = { EndTold OutCall };
 
-    ghost view = { λ end. end.told };
+    ghost view = { λ end. record { at = end.at; calls = end.told } };
 }
 
 impl SteadyOut {
-    /// An end that was not called yet.
-    pub(super) fn new(alloc: Global) -> SteadyOut
-        ensures { result ≡ Some [] }
+    /// An end for an address that was not called yet.
+    pub(super) fn new(alloc: Global, at: Addr) -> SteadyOut
+        ensures { result ≡ opened_for at }
     {
         SteadyOut {
             alloc,
+            at,
             told: CallList::new(alloc),
         }
     }
 
     /// Tells of a send.
     pub(super) fn note_send(&mut self, to: Addr, bytes: &[u8], done: bool)
-        ensures { Gains self.old self.new (OutCall.Send to bytes.now done) }
+        ensures { EndGains self.old self.new (OutCall.Send to bytes.now done) }
     {
         let call = departure_call(self.alloc, to, bytes, done);
         self.told.note(call);
     }
 
+    /// The address that the end was opened for.
+    pub(super) fn address(&self) -> Addr
+        ensures { result ≡ self.now.at }
+    {
+        self.at
+    }
+
     /// What the end told.
     pub(super) fn into_list(self) -> CallList<OutCall>
-        ensures { result ≡ self }
+        ensures { result ≡ self.calls }
     {
-        let SteadyOut { alloc: _, told } = self;
+        let SteadyOut {
+            alloc: _,
+            at: _,
+            told,
+        } = self;
         told
     }
 
     /// Whether the end still tells its list.
     pub fn tells(&self) -> bool
-        ensures { IsTrue result ↔ IsSome self.now }
+        ensures { IsTrue result ↔ IsSome self.now.calls }
     {
         self.told.tells()
     }
@@ -235,14 +251,14 @@ impl SteadyOut {
 
 impl OutEnd for SteadyOut {
     ghost use Rattle.std.specs.Prelude.{◌≡◌, IsOk};
-    ghost use Rattle.relay_outside.specs.Told.{Gains, HasCause, is_done};
+    ghost use Rattle.relay_outside.specs.Told.{EndGains, HasCause, is_done};
 
     ghost told = { λ end. end };
 
     ghost faults = { λ end. 0 };
 
     fn send(&mut self, to: Addr, bytes: &[u8]) -> Result<(), Failed>
-        ensures told { Gains self.old self.new (OutCall.Send to bytes.now (is_done result)) }
+        ensures told { EndGains self.old self.new (OutCall.Send to bytes.now (is_done result)) }
         ensures cause { HasCause 0 0 result }
         ensures done { IsOk result }
     {
@@ -285,16 +301,16 @@ impl Arrivals {
         self.at
     }
 
-    /// An in end with these packets, of which none are left here.
-    pub(super) fn move_out(&mut self, alloc: Global) -> SteadyIn
-        ensures told { result.told ≡ Some [] }
+    /// An in end for an address with these packets, of which none are left here.
+    pub(super) fn move_out(&mut self, alloc: Global, at: Addr) -> SteadyIn
+        ensures told { result.told ≡ opened_for at }
         ensures packets { result.packets ≡ self.old.1 }
         ensures left { self.new ≡ (self.old.0, []) }
     {
         let packets = mem::replace(&mut self.packets, Vec::new(alloc));
         let next = self.next;
         self.next = 0;
-        SteadyIn::with(alloc, packets, next)
+        SteadyIn::with(alloc, at, packets, next)
     }
 
     /// Takes the packets of an in end in place of those that are here.
@@ -303,6 +319,7 @@ impl Arrivals {
     {
         let SteadyIn {
             alloc: _,
+            at: _,
             told: _,
             packets,
             next,
@@ -369,14 +386,14 @@ impl SteadyMaker {
 
 /// An in end with the packets of the first entry for its address, which is left without any.
 fn arriving(alloc: Global, arrivals: &mut Vec<Arrivals>, at: Addr) -> SteadyIn
-    ensures told { result.told ≡ Some [] }
+    ensures told { result.told ≡ opened_for at }
     ensures moved { Moves arrivals.old.items at result.packets arrivals.new.items }
 {
     let Some(index) = find(arrivals.as_slice(), at) else {
-        return SteadyIn::with(alloc, Vec::new(alloc), 0);
+        return SteadyIn::with(alloc, at, Vec::new(alloc), 0);
     };
     let entry = &mut arrivals[index];
-    entry.move_out(alloc)
+    entry.move_out(alloc, at)
 }
 
 /// Gives what an end is left with back to the first entry for its address.
@@ -399,7 +416,7 @@ impl PortMaker for SteadyMaker {
     type Out = SteadyOut;
 
     ghost use Rattle.std.specs.Prelude.{◌≡◌, ◌≤◌, IfOk, IsOk};
-    ghost use Rattle.relay_outside.specs.Told.{Gains, HasCause, StartsEmpty, WhereTold, is_done};
+    ghost use Rattle.relay_outside.specs.Told.{Gains, HasCause, IsOpenedFor, WhereTold, is_done};
     ghost use Rattle.relay_outside.specs.Ports.{IsOpen};
     ghost use Rattle.relay_outside.specs.PortTape.{Moves, GoesBack};
 
@@ -410,21 +427,22 @@ impl PortMaker for SteadyMaker {
     fn open(&mut self, at: Addr) -> Result<(SteadyIn, SteadyOut), Failed>
         requires { WhereTold self.old.told (λ calls. IsOpen calls at → ⊥) }
         ensures told { Gains self.old.told self.new.told (PortCall.Open at (is_done result)) }
-        ensures receiving { IfOk result (λ ends. StartsEmpty ends.0.told) }
-        ensures sending { IfOk result (λ ends. StartsEmpty ends.1) }
+        ensures receiving { IfOk result (λ ends. IsOpenedFor at ends.0.told) }
+        ensures sending { IfOk result (λ ends. IsOpenedFor at ends.1) }
         ensures cause { HasCause 0 0 result }
         ensures done { IsOk result }
         ensures moved { IfOk result (λ ends. Moves self.old.arrivals at ends.0.packets self.new.arrivals) }
     {
         let receiving = arriving(self.alloc, &mut self.arrivals, at);
-        let sending = SteadyOut::new(self.alloc);
+        let sending = SteadyOut::new(self.alloc, at);
         self.told.note(Some(PortCall::Open { at, done: true }));
         Ok((receiving, sending))
     }
 
     fn close(&mut self, at: Addr, receiving: SteadyIn, sending: SteadyOut)
-        requires { WhereTold self.old.told (λ calls. IsOpen calls at) }
-        ensures told { Gains self.old.told self.new.told (PortCall.Close at receiving.told sending) }
+        requires open { WhereTold self.old.told (λ calls. IsOpen calls at) }
+        requires ends { (receiving.told.at ≡ at) × (sending.at ≡ at) }
+        ensures told { Gains self.old.told self.new.told (PortCall.Close at receiving.told.calls sending.calls) }
         ensures later { 0 ≤ 0 }
         ensures back { GoesBack self.old.arrivals at receiving.packets self.new.arrivals }
     {

@@ -1,7 +1,10 @@
-use Rattle.std.proofs.Common.{◌≡◌, ◌+◌, refl, sym, subst, ℕ, List, [], ◌∷◌}
+use Rattle.std.proofs.Common.{◌≡◌, ◌+◌, refl, sym, ap, subst, ℕ, List, [], ◌∷◌}
 use Rattle.relay_outside.specs.declared.ports.PortCall.{PortCall}
 use Rattle.relay_outside.specs.declared.ports.PortCall.TheVariants.{Close}
+use Rattle.relay_outside.specs.declared.address.Addr.{Addr}
+use Rattle.rtp_packet.specs.declared.head.Half.TheVariants.{Rtp}
 use Rattle.port_pool.specs.Boxes as boxes
+use Rattle.port_pool.specs.Ports.{port_address, AreOfPair}
 use Rattle.histories.specs.Words.{here}
 use Rattle.media_ports.specs.Addresses.{port_at}
 use Rattle.nested_steps.specs.Nesting.{AddsRow, IsOpen, ends_left}
@@ -21,13 +24,24 @@ close_pair-requires-clause-open g c =
     told_open c.args.config.now (g.P.PortMaker.told c.args.ports.now) can.held c.args.leg.0 can.may_return.0.of_range can.have_ports.0
     (can.are_held c.args.leg.0.pair (here refl)) can.opens
 
+pub close_pair-requires-clause-ends : goal.close_pair-requires-clause-ends
+close_pair-requires-clause-ends g c =
+    let config = c.args.config.now in
+    let lease = c.args.leg.0 in
+    let ends = c.shut_box-rtp_in.result in
+    let at : port_address config lease.pair Rtp ≡ port_at config.interface lease.rtp_port = ap (port_at config.interface) (sym c.requires.can.have_ports.0) in
+    let home = subst (λ (p : ℕ). AreOfPair g.P.In.InEnd.told (port_address config p Rtp) ends.0 ends.1) c.pair.ensures c.shut_box-rtp_in.ensures.home in (
+      subst (λ (a : Addr). AreOfPair g.P.In.InEnd.told a ends.0 ends.1) at home,
+      subst (λ (a : Addr). AreOfPair g.P.Out.OutEnd.told a c.args.leg.1 c.args.leg.2) at (c.requires.home c.args.leg (here refl)),
+    )
+
 pub returns-clause-open : goal.returns-clause-open
 returns-clause-open g c held opens =
     let lease = c.args.leg.0 in
     let at = λ (port : ℕ). port_at c.args.config.now.interface port in
     told_closed c.args.config.now (g.P.PortMaker.told c.args.ports.now) (g.P.PortMaker.told c.close_pair.new.ports)
-    (λ (calls : List PortCall). calls ≡ Close (at lease.rtp_port) (g.P.In.InEnd.told c.shut_box-rtp_in.result.0) (g.P.Out.OutEnd.told c.args.leg.1)
-    ∷ Close (at (lease.rtp_port + 1)) (g.P.In.InEnd.told c.shut_box-rtp_in.result.1) (g.P.Out.OutEnd.told c.args.leg.2) ∷ [])
+    (λ (calls : List PortCall). calls ≡ Close (at lease.rtp_port) (g.P.In.InEnd.told c.shut_box-rtp_in.result.0).calls (g.P.Out.OutEnd.told c.args.leg.1).calls
+    ∷ Close (at (lease.rtp_port + 1)) (g.P.In.InEnd.told c.shut_box-rtp_in.result.1).calls (g.P.Out.OutEnd.told c.args.leg.2).calls ∷ [])
     held lease c.requires.can.have_ports.0 c.close_pair.ensures.closes c.close_pair.ensures.«open» opens
 
 pub returns-clause-takes : goal.returns-clause-takes

@@ -2,7 +2,9 @@ use Rattle.std.proofs.Common.{◌∙◌, ◌++◌, refl, sym, ap, subst, ℕ, Li
 use Rattle.relay_outside.specs.declared.ports.PortCall.{PortCall}
 use Rattle.relay_outside.specs.Told.{WhereTold}
 use Rattle.relay_outside.proofs.Telling.{gained_none, gained_both}
-use Rattle.histories.specs.Words.{has}
+use Rattle.histories.specs.Words.{has, there}
+use Rattle.histories.proofs.Lists.{in_left}
+use Rattle.relay_core.specs.Standing.{GoneHome}
 use Rattle.turn_table.specs.Hands.{entries}
 use Rattle.port_pool.specs.declared.pairs.Lease.{Lease}
 use Rattle.call_board.specs.Views.{with_returned}
@@ -27,6 +29,7 @@ loop-leg-init g c =
       same = ((refl, refl, refl, refl), λ j. refl);
       may = c.requires.may;
       can = c.requires.can;
+      home = c.requires.home;
       gained = gains_nothing c.args.nest.number c.args.nest.moment c.args.hand.now;
       returned = λ config v shows. subst (λ w. Shows config c.args.board.now w) (sym (returned_none v)) shows;
       calls = record { calls_are = refl; begun_is = refl };
@@ -43,6 +46,11 @@ close_leg-requires-clause-can g c =
     let l = made_by c.loop-leg.hand in
     first_can c.args.config.now l c.loop-leg.board told c.in-Some.leg c.pop.new.self
     (subst (λ gone. CanClose c.args.config.now l c.loop-leg.board told gone) c.in-Some.ensures.takes c.loop-leg.invariant.can)
+
+pub close_leg-requires-clause-home : goal.close_leg-requires-clause-home
+close_leg-requires-clause-home g c =
+    let all = subst (λ gone. GoneHome g.P.Out.OutEnd.told c.args.config.now gone) c.in-Some.ensures.takes c.loop-leg.invariant.home in
+    λ leg i. all leg (in_left (c.in-Some.leg ∷ []) c.pop.new.self i)
 
 pub loop-leg-preserved : goal.loop-leg-preserved
 loop-leg-preserved g c =
@@ -68,6 +76,7 @@ loop-leg-preserved g c =
       may = now.may;
       can = rest_can config number moment c.loop-leg.hand c.close_leg.new.hand c.loop-leg.board c.close_leg.new.board told after leg c.pop.new.self
           (subst (λ gone. CanClose config (made_by c.loop-leg.hand) c.loop-leg.board told gone) c.in-Some.ensures.takes was.can) now.gained now.returned now.«open»;
+      home = λ other i. subst (λ gone. GoneHome sent config gone) c.in-Some.ensures.takes was.home other (there i);
       gained = subst (λ (ws : List Owed). GainsNested number moment ws c.args.hand.now c.close_leg.new.hand) (sym (closings_more config some one))
           (gains_more number moment (closings_of config some) (closings_of config one) c.args.hand.now c.loop-leg.hand c.close_leg.new.hand was.gained now.gained);
       returned = λ other v shows. subst (λ w. Shows other c.close_leg.new.board w)

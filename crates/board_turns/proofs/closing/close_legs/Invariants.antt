@@ -5,6 +5,7 @@ use Rattle.turn_table.specs.Hands.{IsSameHand, SameTurns, entries}
 use Rattle.port_pool.specs.declared.pairs.Lease.{Lease}
 use Rattle.call_board.specs.Boards.{Shows, KeepsCalls, KeepsReplies, pairs_in}
 use Rattle.call_board.specs.Views.{View, with_returned}
+use Rattle.relay_core.specs.Standing.{GoneHome}
 use Rattle.relay_core.specs.Turning.{GainsNested, made_by}
 use Rattle.media_ports.specs.Held.{OpensHeld}
 use Rattle.nested_steps.specs.Nesting.{MayNest}
@@ -21,6 +22,7 @@ invariant-loop-leg g l =
       same : IsSameHand l.initial.hand l.hand × SameTurns l.initial.hand l.hand;
       may : MayNest l.config l.turns l.hand;
       can : CanClose l.config (made_by l.hand) l.board (told l.ports) l.gone;
+      home : GoneHome g.P.Out.OutEnd.told l.config l.gone;
       gained : GainsNested l.nest.number l.nest.moment (closings_of l.config closed) l.initial.hand l.hand;
       returned : (config : Config) (v : View) → Shows config l.initial.board v → Shows config l.board (with_returned v (pairs_in (leases_of closed)));
       calls : KeepsCalls l.initial.board l.board;

@@ -5,4 +5,4 @@ use Rattle.ng_bencode.specs.Spells.{spelling}
 
 pub returns : goal.returns
 returns c config =
-    same_text c.spelled.result _ _ c.spelled.ensures (ap (λ tree. c.args.cookie.now ++ 32 ∷ spelling tree) c.in-Ok.ensures ∙ warned_is config c.args.cookie.now c.args.code)
+    same_text c.value_datagram.result _ _ c.value_datagram.ensures (ap (λ tree. c.args.cookie.now ++ 32 ∷ spelling tree) c.in-Ok.ensures ∙ warned_is config c.args.cookie.now c.args.code)

@@ -10,7 +10,7 @@ use Rattle.board_turns.proofs.Tying.{ties_none}
 use Rattle.control_reading.specs.Bodies.{said_by}
 use Rattle.call_board.specs.Pairs.{free}
 use Rattle.control_entries.proofs.Givings.{unasked_given, closing_given}
-use Rattle.control_turns.proofs.Commands.{faulty_carries, ping_carries}
+use Rattle.control_turns.proofs.Commands.{faulty_carries, ping_carries, list_carries}
 use Rattle.control_turns.proofs.carrying.carry_out_command.Goals as goal
 
 pub returns-in-Err-clause-carries : goal.returns-in-Err-clause-carries
@@ -55,3 +55,32 @@ returns-in-Err-clause-ties g c = ties_none c.args.config.now (g.P.PortMaker.told
 
 pub returns-in-Ping-clause-ties : goal.returns-in-Ping-clause-ties
 returns-in-Ping-clause-ties g c = ties_none c.args.config.now (g.P.PortMaker.told c.args.ports.now) (entries c.args.hand.now)
+
+pub returns-in-Query-clause-carries : goal.returns-in-Query-clause-carries
+returns-in-Query-clause-carries g c pairs short reads is =
+    c.query.ensures.carries (g.P.PortMaker.told c.args.ports.now) pairs c.requires.turn
+    (record { short = short; reads = reads; command = is ∙ ap said_by c.in-Ok.is ∙ ap (λ (x : Command). Ok (said x)) c.in-Query.is })
+
+pub returns-in-Query-clause-given : goal.returns-in-Query-clause-given
+returns-in-Query-clause-given g c =
+    let config = c.args.config.now in
+    unasked_given config (free config (board_history (made_by c.args.hand.now) c.args.nest.number)) c.query.result.gave (g.P.PortMaker.faults c.args.ports.now) (g.P.PortMaker.faults c.args.ports.now) (g.K.KeySource.faults c.args.keys.now) (g.K.KeySource.faults c.args.keys.now)
+    (g.P.PortMaker.told c.args.ports.now) (g.K.KeySource.told c.args.keys.now) c.query.ensures.unasked
+
+pub returns-in-Query-clause-ties : goal.returns-in-Query-clause-ties
+returns-in-Query-clause-ties g c = c.query.ensures.ties (g.P.PortMaker.told c.args.ports.now)
+
+pub returns-in-List-clause-carries : goal.returns-in-List-clause-carries
+returns-in-List-clause-carries g c pairs short reads is =
+    list_carries c.args.config.now c.args.turns.now c.args.hand.now c.args.nest c.args.request.now pairs c.in-List.limit c.list.result c.args.board.now
+    (g.P.PortMaker.told c.args.ports.now) c.requires.turn c.requires.anew (λ s. reads)
+    (ap (λ (b : Bool). command_in b pairs) short ∙ is ∙ ap said_by c.in-Ok.is ∙ ap (λ (x : Command). Ok (said x)) c.in-List.is) c.list.ensures.tells
+
+pub returns-in-List-clause-given : goal.returns-in-List-clause-given
+returns-in-List-clause-given g c =
+    let config = c.args.config.now in
+    unasked_given config (free config (board_history (made_by c.args.hand.now) c.args.nest.number)) c.list.result.gave (g.P.PortMaker.faults c.args.ports.now) (g.P.PortMaker.faults c.args.ports.now) (g.K.KeySource.faults c.args.keys.now) (g.K.KeySource.faults c.args.keys.now)
+    (g.P.PortMaker.told c.args.ports.now) (g.K.KeySource.told c.args.keys.now) c.list.ensures.unasked
+
+pub returns-in-List-clause-ties : goal.returns-in-List-clause-ties
+returns-in-List-clause-ties g c = ties_none c.args.config.now (g.P.PortMaker.told c.args.ports.now) (entries c.args.hand.now)

@@ -18,7 +18,7 @@ returns-clause-open g c =
     let rtcp = port_at c.args.interface (port + 1) ∷ [] in
     let first : c.address_of.result ≡ port_at c.args.interface port = c.address_of.ensures ∙ ap (port_at c.args.interface) c.rtp_port-port.ensures in
     let second : c.address_of-2.result ≡ port_at c.args.interface (port + 1) = c.address_of-2.ensures ∙ ap (λ n. port_at c.args.interface (n + 1)) c.rtp_port-port.ensures in
-    let one = gained_one (told c.args.ports.now) (told c.close.new.self) (Close c.address_of.result (taken c.args.ends.rtp_in) (sent c.args.ends.rtp_out)) (AllZip Closes rtp) c.close.ensures.told (first, tt) in
-    let two = gained_one (told c.close.new.self) (told c.close-2.new.self) (Close c.address_of-2.result (taken c.args.ends.rtcp_in) (sent c.args.ends.rtcp_out)) (AllZip Closes rtcp) c.close-2.ensures.told (second, tt) in
+    let one = gained_one (told c.args.ports.now) (told c.close.new.self) (Close c.address_of.result (taken c.args.ends.rtp_in).calls (sent c.args.ends.rtp_out).calls) (AllZip Closes rtp) c.close.ensures.told (first, tt) in
+    let two = gained_one (told c.close.new.self) (told c.close-2.new.self) (Close c.address_of-2.result (taken c.args.ends.rtcp_in).calls (sent c.args.ends.rtcp_out).calls) (AllZip Closes rtcp) c.close-2.ensures.told (second, tt) in
     let both = gained_both (told c.args.ports.now) (told c.close.new.self) (told c.close-2.new.self) (AllZip Closes rtp) (AllZip Closes rtcp) (AllZip Closes (rtp ++ rtcp)) (λ xs ys p q. zip-append Closes rtp rtcp xs ys p q) one two in
     both_told (told c.args.ports.now) (told c.close-2.new.self) (AllZip Closes (rtp ++ rtcp)) (LeavesOpen (rtp ++ rtcp)) (λ before more p. leaves_open (rtp ++ rtcp) more before p) both

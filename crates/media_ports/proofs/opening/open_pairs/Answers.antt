@@ -5,11 +5,11 @@ use Rattle.relay_outside.specs.Told.{WhereTold}
 use Rattle.relay_outside.proofs.Telling.{gained_both, gained_less}
 use Rattle.media_ports.specs.Addresses.{addresses_of}
 use Rattle.media_ports.specs.Calls.{OpensPairs, OpensUpTo, NoneOpen, AllOpen, SameOpen}
-use Rattle.media_ports.specs.Ends.{half_count}
+use Rattle.media_ports.specs.Ends.{AreOpened, half_count}
 use Rattle.media_ports.proofs.Closed.{OpensAll}
 use Rattle.media_ports.proofs.Telling.{told_after, told_less, both_told_where}
 use Rattle.media_ports.proofs.Leased.{port_fits, pairs_from_all}
-use Rattle.media_ports.proofs.UpTo.{opens_next, none_open_here, none_open_later, same_open, gained_failing, gained_undone, told_open_upto, half_few, uncalled_pushed, count_pushed, room_pushed}
+use Rattle.media_ports.proofs.UpTo.{opens_next, none_open_here, none_open_later, same_open, gained_failing, gained_undone, told_open_upto, half_few, opened_pushed, count_pushed, room_pushed}
 use Rattle.media_ports.proofs.opening.open_pairs.Goals as goal
 
 pub open_pair-requires-clause-port : goal.open_pair-requires-clause-port
@@ -70,7 +70,8 @@ loop-index-preserved g c =
       closed = told_after (told c.loop-index.ports) (told c.open_pair.new.ports) one (NoneOpen (addresses_of interface (drop i leases))) (NoneOpen (addresses_of interface (drop (i + 1) leases)))
           (λ calls more none opens. none_open_later interface leases i lease calls more c.get.ensures c.requires.ports none opens) c.loop-index.invariant.closed c.in-Ok.ensures.opens;
       count = count_pushed c.loop-index.opened c.push.new.self c.in-Ok.ends c.push.ensures ∙ ap (λ n. n + 1) c.loop-index.invariant.count;
-      uncalled = uncalled_pushed g.P.In.InEnd.told g.P.Out.OutEnd.told c.loop-index.opened c.push.new.self c.in-Ok.ends c.push.ensures c.loop-index.invariant.uncalled c.in-Ok.ensures.uncalled;
+      opened = opened_pushed g.P.In.InEnd.told g.P.Out.OutEnd.told interface leases i lease c.loop-index.opened c.push.new.self c.in-Ok.ends c.get.ensures c.push.ensures
+          c.loop-index.invariant.opened c.in-Ok.ensures.opened;
       room = room_pushed c.loop-index.opened c.push.new.self c.in-Ok.ends c.push.ensures ∙ c.loop-index.invariant.room;
       later = omega (arith, c.in-Ok.ensures.cause.later);
     }
@@ -83,3 +84,9 @@ returns-clause-opens g c =
     let whole : take c.loop-index.index leases ≡ leases = take_all c.loop-index.index leases (omega arith) in
     gained_less (told c.args.ports.now) (told c.loop-index.ports) (OpensAll (addresses_of interface (take c.loop-index.index leases))) (OpensPairs interface leases)
     (λ calls opens. pairs_from_all interface leases calls (subst (λ (these : List Lease). OpensAll (addresses_of interface these) calls) whole opens)) c.loop-index.invariant.opens
+
+pub returns-clause-opened : goal.returns-clause-opened
+returns-clause-opened g c =
+    let leases = c.args.leases.now.list in
+    let whole : take c.loop-index.index leases ≡ leases = take_all c.loop-index.index leases (omega arith) in
+    subst (λ (these : List Lease). AreOpened g.P.In.InEnd.told g.P.Out.OutEnd.told c.args.interface these c.loop-index.opened.list) whole c.loop-index.invariant.opened

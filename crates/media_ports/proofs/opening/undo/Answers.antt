@@ -8,7 +8,7 @@ use Rattle.relay_outside.specs.Ports.{IsOpen}
 use Rattle.relay_outside.proofs.Telling.{gained_one, gained_both}
 use Rattle.media_ports.specs.Addresses.{port_at, addresses_of}
 use Rattle.media_ports.specs.Calls.{ClosesUncalled, AllOpen}
-use Rattle.media_ports.specs.Ends.{IsHalfUncalled, half_count}
+use Rattle.media_ports.specs.Ends.{IsHalfOpened, half_count}
 use Rattle.media_ports.proofs.Telling.{told_after, told_less}
 use Rattle.media_ports.proofs.Closed.{zip-append}
 use Rattle.media_ports.proofs.Leased.{take_addresses, take_half, all_open_first, half_open, few_leases}
@@ -25,8 +25,18 @@ close_opened-requires-clause-open g c =
 pub overflow_mul-result : goal.overflow_mul-result
 overflow_mul-result g c = let few = few_leases c.args.leases.now.list c.requires.ports in omega (arith, few)
 
-pub close-requires : goal.close-requires
-close-requires g c =
+pub close-requires-clause-ends : goal.close-requires-clause-ends
+close-requires-clause-ends g c =
+    let interface = c.args.interface in
+    let leases = c.args.leases.now.list in
+    let lease = c.get.result.now in
+    let is : slice_get leases (length c.args.opened.now.list) ≡ Some lease = ap (slice_get leases) (sym c.len-pairs.ensures) ∙ c.get.ensures in
+    let at : c.address_of.result ≡ port_at interface lease.rtp_port = c.address_of.ensures ∙ ap (port_at interface) c.rtp_port-port.ensures in
+    let ends = subst (IsHalfOpened g.P.In.InEnd.told g.P.Out.OutEnd.told interface lease) c.in-Some.is (c.requires.half_opened lease is) in
+    (ends.0.at_is ∙ sym at, ends.1.at_is ∙ sym at)
+
+pub close-requires-clause-open : goal.close-requires-clause-open
+close-requires-clause-open g c =
     let told = g.P.PortMaker.told in
     let interface = c.args.interface in
     let leases = c.args.leases.now.list in
@@ -70,8 +80,8 @@ returns-in-Some-clause-closes g c =
     let is : slice_get leases n ≡ Some lease = ap (slice_get leases) (sym c.len-pairs.ensures) ∙ c.get.ensures in
     let at : c.address_of.result ≡ port_at interface lease.rtp_port = c.address_of.ensures ∙ ap (port_at interface) c.rtp_port-port.ensures in
     let front = addresses_of interface (take n leases) in
-    let ends = subst (IsHalfUncalled taken sent) c.in-Some.is c.requires.half_uncalled in
-    let last = gained_one (told c.close_opened.new.ports) (told c.close.new.self) (Close c.address_of.result (taken c.in-Some.field-0.receiving) (sent c.in-Some.field-0.sending)) (AllZip ClosesUncalled (port_at interface lease.rtp_port ∷ [])) c.close.ensures.told ((at, ends.0, ends.1), tt) in
+    let ends = subst (IsHalfOpened taken sent interface lease) c.in-Some.is (c.requires.half_opened lease is) in
+    let last = gained_one (told c.close_opened.new.ports) (told c.close.new.self) (Close c.address_of.result (taken c.in-Some.field-0.receiving).calls (sent c.in-Some.field-0.sending).calls) (AllZip ClosesUncalled (port_at interface lease.rtp_port ∷ [])) c.close.ensures.told ((at, ends.0.uncalled, ends.1.uncalled), tt) in
     let all : front ++ port_at interface lease.rtp_port ∷ [] ≡ take (2 * n + half_count c.args.half) (addresses_of interface leases) =
     sym (take_half interface leases n lease is)
     ∙ ap (λ (k : ℕ). take (2 * n + k) (addresses_of interface leases)) (sym (ap half_count c.in-Some.is)) in

@@ -6,6 +6,7 @@ use Rattle.nested_steps.specs.Nesting.{nested}
 use Rattle.nested_steps.specs.Taken.{CanOpen}
 use Rattle.nested_steps.proofs.Nesting.{above_rows, turn_gained, turn_may}
 use Rattle.nested_steps.proofs.Boxing.{shut_given, opened_from}
+use Rattle.nested_steps.proofs.Homing.{fit_given}
 use Rattle.nested_steps.proofs.boxes.open_box.Goals as goal
 
 pub open_part-requires-clause-shut : goal.open_part-requires-clause-shut
@@ -36,3 +37,8 @@ returns-clause-ends g c =
     opened_from g.I.InEnd.told g.I.InEnd.faults g.O.OutEnd.told g.O.OutEnd.faults c.args.hand.now c.box_place.result (box_of c.args.config.now c.args.holder.pair) c.turn-turn.result.front c.turn-turn.result.state
     c.state.result.now c.open_part.new.part made (c.args.rtp_end, c.args.rtcp_end) c.box_place.ensures c.state.ensures.value c.turn-turn.ensures.turn.1
     (c.open_part.ensures.step c.args.nest.number c.args.nest.moment) c.open_part.ensures.ends
+
+pub open_part-requires-clause-ends : goal.open_part-requires-clause-ends
+open_part-requires-clause-ends g c =
+    fit_given g.I.InEnd.told g.I.InEnd.faults g.O.OutEnd.told g.O.OutEnd.faults c.args.config.now c.args.turns.now c.args.hand.now c.args.holder.pair c.box_place.result _ _ c.state.result.now
+    (c.args.rtp_end, c.args.rtcp_end) c.requires.may c.box_place.ensures c.state.ensures.value c.turn-turn.ensures.turn.1 c.requires.ends.0 c.requires.ends.1

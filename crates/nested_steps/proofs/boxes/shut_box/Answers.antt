@@ -5,6 +5,7 @@ use Rattle.nested_steps.specs.Nesting.{leaving, ends_left}
 use Rattle.nested_steps.specs.Taken.{CanShut}
 use Rattle.nested_steps.proofs.Nesting.{above_rows, turn_gained, turn_row, turn_may}
 use Rattle.nested_steps.proofs.Boxing.{open_given, shut_from}
+use Rattle.nested_steps.proofs.Homing.{shut_home}
 use Rattle.nested_steps.proofs.boxes.shut_box.Goals as goal
 
 pub shut_part-ends-requires : goal.shut_part-ends-requires
@@ -41,3 +42,7 @@ returns-clause-ends g c =
     c.turn-turn.result.state c.state.result.now
     c.shut_part-ends.new.part made c.shut_part-ends.result c.box_place.ensures c.state.ensures.value c.turn-turn.ensures.turn.1
     (c.shut_part-ends.ensures.step c.args.nest.number c.args.nest.moment) c.shut_part-ends.ensures.ends
+
+pub returns-clause-home : goal.returns-clause-home
+returns-clause-home g c =
+    shut_home g.I.InEnd.told g.I.InEnd.faults g.O.OutEnd.told g.O.OutEnd.faults c.args.config.now c.args.turns.now c.args.hand.now c.args.pair _ c.shut_part-ends.result c.requires.may (returns-clause-ends g c)

@@ -6,6 +6,7 @@ use Rattle.nested_steps.specs.InCells.{moment_in}
 use Rattle.nested_steps.proofs.Nesting.{above_rows, turn_gained, turn_row, turn_may}
 use Rattle.nested_steps.proofs.Celling.{is_cell, cell_given, ends_by}
 use Rattle.nested_steps.proofs.Leaving.{ended_went}
+use Rattle.nested_steps.proofs.Homing.{ended_home}
 use Rattle.nested_steps.proofs.cells.end_cell.Goals as goal
 
 pub end_part-requires-clause-cell : goal.end_part-requires-clause-cell
@@ -49,3 +50,8 @@ returns-clause-ended g c =
 
 pub returns-clause-went : goal.returns-clause-went
 returns-clause-went g c = ended_went g.I.InEnd.told g.I.InEnd.faults g.O.OutEnd.told g.O.OutEnd.faults c.args.config.now c.args.hand.now c.args.cell c.end_part.new.gone (returns-clause-ended g c)
+
+pub returns-clause-home : goal.returns-clause-home
+returns-clause-home g c =
+    ended_home g.I.InEnd.told g.I.InEnd.faults g.O.OutEnd.told g.O.OutEnd.faults c.args.config.now c.args.turns.now c.args.hand.now c.args.cell c.end_part.new.gone c.requires.may c.requires.cell.0 c.requires.cell.1
+    c.requires.keys (returns-clause-ended g c)

@@ -8,6 +8,7 @@ use Rattle.nested_steps.proofs.Nesting.{above_rows, turn_gained, turn_row, turn_
 use Rattle.nested_steps.proofs.Celling.{cell_given}
 use Rattle.nested_steps.proofs.Signalling.{takes_answer, space_is, commits_by}
 use Rattle.nested_steps.proofs.Leaving.{committed_went}
+use Rattle.nested_steps.proofs.Homing.{committed_home}
 use Rattle.nested_steps.proofs.signals.commit_cell.Goals as goal
 
 pub commit_part-requires-clause-takes : goal.commit_part-requires-clause-takes
@@ -55,3 +56,8 @@ returns-clause-committed g c =
 
 pub returns-clause-went : goal.returns-clause-went
 returns-clause-went g c = committed_went g.I.InEnd.told g.I.InEnd.faults g.O.OutEnd.told g.O.OutEnd.faults c.args.config.now c.args.hand.now c.args.cell c.args.signal.now c.args.nest.moment c.commit_part.new.gone (returns-clause-committed g c)
+
+pub returns-clause-home : goal.returns-clause-home
+returns-clause-home g c =
+    committed_home g.I.InEnd.told g.I.InEnd.faults g.O.OutEnd.told g.O.OutEnd.faults c.args.config.now c.args.turns.now c.args.hand.now c.args.cell c.args.signal.now c.args.nest.moment c.commit_part.new.gone c.requires.may
+    c.requires.cell.0 c.requires.cell.1 c.requires.keys (returns-clause-committed g c)

@@ -9,6 +9,7 @@ use Rattle.nested_steps.proofs.Nesting.{above_rows, turn_gained, turn_row, turn_
 use Rattle.nested_steps.proofs.Celling.{cell_given}
 use Rattle.nested_steps.proofs.Signalling.{takes_offer, prepares_by, tells_legs}
 use Rattle.nested_steps.proofs.Leaving.{prepared_went}
+use Rattle.nested_steps.proofs.Homing.{prepared_home, opened_for}
 use Rattle.nested_steps.proofs.signals.prepare_cell.Goals as goal
 
 pub prepare_part-requires-clause-takes : goal.prepare_part-requires-clause-takes
@@ -71,3 +72,15 @@ returns-clause-same g c =
     (leaving c.args.nest.number c.args.nest.moment (max c.args.nest.moment (moment_in c.turn-turn.result.taken.value))
     (Cell (Prepare c.args.call (added c.of-legs.result.value) (brought_keys c.args.brought.now) (brought_dropped c.args.brought.now))) (gone_left g.O.OutEnd.told c.prepare_part.new.gone)) tt c.args.hand.now c.turn-turn.new.hand c.put_prepare.new.hand c.turn-turn.result c.requires.may
     (omega (arith, at, low)) c.turn-turn.ensures.same c.turn-turn.ensures.turn.0 c.put_prepare.ensures.same c.put_prepare.ensures.entry
+
+pub returns-clause-home : goal.returns-clause-home
+returns-clause-home g c =
+    prepared_home g.I.InEnd.told g.I.InEnd.faults g.O.OutEnd.told g.O.OutEnd.faults c.args.config.now c.args.turns.now c.args.hand.now c.args.cell c.args.signal c.args.call (brought_keys c.args.brought.now)
+    (brought_dropped c.args.brought.now) c.args.nest.moment c.prepare_part.new.gone c.requires.may c.requires.cell.0 c.requires.cell.1 c.requires.keys (returns-clause-prepared g c)
+
+pub prepare_part-requires-clause-opened : goal.prepare_part-requires-clause-opened
+prepare_part-requires-clause-opened g c =
+    let is = cell_given g.I.InEnd.told g.I.InEnd.faults g.O.OutEnd.told g.O.OutEnd.faults c.args.config.now c.args.turns.now c.args.hand.now c.args.cell c.cell_place.result
+    c.turn-turn.result.front _ c.state.result.now c.requires.may c.requires.cell.0 c.requires.cell.1 c.requires.keys c.cell_place.ensures c.state.ensures.value
+    c.turn-turn.ensures.turn.1 in
+    opened_for g.I.InEnd.told g.O.OutEnd.told c.args.config.now c.state.result.now _ c.args.signal is.1 c.requires.opened

@@ -5,7 +5,7 @@ use Rattle.nested_steps.proofs.signals.prepare_part.Goals as goal
 pub returns-clause-step : goal.returns-clause-step
 returns-clause-step g c number =
     prepare_relates g.I.InEnd.told g.I.InEnd.faults g.O.OutEnd.told g.O.OutEnd.faults c.args.part.now c.in-Cell.cell c.prepare.new.self c.args.signal c.args.call
-    (brought_keys c.args.brought.now) (brought_dropped c.args.brought.now) c.args.now c.prepare.new.gone number c.in-Cell.is c.requires.takes c.requires.uncalled
+    (brought_keys c.args.brought.now) (brought_dropped c.args.brought.now) c.args.now c.prepare.new.gone number c.in-Cell.is c.requires.takes c.requires.opened
     c.prepare.ensures
 
 pub prepare-requires-clause-room : goal.prepare-requires-clause-room

@@ -1,12 +1,13 @@
 use Rattle.std.proofs.Common.{◌≡◌, ◌∙◌, ◌+◌, ◌++◌, ℕ, List, [], ◌∷◌, ap, sym, subst, refl, length, map, arith}
 use Rattle.std.proofs.lemmas.List.{length_push}
 use Rattle.histories.specs.Words.{here}
-use Rattle.port_pool.specs.Ports.{pair_count}
+use Rattle.port_pool.specs.Ports.{pair_count, pair_port}
+use Rattle.port_pool.specs.declared.pairs.Lease.{Lease}
 use Rattle.port_pool.specs.Pools.{AreFree}
 use Rattle.port_pool.specs.declared.holder.Holder.{Holder}
 use Rattle.call_cell.specs.Preparing.{added, parts_added}
-use Rattle.media_ports.specs.Addresses.{pairs_of}
-use Rattle.media_ports.specs.Ends.{AreUncalled}
+use Rattle.media_ports.specs.Addresses.{pairs_of, HavePorts}
+use Rattle.media_ports.specs.Ends.{AreOpened}
 use Rattle.relay_core.specs.Scripts.{opening}
 use Rattle.relay_core.specs.Turning.{GainsNested, made_by}
 use Rattle.nested_steps.proofs.Nesting.{same_again}
@@ -26,7 +27,8 @@ loop-index-init g c =
       done = none_done c.args.plan.now c.args.call c.args.cell _ c.args.leases.list c.args.opened.list c.args.legs.now.list (parts_added c.args.prepare.now) none;
       leased = c.requires.leased.differ;
       shut = c.requires.shut;
-      uncalled = c.requires.uncalled;
+      ports = c.requires.leased.ports;
+      opened = c.requires.opened;
       added = added_none (added c.args.prepare.now) c.args.legs.now.list none;
       stands = λ keys dropped s. s;
       leg_room = omega arith;
@@ -52,6 +54,20 @@ open_leg-requires-clause-shut g c =
     let left = popped c.loop-index.leases.list rest c.pop.result c.unwrap-lease.result c.pop.ensures.list c.unwrap-lease.ensures in
     subst (AreShut c.args.config.now (made_by c.loop-index.hand)) (pairs_left c.loop-index.leases.list rest c.unwrap-lease.result c.pair.result left c.pair.ensures)
     c.loop-index.invariant.shut c.pair.result (here refl)
+
+pub open_leg-requires-clause-port : goal.open_leg-requires-clause-port
+open_leg-requires-clause-port g c =
+    let left = popped c.loop-index.leases.list c.pop.new.self.list c.pop.result c.unwrap-lease.result c.pop.ensures.list c.unwrap-lease.ensures in
+    (subst (HavePorts c.args.config.now) left c.loop-index.invariant.ports).0 ∙ ap (pair_port c.args.config.now) (sym c.pair.ensures)
+
+pub open_leg-requires-clause-ends : goal.open_leg-requires-clause-ends
+open_leg-requires-clause-ends g c =
+    let opens = AreOpened g.I.InEnd.told g.O.OutEnd.told c.args.config.now.interface in
+    let ends = c.unwrap-ends.result in
+    let open_rest = c.pop-in-loop-index.new.self.list in
+    let left = popped c.loop-index.leases.list c.pop.new.self.list c.pop.result c.unwrap-lease.result c.pop.ensures.list c.unwrap-lease.ensures in
+    let open_left = popped c.loop-index.opened.list open_rest c.pop-in-loop-index.result ends c.pop-in-loop-index.ensures.list c.unwrap-ends.ensures in
+    (subst (λ (leases : List Lease). opens leases (ends ∷ open_rest)) left (subst (opens c.loop-index.leases.list) open_left c.loop-index.invariant.opened)).0
 
 pub loop-index-preserved : goal.loop-index-preserved
 loop-index-preserved g c =
@@ -90,7 +106,9 @@ loop-index-preserved g c =
           (more_is ∙ ap (λ (h : Holder). legs ++ h ∷ []) same_holder) step.parts;
       leased = free.2;
       shut = shut_still config number moment holder (pairs_of rest) mid new step.gained (subst (AreShut config (made_by mid)) pairs inv.shut) free.1;
-      uncalled = (subst (AreUncalled g.I.InEnd.told g.O.OutEnd.told) open_left inv.uncalled).1;
+      ports = (subst (HavePorts config) left inv.ports).1;
+      opened = (subst (λ (ls : List Lease). AreOpened g.I.InEnd.told g.O.OutEnd.told config.interface ls (ends ∷ open_rest)) left
+          (subst (AreOpened g.I.InEnd.told g.O.OutEnd.told config.interface c.loop-index.leases.list) open_left inv.opened)).1;
       added = added_more (added c.args.prepare.now) (added c.loop-index.prepare) (added c.open_leg.new.prepare) legs more holder inv.added step.added more_is;
       stands = λ keys dropped s. step.stands keys dropped (inv.stands keys dropped s);
       leg_room = let a = step.room.0 in let b = inv.leg_room in omega (arith, a, b);

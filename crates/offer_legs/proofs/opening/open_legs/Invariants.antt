@@ -4,8 +4,8 @@ use Rattle.port_pool.specs.Ports.{pair_count}
 use Rattle.port_pool.specs.Pools.{AreFree}
 use Rattle.port_pool.specs.Signals.{NewKey}
 use Rattle.call_cell.specs.Preparing.{IsReady, PrepareFor, added, parts_added, leg_room, key_room}
-use Rattle.media_ports.specs.Addresses.{pairs_of}
-use Rattle.media_ports.specs.Ends.{AreUncalled}
+use Rattle.media_ports.specs.Addresses.{pairs_of, HavePorts}
+use Rattle.media_ports.specs.Ends.{AreOpened}
 use Rattle.relay_core.specs.Scripts.{opening}
 use Rattle.relay_core.specs.Turning.{GainsNested, made_by}
 use Rattle.nested_steps.specs.Nesting.{MayNest}
@@ -22,7 +22,8 @@ invariant-loop-index g l = record {
       l.initial.leases.list l.leases.list l.initial.opened.list l.opened.list l.index l.legs.list (parts_added l.initial.prepare) (parts_added l.prepare);
   leased : AreFree (pair_count l.config) (pairs_of l.leases.list);
   shut : AreShut l.config (made_by l.hand) (pairs_of l.leases.list);
-  uncalled : AreUncalled g.I.InEnd.told g.O.OutEnd.told l.opened.list;
+  ports : HavePorts l.config l.leases.list;
+  opened : AreOpened g.I.InEnd.told g.O.OutEnd.told l.config.interface l.leases.list l.opened.list;
   added : added l.prepare ≡ added l.initial.prepare ++ l.legs.list;
   stands : (keys : List NewKey) (dropped : List ℕ) → PrepareFor l.initial.prepare keys dropped → PrepareFor l.prepare keys dropped;
   leg_room : leg_room l.prepare + l.index ≡ leg_room l.initial.prepare;

@@ -16,7 +16,7 @@ use Rattle.offer_turns.proofs.Targets.{cell_within, legs_are, keys_are}
 use Rattle.offer_turns.proofs.Leased.{are_leased, are_shut}
 use Rattle.offer_turns.proofs.Brought.{keys_new, can_prepare, brings}
 use Rattle.offer_turns.proofs.Dropped.{went_dropped}
-use Rattle.offer_turns.proofs.Leaving.{legs_uncalled, opened_leave}
+use Rattle.offer_turns.proofs.Leaving.{legs_opened, opened_leave}
 use Rattle.offer_turns.proofs.preparing.prepare_offer.Goals as goal
 
 pub open_legs-requires-clause-cell : goal.open_legs-requires-clause-cell
@@ -180,10 +180,15 @@ returns-clause-same g c = (
   λ j. c.prepare_cell.ensures.same.1 j ∙ c.open_legs.ensures.same.1 j,
 )
 
-pub prepare_cell-requires-clause-uncalled : goal.prepare_cell-requires-clause-uncalled
-prepare_cell-requires-clause-uncalled g c =
+pub prepare_cell-requires-clause-opened : goal.prepare_cell-requires-clause-opened
+prepare_cell-requires-clause-opened g c =
     let parts = c.bring_keys.ensures.legs.parts_are ∙ c.open_legs.ensures.parts ∙ ap (λ (xs : List _). xs ++ leased_parts c.args.leases.list c.args.opened.list) c.requires.room.0.no_parts in
-    legs_uncalled g.I.InEnd.told g.O.OutEnd.told c.bring_keys.new.prepare c.args.leases.list c.args.opened.list parts c.requires.uncalled
+    let config = c.args.config.now in
+    let l = made_by c.args.hand.now in
+    let leased = are_leased config (board_history l c.args.nest.number) (pair_count c.args.plan.now.plan) c.args.leases.list
+    (good_history config l c.requires.orderly c.args.nest.number) c.requires.leases in
+    legs_opened g.I.InEnd.told g.O.OutEnd.told config c.bring_keys.new.prepare _ _ c.args.leases.list c.args.opened.list parts leased.ports c.requires.ends
+    (prepare_cell-requires-clause-tells g c)
 
 pub returns-clause-leave : goal.returns-clause-leave
 returns-clause-leave g c =

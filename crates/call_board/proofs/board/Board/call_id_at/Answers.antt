@@ -1,0 +1,10 @@
+use Rattle.std.proofs.Common.{◌∙◌, ap, sym, Some}
+use Rattle.call_board.specs.declared.live_call.LiveCall.{LiveCall}
+use Rattle.call_board.proofs.Shown.{id_at}
+use Rattle.call_board.proofs.board.Board.call_id_at.Goals as goal
+
+pub returns : goal.returns
+returns c = λ config v s.
+    id_at config c.args.self.now.calls.items v.calls c.args.index c.index.result.now s.calls_for c.requires
+    ∙ ap (λ (call : LiveCall). Some call.id.list) (sym c.index.ensures)
+    ∙ ap Some (sym c.as_slice.ensures)

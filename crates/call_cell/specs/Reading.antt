@@ -1,0 +1,64 @@
+-- What a cell tells of its legs.
+use Rattle.std.specs.Prelude.{ℕ, List, [], ◌∷◌, Option, Some, None, position, slice_get, filter_map}
+use Rattle.std.specs.List.{flat_map}
+use Rattle.std.specs.Option.{option_and_then}
+use Rattle.relay_outside.specs.declared.settings.Config.{Config}
+use Rattle.rtp_packet.specs.declared.head.Half.TheVariants.{Rtp}
+use Rattle.histories.specs.Words.{numbers}
+use Rattle.port_pool.specs.declared.holder.Side.{Side}
+use Rattle.port_pool.specs.declared.holder.Side.TheVariants.{A, B}
+use Rattle.port_pool.specs.declared.reports.LegReport.{LegReport}
+use Rattle.port_pool.specs.declared.signal.LegSignal.{LegSignal}
+use Rattle.call_cell.specs.declared.leg.Leg.{Leg}
+use Rattle.call_cell.specs.declared.cell.Cell.{Cell}
+use Rattle.call_cell.specs.Cells.{CellEntry, Read}
+use Rattle.call_cell.specs.Learning.{endpoint_by}
+use Rattle.call_cell.specs.Asked.{FitsCell, stands_at}
+use Rattle.call_cell.specs.Parts.{learned_in}
+use Rattle.call_cell.specs.CellStanding.{CellFor, last_moment}
+
+-- A leg.
+
+-- what a leg with that in force tells
+abbrev pub told_under : {O : Type 0} → Leg O → Option LegSignal → Option LegReport
+told_under leg None = None
+told_under leg (Some s) = Some (record {
+  section = leg.holder.section;
+  side = leg.holder.side;
+  port = leg.lease.rtp_port;
+  endpoint = endpoint_by s (learned_in Rtp leg.receiving) Rtp;
+  rtp_accepted = leg.counts.rtp_accepted;
+  rtp_sent = leg.counts.rtp_sent;
+  rtcp_accepted = leg.counts.rtcp_accepted;
+  rtcp_sent = leg.counts.rtcp_sent;
+})
+
+abbrev pub told_by : {O : Type 0} → Leg O → Option LegReport
+told_by leg = told_under leg leg.signal
+
+-- The legs.
+
+-- the leg of that section and side, of the place where it is found
+abbrev pub told_from : {O : Type 0} → List (Leg O) → Option ℕ → Option LegReport
+told_from {O} those place = option_and_then (λ (leg : Leg O). told_by leg) (option_and_then (slice_get those) place)
+
+abbrev pub told_at : {O : Type 0} → List (Leg O) → ℕ → Side → Option LegReport
+told_at {O} those section side = told_from those (position (λ (leg : Leg O). stands_at section side leg.holder) those)
+
+abbrev pub told_in : {O : Type 0} → List (Leg O) → ℕ → List LegReport
+told_in those section = filter_map (told_at those section) (A ∷ B ∷ [])
+
+-- the reports of all, by section, that of side A first
+abbrev pub told_of : {O : Type 0} → List (Leg O) → List LegReport
+told_of those = flat_map (told_in those) (numbers 0 8)
+
+-- The cell.
+
+-- reading a cell, which is handed no moment
+abbrev pub read_after : List CellEntry → List LegReport → CellEntry
+read_after h told = record { moment = last_moment h; event = Read told }
+
+-- the cell tells the reports of its legs after that history, and nothing changes
+pub record CellReads {O : Type 0} (config : Config) (cell : Cell O) (h : List CellEntry) (told : List LegReport) : Type 0 where
+  pub fits : FitsCell config h (read_after h told)
+  pub stands : CellFor config cell (read_after h told ∷ h)

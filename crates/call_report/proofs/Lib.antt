@@ -1,0 +1,6 @@
+pub mod Pushed
+pub mod Found
+pub mod Sections
+pub mod Ordered
+pub mod Listed
+pub mod Shallow

@@ -1,0 +1,84 @@
+//! What is told of a leg.
+ghost use Rattle.std.specs.Prelude.{◌≡◌, ◌<◌, ◌^◌, List, IfOk};
+ghost use Rattle.ng_bencode.specs.Tree.{tree_of};
+ghost use Rattle.port_pool.specs.Reports.{CountsFit};
+ghost use Rattle.offer_answer.specs.Rounds.{Round};
+ghost use Rattle.offer_answer.specs.Texts.{host_of_ip};
+ghost use Rattle.offer_answer.specs.Plan as plan;
+ghost use Rattle.call_board.specs.Reports.{counts, endpoint_value, profile_text, leg_value};
+
+use crate::values::{put_pair, put_text, whole};
+use ng_bencode::{Pairs, Value};
+use port_pool::LegReport;
+use relay_outside::{Addr, Ip, OutOfMemory};
+use sdp_text::{Host, Proto, host_text};
+use std::alloc::Global;
+
+/// What is told of a committed leg, by the profile in force on it.
+pub(crate) fn leg_value(
+    alloc: Global,
+    told: &LegReport,
+    profile: Option<Proto>,
+) -> Result<Value, OutOfMemory>
+    requires { CountsFit told.now }
+    ensures { (rounds : List Round) → profile ≡ plan.protocol rounds told.now.section told.now.side →
+        IfOk result (λ value. tree_of value ≡ leg_value rounds told.now) }
+{
+    let rtcp = counts(alloc, told.rtcp_accepted, told.rtcp_sent)?;
+    let rtp = counts(alloc, told.rtp_accepted, told.rtp_sent)?;
+    let endpoint = endpoint_value(alloc, told.endpoint)?;
+    let mut pairs = Pairs::new(alloc);
+    put_pair(alloc, &mut pairs, b"RTCP", rtcp)?;
+    put_pair(alloc, &mut pairs, b"RTP", rtp)?;
+    put_pair(alloc, &mut pairs, b"endpoint", endpoint)?;
+    put_pair(alloc, &mut pairs, b"index", whole(told.section as u64 + 1))?;
+    put_pair(alloc, &mut pairs, b"local port", whole(told.port as u64))?;
+    put_text(alloc, &mut pairs, b"protocol", profile_text(profile))?;
+    Ok(Value::dict(pairs))
+}
+
+/// How many packets of one half were accepted from a leg, and how many were sent by its ports. Each number is below 2^63.
+fn counts(alloc: Global, accepted: u64, sent: u64) -> Result<Value, OutOfMemory>
+    requires accepted { accepted < 2 ^ 63 }
+    requires sent { sent < 2 ^ 63 }
+    ensures { IfOk result (λ value. tree_of value ≡ counts accepted sent) }
+{
+    let mut pairs = Pairs::new(alloc);
+    put_pair(alloc, &mut pairs, b"accepted", whole(accepted))?;
+    put_pair(alloc, &mut pairs, b"sent", whole(sent))?;
+    Ok(Value::dict(pairs))
+}
+
+/// An address and a port to which RTP goes.
+fn endpoint_value(alloc: Global, at: Addr) -> Result<Value, OutOfMemory>
+    ensures { IfOk result (λ value. tree_of value ≡ endpoint_value at) }
+{
+    let text = host_text(&host_of_ip(at.ip));
+    let mut pairs = Pairs::new(alloc);
+    put_text(alloc, &mut pairs, b"address", text.as_slice())?;
+    put_pair(alloc, &mut pairs, b"port", whole(at.port as u64))?;
+    Ok(Value::dict(pairs))
+}
+
+/// The address as that of a host in a description.
+fn host_of_ip(ip: Ip) -> Host
+    ensures { result ≡ host_of_ip ip }
+{
+    match ip {
+        Ip::V4(bytes) => Host::V4(bytes),
+        Ip::V6(bytes) => Host::V6(bytes),
+    }
+}
+
+/// The text of a profile, as an `m=` line has it. It is empty where there is no profile, or one that isn't of RTP.
+fn profile_text(profile: Option<Proto>) -> &'static [u8]
+    ensures { result.now ≡ profile_text profile }
+{
+    match profile {
+        Some(Proto::Avp) => b"RTP/AVP",
+        Some(Proto::Avpf) => b"RTP/AVPF",
+        Some(Proto::Savp) => b"RTP/SAVP",
+        Some(Proto::Savpf) => b"RTP/SAVPF",
+        Some(Proto::Other) | None => b"",
+    }
+}

@@ -1,0 +1,90 @@
+ghost use Rattle.std.specs.Prelude.{◌≡◌, ◌<◌, ◌≤◌, [], ◌∷◌, ◌++◌, length, IfOk, slice_get, Some};
+
+use crate::holder::Side;
+use relay_outside::{Addr, OutOfMemory};
+use std::alloc::Global;
+use std::marker::Model;
+
+/// How many legs a call may have: one for each side of 8 sections.
+const MOST: usize = 16;
+
+/// What is told of a committed leg: where it stands, where its packets go, and how many packets of each half there were since
+/// the leg came.
+#[derive(Clone, Copy, PartialEq, Eq, Debug)]
+pub struct LegReport {
+    /// The section of the description, from 0.
+    pub section: u8,
+    /// The side.
+    pub side: Side,
+    /// The leg's local port for RTP.
+    pub port: u16,
+    /// Where RTP is sent: the learned source, or else the signalled address.
+    pub endpoint: Addr,
+    /// How many RTP packets were accepted from the side.
+    pub rtp_accepted: u64,
+    /// How many RTP packets were sent to the side.
+    pub rtp_sent: u64,
+    /// How many RTCP packets were accepted from the side.
+    pub rtcp_accepted: u64,
+    /// How many RTCP packets were sent to the side.
+    pub rtcp_sent: u64,
+}
+
+/// What is told of the legs of a call, with room for all of them. Contracts see it as a list.
+#[derive(Drop)]
+pub struct LegReports {
+    reports: Vec<LegReport>,
+}
+
+impl Model for LegReports {
+    ghost use Rattle.std.specs.Prelude.{◌≤◌, List, vec_capacity};
+    ghost use Rattle.port_pool.specs.declared.reports.LegReport.{LegReport};
+
+    ghost Value = { List LegReport };
+
+    ghost view = { λ told. told.reports.items };
+
+    ghost invariant = { λ told. 16 ≤ vec_capacity told.reports };
+}
+
+impl LegReports {
+    /// No report yet, with room for 16.
+    pub fn new(alloc: Global) -> Result<LegReports, OutOfMemory>
+        ensures { IfOk result (λ told. told ≡ []) }
+    {
+        match Vec::with_capacity(alloc, MOST) {
+            Ok(reports) => Ok(LegReports { reports }),
+            Err(_) => Err(OutOfMemory),
+        }
+    }
+
+    /// How many reports there are.
+    pub fn len(&self) -> usize
+        ensures { result ≡ length self.now }
+    {
+        self.reports.len()
+    }
+
+    /// A report by its place, from 0.
+    pub fn get(&self, index: usize) -> LegReport
+        requires { index < length self.now }
+        ensures { slice_get self.now index ≡ Some result }
+    {
+        self.reports[index]
+    }
+
+    /// Drops all reports. The room stays.
+    pub fn clear(&mut self)
+        ensures { self.new ≡ [] }
+    {
+        self.reports.clear();
+    }
+
+    /// Adds a report behind the others. It takes no memory.
+    pub fn push(&mut self, report: LegReport)
+        requires { length self.old < 16 }
+        ensures { self.new ≡ self.old ++ report ∷ [] }
+    {
+        self.reports.push_reserved(report);
+    }
+}

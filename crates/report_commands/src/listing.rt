@@ -1,0 +1,46 @@
+//! A list.
+ghost use Rattle.std.specs.Prelude.{◌≡◌, [], IfOk, map, take};
+ghost use Rattle.relay_outside.specs.declared.settings.Config.{Config};
+ghost use Rattle.call_board.specs.Boards.{Shows};
+ghost use Rattle.call_board.specs.Replies.{Listed, reply_datagram};
+ghost use Rattle.call_board.specs.Views.{View, CallView};
+ghost use Rattle.control_entries.specs.Giving.{IsUnasked};
+ghost use Rattle.control_entries.specs.Telling.{Tells};
+
+use call_board::Board;
+use control_entries::{Done, Request, told};
+use control_replies::value_datagram;
+use ng_bencode::Text;
+use offer_answer::Heard;
+use relay_outside::OutOfMemory;
+use std::alloc::Global;
+
+/// The datagram of a list's reply. `Err` is want of memory.
+fn list_datagram(
+    alloc: Global,
+    board: &Board,
+    cookie: &[u8],
+    limit: u32,
+) -> Result<Text, OutOfMemory>
+    requires shown { (config : Config) × (v : View) × Shows config board.now v }
+    ensures { (config : Config) (v : View) → Shows config board.now v →
+        IfOk result (λ text. text.list ≡ reply_datagram config cookie.now (Listed (take limit (map (λ (c : CallView). c.of.id) v.calls)))) }
+{
+    let Ok(value) = call_report::list(alloc, board, limit) else {
+        return Err(OutOfMemory);
+    };
+    value_datagram(alloc, cookie, &value)
+}
+
+/// Tells the call-ids of the live calls, in order of their creation, up to so many. Nothing is done.
+pub fn list(alloc: Global, board: &Board, request: &Request, limit: u32) -> Done
+    requires shown { (config : Config) × (v : View) × Shows config board.now v }
+    ensures tells { (config : Config) (v : View) → Shows config board.now v →
+        Tells [] (reply_datagram config request.now.cookie.now (Listed (take limit (map (λ (c : CallView). c.of.id) v.calls)))) result }
+    ensures unasked { IsUnasked result.gave }
+{
+    told(
+        Heard::none(),
+        list_datagram(alloc, board, request.cookie, limit),
+    )
+}

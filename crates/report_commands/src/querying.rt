@@ -1,0 +1,111 @@
+//! A query.
+ghost use Rattle.std.specs.Prelude.{◌≡◌, ℕ, IfOk, Option, List, Some};
+ghost use Rattle.relay_outside.specs.declared.ports.PortCall.{PortCall};
+ghost use Rattle.relay_outside.specs.declared.settings.Config.{Config};
+ghost use Rattle.histories.specs.Words.{In};
+ghost use Rattle.port_pool.specs.Reports.{CountsFit};
+ghost use Rattle.port_pool.specs.declared.reports.LegReport.{LegReport};
+ghost use Rattle.turn_table.specs.Hands.{IsSameHand, SameTurns, entries};
+ghost use Rattle.ng_bencode.specs.Tree.{Entries};
+ghost use Rattle.ng_command.specs.Said.{Query};
+ghost use Rattle.call_board.specs.Boards.{Shows};
+ghost use Rattle.call_board.specs.Replies.{Reported, reply_datagram};
+ghost use Rattle.call_board.specs.Views.{View, CallView, call_numbered};
+ghost use Rattle.relay_core.specs.Entries.{board_history};
+ghost use Rattle.relay_core.specs.Turning.{made_by};
+ghost use Rattle.nested_steps.specs.Nesting.{MayNest};
+ghost use Rattle.board_turns.specs.Acting.{InTurn};
+ghost use Rattle.board_turns.specs.Ties.{Ties};
+ghost use Rattle.control_entries.specs.Carrying.{hearing_by, Carries};
+ghost use Rattle.control_entries.specs.Giving.{IsUnasked};
+ghost use Rattle.control_entries.specs.Telling.{IsAnew, IsAsking};
+ghost use Rattle.report_commands.specs.Told.{TellsOf, view_report};
+
+use board_turns::query_call;
+use call_board::Board;
+use control_entries::{Done, Gave, Request, refused, short};
+use control_replies::value_datagram;
+use nested_steps::Nest;
+use ng_bencode::Text;
+use ng_command::QueryIn;
+use ng_reply::ErrorCode;
+use offer_answer::Heard;
+use port_pool::LegReports;
+use relay_core::Relay;
+use relay_outside::{Config, InEnd, OutEnd, OutOfMemory};
+use std::alloc::Global;
+use std::sync::Wait;
+use turn_table::{Hand, Turns};
+
+/// The datagram of the reply to a query of a live call with these reports of its legs. `Err` is want of memory.
+fn report_datagram(
+    alloc: Global,
+    board: &Board,
+    cookie: &[u8],
+    call: u64,
+    reports: &LegReports,
+) -> Result<Text, OutOfMemory>
+    requires shown { (config : Config) × (v : View) × (c : CallView) × Shows config board.now v × (call_numbered v call ≡ Some c) }
+    requires counts { (report : LegReport) → In report reports.now → CountsFit report }
+    ensures { (config : Config) (v : View) (c : CallView) → Shows config board.now v → call_numbered v call ≡ Some c →
+        IfOk result (λ text. text.list ≡ reply_datagram config cookie.now (Reported (view_report c reports.now))) }
+{
+    let Ok(value) = call_report::query(alloc, board, call, reports) else {
+        return Err(OutOfMemory);
+    };
+    value_datagram(alloc, cookie, &value)
+}
+
+/// A call was read, and this is the reply, where memory sufficed for it.
+fn reported(reports: LegReports, reply: Result<Text, OutOfMemory>) -> Done
+    ensures tells { (bytes : List ℕ) → IfOk reply (λ text. text.list ≡ bytes) → TellsOf reports bytes result }
+    ensures unasked { IsUnasked result.gave }
+{
+    match reply {
+        Ok(reply) => Done {
+            heard: Heard::none(),
+            gave: Gave::Report(reports),
+            reply: Some(reply),
+        },
+        Err(_) => Done {
+            heard: Heard::none(),
+            gave: Gave::ReportStarved(reports),
+            reply: None,
+        },
+    }
+}
+
+/// Tells of the live call of a query, in the board's turn of its datagram, or that no live call has the call-id (`E9`). The call's cell
+/// is read, and nothing is done besides. Where memory is short before the cell is read it is not read, and where it is short after that
+/// nothing is told.
+pub fn query<I: InEnd, O: OutEnd, R: Wait>(
+    rt: &R,
+    alloc: Global,
+    turns: &Turns<Relay<I, O>>,
+    hand: &mut Hand<Relay<I, O>>,
+    config: &Config,
+    nest: Nest,
+    board: &Board,
+    request: &Request,
+    input: &QueryIn,
+) -> Done
+    requires turn { (told : Option (List PortCall)) × InTurn config.now turns.now hand.old nest board.now told }
+    requires anew { IsAnew (board_history (made_by hand.old) nest.number) nest.moment request.now }
+    ensures same { IsSameHand hand.old hand.new × SameTurns hand.old hand.new }
+    ensures may { MayNest config.now turns.now hand.new }
+    ensures carries { (told : Option (List PortCall)) (pairs : Option Entries) → InTurn config.now turns.now hand.old nest board.now told →
+        IsAsking request.now pairs (Query input.now.call_id.list) →
+        Carries config.now hand.old hand.new nest (hearing_by request.now pairs result) result.reply board.now told }
+    ensures ties { (told : Option (List PortCall)) → Ties config.now told told (entries hand.old) (entries hand.new) }
+    ensures unasked { IsUnasked result.gave }
+{
+    let Some(call) = board.find_call(input.call_id.as_slice()) else {
+        return refused(alloc, request.cookie, ErrorCode::E9, Heard::none());
+    };
+    let Ok(mut reports) = LegReports::new(alloc) else {
+        return short();
+    };
+    query_call(rt, turns, hand, config, nest, board, call, &mut reports);
+    let reply = report_datagram(alloc, board, request.cookie, call, &reports);
+    reported(reports, reply)
+}
