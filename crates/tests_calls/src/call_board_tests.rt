@@ -11,7 +11,7 @@ use std::alloc::Global;
 use std::process::Abort;
 
 /// One call may be live, over two pairs of ports.
-const CONFIG: Config = Config {
+pub(crate) const CONFIG: Config = Config {
     interface: Ip::V4([203, 0, 113, 1]),
     interface6: None,
     port_min: 30000,

@@ -1,7 +1,9 @@
 ghost use Rattle.std.specs.Prelude.{◌≡◌};
 
 use crate::two_pairs::two_pairs;
-use call_cell::{Cell, Gone, InContexts, Incoming, Outcome, Prepare, Refused};
+use call_cell::{
+    Cell, Gone, InContexts, Incoming, LegReport, LegReports, Outcome, Prepare, Refused,
+};
 use port_pool::{Holder, Lease, Side, Signal};
 use relay_outside::{Addr, Config, Ip, PortMaker, SteadyMaker, SteadyOut};
 use rtp_packet::Half;
@@ -121,6 +123,26 @@ fn a_leg_is_prepared_with_a_key_and_goes_at_the_end(rt: HostRuntime) {
     assert!(rt; cell.relay(&PACKET, &mut buf, 0) == Outcome::Refused(Refused::NotAnswered));
     let ports = gone_at_end(&rt, rt.alloc(), &mut cell);
     assert!(rt; ports == (Some(30_000), None), "its leg went alone");
+}
+
+#[test]
+fn a_leg_is_not_told_of_before_its_answer(rt: HostRuntime) {
+    let cell = offered(&rt, rt.alloc());
+    let Ok(mut told) = LegReports::new(rt.alloc()) else {
+        panic!(rt; "no memory");
+    };
+    told.push(LegReport {
+        section: 0,
+        side: Side::A,
+        port: 30_000,
+        endpoint: PACKET.source,
+        rtp_accepted: 1,
+        rtp_sent: 2,
+        rtcp_accepted: 3,
+        rtcp_sent: 4,
+    });
+    cell.read_legs(&mut told);
+    assert!(rt; told.len() == 0, "what was told before is gone too");
 }
 
 #[test]

@@ -7,6 +7,8 @@ mod call_board_tests;
 #[cfg(test)]
 mod call_cell_tests;
 #[cfg(test)]
+mod call_report_tests;
+#[cfg(test)]
 mod endpoint_learn_tests;
 #[cfg(test)]
 mod offer_answer_tests;

@@ -1,3 +1,4 @@
 mod boxes;
 mod pairs;
+mod reports;
 mod signals;

@@ -16,10 +16,12 @@ const CONFIG: Config = Config {
 
 // An in end at which nothing is.
 #[derive(Drop)]
-struct Quiet;
+struct Quiet {
+    at: Addr,
+}
 
 impl InEnd for Quiet {
-    ghost told = { λ end. None };
+    ghost told = { λ end. record { at = end.at; calls = None } };
 
     ghost faults = { λ end. 0 };
 
@@ -30,10 +32,12 @@ impl InEnd for Quiet {
 
 // An out end that no packet leaves.
 #[derive(Drop)]
-struct Mute;
+struct Mute {
+    at: Addr,
+}
 
 impl OutEnd for Mute {
-    ghost told = { λ end. None };
+    ghost told = { λ end. record { at = end.at; calls = None } };
 
     ghost faults = { λ end. 0 };
 

@@ -64,7 +64,7 @@ fn held_box(alloc: Global, rtp: usize, rtcp: usize) -> Result<PairBox<SteadyIn>,
 {
     let rtp = in_end(alloc, rtp)?;
     let rtcp = in_end(alloc, rtcp)?;
-    let mut held = PairBox::empty(1);
+    let mut held = PairBox::empty(1, AT);
     held.put_in(HOLDER, rtp, rtcp);
     Ok(held)
 }

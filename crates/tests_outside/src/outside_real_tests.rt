@@ -1,3 +1,5 @@
+ghost use Rattle.std.specs.Prelude.{◌≡◌};
+
 use outside_real::{
     ChaChaKeys, LinkFault, Readiness, StdLines, StdSink, StopPipe, SystemClock, SystemTimer, UdpIn,
     UdpLink, UdpMaker, UdpOut, addr_of, socket_addr,
@@ -72,21 +74,24 @@ fn an_address_in_use_can_not_be_bound(rt: HostRuntime) {
     assert!(rt; one.fault().is_none());
 }
 
-/// What may be moved to another thread.
-fn movable<T: Send>(end: T) -> T {
-    end
-}
+/// Takes what may be moved to another thread, and nothing else.
+fn movable<T: Send>(_end: &T) {}
 
 /// The ends of a port that is opened.
-fn open<R: Net>(rt: &impl Abort, maker: &mut UdpMaker<R>, at: Addr) -> (UdpIn, UdpOut) {
+fn open<R: Net>(rt: &impl Abort, maker: &mut UdpMaker<R>, at: Addr) -> (UdpIn, UdpOut)
+    ensures { ((⟦<UdpIn as InEnd>⟧.told result.0).at ≡ at) × ((⟦<UdpOut as OutEnd>⟧.told result.1).at ≡ at) }
+{
     let Ok(ends) = maker.open(at) else {
         panic!(rt; "not opened");
     };
-    movable(ends)
+    movable(&ends);
+    ends
 }
 
 /// Whether a take gives this.
-fn takes(end: &mut UdpIn, buf: &mut [u8; 4], wanted: Option<(Addr, usize)>) -> bool {
+fn takes(end: &mut UdpIn, buf: &mut [u8; 4], wanted: Option<(Addr, usize)>) -> bool
+    ensures { (⟦<UdpIn as InEnd>⟧.told end.new).at ≡ (⟦<UdpIn as InEnd>⟧.told end.old).at }
+{
     end.take(buf) == Ok(wanted)
 }
 
@@ -94,16 +99,17 @@ fn takes(end: &mut UdpIn, buf: &mut [u8; 4], wanted: Option<(Addr, usize)>) -> b
 fn a_packet_goes_from_port_to_port(rt: HostRuntime) {
     let readiness = hints(rt.alloc());
     let mut maker = UdpMaker::new(&rt, &readiness);
-    let (mut one_in, mut one_out) = open(&rt, &mut maker, local(80));
-    let (mut two_in, two_out) = open(&rt, &mut maker, local(81));
+    let (one, two) = (local(80), local(81));
+    let (mut one_in, mut one_out) = open(&rt, &mut maker, one);
+    let (mut two_in, two_out) = open(&rt, &mut maker, two);
     let mut buf = [0; 4];
     assert!(rt; takes(&mut two_in, &mut buf, None), "a take doesn't wait");
-    assert!(rt; one_out.send(local(81), b"one").is_ok());
-    assert!(rt; one_out.send(local(81), b"longer").is_ok());
-    assert!(rt; takes(&mut two_in, &mut buf, Some((local(80), 3))));
+    assert!(rt; one_out.send(two, b"one").is_ok());
+    assert!(rt; one_out.send(two, b"longer").is_ok());
+    assert!(rt; takes(&mut two_in, &mut buf, Some((one, 3))));
     assert!(rt; &buf[..3] == b"one".as_slice());
     assert!(rt;
-        takes(&mut two_in, &mut buf, Some((local(80), 4))),
+        takes(&mut two_in, &mut buf, Some((one, 4))),
         "cut at the buffer"
     );
     assert!(rt; buf == *b"long");
@@ -112,8 +118,8 @@ fn a_packet_goes_from_port_to_port(rt: HostRuntime) {
         takes(&mut one_in, &mut buf, None),
         "its own sends don't come back"
     );
-    maker.close(local(80), one_in, one_out);
-    maker.close(local(81), two_in, two_out);
+    maker.close(one, one_in, one_out);
+    maker.close(two, two_in, two_out);
 }
 
 #[test]
@@ -121,24 +127,26 @@ fn a_port_is_free_once_it_is_closed(rt: HostRuntime) {
     let readiness = hints(rt.alloc());
     let mut maker = UdpMaker::new(&rt, &readiness);
     let mut other = UdpMaker::new(&rt, &readiness);
-    let (receiving, sending) = open(&rt, &mut maker, local(82));
-    assert!(rt; other.open(local(82)).is_err(), "in use");
-    maker.close(local(82), receiving, sending);
-    let (receiving, sending) = open(&rt, &mut other, local(82));
-    other.close(local(82), receiving, sending);
+    let at = local(82);
+    let (receiving, sending) = open(&rt, &mut maker, at);
+    assert!(rt; other.open(at).is_err(), "in use");
+    maker.close(at, receiving, sending);
+    let (receiving, sending) = open(&rt, &mut other, at);
+    other.close(at, receiving, sending);
 }
 
 #[test]
 fn an_address_of_the_other_family_can_not_be_sent_to(rt: HostRuntime) {
     let readiness = hints(rt.alloc());
     let mut maker = UdpMaker::new(&rt, &readiness);
-    let (receiving, mut sending) = open(&rt, &mut maker, local(83));
+    let at = local(83);
+    let (receiving, mut sending) = open(&rt, &mut maker, at);
     let six = Addr {
         ip: Ip::V6([0, 0, 0, 0, 0, 0, 0, 0, 0, 0, 0, 0, 0, 0, 0, 1]),
         port: 22_391,
     };
     assert!(rt; sending.send(six, b"lost").is_err());
-    maker.close(local(83), receiving, sending);
+    maker.close(at, receiving, sending);
 }
 
 /// Whether the lane gives this port, and no other, within so many milliseconds.

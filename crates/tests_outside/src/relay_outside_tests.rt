@@ -169,7 +169,10 @@ fn other_step(
     receiving: &mut MemoryIn,
     sending: &mut MemoryOut,
     second: Option<(Addr, usize)>,
-) -> Option<u32> {
+) -> Option<u32>
+    ensures receiving { (⟦<MemoryIn as InEnd>⟧.told receiving.new).at ≡ (⟦<MemoryIn as InEnd>⟧.told receiving.old).at }
+    ensures sending { (⟦<MemoryOut as OutEnd>⟧.told sending.new).at ≡ (⟦<MemoryOut as OutEnd>⟧.told sending.old).at }
+{
     let mut buf = [0; 16];
     if receiving.take(&mut buf).is_ok() {
         return Some(0);

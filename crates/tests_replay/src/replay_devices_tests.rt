@@ -201,10 +201,13 @@ fn an_end_gives_the_later_lines_at_its_port(rt: HostRuntime) {
 }
 
 /// Whether the next sends are answered so.
-fn are_sent<O: OutEnd>(end: &mut O, wanted: [bool; 4]) -> bool {
+fn are_sent<O: OutEnd>(end: &mut O, wanted: [bool; 4]) -> bool
+    ensures { (O.told end.new).at ≡ (O.told end.old).at }
+{
     let mut same = true;
     for done in wanted {
-        same = same && end.send(FOUR, b"packet").is_ok() == done;
+        let sent = end.send(FOUR, b"packet");
+        same = same && sent.is_ok() == done;
     }
     same
 }

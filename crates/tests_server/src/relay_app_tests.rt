@@ -45,7 +45,12 @@ const REPLIED: &[Case] = &[
     },
     Case {
         asked: &[b"5 d7:command4:liste"],
-        reply: Some(b"5 d12:error-reason20:unrecognized command6:result5:errore"),
+        reply: Some(b"5 d5:callsle6:result2:oke"),
+        ..ASKED_ONCE
+    },
+    Case {
+        asked: &[b"8 d7:call-id2:c17:command5:querye"],
+        reply: Some(b"8 d12:error-reason15:unknown call-id6:result5:errore"),
         ..ASKED_ONCE
     },
 ];

@@ -133,17 +133,17 @@ impl<'a> ControlLink for MeetingLink<'a> {
 #[derive(Drop)]
 struct MeetingIn<'a> {
     meeting: &'a Meeting,
-    port: u16,
+    at: Addr,
     is_given: bool,
 }
 
 impl<'a> InEnd for MeetingIn<'a> {
-    ghost told = { λ end. None };
+    ghost told = { λ end. record { at = end.at; calls = None } };
 
     ghost faults = { λ end. 0 };
 
     fn take(&mut self, buf: &mut [u8]) -> Result<Option<(Addr, usize)>, Failed> {
-        let speaks = self.port == 30_002 || self.port == 30_004;
+        let speaks = self.at.port == 30_002 || self.at.port == 30_004;
         if !speaks || self.is_given || !self.meeting.is_answered.load(Ordering::SeqCst) {
             return Ok(None);
         }
@@ -157,10 +157,12 @@ impl<'a> InEnd for MeetingIn<'a> {
 }
 
 #[derive(Drop)]
-struct NoOut;
+struct NoOut {
+    at: Addr,
+}
 
 impl OutEnd for NoOut {
-    ghost told = { λ end. None };
+    ghost told = { λ end. record { at = end.at; calls = None } };
 
     ghost faults = { λ end. 0 };
 
@@ -186,10 +188,10 @@ impl<'a> PortMaker for MeetingPorts<'a> {
     fn open(&mut self, at: Addr) -> Result<(MeetingIn<'a>, NoOut), Failed> {
         let receiving = MeetingIn {
             meeting: self.meeting,
-            port: at.port,
+            at,
             is_given: false,
         };
-        Ok((receiving, NoOut))
+        Ok((receiving, NoOut { at }))
     }
 
     fn close(&mut self, _at: Addr, _receiving: MeetingIn<'a>, _sending: NoOut) {}

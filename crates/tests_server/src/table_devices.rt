@@ -202,7 +202,7 @@ pub(crate) struct TableIn {
 }
 
 impl InEnd for TableIn {
-    ghost told = { λ end. None };
+    ghost told = { λ end. record { at = end.at; calls = None } };
 
     ghost faults = { λ end. 0 };
 
@@ -232,7 +232,7 @@ impl TableOut {
 }
 
 impl OutEnd for TableOut {
-    ghost told = { λ end. None };
+    ghost told = { λ end. record { at = end.at; calls = None } };
 
     ghost faults = { λ end. 0 };
 
@@ -305,7 +305,7 @@ impl PortMaker for TablePorts {
     ghost faults = { λ maker. 0 };
 
     fn open(&mut self, at: Addr) -> Result<(TableIn, TableOut), Failed> {
-        let TablePort { at, comes, goes } = self.find(at);
+        let TablePort { comes, goes, .. } = self.find(at);
         self.opened = self.opened.saturating_add(1);
         let receiving = TableIn { at, comes, next: 0 };
         let sending = TableOut {

@@ -1,8 +1,8 @@
 use control_replies::{
-    done_datagram, error_datagram, pong_datagram, reply_room, warned_datagram, write_described,
-    write_error,
+    done_datagram, error_datagram, pong_datagram, reply_room, value_datagram, warned_datagram,
+    write_described, write_error,
 };
-use ng_bencode::Text;
+use ng_bencode::{Text, Value};
 use ng_command::KeyName;
 use ng_reply::{ErrorCode, SdpPart};
 use relay_outside::OutOfMemory;
@@ -24,6 +24,8 @@ fn short_replies_are_their_bytes(rt: HostRuntime) {
     assert!(rt; is_told(done, b"5323_2 d6:result2:oke"));
     let warned = warned_datagram(alloc, b"5323_3", ErrorCode::E9);
     assert!(rt; is_told(warned, b"5323_3 d6:result2:ok7:warning15:unknown call-ide"));
+    let value = value_datagram(alloc, b"5323_7", &Value::int(9));
+    assert!(rt; is_told(value, b"5323_7 i9e"));
     let error = error_datagram(alloc, b"5323_4", ErrorCode::E4(KeyName::CallId));
     assert!(rt;
         is_told(

@@ -19,6 +19,20 @@ const ASKED: &[(&[u8], &[u8])] = &[
     // again, with the same cookie
     (OFFER, OFFERED),
     (ANSWER, ANSWERED),
+    (b"2_2 d7:call-id4:call7:command5:querye", REPORTED),
+    (
+        b"2_3 d7:command4:liste",
+        b"2_3 d5:callsl4:calle6:result2:oke",
+    ),
+    // an unknown call, and no call at all
+    (
+        b"2_4 d7:call-id1:x7:command5:querye",
+        b"2_4 d12:error-reason15:unknown call-id6:result5:errore",
+    ),
+    (
+        b"2_5 d7:command4:list5:limiti0ee",
+        b"2_5 d5:callsle6:result2:oke",
+    ),
     (
         b"3_1 d7:call-id4:call7:command6:deletee",
         b"3_1 d6:result2:oke",
@@ -49,6 +63,9 @@ const ANSWER: &[u8] =
 
 const ANSWERED: &[u8] =
     b"2_1 d6:result2:ok3:sdp116:v=0\r\no=bob 2 2 IN IP4 203.0.113.1\r\ns=-\r\nc=IN IP4 203.0.113.1\r\nt=0 0\r\nm=audio 30002 RTP/AVP 0\r\nc=IN IP4 203.0.113.1\r\ne";
+
+const REPORTED: &[u8] =
+    b"2_2 d7:createdi0e11:last signali0e6:result2:ok4:tagsd5:aliced6:mediasld4:RTCPd8:acceptedi0e4:senti0ee3:RTPd8:acceptedi0e4:senti0ee8:endpointd7:address10:192.0.2.104:porti6000ee5:indexi1e10:local porti30002e8:protocol7:RTP/AVPeee3:bobd6:mediasld4:RTCPd8:acceptedi0e4:senti0ee3:RTPd8:acceptedi0e4:senti0ee8:endpointd7:address13:198.51.100.204:porti7000ee5:indexi1e10:local porti30000e8:protocol7:RTP/AVPeeeee";
 
 /// Whether a datagram of the proxy gets just this reply.
 fn is_answered<R: Wait + Abort>(

@@ -1,6 +1,8 @@
-ghost use Rattle.std.specs.Prelude.{◌≡◌, ◌∷◌, [], length, OnOk, None};
+ghost use Rattle.std.specs.Prelude.{◌≡◌, ◌∷◌, [], List, length, slice_get, OnOk, None, Some};
 ghost use Rattle.port_pool.specs.Pools.{Pairs};
+ghost use Rattle.port_pool.specs.declared.pairs.Lease.{Lease};
 ghost use Rattle.media_ports.specs.Addresses.{ports_of};
+ghost use Rattle.media_ports.specs.Ends.{AreOpened, AreOfLease};
 
 use media_ports::{
     DrawnList, KeyFault, OpenedPairs, PairEnds, PortFault, address_of, close_pair, draw_keys,
@@ -26,7 +28,7 @@ struct In {
 }
 
 impl InEnd for In {
-    ghost told = { λ end. None };
+    ghost told = { λ end. record { at = end.at; calls = None } };
 
     ghost faults = { λ end. 0 };
 
@@ -48,7 +50,7 @@ struct Out {
 }
 
 impl OutEnd for Out {
-    ghost told = { λ end. None };
+    ghost told = { λ end. record { at = end.at; calls = None } };
 
     ghost faults = { λ end. 0 };
 
@@ -189,12 +191,13 @@ fn open_two(
     requires two { ports_of leases.now.list ≡ 30000 ∷ 30001 ∷ 30002 ∷ 30003 ∷ [] }
     requires none { opened.old.list ≡ [] }
     requires room { opened.old.room ≡ 2 }
-    ensures { OnOk result (length opened.new.list ≡ 2) }
+    ensures pairs { OnOk result (length opened.new.list ≡ 2) }
+    ensures opened { OnOk result (AreOpened ⟦<In as InEnd>⟧.told ⟦<Out as OutEnd>⟧.told INTERFACE leases.now.list opened.new.list) }
 {
     open_pairs(maker, INTERFACE, leases, opened)
 }
 
-/// Closes the ports of both.
+/// Closes the ports of both, each with its own ends.
 fn close_two(
     maker: &mut Maker,
     leases: &Leases,
@@ -202,6 +205,8 @@ fn close_two(
     second: PairEnds<In, Out>,
 )
     requires two { ports_of leases.now.list ≡ 30000 ∷ 30001 ∷ 30002 ∷ 30003 ∷ [] }
+    requires first { (lease : Lease) → slice_get leases.now.list 0 ≡ Some lease → AreOfLease ⟦<In as InEnd>⟧.told ⟦<Out as OutEnd>⟧.told INTERFACE lease first }
+    requires second { (lease : Lease) → slice_get leases.now.list 1 ≡ Some lease → AreOfLease ⟦<In as InEnd>⟧.told ⟦<Out as OutEnd>⟧.told INTERFACE lease second }
 {
     close_pair(maker, INTERFACE, leases.get(0), first);
     close_pair(maker, INTERFACE, leases.get(1), second);
@@ -210,6 +215,10 @@ fn close_two(
 /// The ends of two opened pairs.
 fn two_ends(opened: OpenedPairs<In, Out>) -> (PairEnds<In, Out>, PairEnds<In, Out>)
     requires { length opened.list ≡ 2 }
+    ensures first { (leases : List Lease) (lease : Lease) → AreOpened ⟦<In as InEnd>⟧.told ⟦<Out as OutEnd>⟧.told INTERFACE leases opened.list →
+        slice_get leases 0 ≡ Some lease → AreOfLease ⟦<In as InEnd>⟧.told ⟦<Out as OutEnd>⟧.told INTERFACE lease result.0 }
+    ensures second { (leases : List Lease) (lease : Lease) → AreOpened ⟦<In as InEnd>⟧.told ⟦<Out as OutEnd>⟧.told INTERFACE leases opened.list →
+        slice_get leases 1 ≡ Some lease → AreOfLease ⟦<In as InEnd>⟧.told ⟦<Out as OutEnd>⟧.told INTERFACE lease result.1 }
 {
     let mut opened = opened;
     let first = opened.pop().unwrap();
@@ -219,11 +228,15 @@ fn two_ends(opened: OpenedPairs<In, Out>) -> (PairEnds<In, Out>, PairEnds<In, Ou
 }
 
 /// Whether the pair's port for RTCP hears the phone, and that for RTP does not; that for RTP sends to it.
-fn hears_and_sends(ends: &mut PairEnds<In, Out>) -> bool {
+fn hears_and_sends(ends: &mut PairEnds<In, Out>) -> bool
+    ensures { (lease : Lease) → AreOfLease ⟦<In as InEnd>⟧.told ⟦<Out as OutEnd>⟧.told INTERFACE lease ends.old →
+        AreOfLease ⟦<In as InEnd>⟧.told ⟦<Out as OutEnd>⟧.told INTERFACE lease ends.new }
+{
     let mut buf = [0; 8];
-    ends.rtp_in.take(&mut buf) == Ok(None)
-        && ends.rtcp_in.take(&mut buf) == Ok(Some((PHONE, 5)))
-        && ends.rtp_out.send(PHONE, b"media").is_ok()
+    let rtp = ends.rtp_in.take(&mut buf);
+    let rtcp = ends.rtcp_in.take(&mut buf);
+    let sent = ends.rtp_out.send(PHONE, b"media");
+    (rtp == Ok(None)) & (rtcp == Ok(Some((PHONE, 5)))) & sent.is_ok()
 }
 
 /// Four openings, and the closings, those of the first pair first.

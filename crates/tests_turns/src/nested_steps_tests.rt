@@ -1,5 +1,9 @@
+ghost use Rattle.std.specs.Prelude.{◌≡◌};
+ghost use Rattle.port_pool.specs.Ports.{port_at};
+
 use crate::first_relay::{CONFIG, begin};
 use crate::quiet_devices::{Mute, Quiet};
+use media_ports::address_of;
 use nested_steps::{Nest, open_box, shut_box};
 use port_pool::{BoxTake, Holder, Side};
 use relay_core::Part;
@@ -15,6 +19,15 @@ const HOLDER: Holder = Holder {
     pair: 1,
     generation: 1,
 };
+
+// The in end of a port, at which nothing is.
+fn quiet(port: u16) -> Quiet
+    ensures { result.at ≡ port_at CONFIG.interface port }
+{
+    Quiet {
+        at: address_of(CONFIG.interface, port),
+    }
+}
 
 // What the box of a place answers to a take.
 fn taken(places: &mut [Part<Quiet, Mute>], place: usize) -> Option<BoxTake> {
@@ -35,7 +48,7 @@ fn a_box_is_opened_for_its_leg(rt: HostRuntime) {
         number: 0,
         moment: 5,
     };
-    let (rtp, rtcp) = (Quiet { port: 30_002 }, Quiet { port: 30_003 });
+    let (rtp, rtcp) = (quiet(30_002), quiet(30_003));
     open_box(&rt, &turns, &mut hand, &CONFIG, nest, HOLDER, rtp, rtcp);
     let mut places = turns.close(hand);
     assert!(rt; taken(places.as_mut_slice(), 3) == Some(BoxTake::Closed));
@@ -51,10 +64,10 @@ fn a_box_that_is_shut_gives_its_ends_back(rt: HostRuntime) {
         number: 0,
         moment: 5,
     };
-    let (rtp, rtcp) = (Quiet { port: 30_002 }, Quiet { port: 30_003 });
+    let (rtp, rtcp) = (quiet(30_002), quiet(30_003));
     open_box(&rt, &turns, &mut hand, &CONFIG, nest, HOLDER, rtp, rtcp);
     let (rtp, rtcp) = shut_box(&rt, &turns, &mut hand, &CONFIG, nest, HOLDER.pair);
-    assert!(rt; (rtp.port, rtcp.port) == (30_002, 30_003));
+    assert!(rt; (rtp.at.port, rtcp.at.port) == (30_002, 30_003));
     let mut places = turns.close(hand);
     assert!(rt; taken(places.as_mut_slice(), 4) == Some(BoxTake::Closed));
 }

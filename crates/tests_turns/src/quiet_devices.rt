@@ -1,5 +1,5 @@
 //! Devices to which nothing comes, and a control link that is asked one thing. They hold no memory of their own, and tell no list of their
-//! calls.
+//! calls. An end of a port tells the address that it was opened for.
 ghost use Rattle.std.specs.Prelude.{None};
 
 use relay_outside::{Addr, ControlLink, Failed, InEnd, Ip, KeySource, OutEnd, PortMaker, Taken};
@@ -7,11 +7,11 @@ use relay_outside::{Addr, ControlLink, Failed, InEnd, Ip, KeySource, OutEnd, Por
 /// An in end at which nothing is.
 #[derive(Drop)]
 pub(crate) struct Quiet {
-    pub(crate) port: u16,
+    pub(crate) at: Addr,
 }
 
 impl InEnd for Quiet {
-    ghost told = { λ end. None };
+    ghost told = { λ end. record { at = end.at; calls = None } };
 
     ghost faults = { λ end. 0 };
 
@@ -22,10 +22,12 @@ impl InEnd for Quiet {
 
 /// An out end that no packet leaves.
 #[derive(Drop)]
-pub(crate) struct Mute;
+pub(crate) struct Mute {
+    at: Addr,
+}
 
 impl OutEnd for Mute {
-    ghost told = { λ end. None };
+    ghost told = { λ end. record { at = end.at; calls = None } };
 
     ghost faults = { λ end. 0 };
 
@@ -48,7 +50,7 @@ impl PortMaker for QuietPorts {
     ghost faults = { λ maker. 0 };
 
     fn open(&mut self, at: Addr) -> Result<(Quiet, Mute), Failed> {
-        Ok((Quiet { port: at.port }, Mute))
+        Ok((Quiet { at }, Mute { at }))
     }
 
     fn close(&mut self, _at: Addr, _receiving: Quiet, _sending: Mute) {}

@@ -12,6 +12,12 @@ const HERE: Addr = Addr {
     port: 6000,
 };
 
+/// The address of the port for RTCP beside it.
+const THERE: Addr = Addr {
+    ip: Ip::V4([192, 0, 2, 1]),
+    port: 6001,
+};
+
 /// A leg of the call in the last of four cells.
 const LEG: Holder = Holder {
     cell: 4,
@@ -49,7 +55,7 @@ fn full(rt: &impl Abort, alloc: Global) -> PairBox<SteadyIn> {
     ];
     let rtp = Vec::from_array(alloc, rtp).expect(rt, "memory");
     let rtcp = Vec::from_array(alloc, [datagram(rt, alloc, 28)]).expect(rt, "memory");
-    let mut pair = PairBox::empty(4);
+    let mut pair = PairBox::empty(4, HERE);
     pair.put_in(LEG, end(rt, alloc, rtp), end(rt, alloc, rtcp));
     pair
 }
@@ -102,11 +108,17 @@ fn a_box_takes_from_the_end_of_each_half(rt: HostRuntime) {
 /// An in end whose takes all fail.
 #[derive(Drop)]
 struct BrokenIn {
+    at: Addr,
     faults: u64,
 }
 
+/// One that was not called yet.
+fn broken(at: Addr) -> BrokenIn {
+    BrokenIn { at, faults: 0 }
+}
+
 impl InEnd for BrokenIn {
-    ghost told = { λ end. None };
+    ghost told = { λ end. record { at = end.at; calls = None } };
 
     ghost faults = { λ end. end.faults };
 
@@ -118,8 +130,8 @@ impl InEnd for BrokenIn {
 
 #[test]
 fn a_fault_of_the_end_is_told(rt: HostRuntime) {
-    let mut pair = PairBox::empty(4);
-    pair.put_in(LEG, BrokenIn { faults: 0 }, BrokenIn { faults: 0 });
+    let mut pair = PairBox::empty(4, HERE);
+    pair.put_in(LEG, broken(HERE), broken(THERE));
     let mut buf = [0; 2001];
     assert!(rt; pair.take(Half::Rtcp, &mut buf) == BoxTake::Fault);
     let ends = pair.shut();

@@ -5,8 +5,8 @@ ghost use Rattle.nested_steps.specs.Bringing.{brought_keys, brought_dropped};
 
 use crate::first_relay::{CONFIG, begin};
 use crate::quiet_devices::Mute;
-use call_cell::{Gone, InContexts, Prepare};
-use nested_steps::{Brought, Nest, commit_cell, end_cell, expire_cell, prepare_cell};
+use call_cell::{Gone, InContexts, LegReports, Prepare};
+use nested_steps::{Brought, Nest, commit_cell, end_cell, expire_cell, prepare_cell, read_cell};
 use port_pool::{Side, Signal};
 use relay_outside::OutOfMemory;
 use sdes_lines::Suite;
@@ -114,4 +114,18 @@ fn a_committed_call_is_due_by_its_last_answer(rt: HostRuntime) {
     let old = expire_cell(&rt, &turns, &mut hand, &CONFIG, at(2, 260_000), 2);
     drop(turns.close(hand));
     assert!(rt; !young && old && rejected.pop().is_none());
+}
+
+#[test]
+fn a_cell_without_a_leg_tells_of_none(rt: HostRuntime) {
+    let alloc = rt.alloc();
+    let Ok(mut told) = LegReports::new(alloc) else {
+        panic!(rt; "no memory");
+    };
+    let Some((turns, mut hand)) = begin(alloc) else {
+        panic!(rt; "no memory");
+    };
+    read_cell(&rt, &turns, &mut hand, &CONFIG, at(0, 5), 1, &mut told);
+    drop(turns.close(hand));
+    assert!(rt; told.len() == 0);
 }

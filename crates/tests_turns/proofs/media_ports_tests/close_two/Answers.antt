@@ -16,3 +16,9 @@ get-requires-2 c =
 
 pub close_pair-requires-2-clause-port : goal.close_pair-requires-2-clause-port
 close_pair-requires-2-clause-port c = port_fits c.args.leases.now.list 1 c.get-2.result.now c.get-2.ensures (subst ArePorts (sym c.requires.two) four_ports)
+
+pub close_pair-requires-clause-ends : goal.close_pair-requires-clause-ends
+close_pair-requires-clause-ends c = c.requires.first _ c.get.ensures
+
+pub close_pair-requires-2-clause-ends : goal.close_pair-requires-2-clause-ends
+close_pair-requires-2-clause-ends c = c.requires.second _ c.get-2.ensures

@@ -8,7 +8,7 @@ open_pairs-requires-clause-room c =
     let four = sym (length-ports_of c.args.leases.now.list) ∙ ap length c.requires.two in
     omega (arith, four)
 
-pub returns : goal.returns
-returns c =
+pub returns-clause-pairs : goal.returns-clause-pairs
+returns-clause-pairs c =
     let four = sym (length-ports_of c.args.leases.now.list) ∙ ap length c.requires.two in
     on_ok_weaker c.open_pairs.result (λ many. many ∙ (let e : length c.args.leases.now.list ≡ 2 = omega (arith, four) in e)) c.open_pairs.ensures.pairs

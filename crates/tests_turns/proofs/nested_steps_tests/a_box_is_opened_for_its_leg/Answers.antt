@@ -9,3 +9,6 @@ open_box-requires-clause-pair g c = lit< tt
 
 pub open_box-requires-clause-shut : goal.open_box-requires-clause-shut
 open_box-requires-clause-shut g c = first_shut _ 4 c.in-Some.ensures.hand.0
+
+pub open_box-requires-clause-ends : goal.open_box-requires-clause-ends
+open_box-requires-clause-ends g c = (record { at_is = c.quiet-rtp.ensures; uncalled = tt }, record { at_is = c.quiet-rtcp.ensures; uncalled = tt })

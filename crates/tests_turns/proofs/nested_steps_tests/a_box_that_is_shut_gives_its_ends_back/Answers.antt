@@ -22,3 +22,6 @@ pub shut_box-requires-clause-open : goal.shut_box-requires-clause-open
 shut_box-requires-clause-open g c n above =
     ap (λ (o : Option Holder). is_some o)
     (opened (made_by c.in-Some.hand) (made_by c.open_box.new.hand) 4 _ (gained_last 0 5 _ c.in-Some.hand c.open_box.new.hand c.open_box.ensures.gained) n above)
+
+pub open_box-requires-clause-ends : goal.open_box-requires-clause-ends
+open_box-requires-clause-ends g c = (record { at_is = c.quiet-rtp.ensures; uncalled = tt }, record { at_is = c.quiet-rtcp.ensures; uncalled = tt })

@@ -1,6 +1,6 @@
 use Rattle.std.proofs.Common.{refl, ◌∙◌}
 use Rattle.nested_steps.proofs.After.{keys_still}
-use Rattle.nested_steps.proofs.First.{first_new, first_comes, first_uncalled, new_first}
+use Rattle.nested_steps.proofs.First.{first_new, first_comes, first_opened, new_first}
 use Rattle.tests_turns.proofs.nested_steps_tests.cells.a_call_is_prepared_asked_and_ended.Goals as goal
 
 pub prepare_cell-requires-clause-keys : goal.prepare_cell-requires-clause-keys
@@ -10,8 +10,8 @@ pub prepare_cell-requires-clause-comes : goal.prepare_cell-requires-clause-comes
 prepare_cell-requires-clause-comes g c =
     first_comes _ _ 1 c.in-Ok.signal 0 c.in-Ok.ensures.keys.0 _ _ c.in-Some.ensures.hand.0 c.in-Ok.ensures.ready.1 c.in-Ok.ensures.keys.1
 
-pub prepare_cell-requires-clause-uncalled : goal.prepare_cell-requires-clause-uncalled
-prepare_cell-requires-clause-uncalled g c = first_uncalled _ c.in-Ok.signal c.in-Ok.ensures.ready.1
+pub prepare_cell-requires-clause-opened : goal.prepare_cell-requires-clause-opened
+prepare_cell-requires-clause-opened g c = first_opened _ _ c.in-Ok.signal c.in-Ok.ensures.ready.1
 
 pub expire_cell-young-requires-clause-keys : goal.expire_cell-young-requires-clause-keys
 expire_cell-young-requires-clause-keys g c =
