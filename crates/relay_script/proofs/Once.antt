@@ -18,7 +18,7 @@ use Rattle.relay_script.specs.Steps.{Step, Skip, At, Key, Fail, FailSend, Ng, Ta
 use Rattle.relay_script.specs.Fields.{IsNumber, IsCount, InBrackets, IsHost, IsAddr, IsText, IsPayload}
 use Rattle.relay_script.specs.Lines.{first_word, kind_word, IsFailure, IsSendFailure, IsDatagram, IsArrival, Behind, IsSkipped, SpellsStep, Spells}
 use Rattle.relay_script.specs.Reading.{kind_of}
-use Rattle.relay_script.proofs.Texts.{same_back, free_by_test}
+use Rattle.relay_script.proofs.Texts.{same_back, free_by_test, free_not}
 use Rattle.relay_script.proofs.Payloads.{heads, tails, same_hex, same_text}
 use Rattle.relay_script.proofs.Digits.{free_in_number}
 use Rattle.relay_script.proofs.Words.{clash, free_kind, free_port, free_word, kind_known, no_send, words_same}
@@ -167,10 +167,21 @@ no_skip_at Skip line rest e is skipped = is
 no_skip_at Tick line rest e is skipped = is
 no_skip_at step line rest e is skipped = (let first = subst IsSkipped e skipped in omega (arith, first))
 
+no_skipped_tick : (line : List ℕ) → line ≡ codes "tick" → IsSkipped line → ⊥
+no_skipped_tick line e skipped = (let first = subst IsSkipped e skipped in omega (arith, first))
+
+no_space_in_tick : (front more : List ℕ) → codes "tick" ≡ front ++ 32 ∷ more → ⊥
+no_space_in_tick front more e = free_not 32 front more (subst (IsFreeOf 32) e (free_by_test 32 (codes "tick") refl))
+
 one_spelled : (line : List ℕ) (a b : Step) → SpellsStep line a → SpellsStep line b → a ≡ b
 one_spelled line Skip Skip is other = refl
+one_spelled line Tick Tick is other = refl
+one_spelled line Skip Tick is other = absurd (no_skipped_tick line other is)
+one_spelled line Tick Skip is other = absurd (no_skipped_tick line is other)
 one_spelled line Skip b is other = absurd (no_skip_at b line other.rest other.parts other.behind is)
 one_spelled line a Skip is other = absurd (no_skip_at a line is.rest is.parts is.behind other)
+one_spelled line Tick b is other = absurd (no_space_in_tick (first_word b) other.rest (sym is ∙ other.parts))
+one_spelled line a Tick is other = absurd (no_space_in_tick (first_word a) is.rest (sym other ∙ is.parts))
 one_spelled line a b is other =
     (let same = words_same line (first_word b) other.rest other.parts (free_word b) a is in
     one_behind a b other.rest same.0 same.1 other.behind)

@@ -193,8 +193,10 @@ words_refused line name rest k (Err fault) e free known reads =
 
 pub words_spell : (line : List ℕ) (step : Step) → InWords line step → SpellsStep line step
 words_spell line Skip is = absurd is.behind
+words_spell line Tick is = absurd is.behind
 words_spell line step is = is
 
-pub outside_at : (line : List ℕ) → (IsSkipped line → ⊥) → NoWords line → (step : Step) → SpellsStep line step → ⊥
-outside_at line full none Skip is = full is
-outside_at line full none step is = none step is
+pub outside_at : (line : List ℕ) → (IsSkipped line → ⊥) → (line ≡ codes "tick" → ⊥) → NoWords line → (step : Step) → SpellsStep line step → ⊥
+outside_at line full other none Skip is = full is
+outside_at line full other none Tick is = other is
+outside_at line full other none step is = none step is

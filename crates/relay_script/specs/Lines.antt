@@ -6,7 +6,7 @@ use Rattle.relay_script.specs.declared.step.FailKind.TheVariants as kind
 use Rattle.relay_script.specs.Steps.{Step, Skip, At, Key, Fail, FailSend, Ng, Take, Relay, Packet, Tick}
 use Rattle.relay_script.specs.Fields.{IsNumber, IsCount, IsAddr, IsPayload, IsHex}
 
--- the word by which each line begins; a line `tick` is not in the grammar yet
+-- the word by which each line begins
 abbrev pub first_word : Step → List ℕ
 first_word Skip = []
 first_word (At moment) = codes "at"
@@ -61,7 +61,7 @@ pub record IsArrival (text : List ℕ) (port : ℕ) (source : Addr) (bytes : Lis
   pub port_number : IsNumber (2 ^ 16) port_text port
   pub arrived : IsDatagram datagram source bytes
 
--- what stands behind the first word and a space
+-- what stands behind the first word and a space; nothing does behind `tick`
 abbrev pub Behind : Step → List ℕ → Type 0
 Behind Skip text = ⊥
 Behind (At moment) text = IsNumber (2 ^ 64) text moment
@@ -85,8 +85,10 @@ abbrev pub IsSkipped : List ℕ → Type 0
 IsSkipped [] = Unit {0}
 IsSkipped (byte ∷ bytes) = byte ≡ 35
 
+-- a line `tick` is this word alone; each other line that asks for something has a word and more behind it
 abbrev pub SpellsStep : List ℕ → Step → Type 0
 SpellsStep line Skip = IsSkipped line
+SpellsStep line Tick = line ≡ codes "tick"
 SpellsStep line step = InWords line step
 
 -- The line is in the grammar, and asks for this step. No line has more than 40,000 bytes.

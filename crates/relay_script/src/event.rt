@@ -28,7 +28,7 @@ pub enum Printed {
         /// The bytes that were sent, where the outcome is that they were; no others are printed.
         bytes: Text,
     },
-    /// How many calls a tick ended. Nothing asks for a tick yet.
+    /// How many calls a tick ended.
     Ended(usize),
     /// The number of the line that is not in the grammar, or names a receipt that isn't held.
     ScriptFault(u32),

@@ -15,7 +15,7 @@ use std::alloc::Global;
 /// The most bytes that a line may have.
 const MOST_BYTES: usize = 40_000;
 
-/// The words by which lines begin.
+/// The words by which lines begin behind which more stands.
 #[derive(Clone, Copy)]
 enum Keyword {
     At,
@@ -242,6 +242,9 @@ pub fn parse(alloc: Global, line: &[u8]) -> Result<Step, ParseFault>
     }
     if is_skipped(line) {
         return Ok(Step::Skip);
+    }
+    if line == b"tick".as_slice() {
+        return Ok(Step::Tick);
     }
     read_words(alloc, line)
 }

@@ -37,7 +37,7 @@ pub enum Step {
     Relay(u32),
     /// A packet of this source arrives at this port, is received and relayed.
     Packet(u16, Addr, Text),
-    /// Each call that is due is ended. No line asks for this yet: `tick` is not in the grammar.
+    /// One tick: each live call that is due is ended.
     Tick,
 }
 

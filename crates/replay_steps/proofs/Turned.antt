@@ -50,7 +50,7 @@ module _ (config : Config) (l ns : List Entry) (b : Entry) (o : Orderly config l
       (receipt_stays config l (ns ++ b ∷ []) receiving r (λ own e i s. no_relay r.1 e i s) of)
 
 module _ {M I O T : Type 0} {g : _} where
-  makes_keeps : (config : Config) (turns : Turns M (Part I O) Made T) (old new : Hand M (Part I O) Made T g) (e : BoardEntry)
+  pub makes_keeps : (config : Config) (turns : Turns M (Part I O) Made T) (old new : Hand M (Part I O) Made T g) (e : BoardEntry)
       → IsBetween config turns old → MakesTurn config old new e → KeepsReceipts config (made_by old) (made_by new)
   makes_keeps config turns old new e b makes =
       let list : made_by new ≡ with_turn (made_by old) (list_of makes.rows) (entry_of makes.row) =

@@ -1,7 +1,8 @@
 -- What each step of a script does to a relay, by the list of its entries, and what it prints.
-use Rattle.std.specs.Prelude.{◌≡◌, ◌⊎◌, ◌+◌, ◌<◌, ◌≤◌, ℕ, Bool, true, false, not, ◌==◌, List, [], ◌∷◌, ◌++◌, Option, Some, None, map, length, take}
+use Rattle.std.specs.Prelude.{◌≡◌, ◌⊎◌, ◌+◌, ◌<◌, ◌≤◌, ℕ, Bool, true, false, not, ◌==◌, List, [], ◌∷◌, ◌++◌, Option, Some, None, map, max, length, take}
 use Rattle.std.specs.List.{list_any}
 use Rattle.ng_frame.specs.Frame.{frame}
+use Rattle.histories.specs.Words.{In, has}
 use Rattle.relay_outside.specs.declared.address.Addr.{Addr}
 use Rattle.relay_outside.specs.declared.keys.KeyCall.{KeyCall}
 use Rattle.relay_outside.specs.declared.keys.KeyCall.TheVariants as key
@@ -10,7 +11,9 @@ use Rattle.relay_outside.specs.declared.ports.PortCall.TheVariants.{Open, Close}
 use Rattle.relay_outside.specs.declared.settings.Config.{Config}
 use Rattle.port_pool.specs.Boxes as box
 use Rattle.port_pool.specs.Boxes.{Taken, FitsTaken, holder}
-use Rattle.call_board.specs.Acts.{BoardEntry}
+use Rattle.call_board.specs.Acts.{Call, BoardEntry}
+use Rattle.call_board.specs.Calls.{live}
+use Rattle.call_board.specs.Views.{last_moment}
 use Rattle.call_cell.specs.declared.outcome.Outcome.{Outcome}
 use Rattle.call_cell.specs.Cells as cells
 use Rattle.call_cell.specs.Cells.{Sending}
@@ -22,6 +25,7 @@ use Rattle.relay_core.specs.Made.{told}
 use Rattle.relay_core.specs.Turning.{IsAbove, IsTurn, with_turn}
 use Rattle.board_turns.specs.Between.{board_of}
 use Rattle.board_turns.specs.Stopping.{stop_entry}
+use Rattle.board_turns.specs.Ticking.{IsDueBy, tick_entry}
 use Rattle.control_entries.specs.Controls.{Hearing, control_of, entry_at, moment_at}
 use Rattle.control_entries.specs.Giving.{draws_of}
 use Rattle.control_turns.specs.Taking.{is_too_long}
@@ -222,6 +226,16 @@ Arrives config l port source bytes failing (arrived.Packet r) new = (failing ≡
 Arrives config l port source bytes failing (arrived.Printed e) new = Misses config l port source bytes failing (event_of e) new
 Arrives config l port source bytes failing arrived.Other new = Unit {0}
 
+-- Ticks.
+
+-- A tick at the clock's moment, or at the board's last one, where that is later: one turn of the board, with the entry that ends these calls.
+-- A live call is among them just where it is due by the whole history of its cell, and how many they are is printed
+pub record TicksAt (config : Config) (clock : ℕ) (l : List Entry) (e : Printed) (new : List Entry) : Type 0 where
+  pub calls : List Call
+  pub turns : TurnsBoard config l (tick_entry (board_of l) clock calls) new
+  pub due : (c : Call) → In c (live (board_of l)) → IsDueBy config l c.cell (max clock (last_moment (board_of l))) (has (map (λ (d : Call). d.number) calls) c.number)
+  pub printed : e ≡ event.Ended (length calls)
+
 -- Steps.
 
 abbrev pub IsQuiet : Course → List Printed → Course → Type 0
@@ -282,6 +296,12 @@ pub record Commands (config : Config) (seed : ℕ) (r : Course) (source : Addr) 
   pub draws : DrawsAsked seed drawn between past
   pub new_is : new ≡ with_past (replied e past) (with_entries entries r)
 
+-- a tick, which touches no packet that is held, and asks no call of the devices that may fail
+pub record EndsDueCalls (config : Config) (r : Course) (e : Printed) (new : Course) : Type 0 where
+  pub entries : List Entry
+  pub ticks : TicksAt config r.clock r.entries e entries
+  pub new_is : new ≡ with_entries entries r
+
 -- Makes config seed r step prints new: with the step, made at r, a replay comes to new, and this is printed. That the line was passed is
 -- not noted yet
 abbrev pub Makes : Config → (seed : ℕ) → Course → Step → List Printed → Course → Type 0
@@ -296,17 +316,15 @@ Makes config seed r (step.Take port source bytes) prints new =
 Makes config seed r (step.Relay number) prints new = PrintsOne prints (λ e. RelaysHeld config r number e new)
 Makes config seed r (step.Packet port source bytes) prints new =
     PrintsOne prints (λ e. Passes config r port source bytes e new ⊎ HoldsNone config r port source bytes e new)
-Makes config seed r step.Tick prints new = ⊥
+Makes config seed r step.Tick prints new = PrintsOne prints (λ e. EndsDueCalls config r e new)
 
 abbrev pub is_under : ℕ → ℕ × Packet → Bool
 is_under number h = h.0 == number
 
--- the step can't be made there: a packet that isn't held is to be relayed, or one more is to be held than may be; a line `tick` is
--- not in the grammar yet
+-- the step can't be made there: a packet that isn't held is to be relayed, or one more is to be held than may be
 abbrev pub IsFaulty : Course → Step → Type 0
 IsFaulty r (step.Take port source bytes) = 64 ≤ length r.held
 IsFaulty r (step.Relay number) = list_any (is_under number) r.held ≡ false
-IsFaulty r step.Tick = Unit {0}
 IsFaulty r _ = ⊥
 
 -- what a step did: it was made, and printed this; or it can't be made, and nothing was done. Of want of memory nothing is said

@@ -229,6 +229,28 @@ fn control<'a, R: Wait>(
     tell_event(event)
 }
 
+/// The tick of a line `tick`: how many calls it ended is printed.
+fn tick<'a, R: Wait>(
+    rt: &R,
+    server: &Server<ReplayPorts<'a>>,
+    hand: &mut Hand<Relay<ReplayIn<'a>, ReplayOut<'a>>>,
+    desk: &mut Desk<ReplayOut<'a>>,
+    ports: &mut ReplayPorts<'a>,
+    now: u64,
+) -> Stepped
+    requires between { IsBetween server.now.config server.now.turns hand.old }
+    requires open { OpensJust server.now.config (history_of hand.old) ports.old.told }
+    requires all { parts hand.old ≡ 1024 }
+    ensures same { IsSameHand hand.old hand.new }
+    ensures between { IsBetween server.now.config server.now.turns hand.new }
+    ensures open { OpensJust server.now.config (history_of hand.new) ports.new.told }
+    ensures receipts { KeepsReceipts server.now.config (made_by hand.old) (made_by hand.new) }
+    ensures step { (seed : ℕ) (held : ReceiptList) (past : List Happening) → OfStep server.now.config seed (course_of (made_by hand.old) held now past) line.Tick result (course_of (made_by hand.new) held now past) }
+{
+    let ended = server.timer_turn(rt, hand, desk, ports, now);
+    Stepped::Prints(Printed::Ended(ended))
+}
+
 /// Makes a step: the devices were told of its line.
 pub(crate) fn make_step<'a, R: Wait>(
     rt: &R,
@@ -312,7 +334,10 @@ pub(crate) fn make_step<'a, R: Wait>(
                 *clock,
             )
         }
-        Step::Tick => (Stepped::Faulty, hand),
+        Step::Tick => {
+            let stepped = tick(rt, server, &mut hand, desk, &mut devices.ports, *clock);
+            (stepped, hand)
+        }
         Step::Skip | Step::Key(_) | Step::Fail(_, _) | Step::FailSend(_, _) => (
             Stepped::Quiet,
             hand,

@@ -114,3 +114,23 @@ returns-in-Some-calls-clause-step g c seed =
     (subst (λ (bytes : List ℕ). StepsSo config seed did c.args.watch.now c.pass_packet.new.watch
     (λ past now. OfStep config seed (course_of l held clock past) (line.Packet c.in-Packet.port c.in-Packet.source bytes) did (course_of new held clock now))) c.as_slice-in-Packet.ensures
     (c.pass_packet.ensures.step seed held))
+
+pub returns-in-Tick-clause-ready : goal.returns-in-Tick-clause-ready
+returns-in-Tick-clause-ready g c = record {
+  between = c.tick-stepped.ensures.between;
+  opens = c.tick-stepped.ensures.open;
+  receipts = receipts_kept c.args.server.now.config (made_by c.args.hand) (made_by c.tick-stepped.new.hand) c.args.receipts.now.list c.tick-stepped.ensures.receipts c.requires.ready.receipts;
+  room = c.requires.ready.room;
+  all = c.tick-stepped.ensures.same.2 ∙ c.requires.ready.all;
+}
+
+pub returns-in-Tick-clause-step : goal.returns-in-Tick-clause-step
+returns-in-Tick-clause-step g c seed =
+    let l = made_by c.args.hand in
+    let new = made_by c.tick-stepped.new.hand in
+    let held = c.args.receipts.now in
+    let clock = c.args.clock.now in
+    let did = c.tick-stepped.result in
+    steps_unwatched c.args.config.now seed did c.args.watch.now (λ past now. OfStep c.args.config.now seed (course_of l held clock past) (meaning c.args.step.now) did (course_of new held clock now))
+    (λ past s. subst (λ (k : coded.Step). OfStep c.args.config.now seed (course_of l held clock past) (meaning k) did (course_of new held clock past)) (sym c.in-Tick.is)
+    (subst (λ (k : Config). OfStep k seed (course_of l held clock past) line.Tick did (course_of new held clock past)) c.requires.config (c.tick-stepped.ensures.step seed held past)))
