@@ -30,6 +30,7 @@ enum Wanted {
     Take(u16, Addr, &'static [u8]),
     Relay(u32),
     Packet(u16, Addr, &'static [u8]),
+    Tick,
 }
 
 /// The key of thirty bytes of which the first is 0xff and each other is 0x0a.
@@ -77,6 +78,7 @@ const LINES: &[(&[u8], Wanted)] = &[
         Wanted::Take(30_002, FOUR, b"\x80\x00\xff"),
     ),
     (b"relay 9", Wanted::Relay(9)),
+    (b"tick", Wanted::Tick),
     (
         b"packet 65535 [2001:DB8:0::1]:65535 t:x",
         Wanted::Packet(65_535, SIX, b"x"),
@@ -101,6 +103,7 @@ fn is_wanted(step: &Step, wanted: &Wanted) -> bool {
             *port == *at && *from == *other && is_same(bytes, *text)
         }
         (Step::Relay(receipt), Wanted::Relay(other)) => *receipt == *other,
+        (Step::Tick, Wanted::Tick) => true,
         (Step::Packet(port, from, bytes), Wanted::Packet(at, other, text)) => {
             *port == *at && *from == *other && is_same(bytes, *text)
         }
@@ -142,8 +145,12 @@ const OUTSIDE: &[&[u8]] = &[
     b"at 18446744073709551616",
     b"at\t1",
     b"at 1\r",
-    b"tick",
     b"tick ",
+    b"tick 1",
+    b" tick",
+    b"Tick",
+    b"ticks",
+    b"tick\r",
     b"key",
     b"key ",
     b"key ff0a0a0a0a0a0a0a0a0a0a0a0a0a0a0a0a0a0a0a0a0a0a0a0a0a0a0a0a",

@@ -101,7 +101,7 @@ const READ: &[(&[&[u8]], u64, usize, Ending)] = &[
     (&[], 0, 0, Ending::End),
     (&[b"at 1"], 0, 1, Ending::End),
     (&[b"at 1", b"at 2"], 0, 2, Ending::End),
-    (&[b"tick"], 0, 0, Ending::Outside),
+    (&[b"tick "], 0, 0, Ending::Outside),
     (&[b"at 01", b"at 1"], 0, 0, Ending::Outside),
     (&[b"at 1", b"at", b"at 2"], 0, 1, Ending::Outside),
     (&[b"at 1", b"at 2", b"at 3\r"], 0, 2, Ending::Outside),
