@@ -13,7 +13,7 @@ const SCHEDULE_LENGTH: usize = 176;
 /// The words of a key schedule.
 pub(crate) const WORDS: usize = 44;
 
-/// The first byte of Rcon 1 to Rcon 10, behind a place for 0.
+/// The first byte of Rcon 1 to Rcon 10, after a place for 0.
 const ROUND_CONSTANTS: [u8; 11] = [
     0x01, 0x01, 0x02, 0x04, 0x08, 0x10, 0x20, 0x40, 0x80, 0x1b, 0x36,
 ];

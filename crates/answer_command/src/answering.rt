@@ -16,52 +16,50 @@ ghost use Rattle.control_entries.specs.Telling.{IsAnew, IsAsking};
 ghost use Rattle.board_turns.specs.Ties.{Ties};
 
 use crate::room::{AnswerRoom, answer_room};
-use answer_turns::answer_act;
+use answer_turns::{PlannedAnswer, answer_act};
 use call_board::Board;
 use call_cell::Gone;
 use control_entries::{Done, Gave, Request, misdescribed, short, unplanned};
 use control_reading::read_description;
 use control_replies::write_described;
-use nested_steps::Nest;
+use nested_steps::BoardTurn;
 use ng_command::AnswerIn;
 use relay_core::Relay;
-use relay_outside::{Config, PortMaker};
+use relay_outside::PortMaker;
 use std::alloc::Global;
 use std::sync::Wait;
-use turn_table::{Hand, Turns};
+use turn_table::Hand;
 
 /// Carries out an answer in the board's turn of its datagram, for which no reply is kept. It takes all memory that it needs before
 /// it changes anything, and where that is short nothing has changed. `gone` is empty before and after.
 pub fn answer<P: PortMaker, R: Wait>(
     rt: &R,
     alloc: Global,
-    turns: &Turns<Relay<P::In, P::Out>>,
+    turn: &BoardTurn<P::In, P::Out>,
     hand: &mut Hand<Relay<P::In, P::Out>>,
-    config: &Config,
-    nest: Nest,
     board: &mut Board,
     ports: &mut P,
     gone: &mut Gone<P::Out>,
     request: &Request,
     input: &AnswerIn,
 ) -> Done
-    requires turn { InTurn config.now turns.now hand.old nest board.old (P.told ports.old) }
-    requires anew { IsAnew (board_history (made_by hand.old) nest.number) nest.moment request.now }
+    requires turn { InTurn turn.now.config.now turn.now.turns.now hand.old turn.now.nest board.old (P.told ports.old) }
+    requires anew { IsAnew (board_history (made_by hand.old) turn.now.nest.number) turn.now.nest.moment request.now }
     requires empty { gone.old ≡ [] }
     requires small { length input.now.sdp.list < 2 ^ 31 }
     requires asked { (pairs : Option Entries) × IsAsking request.now pairs (Answer input.now.call_id.list input.now.from_tag.list input.now.to_tag.list input.now.sdp.list input.now.options) }
     ensures same { IsSameHand hand.old hand.new × SameTurns hand.old hand.new }
-    ensures may { MayNest config.now turns.now hand.new }
+    ensures may { MayNest turn.now.config.now turn.now.turns.now hand.new }
     ensures carries { (pairs : Option Entries) → IsAsking request.now pairs (Answer input.now.call_id.list input.now.from_tag.list input.now.to_tag.list input.now.sdp.list input.now.options) →
-        Carries config.now hand.old hand.new nest (hearing_by request.now pairs result) result.reply board.new (P.told ports.new) }
+        Carries turn.now.config.now hand.old hand.new turn.now.nest (hearing_by request.now pairs result) result.reply board.new (P.told ports.new) }
     ensures replies { KeepsReplies board.old board.new }
     ensures empty { gone.new ≡ [] }
-    ensures ties { Ties config.now (P.told ports.old) (P.told ports.new) (entries hand.old) (entries hand.new) }
+    ensures ties { Ties turn.now.config.now (P.told ports.old) (P.told ports.new) (entries hand.old) (entries hand.new) }
     ensures later { P.faults ports.old ≤ P.faults ports.new }
     ensures closes { Gained (P.told ports.old) (P.told ports.new) OpensNone }
     ensures unasked { IsUnasked result.gave }
 {
-    let sdp = match read_description(alloc, config, input.sdp.as_slice()) {
+    let sdp = match read_description(alloc, turn.config, input.sdp.as_slice()) {
         Ok(sdp) => sdp,
         Err(fault) => return misdescribed(alloc, request.cookie, fault),
     };
@@ -78,9 +76,12 @@ pub fn answer<P: PortMaker, R: Wait>(
         mut text,
         mut reply,
     } = room;
-    answer_act(
-        rt, turns, hand, config, nest, board, ports, gone, plan, &sdp, contexts, &mut text,
-    );
+    let answer = PlannedAnswer {
+        plan,
+        sdp: &sdp,
+        contexts,
+    };
+    answer_act(rt, turn, hand, board, ports, gone, answer, &mut text);
     write_described(request.cookie, text.as_slice(), &mut reply);
     Done {
         heard,

@@ -13,7 +13,7 @@ use std::alloc::Global;
 /// How many inbound keys a commit has at most.
 const MOST_KEYS: usize = 16;
 
-/// No description that is written for an answer has so many bytes.
+/// No description that is written for an answer has this many bytes.
 const MOST_BYTES: usize = 1 << 40;
 
 /// The memory of an answer.
@@ -27,7 +27,7 @@ pub(crate) struct AnswerRoom {
     pub reply: Text,
 }
 
-/// Room for an empty text of so many bytes.
+/// Room for an empty text of this many bytes.
 fn text_room(alloc: Global, len: usize) -> Result<Bytes, OutOfMemory>
     ensures { IfOk result (λ text. (text.list ≡ []) × (len ≤ text.spare)) }
 {
@@ -38,7 +38,7 @@ fn text_room(alloc: Global, len: usize) -> Result<Bytes, OutOfMemory>
     Ok(text)
 }
 
-/// The memory of an answer under this cookie whose description has at most so many bytes. There is none for 2^40 bytes.
+/// The memory of an answer under this cookie whose description has at most this many bytes. There is none for 2^40 bytes.
 pub(crate) fn answer_room(
     alloc: Global,
     cookie: &[u8],

@@ -20,64 +20,73 @@ use crate::writing::write_answer;
 use board_turns::close_legs;
 use call_board::{Board, BoardPlan};
 use call_cell::{Gone, InContexts};
-use nested_steps::{Nest, commit_cell};
+use nested_steps::{BoardTurn, commit_cell};
 use relay_core::Relay;
-use relay_outside::{Config, PortMaker};
+use relay_outside::PortMaker;
 use sdp_text::{Bytes, Sdp};
 use std::sync::Wait;
-use turn_table::{Hand, Turns};
+use turn_table::Hand;
+
+/// An answer that the board planned.
+#[derive(Drop)]
+pub struct PlannedAnswer<'a, 's> {
+    /// Its plan.
+    pub plan: BoardPlan,
+    /// Its description.
+    pub sdp: &'a Sdp<'s>,
+    /// Room for the contexts of 16 inbound keys.
+    pub contexts: InContexts,
+}
 
 /// Takes an answer in, in the board's turn of the answer, by the plan that the board has just made of it: writes the description
 /// for the offerer into `out`, which is empty and has room for `reply_len` bytes, commits in the call's cell what the answer says
-/// of the legs, takes the answer into the board, and closes the legs of the sections that it rejects, in lease order. `contexts`
-/// has room for 16 inbound keys, `gone` is empty before and after. It takes no memory.
+/// of the legs, takes the answer into the board, and closes the legs of the sections that it rejects, in lease order. `gone` is
+/// empty before and after. It takes no memory.
 pub fn answer_act<P: PortMaker, R: Wait>(
     rt: &R,
-    turns: &Turns<Relay<P::In, P::Out>>,
+    turn: &BoardTurn<P::In, P::Out>,
     hand: &mut Hand<Relay<P::In, P::Out>>,
-    config: &Config,
-    nest: Nest,
     board: &mut Board,
     ports: &mut P,
     gone: &mut Gone<P::Out>,
-    plan: BoardPlan,
-    sdp: &Sdp,
-    contexts: InContexts,
+    answer: PlannedAnswer,
     out: &mut Bytes,
 )
-    requires turn { InTurn config.now turns.now hand.old nest board.old (P.told ports.old) }
-    requires due { (e : BoardEntry) × (of : Call) × (ask : AnswerAsk) × IsAnswerOf config.now (board_history (made_by hand.old) nest.number) nest.moment e of ask sdp.now plan }
-    requires writes { WritesFrom plan.plan sdp.now }
-    requires room { (out.old.list ≡ []) × (plan.plan.reply_len ≤ out.old.spare) }
-    requires contexts { 16 ≤ contexts }
+    requires turn { InTurn turn.now.config.now turn.now.turns.now hand.old turn.now.nest board.old (P.told ports.old) }
+    requires due { (e : BoardEntry) × (of : Call) × (ask : AnswerAsk) × IsAnswerOf turn.now.config.now (board_history (made_by hand.old) turn.now.nest.number) turn.now.nest.moment e of ask answer.sdp.now answer.plan }
+    requires writes { WritesFrom answer.plan.plan answer.sdp.now }
+    requires room { (out.old.list ≡ []) × (answer.plan.plan.reply_len ≤ out.old.spare) }
+    requires contexts { 16 ≤ answer.contexts }
     requires empty { gone.old ≡ [] }
     ensures same { IsSameHand hand.old hand.new × SameTurns hand.old hand.new }
-    ensures may { MayNest config.now turns.now hand.new }
-    ensures text { (e : BoardEntry) (of : Call) (ask : AnswerAsk) → IsAnswerOf config.now (board_history (made_by hand.old) nest.number) nest.moment e of ask sdp.now plan →
-        out.new.list ≡ answer_text config.now (rounds (board_history (made_by hand.old) nest.number) of.number) ask }
-    ensures within { length out.new.list ≤ plan.plan.reply_len }
-    ensures does { (e : BoardEntry) (of : Call) (ask : AnswerAsk) → IsAnswerOf config.now (board_history (made_by hand.old) nest.number) nest.moment e of ask sdp.now plan →
-        DoesAct config.now hand.old hand.new nest e board.new (P.told ports.new) }
+    ensures may { MayNest turn.now.config.now turn.now.turns.now hand.new }
+    ensures text { (e : BoardEntry) (of : Call) (ask : AnswerAsk) → IsAnswerOf turn.now.config.now (board_history (made_by hand.old) turn.now.nest.number) turn.now.nest.moment e of ask answer.entry.sdp.now answer.entry.plan →
+        out.new.list ≡ answer_text turn.now.config.now (rounds (board_history (made_by hand.old) turn.now.nest.number) of.number) ask }
+    ensures within { length out.new.list ≤ answer.entry.plan.plan.reply_len }
+    ensures does { (e : BoardEntry) (of : Call) (ask : AnswerAsk) → IsAnswerOf turn.now.config.now (board_history (made_by hand.old) turn.now.nest.number) turn.now.nest.moment e of ask answer.entry.sdp.now answer.entry.plan →
+        DoesAct turn.now.config.now hand.old hand.new turn.now.nest e board.new (P.told ports.new) }
     ensures replies { KeepsReplies board.old board.new }
     ensures closes { Gained (P.told ports.old) (P.told ports.new) OpensNone }
-    ensures ties { Ties config.now (P.told ports.old) (P.told ports.new) (entries hand.old) (entries hand.new) }
+    ensures ties { Ties turn.now.config.now (P.told ports.old) (P.told ports.new) (entries hand.old) (entries hand.new) }
     ensures later { P.faults ports.old ≤ P.faults ports.new }
     ensures empty { gone.new ≡ [] }
 {
-    let mut plan = plan;
+    let PlannedAnswer {
+        mut plan,
+        sdp,
+        contexts,
+    } = answer;
     write_answer(&mut plan, sdp, out);
     let cell = plan.cell();
     commit_cell(
         rt,
-        turns,
+        turn,
         hand,
-        config,
-        nest,
         cell,
         plan.planned().signal(),
         contexts,
         gone,
     );
-    board.apply(plan, nest.moment);
-    close_legs(rt, turns, hand, config, nest, board, ports, gone);
+    board.apply(plan, turn.nest.moment);
+    close_legs(rt, turn, hand, board, ports, gone);
 }

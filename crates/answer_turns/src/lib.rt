@@ -8,4 +8,4 @@
 mod answering;
 mod writing;
 
-pub use answering::answer_act;
+pub use answering::{PlannedAnswer, answer_act};

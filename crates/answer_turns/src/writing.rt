@@ -10,7 +10,7 @@ ghost use Rattle.offer_answer.specs.Widths.{WritesFrom};
 use call_board::BoardPlan;
 use sdp_text::{Bytes, Sdp};
 
-/// Writes the description for the offerer behind what `out` holds, by the plan of an answer, which demands no pair and no key. It
+/// Writes the description for the offerer after what `out` holds, by the plan of an answer, which demands no pair and no key. It
 /// takes no memory.
 pub(crate) fn write_answer(plan: &mut BoardPlan, sdp: &Sdp, out: &mut Bytes)
     requires pairs { pair_count plan.old.plan ≡ 0 }

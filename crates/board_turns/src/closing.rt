@@ -15,48 +15,46 @@ ghost use Rattle.board_turns.specs.Ties.{TiesTakes};
 use call_board::Board;
 use call_cell::Gone;
 use media_ports::{PairEnds, close_pair};
-use nested_steps::{Nest, shut_box};
+use nested_steps::{BoardTurn, shut_box};
 use port_pool::Lease;
 use relay_core::Relay;
 use relay_outside::{Config, PortMaker};
 use std::sync::Wait;
-use turn_table::{Hand, Turns};
+use turn_table::Hand;
 
 /// Closes one leg: its box, then its two ports, that for RTP first, and then the lease of its pair is given back.
 fn close_leg<P: PortMaker, R: Wait>(
     rt: &R,
-    turns: &Turns<Relay<P::In, P::Out>>,
+    turn: &BoardTurn<P::In, P::Out>,
     hand: &mut Hand<Relay<P::In, P::Out>>,
-    config: &Config,
-    nest: Nest,
     board: &mut Board,
     ports: &mut P,
     leg: (Lease, P::Out, P::Out),
 )
-    requires may { MayNest config.now turns.now hand.old }
-    requires can { CanClose config.now (made_by hand.old) board.old (P.told ports.old) (leg ∷ []) }
-    requires home { GoneHome P.Out.told config.now (leg ∷ []) }
+    requires may { MayNest turn.now.config.now turn.now.turns.now hand.old }
+    requires can { CanClose turn.now.config.now (made_by hand.old) board.old (P.told ports.old) (leg ∷ []) }
+    requires home { GoneHome P.Out.told turn.now.config.now (leg ∷ []) }
     ensures same { IsSameHand hand.old hand.new × SameTurns hand.old hand.new }
-    ensures may { MayNest config.now turns.now hand.new }
-    ensures gained { GainsNested nest.number nest.moment (closings_of config.now (leg ∷ [])) hand.old hand.new }
+    ensures may { MayNest turn.now.config.now turn.now.turns.now hand.new }
+    ensures gained { GainsNested turn.now.nest.number turn.now.nest.moment (closings_of turn.now.config.now (leg ∷ [])) hand.old hand.new }
     ensures returned { (config : Config) (v : View) → Shows config board.old v → Shows config board.new (with_returned v (leg.0.pair ∷ [])) }
     ensures calls { KeepsCalls board.old board.new }
     ensures replies { KeepsReplies board.old board.new }
-    ensures closes { Gained (P.told ports.old) (P.told ports.new) (ClosesLegs P.Out.told config.now.interface (leg ∷ [])) }
-    ensures open { (held : List ℕ) → WhereTold (P.told ports.old) (λ calls. OpensHeld config.now calls held) →
-        WhereTold (P.told ports.new) (λ calls. OpensHeld config.now calls (pairs_left (leg.0.pair ∷ []) held)) }
-    ensures takes { TiesTakes config.now (P.told ports.old) (P.told ports.new) (entries hand.old) (entries hand.new) }
+    ensures closes { Gained (P.told ports.old) (P.told ports.new) (ClosesLegs P.Out.told turn.now.config.now.interface (leg ∷ [])) }
+    ensures open { (held : List ℕ) → WhereTold (P.told ports.old) (λ calls. OpensHeld turn.now.config.now calls held) →
+        WhereTold (P.told ports.new) (λ calls. OpensHeld turn.now.config.now calls (pairs_left (leg.0.pair ∷ []) held)) }
+    ensures takes { TiesTakes turn.now.config.now (P.told ports.old) (P.told ports.new) (entries hand.old) (entries hand.new) }
     ensures later { P.faults ports.old ≤ P.faults ports.new }
 {
     let (lease, rtp_out, rtcp_out) = leg;
-    let (rtp_in, rtcp_in) = shut_box(rt, turns, hand, config, nest, lease.pair());
+    let (rtp_in, rtcp_in) = shut_box(rt, turn, hand, lease.pair());
     let ends = PairEnds {
         rtp_in,
         rtp_out,
         rtcp_in,
         rtcp_out,
     };
-    close_pair(ports, config.interface, &lease, ends);
+    close_pair(ports, turn.config.interface, &lease, ends);
     board.give_back(lease);
 }
 
@@ -65,31 +63,29 @@ fn close_leg<P: PortMaker, R: Wait>(
 /// to the board. The out ends of each leg were opened for the ports of its pair. It takes no memory.
 pub fn close_legs<P: PortMaker, R: Wait>(
     rt: &R,
-    turns: &Turns<Relay<P::In, P::Out>>,
+    turn: &BoardTurn<P::In, P::Out>,
     hand: &mut Hand<Relay<P::In, P::Out>>,
-    config: &Config,
-    nest: Nest,
     board: &mut Board,
     ports: &mut P,
     gone: &mut Gone<P::Out>,
 )
-    requires may { MayNest config.now turns.now hand.old }
-    requires can { CanClose config.now (made_by hand.old) board.old (P.told ports.old) gone.old }
-    requires home { GoneHome P.Out.told config.now gone.old }
+    requires may { MayNest turn.now.config.now turn.now.turns.now hand.old }
+    requires can { CanClose turn.now.config.now (made_by hand.old) board.old (P.told ports.old) gone.old }
+    requires home { GoneHome P.Out.told turn.now.config.now gone.old }
     ensures same { IsSameHand hand.old hand.new × SameTurns hand.old hand.new }
-    ensures may { MayNest config.now turns.now hand.new }
-    ensures gained { GainsNested nest.number nest.moment (closings_of config.now gone.old) hand.old hand.new }
+    ensures may { MayNest turn.now.config.now turn.now.turns.now hand.new }
+    ensures gained { GainsNested turn.now.nest.number turn.now.nest.moment (closings_of turn.now.config.now gone.old) hand.old hand.new }
     ensures returned { (config : Config) (v : View) → Shows config board.old v → Shows config board.new (with_returned v (pairs_in (leases_of gone.old))) }
     ensures calls { KeepsCalls board.old board.new }
     ensures replies { KeepsReplies board.old board.new }
-    ensures closes { Gained (P.told ports.old) (P.told ports.new) (ClosesLegs P.Out.told config.now.interface gone.old) }
-    ensures open { (held : List ℕ) → WhereTold (P.told ports.old) (λ calls. OpensHeld config.now calls held) →
-        WhereTold (P.told ports.new) (λ calls. OpensHeld config.now calls (pairs_left (pairs_in (leases_of gone.old)) held)) }
-    ensures takes { TiesTakes config.now (P.told ports.old) (P.told ports.new) (entries hand.old) (entries hand.new) }
+    ensures closes { Gained (P.told ports.old) (P.told ports.new) (ClosesLegs P.Out.told turn.now.config.now.interface gone.old) }
+    ensures open { (held : List ℕ) → WhereTold (P.told ports.old) (λ calls. OpensHeld turn.now.config.now calls held) →
+        WhereTold (P.told ports.new) (λ calls. OpensHeld turn.now.config.now calls (pairs_left (pairs_in (leases_of gone.old)) held)) }
+    ensures takes { TiesTakes turn.now.config.now (P.told ports.old) (P.told ports.new) (entries hand.old) (entries hand.new) }
     ensures later { P.faults ports.old ≤ P.faults ports.new }
     ensures empty { gone.new ≡ [] }
 {
     while let Some(leg) = gone.pop() {
-        close_leg(rt, turns, hand, config, nest, board, ports, leg);
+        close_leg(rt, turn, hand, board, ports, leg);
     }
 }

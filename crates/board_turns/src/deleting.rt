@@ -16,37 +16,35 @@ ghost use Rattle.board_turns.specs.Ties.{Ties};
 use crate::ending::end_call;
 use call_board::Board;
 use call_cell::Gone;
-use nested_steps::Nest;
+use nested_steps::BoardTurn;
 use relay_core::Relay;
-use relay_outside::{Config, PortMaker};
+use relay_outside::PortMaker;
 use std::sync::Wait;
-use turn_table::{Hand, Turns};
+use turn_table::Hand;
 
 /// Ends the live call of this number in the board's turn of the delete that ends it: its cell ends, it is live no more, and its
 /// legs are closed in lease order. `gone` is empty before and after. It takes no memory.
 pub fn delete_call<P: PortMaker, R: Wait>(
     rt: &R,
-    turns: &Turns<Relay<P::In, P::Out>>,
+    turn: &BoardTurn<P::In, P::Out>,
     hand: &mut Hand<Relay<P::In, P::Out>>,
-    config: &Config,
-    nest: Nest,
     board: &mut Board,
     ports: &mut P,
     gone: &mut Gone<P::Out>,
     call: u64,
 )
-    requires turn { InTurn config.now turns.now hand.old nest board.old (P.told ports.old) }
-    requires live { (of : Call) × In of (live (board_history (made_by hand.old) nest.number)) × (of.number ≡ call) }
+    requires turn { InTurn turn.now.config.now turn.now.turns.now hand.old turn.now.nest board.old (P.told ports.old) }
+    requires live { (of : Call) × In of (live (board_history (made_by hand.old) turn.now.nest.number)) × (of.number ≡ call) }
     requires empty { gone.old ≡ [] }
     ensures same { IsSameHand hand.old hand.new × SameTurns hand.old hand.new }
-    ensures may { MayNest config.now turns.now hand.new }
-    ensures does { (e : BoardEntry) (of : Call) → act e ≡ Deleted of → of.number ≡ call → In of (live (board_history (made_by hand.old) nest.number)) →
-        e.moment ≡ nest.moment → DoesAct config.now hand.old hand.new nest e board.new (P.told ports.new) }
+    ensures may { MayNest turn.now.config.now turn.now.turns.now hand.new }
+    ensures does { (e : BoardEntry) (of : Call) → act e ≡ Deleted of → of.number ≡ call → In of (live (board_history (made_by hand.old) turn.now.nest.number)) →
+        e.moment ≡ turn.now.nest.moment → DoesAct turn.now.config.now hand.old hand.new turn.now.nest e board.new (P.told ports.new) }
     ensures replies { KeepsReplies board.old board.new }
     ensures closes { Gained (P.told ports.old) (P.told ports.new) OpensNone }
-    ensures ties { Ties config.now (P.told ports.old) (P.told ports.new) (entries hand.old) (entries hand.new) }
+    ensures ties { Ties turn.now.config.now (P.told ports.old) (P.told ports.new) (entries hand.old) (entries hand.new) }
     ensures later { P.faults ports.old ≤ P.faults ports.new }
     ensures empty { gone.new ≡ [] }
 {
-    end_call(rt, turns, hand, config, nest, board, ports, gone, call);
+    end_call(rt, turn, hand, board, ports, gone, call);
 }

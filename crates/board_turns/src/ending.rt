@@ -17,46 +17,44 @@ ghost use Rattle.board_turns.specs.Ties.{Ties};
 use crate::closing::close_legs;
 use call_board::Board;
 use call_cell::Gone;
-use nested_steps::{Nest, end_cell};
+use nested_steps::{BoardTurn, end_cell};
 use relay_core::Relay;
 use relay_outside::{Config, PortMaker};
 use std::sync::Wait;
-use turn_table::{Hand, Turns};
+use turn_table::Hand;
 
 /// Ends a live call in the board's turn: its cell ends, it is live no more, and its legs are closed in lease order: of each
 /// the box is shut, its two ports are given to the port maker, that for RTP first, and its pair goes back to the board.
 /// `gone` is empty before and after. It takes no memory.
 pub fn end_call<P: PortMaker, R: Wait>(
     rt: &R,
-    turns: &Turns<Relay<P::In, P::Out>>,
+    turn: &BoardTurn<P::In, P::Out>,
     hand: &mut Hand<Relay<P::In, P::Out>>,
-    config: &Config,
-    nest: Nest,
     board: &mut Board,
     ports: &mut P,
     gone: &mut Gone<P::Out>,
     call: u64,
 )
-    requires may { MayNest config.now turns.now hand.old }
-    requires can { (of : Call) × (legs : List Holder) × CanEnd config.now (made_by hand.old) board.old (P.told ports.old) call of legs }
+    requires may { MayNest turn.now.config.now turn.now.turns.now hand.old }
+    requires can { (of : Call) × (legs : List Holder) × CanEnd turn.now.config.now (made_by hand.old) board.old (P.told ports.old) call of legs }
     requires empty { gone.old ≡ [] }
     ensures same { IsSameHand hand.old hand.new × SameTurns hand.old hand.new }
-    ensures may { MayNest config.now turns.now hand.new }
-    ensures gained { (of : Call) (legs : List Holder) → CanEnd config.now (made_by hand.old) board.old (P.told ports.old) call of legs →
-        GainsNested nest.number nest.moment (ending_of config.now of legs) hand.old hand.new }
-    ensures ended { (of : Call) (legs : List Holder) → CanEnd config.now (made_by hand.old) board.old (P.told ports.old) call of legs →
+    ensures may { MayNest turn.now.config.now turn.now.turns.now hand.new }
+    ensures gained { (of : Call) (legs : List Holder) → CanEnd turn.now.config.now (made_by hand.old) board.old (P.told ports.old) call of legs →
+        GainsNested turn.now.nest.number turn.now.nest.moment (ending_of turn.now.config.now of legs) hand.old hand.new }
+    ensures ended { (of : Call) (legs : List Holder) → CanEnd turn.now.config.now (made_by hand.old) board.old (P.told ports.old) call of legs →
         (config : Config) (v : View) → Shows config board.old v → CellsApart v.calls → Shows config board.new (with_end v call legs) }
     ensures replies { KeepsReplies board.old board.new }
-    ensures closes { (of : Call) (legs : List Holder) → CanEnd config.now (made_by hand.old) board.old (P.told ports.old) call of legs →
-        Gained (P.told ports.old) (P.told ports.new) (ClosesTheirs P.Out.told config.now legs) }
-    ensures open { (of : Call) (legs : List Holder) → CanEnd config.now (made_by hand.old) board.old (P.told ports.old) call of legs →
-        (held : List ℕ) → WhereTold (P.told ports.old) (λ calls. OpensHeld config.now calls held) →
-        WhereTold (P.told ports.new) (λ calls. OpensHeld config.now calls (pairs_left (leg_pairs legs) held)) }
-    ensures ties { Ties config.now (P.told ports.old) (P.told ports.new) (entries hand.old) (entries hand.new) }
+    ensures closes { (of : Call) (legs : List Holder) → CanEnd turn.now.config.now (made_by hand.old) board.old (P.told ports.old) call of legs →
+        Gained (P.told ports.old) (P.told ports.new) (ClosesTheirs P.Out.told turn.now.config.now legs) }
+    ensures open { (of : Call) (legs : List Holder) → CanEnd turn.now.config.now (made_by hand.old) board.old (P.told ports.old) call of legs →
+        (held : List ℕ) → WhereTold (P.told ports.old) (λ calls. OpensHeld turn.now.config.now calls held) →
+        WhereTold (P.told ports.new) (λ calls. OpensHeld turn.now.config.now calls (pairs_left (leg_pairs legs) held)) }
+    ensures ties { Ties turn.now.config.now (P.told ports.old) (P.told ports.new) (entries hand.old) (entries hand.new) }
     ensures later { P.faults ports.old ≤ P.faults ports.new }
     ensures empty { gone.new ≡ [] }
 {
     let cell = board.end_call(call);
-    end_cell(rt, turns, hand, config, nest, cell, gone);
-    close_legs(rt, turns, hand, config, nest, board, ports, gone);
+    end_cell(rt, turn, hand, cell, gone);
+    close_legs(rt, turn, hand, board, ports, gone);
 }

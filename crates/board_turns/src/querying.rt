@@ -16,34 +16,32 @@ ghost use Rattle.board_turns.specs.Acting.{InTurn};
 ghost use Rattle.board_turns.specs.Ties.{Ties};
 
 use call_board::Board;
-use nested_steps::{Nest, read_cell};
+use nested_steps::{BoardTurn, read_cell};
 use port_pool::LegReports;
 use relay_core::Relay;
-use relay_outside::{Config, InEnd, OutEnd};
+use relay_outside::{InEnd, OutEnd};
 use std::sync::Wait;
-use turn_table::{Hand, Turns};
+use turn_table::Hand;
 
 /// Reads the legs of the live call of this number, in the board's turn of the query that asks after it: `out` then has the reports of
 /// its cell, whose counts are each below 2^63, in place of what it had. Nothing else is done. It takes no memory.
 pub fn query_call<I: InEnd, O: OutEnd, R: Wait>(
     rt: &R,
-    turns: &Turns<Relay<I, O>>,
+    turn: &BoardTurn<I, O>,
     hand: &mut Hand<Relay<I, O>>,
-    config: &Config,
-    nest: Nest,
     board: &Board,
     call: u64,
     out: &mut LegReports,
 )
-    requires turn { (told : Option (List PortCall)) × InTurn config.now turns.now hand.old nest board.now told }
-    requires live { (of : Call) × In of (live (board_history (made_by hand.old) nest.number)) × (of.number ≡ call) }
+    requires turn { (told : Option (List PortCall)) × InTurn turn.now.config.now turn.now.turns.now hand.old turn.now.nest board.now told }
+    requires live { (of : Call) × In of (live (board_history (made_by hand.old) turn.now.nest.number)) × (of.number ≡ call) }
     ensures same { IsSameHand hand.old hand.new × SameTurns hand.old hand.new }
-    ensures may { MayNest config.now turns.now hand.new }
-    ensures gained { (of : Call) → In of (live (board_history (made_by hand.old) nest.number)) → of.number ≡ call →
-        GainsNested nest.number nest.moment (in_cell of (Read out.new) ∷ []) hand.old hand.new }
+    ensures may { MayNest turn.now.config.now turn.now.turns.now hand.new }
+    ensures gained { (of : Call) → In of (live (board_history (made_by hand.old) turn.now.nest.number)) → of.number ≡ call →
+        GainsNested turn.now.nest.number turn.now.nest.moment (in_cell of (Read out.new) ∷ []) hand.old hand.new }
     ensures counts { (report : LegReport) → In report out.new → CountsFit report }
-    ensures ties { (told : Option (List PortCall)) → Ties config.now told told (entries hand.old) (entries hand.new) }
+    ensures ties { (told : Option (List PortCall)) → Ties turn.now.config.now told told (entries hand.old) (entries hand.new) }
 {
     let cell = board.cell_of(call);
-    read_cell(rt, turns, hand, config, nest, cell, out);
+    read_cell(rt, turn, hand, cell, out);
 }

@@ -23,43 +23,41 @@ use crate::ending::end_call;
 use crate::putting::put_entry;
 use call_board::Board;
 use call_cell::Gone;
-use nested_steps::Nest;
+use nested_steps::{BoardTurn, Nest};
 use relay_core::{Part, Relay};
 use relay_outside::{Config, PortMaker};
 use std::marker::Brand;
 use std::sync::Wait;
 use turn_table::{Hand, Turns};
 
-/// Ends all live calls in order of their creation, in the turn of the board that stops the relay, and answers how many: the
+/// Ends all live calls in order of their creation, in the turn of the board that stops the relay, and returns how many: the
 /// board then stands for its history with the stop, which has the moment of the last entry. `gone` is empty before and after.
 /// It takes no memory.
 pub fn end_live<P: PortMaker, R: Wait>(
     rt: &R,
-    turns: &Turns<Relay<P::In, P::Out>>,
+    turn: &BoardTurn<P::In, P::Out>,
     hand: &mut Hand<Relay<P::In, P::Out>>,
-    config: &Config,
-    nest: Nest,
     board: &mut Board,
     ports: &mut P,
     gone: &mut Gone<P::Out>,
 ) -> usize
-    requires may { MayNest config.now turns.now hand.old }
-    requires above { IsAbove (made_by hand.old) 0 nest.number }
-    requires orderly { Orderly config.now (made_by hand.old) }
-    requires board { BoardFor config.now board.old (board_history (made_by hand.old) nest.number) }
-    requires open { WhereTold (P.told ports.old) (λ calls. OpensHeld config.now calls (leg_pairs (held (board_history (made_by hand.old) nest.number)))) }
+    requires may { MayNest turn.now.config.now turn.now.turns.now hand.old }
+    requires above { IsAbove (made_by hand.old) 0 turn.now.nest.number }
+    requires orderly { Orderly turn.now.config.now (made_by hand.old) }
+    requires board { BoardFor turn.now.config.now board.old (board_history (made_by hand.old) turn.now.nest.number) }
+    requires open { WhereTold (P.told ports.old) (λ calls. OpensHeld turn.now.config.now calls (leg_pairs (held (board_history (made_by hand.old) turn.now.nest.number)))) }
     requires empty { gone.old ≡ [] }
     ensures same { IsSameHand hand.old hand.new × SameTurns hand.old hand.new }
-    ensures may { MayNest config.now turns.now hand.new }
-    ensures gained { let h = board_history (made_by hand.old) nest.number in
-        GainsNested nest.number nest.moment (script config.now h (stop_entry h)) hand.old hand.new }
-    ensures board { let h = board_history (made_by hand.old) nest.number in BoardFor config.now board.new (stop_entry h ∷ h) }
-    ensures count { result ≡ length (live (board_history (made_by hand.old) nest.number)) }
+    ensures may { MayNest turn.now.config.now turn.now.turns.now hand.new }
+    ensures gained { let h = board_history (made_by hand.old) turn.now.nest.number in
+        GainsNested turn.now.nest.number turn.now.nest.moment (script turn.now.config.now h (stop_entry h)) hand.old hand.new }
+    ensures board { let h = board_history (made_by hand.old) turn.now.nest.number in BoardFor turn.now.config.now board.new (stop_entry h ∷ h) }
+    ensures count { result ≡ length (live (board_history (made_by hand.old) turn.now.nest.number)) }
     ensures replies { KeepsReplies board.old board.new }
-    ensures open { let h = board_history (made_by hand.old) nest.number in
-        WhereTold (P.told ports.new) (λ calls. OpensHeld config.now calls (still_held h (stop_entry h) (live h))) }
+    ensures open { let h = board_history (made_by hand.old) turn.now.nest.number in
+        WhereTold (P.told ports.new) (λ calls. OpensHeld turn.now.config.now calls (still_held h (stop_entry h) (live h))) }
     ensures closes { Gained (P.told ports.old) (P.told ports.new) OpensNone }
-    ensures ties { Ties config.now (P.told ports.old) (P.told ports.new) (entries hand.old) (entries hand.new) }
+    ensures ties { Ties turn.now.config.now (P.told ports.old) (P.told ports.new) (entries hand.old) (entries hand.new) }
     ensures later { P.faults ports.old ≤ P.faults ports.new }
     ensures empty { gone.new ≡ [] }
 {
@@ -67,7 +65,7 @@ pub fn end_live<P: PortMaker, R: Wait>(
     for ended in 0..count {
         prove!(ended < count);
         let call = board.call_at(0);
-        end_call(rt, turns, hand, config, nest, board, ports, gone, call);
+        end_call(rt, turn, hand, board, ports, gone, call);
     }
     count
 }
@@ -103,9 +101,15 @@ fn stop_part<P: PortMaker, R: Wait>(
 {
     match part {
         Part::Board(board) => {
-            let moment = board.advance(0);
-            let nest = Nest { number, moment };
-            end_live(rt, turns, hand, config, nest, board, ports, gone)
+            let turn = BoardTurn {
+                turns,
+                config,
+                nest: Nest {
+                    number,
+                    moment: board.advance(0),
+                },
+            };
+            end_live(rt, &turn, hand, board, ports, gone)
         }
         Part::Cell(_) => unreachable!(),
         Part::Pair(_) => unreachable!(),
@@ -113,7 +117,7 @@ fn stop_part<P: PortMaker, R: Wait>(
 }
 
 /// Stops the relay in a turn of the board: all live calls end, in order of their creation, and the board's entry of the stop is
-/// made, with the moment of the last one. It answers how many calls ended. Then no port of a pair is open, where just those of the
+/// made, with the moment of the last one. It returns how many calls ended. Then no port of a pair is open, where just those of the
 /// held pairs were. `gone` is empty before and after. Between its steps the main hand waits for lanes; it takes no memory.
 pub fn stop_turn<P: PortMaker, R: Wait>(
     rt: &R,

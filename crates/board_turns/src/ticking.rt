@@ -27,7 +27,7 @@ use crate::ending::end_call;
 use crate::putting::put_entry;
 use call_board::Board;
 use call_cell::Gone;
-use nested_steps::{Nest, expire_cell};
+use nested_steps::{BoardTurn, Nest, expire_cell};
 use relay_core::{Part, Relay, Says};
 use relay_outside::{Config, InEnd, OutEnd, PortMaker};
 use std::marker::Brand;
@@ -38,41 +38,39 @@ use turn_table::{Hand, Turn, Turns};
 /// Whether it was due is answered.
 fn expire_call<P: PortMaker, R: Wait>(
     rt: &R,
-    turns: &Turns<Relay<P::In, P::Out>>,
+    turn: &BoardTurn<P::In, P::Out>,
     hand: &mut Hand<Relay<P::In, P::Out>>,
-    config: &Config,
-    nest: Nest,
     board: &mut Board,
     ports: &mut P,
     gone: &mut Gone<P::Out>,
     index: usize,
 ) -> bool
-    requires may { MayNest config.now turns.now hand.old }
-    requires can { (of : Call) × (legs : List Holder) × CanExpire config.now (made_by hand.old) board.old (P.told ports.old) index of legs }
+    requires may { MayNest turn.now.config.now turn.now.turns.now hand.old }
+    requires can { (of : Call) × (legs : List Holder) × CanExpire turn.now.config.now (made_by hand.old) board.old (P.told ports.old) index of legs }
     requires empty { gone.old ≡ [] }
     ensures same { IsSameHand hand.old hand.new × SameTurns hand.old hand.new }
-    ensures may { MayNest config.now turns.now hand.new }
-    ensures gained { (of : Call) (legs : List Holder) → CanExpire config.now (made_by hand.old) board.old (P.told ports.old) index of legs →
-        GainsNested nest.number nest.moment (asking_of config.now of legs result) hand.old hand.new }
-    ensures asked { (of : Call) (legs : List Holder) → CanExpire config.now (made_by hand.old) board.old (P.told ports.old) index of legs →
+    ensures may { MayNest turn.now.config.now turn.now.turns.now hand.new }
+    ensures gained { (of : Call) (legs : List Holder) → CanExpire turn.now.config.now (made_by hand.old) board.old (P.told ports.old) index of legs →
+        GainsNested turn.now.nest.number turn.now.nest.moment (asking_of turn.now.config.now of legs result) hand.old hand.new }
+    ensures asked { (of : Call) (legs : List Holder) → CanExpire turn.now.config.now (made_by hand.old) board.old (P.told ports.old) index of legs →
         (config : Config) (v : View) → Shows config board.old v → CellsApart v.calls → Shows config board.new (with_asked v of.number legs result) }
-    ensures open { (of : Call) (legs : List Holder) → CanExpire config.now (made_by hand.old) board.old (P.told ports.old) index of legs →
-        (held : List ℕ) → WhereTold (P.told ports.old) (λ calls. OpensHeld config.now calls held) →
-        WhereTold (P.told ports.new) (λ calls. OpensHeld config.now calls (if result then pairs_left (leg_pairs legs) held else held)) }
-    ensures due { (of : Call) (legs : List Holder) → CanExpire config.now (made_by hand.old) board.old (P.told ports.old) index of legs →
-        parts hand.old ≡ 1024 → IsDueBy config.now (made_by hand.old) of.cell nest.moment result }
+    ensures open { (of : Call) (legs : List Holder) → CanExpire turn.now.config.now (made_by hand.old) board.old (P.told ports.old) index of legs →
+        (held : List ℕ) → WhereTold (P.told ports.old) (λ calls. OpensHeld turn.now.config.now calls held) →
+        WhereTold (P.told ports.new) (λ calls. OpensHeld turn.now.config.now calls (if result then pairs_left (leg_pairs legs) held else held)) }
+    ensures due { (of : Call) (legs : List Holder) → CanExpire turn.now.config.now (made_by hand.old) board.old (P.told ports.old) index of legs →
+        parts hand.old ≡ 1024 → IsDueBy turn.now.config.now (made_by hand.old) of.cell turn.now.nest.moment result }
     ensures replies { KeepsReplies board.old board.new }
     ensures closes { Gained (P.told ports.old) (P.told ports.new) OpensNone }
-    ensures ties { Ties config.now (P.told ports.old) (P.told ports.new) (entries hand.old) (entries hand.new) }
+    ensures ties { Ties turn.now.config.now (P.told ports.old) (P.told ports.new) (entries hand.old) (entries hand.new) }
     ensures later { P.faults ports.old ≤ P.faults ports.new }
     ensures empty { gone.new ≡ [] }
 {
     let call = board.call_at(index);
     let cell = board.cell_at(index);
-    if !expire_cell(rt, turns, hand, config, nest, cell) {
+    if !expire_cell(rt, turn, hand, cell) {
         return false;
     }
-    end_call(rt, turns, hand, config, nest, board, ports, gone, call);
+    end_call(rt, turn, hand, board, ports, gone, call);
     true
 }
 
@@ -81,79 +79,71 @@ fn expire_call<P: PortMaker, R: Wait>(
 /// memory, and its work is linear in the live calls, but for what ending a call costs.
 pub fn expire_live<P: PortMaker, R: Wait>(
     rt: &R,
-    turns: &Turns<Relay<P::In, P::Out>>,
+    turn: &BoardTurn<P::In, P::Out>,
     hand: &mut Hand<Relay<P::In, P::Out>>,
-    config: &Config,
-    nest: Nest,
     board: &mut Board,
     ports: &mut P,
     gone: &mut Gone<P::Out>,
 ) -> usize
-    requires turn { InTurn config.now turns.now hand.old nest board.old (P.told ports.old) }
+    requires turn { InTurn turn.now.config.now turn.now.turns.now hand.old turn.now.nest board.old (P.told ports.old) }
     requires empty { gone.old ≡ [] }
     ensures same { IsSameHand hand.old hand.new × SameTurns hand.old hand.new }
-    ensures may { MayNest config.now turns.now hand.new }
-    ensures ends { let h = board_history (made_by hand.old) nest.number in
-        (calls : List Call) × EndsDue config.now h nest.number nest.moment hand.old hand.new result (P.told ports.new) calls × BoardFor config.now board.new (tick_at nest.moment calls ∷ h) }
+    ensures may { MayNest turn.now.config.now turn.now.turns.now hand.new }
+    ensures ends { let h = board_history (made_by hand.old) turn.now.nest.number in
+        (calls : List Call) × EndsDue turn.now.config.now h turn.now.nest.number turn.now.nest.moment hand.old hand.new result (P.told ports.new) calls × BoardFor turn.now.config.now board.new (tick_at turn.now.nest.moment calls ∷ h) }
     ensures replies { KeepsReplies board.old board.new }
     ensures closes { Gained (P.told ports.old) (P.told ports.new) OpensNone }
-    ensures ties { Ties config.now (P.told ports.old) (P.told ports.new) (entries hand.old) (entries hand.new) }
+    ensures ties { Ties turn.now.config.now (P.told ports.old) (P.told ports.new) (entries hand.old) (entries hand.new) }
     ensures later { P.faults ports.old ≤ P.faults ports.new }
     ensures empty { gone.new ≡ [] }
 {
     let count = board.live_count();
     let mut ended = 0;
     for asked in 0..count {
-        if expire_call(
-            rt,
-            turns,
-            hand,
-            config,
-            nest,
-            board,
-            ports,
-            gone,
-            asked - ended,
-        ) {
+        if expire_call(rt, turn, hand, board, ports, gone, asked - ended) {
             ended += 1;
         }
     }
     ended
 }
 
-/// Ends the live calls that are due on the board of the place, in the turn of the board with this number.
+/// Ends the live calls that are due on the board of the place, in a turn of the board that was handed the moment which `turn` says:
+/// its entry has the later one of that moment and of the last entry's.
 fn tick_part<P: PortMaker, R: Wait>(
     rt: &R,
-    turns: &Turns<Relay<P::In, P::Out>>,
+    turn: &BoardTurn<P::In, P::Out>,
     hand: &mut Hand<Relay<P::In, P::Out>>,
-    config: &Config,
-    number: u64,
     part: &mut Part<P::In, P::Out>,
     ports: &mut P,
     gone: &mut Gone<P::Out>,
-    now: u64,
 ) -> usize
-    requires may { MayNest config.now turns.now hand.old }
-    requires above { IsAbove (made_by hand.old) 0 number }
-    requires low { number < 2 ^ 56 }
-    requires orderly { Orderly config.now (made_by hand.old) }
-    requires board { BoardIs config.now part.old (board_history (made_by hand.old) number) }
-    requires open { TellsHeld config.now (P.told ports.old) (leg_pairs (held (board_history (made_by hand.old) number))) }
+    requires may { MayNest turn.now.config.now turn.now.turns.now hand.old }
+    requires above { IsAbove (made_by hand.old) 0 turn.now.nest.number }
+    requires low { turn.now.nest.number < 2 ^ 56 }
+    requires orderly { Orderly turn.now.config.now (made_by hand.old) }
+    requires board { BoardIs turn.now.config.now part.old (board_history (made_by hand.old) turn.now.nest.number) }
+    requires open { TellsHeld turn.now.config.now (P.told ports.old) (leg_pairs (held (board_history (made_by hand.old) turn.now.nest.number))) }
     requires empty { gone.old ≡ [] }
     ensures same { IsSameHand hand.old hand.new × SameTurns hand.old hand.new }
-    ensures may { MayNest config.now turns.now hand.new }
-    ensures ends { let h = board_history (made_by hand.old) number in
-        (calls : List Call) × EndsDue config.now h number (max now (last_moment h)) hand.old hand.new result (P.told ports.new) calls × BoardIs config.now part.new (tick_entry h now calls ∷ h) }
+    ensures may { MayNest turn.now.config.now turn.now.turns.now hand.new }
+    ensures ends { let h = board_history (made_by hand.old) turn.now.nest.number in
+        (calls : List Call) × EndsDue turn.now.config.now h turn.now.nest.number (max turn.now.nest.moment (last_moment h)) hand.old hand.new result (P.told ports.new) calls × BoardIs turn.now.config.now part.new (tick_entry h turn.now.nest.moment calls ∷ h) }
     ensures closes { Gained (P.told ports.old) (P.told ports.new) OpensNone }
-    ensures ties { Ties config.now (P.told ports.old) (P.told ports.new) (entries hand.old) (entries hand.new) }
+    ensures ties { Ties turn.now.config.now (P.told ports.old) (P.told ports.new) (entries hand.old) (entries hand.new) }
     ensures later { P.faults ports.old ≤ P.faults ports.new }
     ensures empty { gone.new ≡ [] }
 {
     match part {
         Part::Board(board) => {
-            let moment = board.advance(now);
-            let nest = Nest { number, moment };
-            expire_live(rt, turns, hand, config, nest, board, ports, gone)
+            let turn = BoardTurn {
+                turns: turn.turns,
+                config: turn.config,
+                nest: Nest {
+                    number: turn.nest.number,
+                    moment: board.advance(turn.nest.moment),
+                },
+            };
+            expire_live(rt, &turn, hand, board, ports, gone)
         }
         Part::Cell(_) => unreachable!(),
         Part::Pair(_) => unreachable!(),
@@ -178,7 +168,7 @@ fn put_tick<I: InEnd, O: OutEnd, X: Says>(
 }
 
 /// Makes a tick in a turn of the board: each live call is asked, in order of their creation, whether it is due, and ends where it is; then
-/// the board's entry of the tick is made. It answers how many calls ended. `now` is in milliseconds; a moment before that of the board's
+/// the board's entry of the tick is made. It returns how many calls ended. `now` is in milliseconds; a moment before that of the board's
 /// last entry counts as that one. `gone` is empty before and after. Between its steps the main hand waits for lanes; it takes no memory.
 pub fn tick_turn<P: PortMaker, R: Wait>(
     rt: &R,
@@ -203,17 +193,15 @@ pub fn tick_turn<P: PortMaker, R: Wait>(
 {
     let mut turn = turns.turn(rt, hand, 0);
     let number = turn.front();
-    let ended = tick_part(
-        rt,
+    let board_turn = BoardTurn {
         turns,
-        hand,
         config,
-        number,
-        turn.state(),
-        ports,
-        gone,
-        now,
-    );
+        nest: Nest {
+            number,
+            moment: now,
+        },
+    };
+    let ended = tick_part(rt, &board_turn, hand, turn.state(), ports, gone);
     put_tick::<P::In, P::Out, Brand>(turns, hand, turn, now);
     ended
 }

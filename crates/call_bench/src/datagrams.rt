@@ -9,7 +9,7 @@ const PROXY: Addr = Addr {
     port: 5060,
 };
 
-/// What stands behind the call-id in an offer of one audio section.
+/// What stands after the call-id in an offer of one audio section.
 const OFFER: &[u8] =
     b"7:command5:offer8:from-tag5:alice7:replacel6:origin18:session connectione3:sdp129:v=0\r\no=alice 1 1 IN IP4 192.0.2.10\r\ns=-\r\nc=IN IP4 192.0.2.10\r\nt=0 0\r\nm=audio 6000 RTP/AVP 0 8\r\na=rtpmap:0 PCMU/8000\r\na=sendrecv\r\ne";
 

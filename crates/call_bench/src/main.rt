@@ -1,5 +1,5 @@
 //! What a call costs from its offer to its delete, without sockets: a run of the relay over devices in memory, whose link
-//! gives the offer, the answer and the delete of so many calls. Without words it prints one fixed line; with the number of
+//! gives the offer, the answer and the delete of this many calls. Without words it prints one fixed line; with the number of
 //! calls it measures, and prints nanoseconds a call.
 #![tactic(auto)]
 
@@ -31,7 +31,7 @@ fn number(text: &str) -> Option<u32> {
     Some(number)
 }
 
-/// The datagrams of so many calls, one call after the other.
+/// The datagrams of this many calls, one call after the other.
 fn gifts_of(alloc: Global, calls: u32) -> Option<Vec<LinkGift>> {
     let mut gifts = Vec::new(alloc);
     for call in 0..calls {
@@ -62,7 +62,7 @@ fn run_over<R: Threads + Wait + Sync>(
     )
 }
 
-/// Runs so many calls, and answers the nanoseconds that the run took.
+/// Runs this many calls, and returns the nanoseconds that the run took.
 fn time_calls<R: Threads + Wait + Sync + Clock>(rt: &R, alloc: Global, calls: u32) -> Option<u128> {
     let gifts = gifts_of(alloc, calls)?;
     let mut link = SteadyLink::new(alloc, gifts);

@@ -52,7 +52,7 @@ impl Board {
     /// The plan of an answer, or its first fault. It takes all memory that the answer needs of the board, and demands no pair and
     /// no key.
     ///
-    /// `UnknownCall`: no live call has its call-id. A plan may be let go: the board is as before.
+    /// `UnknownCall`: no live call has its call-id. A plan may be dropped: the board is as before.
     pub fn plan_answer(
         &mut self,
         alloc: Global,

@@ -139,7 +139,7 @@ impl Board {
         Some(self.calls[place].number)
     }
 
-    /// Takes a lease back: its pair waits behind all others that are free. It takes no memory. The lease is the last one of
+    /// Takes a lease back: its pair waits after all others that are free. It takes no memory. The lease is the last one of
     /// a pair of the board's that isn't free.
     pub fn give_back(&mut self, lease: Lease)
         requires of_pool { lease.pair < length self.old.pool.generations }

@@ -9,7 +9,7 @@ use crate::board::Board;
 use crate::cell_marks::mark_cell;
 
 impl Board {
-    /// Ends a live call, and answers its cell, from 1. Its pairs stay leased until they are given back. It takes no memory.
+    /// Ends a live call, and returns its cell, from 1. Its pairs stay leased until they are given back. It takes no memory.
     pub fn end_call(&mut self, call: u64) -> u32
         requires { IsLive self.old call }
         ensures shows { (config : Config) (v : View) → Shows config self.old v → CellsApart v.calls → Shows config self.new (without_call v call) }

@@ -15,6 +15,6 @@ pub enum BoardFault {
     SessionLimit,
     /// Fewer port pairs are free than the offer demands.
     NoPair,
-    /// Memory was refused.
+    /// Out of memory.
     OutOfMemory,
 }

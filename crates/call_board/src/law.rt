@@ -5,7 +5,7 @@ ghost use Rattle.call_board.specs.Fits.{FitsBoard, IsFitting};
 ghost use Rattle.call_board.specs.Views.{view_of};
 ghost use Rattle.call_board.specs.Whole.{IsTimely, after};
 
-/// A law, and no work: what the calls of the board make together of what it keeps, in the turn of an entry that the history
+/// Theorem (no run-time code): what the calls of the board make together of what it keeps, in the turn of an entry that the history
 /// demands, is what there is to keep of the history with that entry.
 pub fn changes_are_entries()
     ensures { (config : Config) (h : List BoardEntry) (e : BoardEntry) → IsFitting config h → FitsBoard config h e → IsTimely h e →

@@ -30,9 +30,10 @@ impl Board {
         ensures calls { KeepsCalls self.old self.new }
         ensures replies { KeepsReplies self.old self.new }
     {
-        if let Some(lease) = self.pool.lease() {
-            leases.push(lease);
-        }
+        let Some(lease) = self.pool.lease() else {
+            unreachable!();
+        };
+        leases.push(lease);
     }
 
     /// Leases the pairs that a plan demands, in the order of its legs, from the front of the free ones. It takes no memory.
@@ -68,7 +69,7 @@ impl Board {
         ensures replies { KeepsReplies self.old self.new }
     {
         let Some(lease) = leases.pop() else {
-            return;
+            unreachable!();
         };
         self.pool.give_back(lease);
     }

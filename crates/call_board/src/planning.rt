@@ -67,7 +67,7 @@ fn first_free(taken: &[bool]) -> Option<usize>
     taken.iter().position(|taken| !*taken)
 }
 
-/// The cell of a place, from 1, where there are so many cells. `None`: that is past the last of them.
+/// The cell of a place, from 1, where there are this many cells. `None`: that is past the last of them.
 fn cell_at(place: usize, count: u32) -> Option<u32>
     ensures { result ≡ (if nat_lt place count then Some (place + 1) else None) }
 {
@@ -198,7 +198,7 @@ impl Board {
     /// The plan of an offer, or its first fault. It takes all memory that the offer needs of the board, and leases nothing.
     ///
     /// `SessionLimit`: the offer would begin a call while as many are live as may be. `NoPair`: fewer pairs are free than two
-    /// for each new active section. A plan that was not leased may be let go: the board is as before.
+    /// for each new active section. A plan that was not leased may be dropped: the board is as before.
     pub fn plan_offer(
         &mut self,
         alloc: Global,

@@ -19,18 +19,18 @@ use Rattle.call_cell.specs.Learning.{is_wrong_source}
 use Rattle.call_cell.specs.Deeds.{judged_leg}
 use Rattle.call_cell.specs.Counting.{more_accepted}
 use Rattle.call_cell.specs.Standing.{LegAccepts}
-use Rattle.call_cell.specs.Parts.{ReceivingFor, OpensIn, AcceptsTo, learned_in, taught_half}
+use Rattle.call_cell.specs.Parts.{ReceivingFor, OpensIn, AcceptsTo, learner_in, taught_half}
 
 abbrev with_inbound : Receiving → Option (Box (Option Inbound) Global) → Receiving
 with_inbound old inbound = record { rtp = old.rtp; rtcp = old.rtcp; inbound = inbound }
 
-same_learned : (old : Receiving) (inbound : Option (Box (Option Inbound) Global)) (half : Half) → learned_in half (with_inbound old inbound) ≡ learned_in half old
+same_learned : (old : Receiving) (inbound : Option (Box (Option Inbound) Global)) (half : Half) → learner_in half (with_inbound old inbound) ≡ learner_in half old
 same_learned old inbound Rtp = refl
 same_learned old inbound Rtcp = refl
 
 accepts_case : (s : LegSignal) (half : Half) (source : Addr) (known : Half → Option Addr) (notes : List Note) (old new : Receiving) (inbound : Option (Box (Option Inbound) Global))
-    (buf : List ℕ) (size : ℕ) → ReceivingFor s.inbound old known notes → (j : Judged) → OpensIn j s.inbound notes old.inbound inbound buf (Ok size)
-    → ((l : List Note) → ReceivingFor s.inbound (with_inbound old inbound) known l → ReceivingFor s.inbound new (taught_half half s.flags source known) l)
+    (buf : List ℕ) (size : ℕ) → ReceivingFor (Some s) old known notes → (j : Judged) → OpensIn j s.inbound notes old.inbound inbound buf (Ok size)
+    → ((l : List Note) → ReceivingFor (Some s) (with_inbound old inbound) known l → ReceivingFor (Some s) new (taught_half half s.flags source known) l)
     → AcceptsTo j half source s known notes old new buf (Ok size)
 accepts_case s half source known notes old new inbound buf size for (Stopped cause) opens learns = absurd (let f = opens.answer in cc)
 accepts_case s half source known notes old new inbound buf size for (Passed noted plain) opens learns =
@@ -41,10 +41,10 @@ accepts_case s half source known notes old new inbound buf size for (Passed note
     }
 
 pub accepts : (s : LegSignal) (half : Half) (source : Addr) (bytes : List ℕ) (known : Half → Option Addr) (notes : List Note) (old new : Receiving)
-    (inbound : Option (Box (Option Inbound) Global)) (buf : List ℕ) (size : ℕ) → ReceivingFor s.inbound old known notes
+    (inbound : Option (Box (Option Inbound) Global)) (buf : List ℕ) (size : ℕ) → ReceivingFor (Some s) old known notes
     → not (is_packet half bytes) ≡ false → is_wrong_source s.flags (known half) source ≡ false
     → OpensIn (opened_by s.inbound notes half bytes) s.inbound notes old.inbound inbound buf (Ok size)
-    → ((l : List Note) → ReceivingFor s.inbound (with_inbound old inbound) known l → ReceivingFor s.inbound new (taught_half half s.flags source known) l)
+    → ((l : List Note) → ReceivingFor (Some s) (with_inbound old inbound) known l → ReceivingFor (Some s) new (taught_half half s.flags source known) l)
     → AcceptsTo (judged_leg (Some s) (known half) notes half source bytes) half source s known notes old new buf (Ok size)
 accepts s half source bytes known notes old new inbound buf size for is right opens learns =
     let P : Bool → Type 0 = λ (b : Bool).

@@ -13,6 +13,8 @@ use Rattle.port_pool.specs.declared.holder.Holder.{Holder}
 use Rattle.port_pool.specs.declared.signal.LegSignal.{LegSignal}
 use Rattle.port_pool.specs.declared.signal.SectionSignal.{SectionSignal}
 use Rattle.port_pool.specs.Signals.{NewKey, suite_eq}
+use Rattle.call_cell.specs.Parts.{inbound_of, learner_of}
+use Rattle.relay_outside.specs.declared.address.Addr.{Addr}
 use Rattle.call_cell.specs.declared.contexts.Outbound.{Outbound}
 use Rattle.call_cell.specs.declared.sending.Sending.{Sending}
 use Rattle.call_cell.specs.declared.leg.Leg.{Leg}
@@ -21,7 +23,7 @@ use Rattle.call_cell.specs.Keyed.{same_inbound, accepted}
 use Rattle.call_cell.specs.Learning.{Lesson, same_address, lessons, learned, learned_from}
 use Rattle.call_cell.specs.LegKeys.{keys_for, key_of, number_of, OnePerSuite}
 use Rattle.call_cell.specs.Parts.{InboundIn, HasIt, boxed_in, contexts_of, has_number, is_numbered, number_in}
-use Rattle.call_cell.specs.Standing.{LegFor, inbound_of}
+use Rattle.call_cell.specs.Standing.{LegFor}
 use Rattle.call_cell.specs.Committing.{LegCommits, LegCommitsBy, HasKey, said_of, outbound_in}
 use Rattle.call_cell.proofs.Steps.{commit_in_force, commit_accepted, commit_lessons}
 use Rattle.call_cell.proofs.KeysEqual.{suite_is}
@@ -107,7 +109,7 @@ silent_leg config m signal h leg is for =
       signal = for.signal ∙ sym (force_so m signal h leg.holder None is);
       port = for.port;
       receiving = record {
-        learned = λ half. for.receiving.learned half ∙ sym (learned_so m signal h leg.holder half None leg.signal is for.signal);
+        learned = λ half. for.receiving.learned half ∙ ap (λ (o : Option Addr). learner_of half leg.signal o) (sym (learned_so m signal h leg.holder half None leg.signal is for.signal));
         inbound = subst (λ (l : List Note). InboundIn (inbound_of leg.signal) (boxed_in leg.receiving.inbound) l)
             (sym (accepted_so m signal h leg.holder None leg.signal is for.signal)) for.receiving.inbound;
       };
@@ -132,7 +134,7 @@ said_leg {O} config m signal h old new s is keys does for =
       signal = sym (force_so m signal h old.holder (Some s) is);
       port = for.port;
       receiving = record {
-        learned = λ half. r.learned half ∙ sym (learned_so m signal h old.holder half (Some s) old.signal is for.signal);
+        learned = λ half. r.learned half ∙ ap (λ (o : Option Addr). learner_of half (Some s) o) (sym (learned_so m signal h old.holder half (Some s) old.signal is for.signal));
         inbound = subst (λ (l : List Note). InboundIn s.inbound (boxed_in new.receiving.inbound) l)
             (sym (accepted_so m signal h old.holder (Some s) old.signal is for.signal)) r.inbound;
       };

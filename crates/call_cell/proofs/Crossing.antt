@@ -1,5 +1,5 @@
 -- A packet that a leg took, on its way to the leg on the other side.
-use Rattle.std.proofs.Common.{◌≡◌, refl, ap, subst, sym, ◌∙◌, ℕ, ◌<◌, inl, inr, Bool, true, false, List, ◌∷◌, length, filter, Option, None, Ok, arith, get_or, set}
+use Rattle.std.proofs.Common.{◌≡◌, refl, ap, subst, sym, ◌∙◌, ℕ, ◌<◌, inl, inr, Bool, true, false, List, ◌∷◌, length, filter, Option, None, Ok, arith, get_or, set, Some}
 use Rattle.std.specs.Prelude.{◌&&◌}
 use Rattle.std.specs.List.{cons_option}
 use Rattle.std.proofs.lemmas.List.{length-set}
@@ -51,7 +51,7 @@ pub taken_at : {O : Type 0} (config : Config) (h : List CellEntry) (p : Receipt)
 taken_at {O} config h p those i x new noted plain buf size t m ok d acc is_noted kind unsent apart =
     let leg = get_or those i x in
     let is_so : takes leg.holder p d ≡ true = both (same_leg leg.holder p.holder) (is_accepted d.outcome) (same_swap p.holder leg.holder t.place.passes) acc in
-    let it = subst (λ (n : Option Note). ReceivingFor t.takes.signal.inbound new.receiving (taught_half p.half t.takes.signal.flags p.source (learned h leg.holder)) (cons_option n (accepted h leg.holder)))
+    let it = subst (λ (n : Option Note). ReceivingFor (Some t.takes.signal) new.receiving (taught_half p.half t.takes.signal.flags p.source (learned h leg.holder)) (cons_option n (accepted h leg.holder)))
     (sym is_noted) t.takes.receiving in
     let P : Leg O → Type 0 = λ (l : Leg O). LegFor config (relay_entry m p ok d ∷ h) l in
     subst P (sym t.takes.rest) (leg_takes config m p ok d h leg t.takes.signal new.receiving is_so kind unsent apart t.takes.in_force it (t.for.each i x t.place.below))

@@ -13,6 +13,9 @@ use Rattle.srtp_sources.specs.Notes.{Note}
 use Rattle.port_pool.specs.declared.holder.Holder.{Holder}
 use Rattle.port_pool.specs.declared.signal.LegSignal.{LegSignal}
 use Rattle.port_pool.specs.Signals.{NewKey}
+use Rattle.endpoint_learn.specs.declared.learner.Learner.{Learner}
+use Rattle.call_cell.specs.Parts.{learner_in, endpoint_of}
+use Rattle.call_cell.specs.Standing.{in_force_with}
 use Rattle.call_cell.specs.declared.outcome.Lost.{Lost}
 use Rattle.call_cell.specs.declared.outcome.Lost.TheVariants as lost
 use Rattle.call_cell.specs.declared.outcome.Outcome.{Outcome}
@@ -21,7 +24,6 @@ use Rattle.call_cell.specs.declared.sending.Sending.{Sending}
 use Rattle.call_cell.specs.declared.leg.Leg.{Leg}
 use Rattle.call_cell.specs.declared.counts.Counts.{Counts}
 use Rattle.call_cell.specs.Keyed.{Wrapped, Held, Leaves}
-use Rattle.call_cell.specs.Learning.{endpoint_by}
 use Rattle.call_cell.specs.Counting.{more_sent}
 use Rattle.call_cell.specs.Parts.{boxed_in, OutboundIn, ProtectsTo, ForwardsTo, SendsBy, SameEnds, SameKeys, ends_of, other_half, noted_under, wrapped_by, wrapped_for, send_answer}
 use Rattle.call_cell.specs.Standing.{LegForwards, LegForwardsBy, with_send, port_by, outcome_of, send_outcome, sent_ok}
@@ -140,14 +142,14 @@ leg_over old sending counts =
     record { holder = old.holder; lease = old.lease; signal = old.signal; receiving = old.receiving; sending = sending; counts = counts }
 
 pub leg_forwards : {O : Type 0} (told : O → EndTold OutCall) (faults : O → ℕ) (keys : ℕ → Option NewKey) (notes : ℕ → List Note) (half : Half)
-    (known : Option Addr) (plain : List ℕ) (s : LegSignal) (to : Addr) (port : ℕ) (old : Leg O) (new : Sending O) (counts : Counts) (buf : List ℕ)
-    (sent : Result ℕ Lost) (result : Outcome) → old.signal ≡ Some s → to ≡ endpoint_by s known half → port ≡ port_by half old.lease.rtp_port
+    (learner : Learner) (plain : List ℕ) (s : LegSignal) (to : Addr) (port : ℕ) (old : Leg O) (new : Sending O) (counts : Counts) (buf : List ℕ)
+    (sent : Result ℕ Lost) (result : Outcome) → in_force_with old.signal (learner_in half old.receiving) ≡ Some (s, learner) → to ≡ endpoint_of learner → port ≡ port_by half old.lease.rtp_port
     → counts ≡ more_sent half (is_ok sent) old.counts → result ≡ outcome_of port to sent
     → ForwardsTo told faults (wrapped_for keys notes s half plain) old.holder keys notes half port to old.sending new buf sent
-    → LegForwardsBy told faults old.signal keys notes half known plain old (leg_over old new counts) buf result
-leg_forwards {O} told faults keys notes half known plain s to port old new counts buf sent result signal to_is port_is counted is does =
-    let P : Option LegSignal → Type 0 = λ (o : Option LegSignal). LegForwardsBy {O = O} told faults o keys notes half known plain old (leg_over old new counts) buf result in
-    let Q : Counts → Type 0 = λ (c : Counts). LegForwards {O = O} told faults (wrapped_for keys notes s half plain) keys notes half (endpoint_by s known half) old (leg_over old new c) buf result in
+    → LegForwardsBy told faults (in_force_with old.signal (learner_in half old.receiving)) keys notes half plain old (leg_over old new counts) buf result
+leg_forwards {O} told faults keys notes half learner plain s to port old new counts buf sent result signal to_is port_is counted is does =
+    let P : Option (LegSignal × Learner) → Type 0 = λ (o : Option (LegSignal × Learner)). LegForwardsBy {O = O} told faults o keys notes half plain old (leg_over old new counts) buf result in
+    let Q : Counts → Type 0 = λ (c : Counts). LegForwards {O = O} told faults (wrapped_for keys notes s half plain) keys notes half (endpoint_of learner) old (leg_over old new c) buf result in
     let R : Addr → Type 0 = λ (a : Addr). LegForwards {O = O} told faults (wrapped_for keys notes s half plain) keys notes half a old (with_send half (is_ok sent) old new) buf result in
     subst P (sym signal)
     (subst Q (sym counted)

@@ -18,8 +18,10 @@ use Rattle.call_cell.specs.Cells.{CellEntry, Relayed, Receipt, Shield, Deed, in_
 use Rattle.call_cell.specs.Keyed.{accepted, protected}
 use Rattle.call_cell.specs.Learning.{Lesson, lessons, lesson_of, learned, learned_from}
 use Rattle.call_cell.specs.Contexts.{OutboundFor}
-use Rattle.call_cell.specs.Parts.{boxed_in, ReceivingFor, InboundIn, SendingFor, OutboundIn, HasNamed, HasIt, SameNumbers, contexts_of, has_number, is_numbered, number_in, noted_under, taught, taught_half}
-use Rattle.call_cell.specs.Standing.{LegFor, inbound_of, outbound_of, relay_entry, with_receiving, with_send}
+use Rattle.relay_outside.specs.declared.address.Addr.{Addr}
+use Rattle.endpoint_learn.specs.Learning.{taught}
+use Rattle.call_cell.specs.Parts.{boxed_in, inbound_of, learner_of, ReceivingFor, InboundIn, SendingFor, OutboundIn, HasNamed, HasIt, SameNumbers, contexts_of, has_number, is_numbered, number_in, noted_under, taught_half}
+use Rattle.call_cell.specs.Standing.{LegFor, outbound_of, relay_entry, with_receiving, with_send}
 use Rattle.call_cell.proofs.Steps.{if_true, heard_is, relay_accepted, relay_protected, taught_by}
 use Rattle.call_cell.proofs.Protecting.{other_kept}
 use Rattle.call_cell.proofs.Counting.{sent_from, counted_still, counted_accepts, counted_sends}
@@ -44,13 +46,13 @@ accepted_keeps : (m : ℕ) (p : Receipt) (ok : Bool) (d : Deed) (h : List CellEn
 accepted_keeps m p ok d h leg is_not =
     relay_accepted m (relayed_of p ok d) h leg ∙ ap (λ (b : Bool). cons_option (if_true b d.noted) (accepted h leg)) is_not
 
-receiving_keeps : (m : ℕ) (p : Receipt) (ok : Bool) (d : Deed) (h : List CellEntry) (leg : Holder) (key : Option (List ℕ × Suite)) (receiving : Receiving)
-    → takes leg p d ≡ false → ReceivingFor key receiving (learned h leg) (accepted h leg)
-    → ReceivingFor key receiving (learned (relay_entry m p ok d ∷ h) leg) (accepted (relay_entry m p ok d ∷ h) leg)
-receiving_keeps m p ok d h leg key receiving is_not for =
+receiving_keeps : (m : ℕ) (p : Receipt) (ok : Bool) (d : Deed) (h : List CellEntry) (leg : Holder) (signal : Option LegSignal) (receiving : Receiving)
+    → takes leg p d ≡ false → ReceivingFor signal receiving (learned h leg) (accepted h leg)
+    → ReceivingFor signal receiving (learned (relay_entry m p ok d ∷ h) leg) (accepted (relay_entry m p ok d ∷ h) leg)
+receiving_keeps m p ok d h leg signal receiving is_not for =
     record {
-      learned = λ half. for.learned half ∙ sym (learned_keeps m p ok d h leg half is_not);
-      inbound = subst (λ (l : List Note). InboundIn key (boxed_in receiving.inbound) l) (sym (accepted_keeps m p ok d h leg is_not)) for.inbound;
+      learned = λ half. for.learned half ∙ ap (λ (o : Option Addr). learner_of half signal o) (sym (learned_keeps m p ok d h leg half is_not));
+      inbound = subst (λ (l : List Note). InboundIn (inbound_of signal) (boxed_in receiving.inbound) l) (sym (accepted_keeps m p ok d h leg is_not)) for.inbound;
     }
 
 taught_case : (r : Relayed) (s : LegSignal) (ls : List Lesson) (b : Bool)
@@ -73,11 +75,11 @@ accepted_takes m p ok d h leg is_so =
 
 receiving_takes : (m : ℕ) (p : Receipt) (ok : Bool) (d : Deed) (h : List CellEntry) (leg : Holder) (s : LegSignal) (receiving : Receiving)
     → takes leg p d ≡ true → in_force h leg ≡ Some s
-    → ReceivingFor s.inbound receiving (taught_half p.half s.flags p.source (learned h leg)) (cons_option d.noted (accepted h leg))
-    → ReceivingFor s.inbound receiving (learned (relay_entry m p ok d ∷ h) leg) (accepted (relay_entry m p ok d ∷ h) leg)
+    → ReceivingFor (Some s) receiving (taught_half p.half s.flags p.source (learned h leg)) (cons_option d.noted (accepted h leg))
+    → ReceivingFor (Some s) receiving (learned (relay_entry m p ok d ∷ h) leg) (accepted (relay_entry m p ok d ∷ h) leg)
 receiving_takes m p ok d h leg s receiving is_so force for =
     record {
-      learned = λ half. for.learned half ∙ sym (learned_takes m p ok d h leg s half is_so force);
+      learned = λ half. for.learned half ∙ ap (λ (o : Option Addr). learner_of half (Some s) o) (sym (learned_takes m p ok d h leg s half is_so force));
       inbound = subst (λ (l : List Note). InboundIn s.inbound (boxed_in receiving.inbound) l) (sym (accepted_takes m p ok d h leg is_so)) for.inbound;
     }
 
@@ -162,7 +164,7 @@ leg_keeps config m p ok d h leg is_not unsent apart for =
       generation = for.generation;
       signal = for.signal;
       port = for.port;
-      receiving = receiving_keeps m p ok d h leg.holder (inbound_of leg.signal) leg.receiving is_not for.receiving;
+      receiving = receiving_keeps m p ok d h leg.holder leg.signal leg.receiving is_not for.receiving;
       sending = sending_over m p ok d h leg.holder leg.sending
           (sending_keeps leg.holder (key_numbered h) (protected h) d.shield leg.sending apart for.sending);
       named = for.named;
@@ -175,17 +177,16 @@ leg_keeps config m p ok d h leg is_not unsent apart for =
 pub leg_takes : {O : Type 0} (config : Config) (m : ℕ) (p : Receipt) (ok : Bool) (d : Deed) (h : List CellEntry) (leg : Leg O) (s : LegSignal) (receiving : Receiving)
     → takes leg.holder p d ≡ true → d.kind ≡ p.half → ((half : Half) → sent_from h leg.holder half p d ≡ false)
     → IsElsewhere leg.holder (key_numbered h) d.shield → leg.signal ≡ Some s
-    → ReceivingFor s.inbound receiving (taught_half p.half s.flags p.source (learned h leg.holder)) (cons_option d.noted (accepted h leg.holder))
+    → ReceivingFor (Some s) receiving (taught_half p.half s.flags p.source (learned h leg.holder)) (cons_option d.noted (accepted h leg.holder))
     → LegFor config h leg → LegFor config (relay_entry m p ok d ∷ h) (with_receiving p.half leg receiving)
 leg_takes config m p ok d h leg s receiving is_so kind unsent apart signal takes_it for =
-    let key : inbound_of (Some s) ≡ inbound_of leg.signal = ap inbound_of (sym signal) in
     let new = receiving_takes m p ok d h leg.holder s receiving is_so (sym for.signal ∙ signal) takes_it in
     record {
       pair = for.pair;
       generation = for.generation;
       signal = for.signal;
       port = for.port;
-      receiving = subst (λ (k : Option (List ℕ × Suite)). ReceivingFor k receiving (learned (relay_entry m p ok d ∷ h) leg.holder) (accepted (relay_entry m p ok d ∷ h) leg.holder)) key new;
+      receiving = subst (λ (o : Option LegSignal). ReceivingFor o receiving (learned (relay_entry m p ok d ∷ h) leg.holder) (accepted (relay_entry m p ok d ∷ h) leg.holder)) (sym signal) new;
       sending = sending_over m p ok d h leg.holder leg.sending
           (sending_keeps leg.holder (key_numbered h) (protected h) d.shield leg.sending apart for.sending);
       named = for.named;
@@ -204,7 +205,7 @@ leg_sends config m p ok d h leg sending is_not sent noted same for =
       generation = for.generation;
       signal = for.signal;
       port = for.port;
-      receiving = receiving_keeps m p ok d h leg.holder (inbound_of leg.signal) leg.receiving is_not for.receiving;
+      receiving = receiving_keeps m p ok d h leg.holder leg.signal leg.receiving is_not for.receiving;
       sending = sending_over m p ok d h leg.holder sending noted;
       named = named_still (outbound_of leg.signal) leg.sending sending same for.named;
       section = for.section;

@@ -19,6 +19,7 @@ pub mod Accepting
 pub mod Forwarding
 pub mod Counting
 pub mod LegSteps
+pub mod Learners
 pub mod Placing
 pub mod Relaying
 pub mod Crossing

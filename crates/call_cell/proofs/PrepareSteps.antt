@@ -14,24 +14,26 @@ use Rattle.histories.proofs.Lists.{filtered, keeps, in_left, in_right, in_append
 use Rattle.port_pool.specs.declared.holder.Side.{Side}
 use Rattle.port_pool.specs.Ports.{half_port}
 use Rattle.port_pool.specs.declared.holder.Holder.{Holder}
+use Rattle.port_pool.specs.declared.signal.LegSignal.{LegSignal}
 use Rattle.port_pool.specs.Signals.{NewKey, same_leg, side_eq, suite_eq}
+use Rattle.call_cell.specs.Parts.{inbound_of, learner_of}
 use Rattle.call_cell.specs.declared.contexts.Outbound.{Outbound}
 use Rattle.call_cell.specs.declared.sending.Sending.{Sending}
 use Rattle.call_cell.specs.declared.leg.Leg.{Leg}
 use Rattle.call_cell.specs.declared.prepare.PreparedKey.{PreparedKey}
 use Rattle.call_cell.specs.Cells.{CellEntry, key_numbered, keys_in}
 use Rattle.call_cell.specs.Keyed.{accepted, protected}
-use Rattle.call_cell.specs.Learning.{learned_from}
+use Rattle.call_cell.specs.Learning.{Lesson, learned, learned_from}
 use Rattle.call_cell.specs.LegKeys.{keys_for, keys_since, is_for, key_of, number_of, OnePerSuite}
 use Rattle.call_cell.specs.Contexts.{OutboundFor}
 use Rattle.call_cell.specs.Parts.{InboundIn, OutboundIn, SendingFor, HasIt, boxed_in, contexts_of, has_number, is_numbered, number_in}
-use Rattle.call_cell.specs.Standing.{LegFor, inbound_of, outbound_of, port_by, with_sending}
+use Rattle.call_cell.specs.Standing.{LegFor, outbound_of, port_by, with_sending}
 use Rattle.call_cell.specs.Preparing.{IsPrepared, IsFresh, IsOutboundAnew, prepare_entry, is_at, with_contexts, with_key, put_if, with_keys}
 use Rattle.call_cell.proofs.Splits.{both_left, both_right}
 use Rattle.call_cell.proofs.Keys.{finds_key}
 use Rattle.call_cell.proofs.Placing.{true_or_not}
 use Rattle.call_cell.proofs.KeysEqual.{suite_is}
-use Rattle.call_cell.proofs.Steps.{prepare_in_force, prepare_accepted, prepare_lessons, new_leg_unanswered, new_leg_notes_nothing, new_leg_learned_nothing}
+use Rattle.call_cell.proofs.Steps.{prepare_in_force, prepare_accepted, prepare_lessons, new_leg_unanswered, new_leg_notes_nothing}
 use Rattle.call_cell.proofs.CommitSteps.{has_of}
 use Rattle.call_cell.proofs.Joined.{side_is}
 use Rattle.call_cell.proofs.Counting.{counted_stays, counted_begins}
@@ -347,7 +349,7 @@ leg_stays {O} config m call legs prepared keys dropped h came leg stays one for 
       signal = for.signal ∙ sym (prepare_in_force m call legs keys dropped h leg.holder stays);
       port = for.port;
       receiving = record {
-        learned = λ half. for.receiving.learned half ∙ sym (ap learned_from (prepare_lessons m call legs keys dropped h leg.holder half stays));
+        learned = λ half. for.receiving.learned half ∙ ap (λ (ls : List Lesson). learner_of half leg.signal (learned_from ls)) (sym (prepare_lessons m call legs keys dropped h leg.holder half stays));
         inbound = subst (λ (l : List Note). InboundIn (inbound_of leg.signal) (boxed_in leg.receiving.inbound) l)
             (sym (prepare_accepted m call legs keys dropped h leg.holder stays)) for.receiving.inbound;
       };
@@ -375,7 +377,7 @@ leg_begins {O} config m call legs prepared keys dropped h came leg new one small
       signal = fresh.signal ∙ sym (new_leg_unanswered m call legs keys dropped h leg.holder new);
       port = port;
       receiving = record {
-        learned = λ half. fresh.receiving.learned half ∙ sym (ap learned_from (new_leg_learned_nothing m call legs keys dropped h leg.holder half new));
+        learned = λ half. fresh.receiving.learned half ∙ ap (λ (o : Option LegSignal). learner_of half o (learned (prepare_entry m call legs keys dropped ∷ h) leg.holder half)) (sym fresh.signal);
         inbound = subst (λ (k : Option (List ℕ × Suite)). InboundIn k (boxed_in leg.receiving.inbound) (accepted (prepare_entry m call legs keys dropped ∷ h) leg.holder))
             (sym (ap inbound_of fresh.signal))
             (subst (λ (l : List Note). InboundIn None (boxed_in leg.receiving.inbound) l)

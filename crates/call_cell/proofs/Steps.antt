@@ -14,7 +14,8 @@ use Rattle.port_pool.specs.Signals.{NewKey, same_leg, signal_at, is_rejected}
 use Rattle.call_cell.specs.Cells.{CellEvent, CellEntry, Prepare, Commit, Relay, Relayed, Shield, call, legs, keys_in, life, committed, in_force, differs, is_accepted, accepted_of, since_change}
 use Rattle.call_cell.specs.Keyed.{same_inbound, span, accepted, shield_of, protected}
 use Rattle.call_cell.specs.Learning.{Lesson, lesson_of, lesson_under, heard, same_address, lessons, lessons_in, learned_from, source_in}
-use Rattle.call_cell.specs.Parts.{note_under, taught}
+use Rattle.endpoint_learn.specs.Learning.{taught}
+use Rattle.call_cell.specs.Parts.{note_under}
 use Rattle.call_cell.proofs.Legs.{legs_stay}
 
 abbrev entry : ℕ → CellEvent → CellEntry

@@ -17,6 +17,9 @@ use Rattle.port_pool.specs.declared.holder.Side.{Side}
 use Rattle.port_pool.specs.declared.holder.Side.TheVariants.{A, B}
 use Rattle.port_pool.specs.declared.signal.LegSignal.{LegSignal}
 use Rattle.port_pool.specs.declared.reports.LegReport.{LegReport}
+use Rattle.endpoint_learn.specs.declared.learner.Learner.{Learner}
+use Rattle.call_cell.specs.Parts.{learner_of}
+use Rattle.call_cell.specs.Standing.{in_force_with}
 use Rattle.call_cell.specs.declared.leg.Leg.{Leg}
 use Rattle.call_cell.specs.declared.cell.Cell.{Cell}
 use Rattle.call_cell.specs.Cells.{CellEntry, legs, in_force, since_end}
@@ -49,15 +52,14 @@ uncut kept n is below = omega (arith, is, below)
 
 told_case : {O : Type 0} (config : Config) (h : List CellEntry) (leg : Leg O) → LegFor config h leg
     → ((half : Half) → (accepted_count h leg.holder half < 2 ^ 63) × (sent_count h leg.holder half < 2 ^ 63))
-    → (o : Option LegSignal) → told_under leg o ≡ report_under config h leg.holder o
+    → (o : Option LegSignal) → told_under leg (in_force_with o (learner_of Rtp o (learned h leg.holder Rtp))) ≡ report_under config h leg.holder o
 unfolding report
 told_case config h leg for below None = refl
 told_case {O} config h leg for below (Some s) =
     let at = pair_port config leg.holder.pair in
     let to = endpoint_by s (learned h leg.holder Rtp) Rtp in
     let k = leg.counts in
-    ap (λ (n : ℕ). report leg.holder n (endpoint_by s leg.receiving.rtp Rtp) k.rtp_accepted k.rtp_sent k.rtcp_accepted k.rtcp_sent) (for.port Rtp)
-    ∙ ap (λ (o : Option Addr). report leg.holder at (endpoint_by s o Rtp) k.rtp_accepted k.rtp_sent k.rtcp_accepted k.rtcp_sent) (for.receiving.learned Rtp)
+    ap (λ (n : ℕ). report leg.holder n to k.rtp_accepted k.rtp_sent k.rtcp_accepted k.rtcp_sent) (for.port Rtp)
     ∙ ap (λ (n : ℕ). report leg.holder at to n k.rtp_sent k.rtcp_accepted k.rtcp_sent)
     (uncut k.rtp_accepted (accepted_count h leg.holder Rtp) (for.counted.accepted Rtp) (below Rtp).0)
     ∙ ap (λ (n : ℕ). report leg.holder at to (accepted_count h leg.holder Rtp) n k.rtcp_accepted k.rtcp_sent)
@@ -70,7 +72,9 @@ told_case {O} config h leg for below (Some s) =
 told_leg : {O : Type 0} (config : Config) (h : List CellEntry) (leg : Leg O) → LegFor config h leg
     → ((half : Half) → (accepted_count h leg.holder half < 2 ^ 63) × (sent_count h leg.holder half < 2 ^ 63)) → told_by leg ≡ report_of config h leg.holder
 told_leg config h leg for below =
-    ap (λ (o : Option LegSignal). told_under leg o) for.signal ∙ told_case config h leg for below (in_force h leg.holder)
+    ap (λ (o : Option Learner). told_under leg (in_force_with leg.signal o)) (for.receiving.learned Rtp)
+    ∙ ap (λ (o : Option LegSignal). told_under leg (in_force_with o (learner_of Rtp o (learned h leg.holder Rtp)))) for.signal
+    ∙ told_case config h leg for below (in_force h leg.holder)
 
 -- The legs.
 

@@ -2,7 +2,6 @@
 use Rattle.std.proofs.Common.{◌≡◌, refl, ap, subst, sym, ◌∙◌, ℕ, ◌<◌, inl, inr, Bool, true, false, List, ◌∷◌, length, take, Option, Some, None, arith, get_or, set}
 use Rattle.std.specs.Prelude.{◌&&◌, if◌then◌else◌}
 use Rattle.std.proofs.lemmas.List.{length-set, set-get_or}
-use Rattle.relay_outside.specs.declared.address.Addr.{Addr}
 use Rattle.relay_outside.specs.declared.settings.Config.{Config}
 use Rattle.relay_outside.specs.declared.ports.OutCall.{OutCall}
 use Rattle.relay_outside.specs.Told.{EndTold}
@@ -13,6 +12,8 @@ use Rattle.port_pool.specs.Ports.{half_port}
 use Rattle.port_pool.specs.declared.holder.Holder.{Holder}
 use Rattle.port_pool.specs.declared.signal.LegSignal.{LegSignal}
 use Rattle.port_pool.specs.Signals.{NewKey, same_leg}
+use Rattle.endpoint_learn.specs.declared.learner.Learner.{Learner}
+use Rattle.call_cell.specs.Standing.{in_force_with}
 use Rattle.call_cell.specs.declared.outcome.Lost.{Lost}
 use Rattle.call_cell.specs.declared.outcome.Lost.TheVariants as lost
 use Rattle.call_cell.specs.declared.outcome.Outcome.{Outcome}
@@ -24,7 +25,7 @@ use Rattle.call_cell.specs.Keyed.{protected, Wrapped, Held, Leaves}
 use Rattle.call_cell.specs.Learning.{learned, endpoint_by}
 use Rattle.call_cell.specs.Deeds.{sent_outcome, deed, deed_wrapped, found, opposite_of, is_leaving, lost_deed, sent_deed, wrapped_towards, wrapped_numbered}
 use Rattle.call_cell.specs.Asked.{is_sent}
-use Rattle.call_cell.specs.Parts.{SendingFor, HasNamed, learned_in, SendsBy, SameNumbers, IsOf, wrapped_by, wrapped_for}
+use Rattle.call_cell.specs.Parts.{SendingFor, HasNamed, learner_in, learner_of, SendsBy, SameNumbers, IsOf, wrapped_by, wrapped_for}
 use Rattle.call_cell.specs.Standing.{FrontIs, outbound_of, LegFor, LegsFor, LegsDo, LegsRelay, LegSends, LegKeeps, LegForwards, LegForwardsBy, EndsFor, relay_entry, sent_ok, send_outcome}
 use Rattle.call_cell.proofs.Counting.{sent_from}
 use Rattle.call_cell.proofs.LegSteps.{IsElsewhere, leg_sends, named_so}
@@ -299,7 +300,7 @@ signal_case : {O : Type 0} (told : O → EndTold OutCall) (faults : O → ℕ) (
     (x new : Leg O) (noted : Option Note) (plain buf : List ℕ) (size k : ℕ) (z y : Leg O) (out : List ℕ) (result : Outcome)
     → Facing config h p those i x new noted plain buf size k z → SameNumbers (get_or those k z).sending y.sending → (o : Option LegSignal)
     → in_force h (get_or those k z).holder ≡ o
-    → LegForwardsBy told faults o (key_numbered h) (protected h) p.half (learned h (get_or those k z).holder p.half) plain (get_or those k z) y out result
+    → LegForwardsBy told faults (in_force_with o (learner_of p.half o (learned h (get_or those k z).holder p.half))) (key_numbered h) (protected h) p.half plain (get_or those k z) y out result
     → LegsRelay told faults config h p those (set (set those i new) k y) out result
 signal_case told faults config h p those i x new noted plain buf size k z y out result f numbers None is does =
     let t = f.taking in
@@ -318,7 +319,7 @@ pub relays_towards : {O : Type 0} (told : O → EndTold OutCall) (faults : O →
     → SameNumbers (get_or (set those i new) k z).sending y.sending
     → ((keys : ℕ → Option NewKey) (notes : ℕ → List Note) → SendingFor (get_or (set those i new) k z).holder keys notes (get_or (set those i new) k z).sending
     → HasNamed (outbound_of (get_or (set those i new) k z).signal) keys (get_or (set those i new) k z).sending
-    → LegForwardsBy told faults (get_or (set those i new) k z).signal keys notes p.half (learned_in p.half (get_or (set those i new) k z).receiving) (take size buf)
+    → LegForwardsBy told faults (in_force_with (get_or (set those i new) k z).signal (learner_in p.half (get_or (set those i new) k z).receiving)) keys notes p.half (take size buf)
     (get_or (set those i new) k z) y out result)
     → LegsRelay told faults config h p those (set (set those i new) k y) out result
 relays_towards {O} told faults config h p those i x new noted plain buf size k z y out result t place numbers does =
@@ -328,12 +329,12 @@ relays_towards {O} told faults config h p those i x new noted plain buf size k z
     let o = get_or those k z in
     let P : Leg O → Type 0 = λ (leg : Leg O). SendingFor leg.holder (key_numbered h) (protected h) leg.sending
     → HasNamed (outbound_of leg.signal) (key_numbered h) leg.sending
-    → LegForwardsBy told faults leg.signal (key_numbered h) (protected h) p.half (learned_in p.half leg.receiving) (take size buf) leg y out result in
+    → LegForwardsBy told faults (in_force_with leg.signal (learner_in p.half leg.receiving)) (key_numbered h) (protected h) p.half (take size buf) leg y out result in
     let many : size ≡ length plain = (let q = t.takes.answer in cc) in
     let front : take size buf ≡ plain = ap (λ (n : ℕ). take n buf) many ∙ t.takes.buffer in
     let one = (subst P there (does (key_numbered h) (protected h))) leg_o.sending (named_so (outbound_of o.signal) (key_numbered h) o.sending leg_o.named) in
-    let two : LegForwardsBy told faults o.signal (key_numbered h) (protected h) p.half (learned h o.holder p.half) plain o y out result
-    = subst (λ (l : List ℕ). LegForwardsBy told faults o.signal (key_numbered h) (protected h) p.half (learned h o.holder p.half) l o y out result) front
-    (subst (λ (a : Option Addr). LegForwardsBy told faults o.signal (key_numbered h) (protected h) p.half a (take size buf) o y out result) (leg_o.receiving.learned p.half) one) in
+    let two : LegForwardsBy told faults (in_force_with o.signal (learner_of p.half o.signal (learned h o.holder p.half))) (key_numbered h) (protected h) p.half plain o y out result
+    = subst (λ (l : List ℕ). LegForwardsBy told faults (in_force_with o.signal (learner_of p.half o.signal (learned h o.holder p.half))) (key_numbered h) (protected h) p.half l o y out result) front
+    (subst (λ (a : Option Learner). LegForwardsBy told faults (in_force_with o.signal a) (key_numbered h) (protected h) p.half (take size buf) o y out result) (leg_o.receiving.learned p.half) one) in
     signal_case told faults config h p those i x new noted plain buf size k z y out result f
     (subst (λ (leg : Leg O). SameNumbers leg.sending y.sending) there numbers) o.signal (sym leg_o.signal) two

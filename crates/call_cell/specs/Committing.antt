@@ -19,7 +19,6 @@ use Rattle.call_cell.specs.Keyed.{same_inbound}
 use Rattle.call_cell.specs.Asked.{FitsCell}
 use Rattle.call_cell.specs.LegKeys.{keys_for}
 use Rattle.call_cell.specs.Parts.{ReceivingFor}
-use Rattle.call_cell.specs.Standing.{inbound_of}
 use Rattle.call_cell.specs.CellStanding.{CellFor, last_moment}
 use Rattle.call_cell.specs.Ending.{parts_of}
 
@@ -49,8 +48,8 @@ with_commit leg s receiving = record {
 
 -- the leg is committed: it has its keys, ends and counts as before
 pub record LegCommits {O : Type 0} (s : LegSignal) (old new : Leg O) : Type 0 where
-  pub receiving : (known : Half → Option Addr) (notes : List Note) → ReceivingFor (inbound_of old.signal) old.receiving known notes
-      → ReceivingFor s.inbound new.receiving (λ half. relearned old.signal s half (known half)) (renoted old.signal s notes)
+  pub receiving : (known : Half → Option Addr) (notes : List Note) → ReceivingFor old.signal old.receiving known notes
+      → ReceivingFor (Some s) new.receiving (λ half. relearned old.signal s half (known half)) (renoted old.signal s notes)
   pub rest : new ≡ with_commit old s new.receiving
 
 -- a leg of which nothing is said is as before

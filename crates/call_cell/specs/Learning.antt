@@ -1,5 +1,5 @@
 -- Where packets go: the signalled address of a leg, or the source that was learned from the packets that it sent.
-use Rattle.std.specs.Prelude.{Bool, false, not, ◌&&◌, List, [], ◌∷◌, ◌++◌, Option, Some, None, filter, filter_map, if◌then◌else◌}
+use Rattle.std.specs.Prelude.{Bool, not, ◌&&◌, List, [], ◌∷◌, ◌++◌, Option, Some, None, filter, filter_map, if◌then◌else◌}
 use Rattle.relay_outside.specs.declared.address.Addr.{Addr}
 use Rattle.relay_outside.specs.declared.settings.Flags.{Flags}
 use Rattle.relay_outside.specs.Ports.{same_addr}
@@ -9,12 +9,17 @@ use Rattle.srtp_sources.specs.Notes.{is_half}
 use Rattle.histories.specs.Words.{first, final, or_else}
 use Rattle.port_pool.specs.declared.holder.Holder.{Holder}
 use Rattle.port_pool.specs.declared.signal.LegSignal.{LegSignal}
+use Rattle.endpoint_learn.specs.Learning as learner
 use Rattle.call_cell.specs.Cells.{CellEntry, Relayed, life, committed, in_force, changes, accepted_of}
 
 -- the address of a half that a commit names
 abbrev pub address : Half → LegSignal → Addr
 address Rtp s = s.rtp
 address Rtcp s = s.rtcp
+
+-- what a commit signals for a half
+abbrev pub signalling : Half → LegSignal → learner.Signalling
+signalling half s = record { address = address half s; flags = s.flags }
 
 -- what an accepted packet teaches: its source, and whether that takes the place of a learned one
 pub record Lesson : Type 0 where
@@ -60,8 +65,7 @@ abbrev pub learned : List CellEntry → Holder → Half → Option Addr
 learned h leg half = learned_from (lessons h leg half)
 
 abbrev pub endpoint_by : LegSignal → Option Addr → Half → Addr
-endpoint_by s None half = address half s
-endpoint_by s (Some source) half = if s.flags.asymmetric then address half s else source
+endpoint_by s known half = learner.endpoint_by (signalling half s) known
 
 abbrev pub endpoint_in : Option LegSignal → Option Addr → Half → Option Addr
 endpoint_in None known half = None
@@ -73,5 +77,4 @@ endpoint h leg half = endpoint_in (in_force h leg) (learned h leg half) half
 
 -- under `strict source` a packet from another source than the learned one is refused
 abbrev pub is_wrong_source : Flags → Option Addr → Addr → Bool
-is_wrong_source flags None source = false
-is_wrong_source flags (Some known) source = flags.strict && not flags.asymmetric && not (same_addr known source)
+is_wrong_source flags known source = learner.is_wrong_source flags known source

@@ -1,6 +1,6 @@
 -- The parts of a leg: for which learned sources, keys and notes they stand, and what their calls do. A part knows no
 -- history; `specs/Standing.antt` says which sources, keys and notes a cell's history gives it.
-use Rattle.std.specs.Prelude.{◌≡◌, ◌≤◌, Box, ℕ, Bool, true, false, ◌&&◌, ◌||◌, ◌==◌, not, List, take, length, Option, Some, None, Result, Ok, Err, is_ok, if◌then◌else◌}
+use Rattle.std.specs.Prelude.{◌≡◌, ◌≤◌, Box, ℕ, Bool, true, false, ◌||◌, ◌==◌, List, take, length, Option, Some, None, Result, Ok, Err, is_ok, if◌then◌else◌}
 use Rattle.std.specs.Global.{Global}
 use Rattle.std.specs.List.{cons_option}
 use Rattle.relay_outside.specs.declared.address.Addr.{Addr}
@@ -16,6 +16,9 @@ use Rattle.srtp_sources.specs.Notes.{Note, is_half}
 use Rattle.port_pool.specs.declared.holder.Holder.{Holder}
 use Rattle.port_pool.specs.declared.signal.LegSignal.{LegSignal}
 use Rattle.port_pool.specs.Signals.{NewKey}
+use Rattle.endpoint_learn.specs.declared.learner.Learner.{Learner}
+use Rattle.endpoint_learn.specs.Learning.{endpoint_by, is_wrong_source, taught}
+use Rattle.endpoint_learn.specs.Learners.{signal_of}
 use Rattle.call_cell.specs.declared.outcome.Refused.{Refused}
 use Rattle.call_cell.specs.declared.outcome.Lost.{Lost}
 use Rattle.call_cell.specs.declared.outcome.Lost.TheVariants as lost
@@ -24,16 +27,11 @@ use Rattle.call_cell.specs.declared.contexts.Outbound.{Outbound}
 use Rattle.call_cell.specs.declared.receiving.Receiving.{Receiving}
 use Rattle.call_cell.specs.declared.sending.Sending.{Sending}
 use Rattle.call_cell.specs.Cells.{Shield}
+use Rattle.call_cell.specs.Learning.{address}
 use Rattle.call_cell.specs.Keyed.{Judged, Stopped, Passed, Wrapped, Held, Leaves, wrapped_with}
 use Rattle.call_cell.specs.Contexts.{InboundFor, OutboundFor, Refuses}
 
 -- Receiving.
-
--- what is learned after one more accepted packet under these flags
-abbrev pub taught : Flags → Option Addr → Addr → Option Addr
-taught flags None source = if flags.asymmetric then None else Some source
-taught flags (Some known) source =
-    if flags.asymmetric then Some known else if flags.handover && not flags.strict then Some source else Some known
 
 -- what stands in a place on the heap, where there is one
 abbrev pub boxed_in : {C : Type 0} → Option (Box (Option C) Global) → Option C
@@ -47,15 +45,34 @@ InboundIn (Some key) (Some contexts) notes = InboundFor key contexts notes
 InboundIn None (Some contexts) notes = ⊥
 InboundIn (Some key) None notes = ⊥
 
--- what is kept as the learned source of a half
-abbrev pub learned_in : Half → Receiving → Option Addr
-learned_in Rtp receiving = receiving.rtp
-learned_in Rtcp receiving = receiving.rtcp
+-- the inbound key of what is in force
+abbrev pub inbound_of : Option LegSignal → Option (List ℕ × Suite)
+inbound_of None = None
+inbound_of (Some s) = s.inbound
 
--- the part stands for these learned sources, and these notes under this key
-pub record ReceivingFor (key : Option (List ℕ × Suite)) (receiving : Receiving) (known : Half → Option Addr) (notes : List Note) : Type 0 where
-  pub learned : (half : Half) → learned_in half receiving ≡ known half
-  pub inbound : InboundIn key (boxed_in receiving.inbound) notes
+-- the learner of a half
+abbrev pub learner_in : Half → Receiving → Option Learner
+learner_in Rtp receiving = receiving.rtp
+learner_in Rtcp receiving = receiving.rtcp
+
+-- the learner of a half for which that is in force, and which learned this
+abbrev pub learner_of : Half → Option LegSignal → Option Addr → Option Learner
+learner_of half None known = None
+learner_of half (Some s) known = Some (record { signalled = address half s; flags = s.flags; learned = known })
+
+-- where a learner has packets go
+abbrev pub endpoint_of : Learner → Addr
+endpoint_of learner = endpoint_by (signal_of learner) learner.learned
+
+-- a source is wrong for a learner; for none before the first commit
+abbrev pub is_wrong_for : Option Learner → Addr → Bool
+is_wrong_for None source = false
+is_wrong_for (Some learner) source = is_wrong_source learner.flags learner.learned source
+
+-- the part stands for these learned sources, and these notes under the key of what is in force
+pub record ReceivingFor (signal : Option LegSignal) (receiving : Receiving) (known : Half → Option Addr) (notes : List Note) : Type 0 where
+  pub learned : (half : Half) → learner_in half receiving ≡ learner_of half signal (known half)
+  pub inbound : InboundIn (inbound_of signal) (boxed_in receiving.inbound) notes
 
 -- a packet was taken, and noted under the key
 pub record TakesIn (key : Option (List ℕ × Suite)) (notes : List Note) (noted : Option Note) (plain : List ℕ) (new : Option Inbound)
@@ -82,7 +99,7 @@ pub record Accepts (half : Half) (source : Addr) (s : LegSignal) (known : Half �
     (plain : List ℕ) (new : Receiving) (buf : List ℕ) (result : Result ℕ Refused) : Type 0 where
   pub answer : result ≡ Ok (length plain)
   pub buffer : take (length plain) buf ≡ plain
-  pub receiving : ReceivingFor s.inbound new (taught_half half s.flags source known) (cons_option noted notes)
+  pub receiving : ReceivingFor (Some s) new (taught_half half s.flags source known) (cons_option noted notes)
 
 abbrev pub AcceptsTo : Judged → Half → Addr → LegSignal → (Half → Option Addr) → List Note → Receiving → Receiving → List ℕ
     → Result ℕ Refused → Type 0

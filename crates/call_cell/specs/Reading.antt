@@ -9,24 +9,25 @@ use Rattle.port_pool.specs.declared.holder.Side.{Side}
 use Rattle.port_pool.specs.declared.holder.Side.TheVariants.{A, B}
 use Rattle.port_pool.specs.declared.reports.LegReport.{LegReport}
 use Rattle.port_pool.specs.declared.signal.LegSignal.{LegSignal}
+use Rattle.endpoint_learn.specs.declared.learner.Learner.{Learner}
 use Rattle.call_cell.specs.declared.leg.Leg.{Leg}
 use Rattle.call_cell.specs.declared.cell.Cell.{Cell}
 use Rattle.call_cell.specs.Cells.{CellEntry, Read}
-use Rattle.call_cell.specs.Learning.{endpoint_by}
 use Rattle.call_cell.specs.Asked.{FitsCell, stands_at}
-use Rattle.call_cell.specs.Parts.{learned_in}
+use Rattle.call_cell.specs.Parts.{learner_in, endpoint_of}
+use Rattle.call_cell.specs.Standing.{in_force_with}
 use Rattle.call_cell.specs.CellStanding.{CellFor, last_moment}
 
 -- A leg.
 
--- what a leg with that in force tells
-abbrev pub told_under : {O : Type 0} → Leg O → Option LegSignal → Option LegReport
+-- what a leg tells with that in force, and that learner of RTP
+abbrev pub told_under : {O : Type 0} → Leg O → Option (LegSignal × Learner) → Option LegReport
 told_under leg None = None
-told_under leg (Some s) = Some (record {
+told_under leg (Some (s, learner)) = Some (record {
   section = leg.holder.section;
   side = leg.holder.side;
   port = leg.lease.rtp_port;
-  endpoint = endpoint_by s (learned_in Rtp leg.receiving) Rtp;
+  endpoint = endpoint_of learner;
   rtp_accepted = leg.counts.rtp_accepted;
   rtp_sent = leg.counts.rtp_sent;
   rtcp_accepted = leg.counts.rtcp_accepted;
@@ -34,7 +35,7 @@ told_under leg (Some s) = Some (record {
 })
 
 abbrev pub told_by : {O : Type 0} → Leg O → Option LegReport
-told_by leg = told_under leg leg.signal
+told_by leg = told_under leg (in_force_with leg.signal (learner_in Rtp leg.receiving))
 
 -- The legs.
 

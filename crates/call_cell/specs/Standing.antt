@@ -12,6 +12,7 @@ use Rattle.srtp_sources.specs.Notes.{Note}
 use Rattle.port_pool.specs.Ports.{half_port}
 use Rattle.port_pool.specs.declared.signal.LegSignal.{LegSignal}
 use Rattle.port_pool.specs.Signals.{NewKey, same_leg}
+use Rattle.endpoint_learn.specs.declared.learner.Learner.{Learner}
 use Rattle.call_cell.specs.declared.outcome.Incoming.{Incoming}
 use Rattle.call_cell.specs.declared.outcome.Refused.{Refused}
 use Rattle.call_cell.specs.declared.outcome.Lost.{Lost}
@@ -23,18 +24,14 @@ use Rattle.call_cell.specs.declared.sending.Sending as parts
 use Rattle.call_cell.specs.declared.leg.Leg.{Leg}
 use Rattle.call_cell.specs.Cells.{CellEntry, Receipt, Shield, Sending, Deed, Relay, legs, in_force, key_numbered}
 use Rattle.call_cell.specs.Keyed.{accepted, protected, Judged, Stopped, Passed, Wrapped, Held, Leaves}
-use Rattle.call_cell.specs.Learning.{learned, endpoint_by}
+use Rattle.call_cell.specs.Learning.{learned}
 use Rattle.call_cell.specs.Deeds.{deed, found, opposite_of, is_leaving}
 use Rattle.call_cell.specs.Counting.{IsCounted, more_accepted, more_sent}
 use Rattle.call_cell.specs.Contexts.{Refuses}
 use Rattle.call_cell.specs.LegKeys.{keys_for, key_of, OnePerSuite}
-use Rattle.call_cell.specs.Parts.{ReceivingFor, SendingFor, HasIt, SendsBy, IsOf, taught_half, noted_under, wrapped_for, number_in, contexts_of}
+use Rattle.call_cell.specs.Parts.{ReceivingFor, endpoint_of, SendingFor, HasIt, SendsBy, IsOf, taught_half, noted_under, wrapped_for, number_in, contexts_of}
 
 -- A leg.
-
-abbrev pub inbound_of : Option LegSignal → Option (List ℕ × Suite)
-inbound_of None = None
-inbound_of (Some s) = s.inbound
 
 abbrev pub outbound_of : Option LegSignal → Option ℕ
 outbound_of None = None
@@ -84,7 +81,7 @@ pub record LegTakes {O : Type 0} (half : Half) (source : Addr) (known : Half →
   pub buffer : take (length plain) buf ≡ plain
   pub signal : LegSignal
   pub in_force : old.signal ≡ Some signal
-  pub receiving : ReceivingFor signal.inbound new.receiving (taught_half half signal.flags source known) (cons_option noted notes)
+  pub receiving : ReceivingFor (Some signal) new.receiving (taught_half half signal.flags source known) (cons_option noted notes)
   pub rest : new ≡ with_receiving half old new.receiving
 
 abbrev pub LegAccepts : {O : Type 0} → Judged → Half → Addr → (Half → Option Addr) → List Note → Leg O → Leg O → List ℕ → Result ℕ Refused → Type 0
@@ -126,11 +123,16 @@ LegForwards told faults (Held cause) keys notes half to old new buf result = Leg
 LegForwards told faults (Leaves shield bytes) keys notes half to old new buf result =
     LegSends told faults keys notes shield bytes half to old new buf result
 
-abbrev pub LegForwardsBy : {O : Type 0} → (O → EndTold OutCall) → (O → ℕ) → Option LegSignal → (ℕ → Option NewKey) → (ℕ → List Note) → Half
-    → Option Addr → List ℕ → Leg O → Leg O → List ℕ → Outcome → Type 0
-LegForwardsBy told faults None keys notes half known plain old new buf result = LegKeeps lost.Hold old new result
-LegForwardsBy told faults (Some s) keys notes half known plain old new buf result =
-    LegForwards told faults (wrapped_for keys notes s half plain) keys notes half (endpoint_by s known half) old new buf result
+-- what is in force for a half, and its learner
+abbrev pub in_force_with : Option LegSignal → Option Learner → Option (LegSignal × Learner)
+in_force_with (Some s) (Some learner) = Some (s, learner)
+in_force_with _ _ = None
+
+abbrev pub LegForwardsBy : {O : Type 0} → (O → EndTold OutCall) → (O → ℕ) → Option (LegSignal × Learner) → (ℕ → Option NewKey) → (ℕ → List Note) → Half
+    → List ℕ → Leg O → Leg O → List ℕ → Outcome → Type 0
+LegForwardsBy told faults None keys notes half plain old new buf result = LegKeeps lost.Hold old new result
+LegForwardsBy told faults (Some (s, learner)) keys notes half plain old new buf result =
+    LegForwards told faults (wrapped_for keys notes s half plain) keys notes half (endpoint_of learner) old new buf result
 
 -- the leg stands for a history since the last End
 pub record LegFor {O : Type 0} (config : Config) (h : List CellEntry) (leg : Leg O) : Type 0 where
@@ -138,7 +140,7 @@ pub record LegFor {O : Type 0} (config : Config) (h : List CellEntry) (leg : Leg
   pub generation : leg.lease.generation ≡ leg.holder.generation
   pub signal : leg.signal ≡ in_force h leg.holder
   pub port : (half : Half) → port_by half leg.lease.rtp_port ≡ half_port config leg.holder.pair half
-  pub receiving : ReceivingFor (inbound_of leg.signal) leg.receiving (learned h leg.holder) (accepted h leg.holder)
+  pub receiving : ReceivingFor leg.signal leg.receiving (learned h leg.holder) (accepted h leg.holder)
   pub sending : SendingFor leg.holder (key_numbered h) (protected h) leg.sending
   pub named : HasIt (outbound_of leg.signal) leg.sending
   pub section : leg.holder.section < 8

@@ -66,7 +66,7 @@ pub(crate) struct Inbound {
 impl Inbound {
     ghost use Rattle.call_cell.specs.Contexts.{InboundFor, OpensTo};
 
-    /// The contexts of a master key of 16 bytes with a master salt of 14 behind it, which have taken no packet.
+    /// The contexts of a master key of 16 bytes with a master salt of 14 after it, which have taken no packet.
     pub(crate) fn new(key: &[u8; 30], suite: Suite) -> Inbound
         ensures { InboundFor (key.now, suite) result [] }
     {
@@ -102,7 +102,7 @@ impl Inbound {
         }
     }
 
-    /// Checks and opens in place the packet in the buffer's first `len` bytes, and answers the length of the plain packet.
+    /// Checks and opens in place the packet in the buffer's first `len` bytes, and returns the length of the plain packet.
     /// After a refusal nothing has changed.
     pub(crate) fn unprotect(
         &mut self,
@@ -182,7 +182,7 @@ impl Outbound {
         }
     }
 
-    /// Protects in place the packet in the buffer's first `len` bytes, and answers the length of the protected packet.
+    /// Protects in place the packet in the buffer's first `len` bytes, and returns the length of the protected packet.
     /// After a refusal nothing has changed.
     pub(crate) fn protect(
         &mut self,

@@ -33,7 +33,7 @@ fn places(alloc: Global, count: usize) -> Result<Vec<Box<Option<Inbound>>>, Allo
 }
 
 impl InContexts {
-    /// Room for the contexts of so many keys.
+    /// Room for the contexts of this many keys.
     pub fn reserve(alloc: Global, count: usize) -> Result<InContexts, OutOfMemory>
         ensures { IfOk result (λ contexts. contexts ≡ count) }
     {

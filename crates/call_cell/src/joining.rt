@@ -9,7 +9,7 @@ use crate::prepare::PreparedKey;
 use port_pool::{Holder, Side};
 use std::mem;
 
-/// Adds the new legs behind those that are there, all in the places prepared for them.
+/// Adds the new legs after those that are there, all in the places prepared for them.
 pub(crate) fn join<O>(legs: &mut Vec<Leg<O>>, new: Vec<Leg<O>>, places: Vec<Leg<O>>)
     requires none { vec_len places ≡ 0 }
     requires room { vec_len legs.old + vec_len new ≤ vec_capacity places }

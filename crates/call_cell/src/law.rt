@@ -15,25 +15,25 @@ ghost use Rattle.call_cell.specs.CellStanding.{CellFor};
 ghost use Rattle.call_cell.specs.Committing.{NamesKeys, contexts_due, contexts_due_after};
 ghost use Rattle.call_cell.specs.Preparing.{PrepareFor, CanCome, FitsPlaces};
 
-/// A law, and no work: no packet is protected under an index that an earlier packet of its key, half and source had.
+/// Theorem (no run-time code): no packet is protected under an index that an earlier packet of its key, half and source had.
 pub fn notes_are_new()
     ensures { (config : Config) (h : List CellEntry) (p : Receipt) (ok : Bool) (s : Shield) → GoodCell config h
         → (deed config h p ok).shield ≡ Some s → In s.note (protected h s.key) → ⊥ }
 {}
 
-/// A law, and no work: the legs that stay in a cell and those that an offer brings find places, where the offer can come.
+/// Theorem (no run-time code): the legs that stay in a cell and those that an offer brings find places, where the offer can come.
 pub fn legs_find_places<O>()
     ensures { (config : Config) (cell : Cell O) (h : List CellEntry) (signal : Prepare O) (call : ℕ) (keys : List NewKey) (dropped : List ℕ) →
         CellFor config cell h → PrepareFor signal keys dropped → CanCome config (since_end h) signal call keys dropped → FitsPlaces cell signal }
 {}
 
-/// A law, and no work: how many inbound contexts an answer makes in a cell is said by its history.
+/// Theorem (no run-time code): how many inbound contexts an answer makes in a cell is said by its history.
 pub fn contexts_are_counted<O>()
     ensures { (config : Config) (cell : Cell O) (h : List CellEntry) (signal : List SectionSignal) → CellFor config cell h →
         contexts_due signal cell.legs.items ≡ contexts_due_after (since_end h) signal }
 {}
 
-/// A law, and no work: what can come after one history for which a cell stands can come after each other one, where its keys
+/// Theorem (no run-time code): what can come after one history for which a cell stands can come after each other one, where its keys
 /// have new numbers there too.
 pub fn offers_come_after_each_history<O>()
     ensures { (config : Config) (cell : Cell O) (h k : List CellEntry) (signal : Prepare O) (call : ℕ) (keys : List NewKey) (dropped : List ℕ) →
@@ -41,21 +41,21 @@ pub fn offers_come_after_each_history<O>()
         ((key : NewKey) → In key keys → key_numbered (since_end k) key.number ≡ None) → CanCome config (since_end k) signal call keys dropped }
 {}
 
-/// A law, and no work: what names keys of the legs after one history for which a cell stands names keys of them after each
+/// Theorem (no run-time code): what names keys of the legs after one history for which a cell stands names keys of them after each
 /// other one.
 pub fn answers_name_keys_after_each_history<O>()
     ensures { (config : Config) (cell : Cell O) (h k : List CellEntry) (signal : List SectionSignal) →
         CellFor config cell h → CellFor config cell k → NamesKeys (since_end h) signal → NamesKeys (since_end k) signal }
 {}
 
-/// A law, and no work: where the counts are below 2^63 after one history for which a cell stands, they are so after each other
+/// Theorem (no run-time code): where the counts are below 2^63 after one history for which a cell stands, they are so after each other
 /// one.
 pub fn counts_are_below_after_each_history<O>()
     ensures { (config : Config) (cell : Cell O) (h k : List CellEntry) →
         CellFor config cell h → CellFor config cell k → CountsBelow (since_end h) → CountsBelow (since_end k) }
 {}
 
-/// A law, and no work: after two histories with the same offers, answers and ends, whatever packets were relayed between them,
+/// Theorem (no run-time code): after two histories with the same offers, answers and ends, whatever packets were relayed between them,
 /// the same can come, the same names keys of the legs, and an answer makes as many inbound contexts.
 pub fn packets_change_no_condition<O>()
     ensures offers { (config : Config) (h k : List CellEntry) (signal : Prepare O) (call : ℕ) (keys : List NewKey) (dropped : List ℕ) →

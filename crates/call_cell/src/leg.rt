@@ -4,9 +4,9 @@ ghost use Rattle.rtp_packet.specs.declared.head.Half.{Half};
 ghost use Rattle.srtp_sources.specs.Notes.{Note};
 ghost use Rattle.port_pool.specs.Signals.{NewKey, same_leg, side_eq};
 ghost use Rattle.call_cell.specs.Cells.{is_opposite};
-ghost use Rattle.call_cell.specs.Learning.{endpoint_by};
 ghost use Rattle.call_cell.specs.Deeds.{judged_leg};
-ghost use Rattle.call_cell.specs.Standing.{port_by, outcome_of};
+ghost use Rattle.call_cell.specs.Parts.{learner_in};
+ghost use Rattle.call_cell.specs.Standing.{port_by, outcome_of, in_force_with};
 ghost use Rattle.call_cell.specs.Ending.{parts_of};
 
 use crate::contexts::Outbound;
@@ -15,7 +15,7 @@ use crate::in_contexts::InContexts;
 use crate::outcome::{Lost, Outcome, Refused};
 use crate::receiving::Receiving;
 use crate::sending::Sending;
-use crate::signals::address;
+use endpoint_learn::Learner;
 use port_pool::{Holder, Lease, LegReport, LegSignal, Side};
 use relay_outside::{Addr, OutEnd};
 use rtp_packet::Half;
@@ -50,16 +50,6 @@ fn is_opposite(leg: &Holder, other: &Holder) -> bool
     ensures { result ≡ is_opposite leg.now other.now }
 {
     other.section == leg.section && other.side != leg.side
-}
-
-/// Where packets of a half go that are sent to a leg with that in force.
-fn endpoint_by(signal: &LegSignal, learned: Option<Addr>, half: Half) -> Addr
-    ensures { result ≡ endpoint_by signal.now learned half }
-{
-    match learned {
-        Some(source) if !signal.flags.asymmetric => source,
-        _ => address(signal, half),
-    }
 }
 
 /// The place of the leg that a packet was taken for.
@@ -136,18 +126,25 @@ impl<O> Leg<O> {
         (lease, rtp, rtcp)
     }
 
+    /// What was committed last, and a half's learner, which knows where its packets go.
+    fn committed(&self, half: Half) -> Option<(LegSignal, Learner)>
+        ensures { result ≡ in_force_with self.now.signal (learner_in half self.now.receiving) }
+    {
+        let signal = self.signal?;
+        let learner = self.receiving.learner(half)?;
+        Some((signal, learner))
+    }
+
     /// What is told of the leg, where it is committed.
     pub(crate) fn report(&self) -> Option<LegReport>
         ensures { result ≡ told_by self.now }
     {
-        let Some(signal) = self.signal else {
-            return None;
-        };
+        let (_, learner) = self.committed(Half::Rtp)?;
         Some(LegReport {
             section: self.holder.section,
             side: self.holder.side,
             port: self.lease.rtp_port(),
-            endpoint: endpoint_by(&signal, self.receiving.learned(Half::Rtp), Half::Rtp),
+            endpoint: learner.endpoint(),
             rtp_accepted: self.counts.rtp_accepted,
             rtp_sent: self.counts.rtp_sent,
             rtcp_accepted: self.counts.rtcp_accepted,
@@ -180,8 +177,8 @@ impl<O> Leg<O> {
 }
 
 impl<O: OutEnd> Leg<O> {
-    ghost use Rattle.call_cell.specs.Parts.{ReceivingFor, SendingFor, HasNamed, SameNumbers, learned_in};
-    ghost use Rattle.call_cell.specs.Standing.{inbound_of, outbound_of, LegAccepts, LegForwardsBy};
+    ghost use Rattle.call_cell.specs.Parts.{ReceivingFor, SendingFor, HasNamed, SameNumbers};
+    ghost use Rattle.call_cell.specs.Standing.{outbound_of, LegAccepts, LegForwardsBy};
 
     /// Judges the packet in the buffer's first `len` bytes, which the leg received, opens it in place, learns its source and
     /// counts it. Answers the plain packet's length. After a refusal nothing has changed.
@@ -194,7 +191,7 @@ impl<O: OutEnd> Leg<O> {
     ) -> Result<usize, Refused>
         requires held { len ≤ 2000 }
         ensures fits { IfOk result (λ size. size ≤ 2000) }
-        ensures accepts { (known : Half → Option Addr) (notes : List Note) → ReceivingFor (inbound_of self.old.signal) self.old.receiving known notes →
+        ensures accepts { (known : Half → Option Addr) (notes : List Note) → ReceivingFor self.old.signal self.old.receiving known notes →
             LegAccepts (judged_leg self.old.signal (known half) notes half source (take len buf.old)) half source known notes self.old self.new buf.new result }
     {
         let Some(signal) = self.signal else {
@@ -216,12 +213,12 @@ impl<O: OutEnd> Leg<O> {
         ensures numbers { SameNumbers self.old.sending self.new.sending }
         ensures forwards { (keys : ℕ → Option NewKey) (notes : ℕ → List Note) → SendingFor self.old.holder keys notes self.old.sending →
             HasNamed (outbound_of self.old.signal) keys self.old.sending →
-            LegForwardsBy O.told O.faults self.old.signal keys notes half (learned_in half self.old.receiving) (take len buf.old) self.old self.new buf.new result }
+            LegForwardsBy O.told O.faults (in_force_with self.old.signal (learner_in half self.old.receiving)) keys notes half (take len buf.old) self.old self.new buf.new result }
     {
-        let Some(signal) = self.signal else {
+        let Some((signal, learner)) = self.committed(half) else {
             return Outcome::Lost(Lost::Hold);
         };
-        let to = endpoint_by(&signal, self.receiving.learned(half), half);
+        let to = learner.endpoint();
         let port = port_by(half, self.lease.rtp_port());
         let sent = self.sending.forward(&signal, half, port, to, buf, len);
         self.counts.finish(half, &sent);

@@ -1,7 +1,7 @@
 //! The state of one call's media: which packets are taken, where they go, and under which keys.
 //!
-//! Module `cell` has the cell, `leg` one leg of its call, which `receiving` packets keeps learned sources and the contexts of
-//! `contexts`, and by `sending` sends; `counts` counts its packets, and `reading` tells of the legs that are committed; `gone`
+//! Module `cell` has the cell, `leg` one leg of its call, which `receiving` packets keeps a learner for each half and the contexts
+//! of `contexts`, and by `sending` sends; `counts` counts its packets, and `reading` tells of the legs that are committed; `gone`
 //! takes the legs that went. An offer is collected by `prepare`, and `joining` brings its legs and keys to those that are there;
 //! `in_contexts` is room for what an answer brings, `signals` reads what it says, and `parting` parts the legs that go from those
 //! that stay. Module `outcome` says what becomes of a packet that a leg received, `law` that no packet is protected under an index

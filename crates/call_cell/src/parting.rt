@@ -13,7 +13,7 @@ fn goes(flags: &[bool; 8], section: u8) -> bool
     section < 8 && flags[section]
 }
 
-/// Moves the first leg: to `gone` where its section has a flag and one more leg has room, and else behind the others.
+/// Moves the first leg: to `gone` where its section has a flag and one more leg has room, and else after the others.
 fn part_first<O>(legs: &mut Vec<Leg<O>>, flags: &[bool; 8], gone: &mut Gone<O>)
     requires some { 0 < vec_len legs.old }
     ensures count { vec_len legs.old ≤ vec_len legs.new + 1 }

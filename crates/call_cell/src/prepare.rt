@@ -65,7 +65,7 @@ fn leg_places<O>(alloc: Global, legs: usize) -> Result<(Vec<Leg<O>>, Vec<Leg<O>>
 impl<O> Prepare<O> {
     ghost use Rattle.call_cell.specs.Preparing.{PrepareFor, IsReady, added, parts_added, leg_room, key_room};
 
-    /// Nothing yet, with room for so many legs and keys.
+    /// Nothing yet, with capacity for this many legs and keys.
     pub fn reserve(alloc: Global, legs: usize, keys: usize) -> Result<Prepare<O>, OutOfMemory>
         ensures nothing { IfOk result (λ signal. PrepareFor signal [] [] × (added signal ≡ []) × (parts_added signal ≡ [])) }
         ensures room { IfOk result (λ signal. (leg_room signal ≡ legs) × (key_room signal ≡ keys)) }

@@ -1,58 +1,57 @@
 ghost use Rattle.std.specs.Prelude.{ℕ, ◌≡◌, ◌≤◌, ◌<◌, ◌+◌, true, List, [], take, Option, Some, None, is_some, IfOk, if◌then◌else◌};
 ghost use Rattle.relay_outside.specs.declared.address.Addr.{Addr};
+ghost use Rattle.endpoint_learn.specs.Learning.{taught};
 ghost use Rattle.rtp_packet.specs.declared.head.Half.{Half};
 ghost use Rattle.sdes_lines.specs.declared.crypto_line.Suite.{Suite};
 ghost use Rattle.srtp_sources.specs.Notes.{Note};
 ghost use Rattle.call_cell.specs.Keyed.{is_packet, opened_by};
-ghost use Rattle.call_cell.specs.Learning.{is_wrong_source};
 ghost use Rattle.call_cell.specs.Deeds.{judged_leg};
-ghost use Rattle.call_cell.specs.Parts.{InboundIn, OpensIn, OpensUnder, boxed_in};
+ghost use Rattle.call_cell.specs.Parts.{InboundIn, OpensIn, OpensUnder, boxed_in, inbound_of, learner_of, is_wrong_for};
 ghost use Rattle.call_cell.specs.Parts as parts;
-ghost use Rattle.call_cell.specs.Standing.{inbound_of};
 ghost use Rattle.call_cell.specs.Committing.{relearned, renoted, is_inbound_anew};
 
 use crate::contexts::{Inbound, is_packet};
 use crate::in_contexts::InContexts;
 use crate::outcome::Refused;
-use crate::signals::{is_new_address, is_new_key};
+use crate::signals::{address, is_new_key};
+use endpoint_learn::{Judge, Learner};
 use port_pool::LegSignal;
-use relay_outside::{Addr, Flags};
+use relay_outside::Addr;
 use rtp_packet::Half;
 use sdes_lines::Suite;
 
 /// What a leg keeps of the packets that it received.
 #[derive(Drop)]
 pub(crate) struct Receiving {
-    /// The learned source of RTP.
-    rtp: Option<Addr>,
-    /// The learned source of RTCP.
-    rtcp: Option<Addr>,
+    /// Where packets of RTP go, from the first commit on.
+    rtp: Option<Learner>,
+    /// Where packets of RTCP go, from the first commit on.
+    rtcp: Option<Learner>,
     /// The contexts of the inbound key, where there is one.
     inbound: Option<Box<Option<Inbound>>>,
 }
 
-/// What is learned once an accepted packet came from this source.
-fn taught(flags: Flags, learned: Option<Addr>, source: Addr) -> Option<Addr>
-    ensures { result ≡ parts.taught flags learned source }
+/// Teaches a half's learner the source of an accepted packet.
+fn teach(learner: &mut Option<Learner>, source: Addr)
+    ensures { (half : Half) (s : LegSignal) (known : Option Addr) → learner.old ≡ learner_of half (Some s) known →
+        learner.new ≡ learner_of half (Some s) (taught s.flags known source) }
 {
-    let Some(known) = learned else {
-        return if flags.asymmetric { None } else { Some(source) };
-    };
-    if !flags.asymmetric && flags.handover && !flags.strict {
-        Some(source)
-    } else {
-        Some(known)
+    if let Some(learner) = learner {
+        learner.learn(source);
     }
 }
 
 /// Whether another source was learned under `strict source`.
-fn is_wrong_source(flags: Flags, learned: Option<Addr>, source: Addr) -> bool
-    ensures { result ≡ is_wrong_source flags learned source }
+fn is_wrong_source(learner: Option<Learner>, source: Addr) -> bool
+    ensures { result ≡ is_wrong_for learner source }
 {
-    let Some(known) = learned else {
+    let Some(learner) = learner else {
         return false;
     };
-    flags.strict && !flags.asymmetric && known != source
+    match learner.judge(source) {
+        Judge::Pass => false,
+        Judge::WrongSource => true,
+    }
 }
 
 /// Checks and opens a packet in place, under these contexts, where there are any.
@@ -93,20 +92,16 @@ fn open(
     }
 }
 
-/// The learned source of a half after a commit: it begins anew where the half's address changed.
-fn relearned(
-    learned: Option<Addr>,
-    earlier: &Option<LegSignal>,
-    signal: &LegSignal,
-    half: Half,
-) -> Option<Addr>
-    ensures { result ≡ relearned earlier.now signal.now half learned }
+/// The learner of a half after a commit: what it learned it keeps where the half's address is as before.
+fn signalled(learner: Option<Learner>, signal: &LegSignal, half: Half) -> Learner
+    ensures { (earlier : Option LegSignal) (known : Option Addr) → learner ≡ learner_of half earlier known →
+        Some result ≡ learner_of half (Some signal.now) (relearned earlier signal.now half known) }
 {
-    if is_new_address(earlier, signal, half) {
-        None
-    } else {
-        learned
-    }
+    let Some(mut learner) = learner else {
+        return Learner::new(address(signal, half), signal.flags);
+    };
+    learner.signal(address(signal, half), signal.flags);
+    learner
 }
 
 /// The contexts of an inbound key, which have taken no packet; none where there is no key.
@@ -124,7 +119,7 @@ fn begin(key: &Option<([u8; 30], Suite)>, contexts: &mut InContexts) -> Option<B
     }
 }
 
-/// Begins the inbound contexts anew where a commit names another key or suite.
+/// Begins the inbound contexts again where a commit names another key or suite.
 fn recommit(
     inbound: &mut Option<Box<Option<Inbound>>>,
     earlier: &Option<LegSignal>,
@@ -142,7 +137,7 @@ fn recommit(
 }
 
 impl Receiving {
-    ghost use Rattle.call_cell.specs.Parts.{ReceivingFor, AcceptsTo, learned_in};
+    ghost use Rattle.call_cell.specs.Parts.{ReceivingFor, AcceptsTo, learner_in};
 
     /// Nothing received, and no key.
     pub(crate) fn new() -> Receiving
@@ -155,9 +150,9 @@ impl Receiving {
         }
     }
 
-    /// The learned source of a half.
-    pub(crate) fn learned(&self, half: Half) -> Option<Addr>
-        ensures { result ≡ learned_in half self.now }
+    /// The learner of a half, once an answer was committed.
+    pub(crate) fn learner(&self, half: Half) -> Option<Learner>
+        ensures { result ≡ learner_in half self.now }
     {
         match half {
             Half::Rtp => self.rtp,
@@ -166,17 +161,17 @@ impl Receiving {
     }
 
     /// Learns from the source of an accepted packet.
-    fn learn(&mut self, half: Half, flags: Flags, source: Addr)
-        ensures { (key : Option (List ℕ × Suite)) (known : Half → Option Addr) (notes : List Note) → ReceivingFor key self.old known notes →
-            ReceivingFor key self.new (parts.taught_half half flags source known) notes }
+    fn learn(&mut self, half: Half, source: Addr)
+        ensures { (s : LegSignal) (known : Half → Option Addr) (notes : List Note) → ReceivingFor (Some s) self.old known notes →
+            ReceivingFor (Some s) self.new (parts.taught_half half s.flags source known) notes }
     {
         match half {
-            Half::Rtp => self.rtp = taught(flags, self.rtp, source),
-            Half::Rtcp => self.rtcp = taught(flags, self.rtcp, source),
+            Half::Rtp => teach(&mut self.rtp, source),
+            Half::Rtcp => teach(&mut self.rtcp, source),
         }
     }
 
-    /// Begins anew what a commit changes: what was learned of a half whose address changed, and the contexts of another
+    /// Begins again what a commit changes: what was learned of a half whose address changed, and the contexts of another
     /// inbound key.
     pub(crate) fn commit(
         &mut self,
@@ -185,17 +180,17 @@ impl Receiving {
         contexts: &mut InContexts,
     )
         requires room { is_inbound_anew earlier.now signal.now ≡ true → 0 < contexts.old }
-        ensures receiving { (known : Half → Option Addr) (notes : List Note) → ReceivingFor (inbound_of earlier.now) self.old known notes →
-            ReceivingFor signal.now.inbound self.new (λ half. relearned earlier.now signal.now half (known half)) (renoted earlier.now signal.now notes) }
+        ensures receiving { (known : Half → Option Addr) (notes : List Note) → ReceivingFor earlier.now self.old known notes →
+            ReceivingFor (Some signal.now) self.new (λ half. relearned earlier.now signal.now half (known half)) (renoted earlier.now signal.now notes) }
         ensures room { contexts.new + (if is_inbound_anew earlier.now signal.now then 1 else 0) ≡ contexts.old }
     {
-        self.rtp = relearned(self.rtp, earlier, signal, Half::Rtp);
-        self.rtcp = relearned(self.rtcp, earlier, signal, Half::Rtcp);
+        self.rtp = Some(signalled(self.rtp, signal, Half::Rtp));
+        self.rtcp = Some(signalled(self.rtcp, signal, Half::Rtcp));
         recommit(&mut self.inbound, earlier, signal, contexts);
     }
 
     /// Judges the packet in the buffer's first `len` bytes for a leg with that in force, opens it in place and learns its
-    /// source, and answers the plain packet's length. After a refusal nothing has changed.
+    /// source, and returns the plain packet's length. After a refusal nothing has changed.
     pub(crate) fn accept(
         &mut self,
         signal: &LegSignal,
@@ -206,17 +201,17 @@ impl Receiving {
     ) -> Result<usize, Refused>
         requires held { len ≤ 2064 }
         ensures fits { IfOk result (λ size. size ≤ len) }
-        ensures accepts { (known : Half → Option Addr) (notes : List Note) → ReceivingFor signal.now.inbound self.old known notes →
+        ensures accepts { (known : Half → Option Addr) (notes : List Note) → ReceivingFor (Some signal.now) self.old known notes →
             AcceptsTo (judged_leg (Some signal.now) (known half) notes half source (take len buf.old)) half source signal.now known notes self.old self.new buf.new result }
     {
         if !is_packet(half, &buf[..len]) {
             return Err(Refused::Malformed);
         }
-        if is_wrong_source(signal.flags, self.learned(half), source) {
+        if is_wrong_source(self.learner(half), source) {
             return Err(Refused::WrongSource);
         }
         let size = open(&mut self.inbound, half, buf, len)?;
-        self.learn(half, signal.flags, source);
+        self.learn(half, source);
         Ok(size)
     }
 }

@@ -86,7 +86,7 @@ fn protect_under(
     }
 }
 
-/// The answer of a send of so many bytes by a local port.
+/// The answer of a send of this many bytes by a local port.
 fn send_answer(port: u16, size: usize, done: bool) -> Result<usize, Lost>
     ensures { result ≡ send_answer port size done }
 {
@@ -167,7 +167,7 @@ impl<O: OutEnd> Sending<O> {
     }
 
     /// Protects in place the packet in the buffer's first `len` bytes, under the key of this number where there is one, and
-    /// answers its length. After a refusal nothing has changed.
+    /// returns its length. After a refusal nothing has changed.
     fn protect(
         &mut self,
         number: Option<u64>,
@@ -188,7 +188,7 @@ impl<O: OutEnd> Sending<O> {
         }
     }
 
-    /// Sends a datagram by the end of a half, and answers whether that succeeded.
+    /// Sends a datagram by the end of a half, and returns whether that succeeded.
     fn send(&mut self, half: Half, to: Addr, bytes: &[u8]) -> bool
         ensures sends { SendsBy O.told O.faults half to bytes.now result self.old self.new }
         ensures keys { SameKeys self.old self.new }
@@ -200,7 +200,7 @@ impl<O: OutEnd> Sending<O> {
     }
 
     /// Sends what stands in the buffer's first `len` bytes to a leg with that in force, by the end of a half, whose local port is
-    /// this, and answers how many bytes were sent.
+    /// this, and returns how many bytes were sent.
     pub(crate) fn forward(
         &mut self,
         signal: &LegSignal,

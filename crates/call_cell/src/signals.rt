@@ -3,7 +3,7 @@ ghost use Rattle.relay_outside.specs.declared.address.Addr.{Addr};
 ghost use Rattle.port_pool.specs.Signals.{key_eq, is_rejected};
 ghost use Rattle.port_pool.specs.Signals as signals;
 ghost use Rattle.call_cell.specs.Cells.{differs};
-ghost use Rattle.call_cell.specs.Learning.{address, same_address};
+ghost use Rattle.call_cell.specs.Learning.{address};
 ghost use Rattle.call_cell.specs.Keyed.{same_inbound};
 ghost use Rattle.call_cell.specs.Committing.{said_of};
 ghost use Rattle.call_cell.specs.Parting.{FlagsAre};
@@ -20,16 +20,6 @@ pub(crate) fn address(signal: &LegSignal, half: Half) -> Addr
     match half {
         Half::Rtp => signal.rtp,
         Half::Rtcp => signal.rtcp,
-    }
-}
-
-/// Whether a commit names another address of a half than was in force, or is the leg's first.
-pub(crate) fn is_new_address(earlier: &Option<LegSignal>, signal: &LegSignal, half: Half) -> bool
-    ensures { result ≡ differs (same_address half) (Some signal.now) earlier.now }
-{
-    match earlier {
-        None => true,
-        Some(earlier) => address(earlier, half) != address(signal, half),
     }
 }
 

@@ -11,6 +11,6 @@ pub struct Done {
     pub heard: Heard,
     /// What the outside gave.
     pub gave: Gave,
-    /// The datagram that answers it. None: memory was short.
+    /// The datagram that answers it. None: out of memory.
     pub reply: Option<Text>,
 }

@@ -13,7 +13,7 @@ use ng_reply::ErrorCode;
 use offer_answer::Heard;
 use std::alloc::Global;
 
-/// The error of a fault. None: memory was short.
+/// The error of a fault. None: out of memory.
 fn code_of(fault: BoardFault) -> Option<ErrorCode>
     ensures { result ≡ code_of fault }
 {
@@ -29,7 +29,7 @@ fn code_of(fault: BoardFault) -> Option<ErrorCode>
     }
 }
 
-/// The board has this fault in place of a plan, where these crypto lines were chosen: its error is told, or want of memory.
+/// The board has this fault in place of a plan, where these crypto lines were chosen: its error is told, or running out of memory.
 pub fn unplanned(alloc: Global, cookie: &[u8], fault: BoardFault, heard: Heard) -> Done
     requires { IsCookie cookie.now }
     ensures refuses { Refuses cookie.now heard (code_of fault) result }
@@ -41,7 +41,7 @@ pub fn unplanned(alloc: Global, cookie: &[u8], fault: BoardFault, heard: Heard) 
     }
 }
 
-/// The description is refused so: its error is told, or want of memory. No crypto line is chosen in it.
+/// The description is refused so: its error is told, or running out of memory. No crypto line is chosen in it.
 pub fn misdescribed(alloc: Global, cookie: &[u8], fault: DescriptionFault) -> Done
     requires { IsCookie cookie.now }
     ensures refuses { Refuses cookie.now [] (error_in fault) result }

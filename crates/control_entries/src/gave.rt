@@ -8,13 +8,13 @@ use port_pool::LegReports;
 pub enum Gave {
     /// Nothing was asked of it.
     Nothing,
-    /// Memory was short.
+    /// Out of memory.
     Starved,
-    /// So many ports were opened, and the next could not be.
+    /// This many ports were opened, and the next could not be.
     PortFault(usize),
-    /// So many ports were opened, and these keys drawn; the next draw failed.
+    /// This many ports were opened, and these keys drawn; the next draw failed.
     KeyFault(usize, DrawnList),
-    /// So many ports were opened, and these keys drawn.
+    /// This many ports were opened, and these keys drawn.
     Offered(usize, DrawnList),
     /// The call that was asked after was read: these are the reports of its legs.
     Report(LegReports),

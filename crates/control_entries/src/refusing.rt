@@ -15,7 +15,7 @@ use offer_answer::Heard;
 use relay_outside::OutOfMemory;
 use std::alloc::Global;
 
-/// Memory was short.
+/// Out of memory.
 pub fn short() -> Done
     ensures is_short { IsShort result }
     ensures unasked { IsUnasked result.gave }

@@ -17,7 +17,7 @@ use std::alloc::Global;
 pub enum DescriptionFault {
     /// Its first error: `E6` or `E7` of a line or section, or `E5` where it asks for DTLS-SRTP.
     Error(ErrorCode),
-    /// Memory was refused.
+    /// Out of memory.
     OutOfMemory,
 }
 
@@ -59,7 +59,7 @@ fn v6_error(address: Option<Ip>, line: Option<u32>) -> Option<ErrorCode>
 ///
 /// # Errors
 ///
-/// `DescriptionFault` says why it is refused. Want of memory may come at any time.
+/// `DescriptionFault` says why it is refused. Running out of memory may come at any time.
 pub fn read_description<'a>(
     alloc: Global,
     config: &Config,

@@ -14,7 +14,7 @@ use std::alloc::Global;
 const MAX_ERROR: usize = 512;
 
 /// An empty text with room for the reply to an offer or an answer: for success with a description of up to `sdp_len`
-/// bytes, and for every error. `Err` is want of memory.
+/// bytes, and for every error. `Err`: out of memory.
 pub fn reply_room(alloc: Global, cookie: &[u8], sdp_len: usize) -> Result<Text, OutOfMemory>
     requires cookie { IsCookie cookie.now }
     requires small { sdp_len < 2 ^ 40 }

@@ -12,7 +12,7 @@ use ng_reply::{ErrorCode, done, fixed_error, pong, warned};
 use relay_outside::OutOfMemory;
 use std::alloc::Global;
 
-/// The datagram of a ping's reply. `Err` is want of memory.
+/// The datagram of a ping's reply. `Err`: out of memory.
 pub fn pong_datagram(alloc: Global, cookie: &[u8]) -> Result<Text, OutOfMemory>
     ensures { (config : Config) → IfOk result (λ text. text.list ≡ reply_datagram config cookie.now Pong) }
 {
@@ -22,7 +22,7 @@ pub fn pong_datagram(alloc: Global, cookie: &[u8]) -> Result<Text, OutOfMemory>
     value_datagram(alloc, cookie, &value)
 }
 
-/// The datagram of success, and nothing else. `Err` is want of memory.
+/// The datagram of success, and nothing else. `Err`: out of memory.
 pub fn done_datagram(alloc: Global, cookie: &[u8]) -> Result<Text, OutOfMemory>
     ensures { (config : Config) → IfOk result (λ text. text.list ≡ reply_datagram config cookie.now Done) }
 {
@@ -32,7 +32,7 @@ pub fn done_datagram(alloc: Global, cookie: &[u8]) -> Result<Text, OutOfMemory>
     value_datagram(alloc, cookie, &value)
 }
 
-/// The datagram of success with the text of an error as a warning. `Err` is want of memory.
+/// The datagram of success with the text of an error as a warning. `Err`: out of memory.
 pub fn warned_datagram(alloc: Global, cookie: &[u8], code: ErrorCode) -> Result<Text, OutOfMemory>
     ensures { (config : Config) → IfOk result (λ text. text.list ≡ reply_datagram config cookie.now (Warned code)) }
 {
@@ -42,7 +42,7 @@ pub fn warned_datagram(alloc: Global, cookie: &[u8], code: ErrorCode) -> Result<
     value_datagram(alloc, cookie, &value)
 }
 
-/// The datagram of an error. `Err` is want of memory, which `ng_reply::fixed_error` tells without taking any.
+/// The datagram of an error. `Err`: out of memory, which `ng_reply::fixed_error` tells without taking any.
 pub fn error_datagram(alloc: Global, cookie: &[u8], code: ErrorCode) -> Result<Text, OutOfMemory>
     requires { IsCookie cookie.now }
     ensures { (config : Config) → IfOk result (λ text. text.list ≡ reply_datagram config cookie.now (Fault code)) }
@@ -56,7 +56,7 @@ pub fn error_datagram(alloc: Global, cookie: &[u8], code: ErrorCode) -> Result<T
 }
 
 /// The datagram of a reply that stands as a value, in which at most 16 lists and dictionaries stand in one another: the cookie, a
-/// space, and what spells the value. `Err` is want of memory.
+/// space, and what spells the value. `Err`: out of memory.
 pub fn value_datagram(alloc: Global, cookie: &[u8], value: &Value) -> Result<Text, OutOfMemory>
     requires { depth (tree_of value.now) ≤ 16 }
     ensures { IfOk result (λ text. text.list ≡ cookie.now ++ 32 ∷ spelling (tree_of value.now)) }

@@ -23,18 +23,18 @@ use control_entries::{Done, Request, refused, short, told};
 use control_reading::{Body, read_body};
 use control_replies::pong_datagram;
 use delete_command::delete;
-use nested_steps::Nest;
+use nested_steps::BoardTurn;
 use ng_bencode::Pairs;
 use ng_command::Command;
 use ng_reply::ErrorCode;
 use offer_answer::Heard;
 use offer_command::offer;
 use relay_core::Relay;
-use relay_outside::{Config, KeySource, PortMaker};
+use relay_outside::{KeySource, PortMaker};
 use report_commands::{list, query};
 use std::alloc::Global;
 use std::sync::Wait;
-use turn_table::{Hand, Turns};
+use turn_table::Hand;
 
 /// A command that was carried out, with the dictionary that it was read from.
 #[derive(Drop)]
@@ -45,14 +45,12 @@ pub(crate) struct Carried {
     pub done: Done,
 }
 
-/// Carries out a command, or answers the error that there is in its place.
+/// Carries out a command, or returns the error that there is in its place.
 fn carry_out_command<P: PortMaker, K: KeySource, R: Wait>(
     rt: &R,
     alloc: Global,
-    turns: &Turns<Relay<P::In, P::Out>>,
+    turn: &BoardTurn<P::In, P::Out>,
     hand: &mut Hand<Relay<P::In, P::Out>>,
-    config: &Config,
-    nest: Nest,
     board: &mut Board,
     ports: &mut P,
     keys: &mut K,
@@ -60,21 +58,21 @@ fn carry_out_command<P: PortMaker, K: KeySource, R: Wait>(
     request: &Request,
     command: &Result<Command, ErrorCode>,
 ) -> Done
-    requires turn { InTurn config.now turns.now hand.old nest board.old (P.told ports.old) }
-    requires anew { IsAnew (board_history (made_by hand.old) nest.number) nest.moment request.now }
+    requires turn { InTurn turn.now.config.now turn.now.turns.now hand.old turn.now.nest board.old (P.told ports.old) }
+    requires anew { IsAnew (board_history (made_by hand.old) turn.now.nest.number) turn.now.nest.moment request.now }
     requires empty { gone.old ≡ [] }
     requires small { IfOk command.now (λ asks. length (description_in (said asks)) ≤ length request.now.body.now) }
     requires asked { (pairs : Option Entries) × (request.now.too_long ≡ false) × Reads request.now.body.now pairs × (command_in false pairs ≡ said_by command.now) }
     ensures same { IsSameHand hand.old hand.new × SameTurns hand.old hand.new }
-    ensures may { MayNest config.now turns.now hand.new }
+    ensures may { MayNest turn.now.config.now turn.now.turns.now hand.new }
     ensures carries { (pairs : Option Entries) → request.now.too_long ≡ false → Reads request.now.body.now pairs → command_in false pairs ≡ said_by command.now →
-        Carries config.now hand.old hand.new nest (hearing_by request.now pairs result) result.reply board.new (P.told ports.new) }
+        Carries turn.now.config.now hand.old hand.new turn.now.nest (hearing_by request.now pairs result) result.reply board.new (P.told ports.new) }
     ensures replies { KeepsReplies board.old board.new }
     ensures empty { gone.new ≡ [] }
-    ensures ties { Ties config.now (P.told ports.old) (P.told ports.new) (entries hand.old) (entries hand.new) }
+    ensures ties { Ties turn.now.config.now (P.told ports.old) (P.told ports.new) (entries hand.old) (entries hand.new) }
     ensures later { (P.faults ports.old ≤ P.faults ports.new) × (K.faults keys.old ≤ K.faults keys.new) }
-    ensures given { let h = board_history (made_by hand.old) nest.number in
-        IsGivenBy config.now (free config.now h) (given_by result.gave) (P.faults ports.old) (P.faults ports.new) (K.faults keys.old) (K.faults keys.new) (P.told ports.old) (P.told ports.new) (K.told keys.old) (K.told keys.new) }
+    ensures given { let h = board_history (made_by hand.old) turn.now.nest.number in
+        IsGivenBy turn.now.config.now (free turn.now.config.now h) (given_by result.gave) (P.faults ports.old) (P.faults ports.new) (K.faults keys.old) (K.faults keys.new) (P.told ports.old) (P.told ports.new) (K.told keys.old) (K.told keys.new) }
 {
     let command = match command {
         Ok(command) => command,
@@ -83,15 +81,11 @@ fn carry_out_command<P: PortMaker, K: KeySource, R: Wait>(
     match command {
         Command::Ping => told(Heard::none(), pong_datagram(alloc, request.cookie)),
         Command::Offer(input) => offer(
-            rt, alloc, turns, hand, config, nest, board, ports, keys, gone, request, input,
+            rt, alloc, turn, hand, board, ports, keys, gone, request, input,
         ),
-        Command::Answer(input) => answer(
-            rt, alloc, turns, hand, config, nest, board, ports, gone, request, input,
-        ),
-        Command::Delete(input) => delete(
-            rt, alloc, turns, hand, config, nest, board, ports, gone, request, input,
-        ),
-        Command::Query(input) => query(rt, alloc, turns, hand, config, nest, board, request, input),
+        Command::Answer(input) => answer(rt, alloc, turn, hand, board, ports, gone, request, input),
+        Command::Delete(input) => delete(rt, alloc, turn, hand, board, ports, gone, request, input),
+        Command::Query(input) => query(rt, alloc, turn, hand, board, request, input),
         Command::List(limit) => list(alloc, board, request, *limit),
     }
 }
@@ -100,28 +94,26 @@ fn carry_out_command<P: PortMaker, K: KeySource, R: Wait>(
 pub(crate) fn carry_out<P: PortMaker, K: KeySource, R: Wait>(
     rt: &R,
     alloc: Global,
-    turns: &Turns<Relay<P::In, P::Out>>,
+    turn: &BoardTurn<P::In, P::Out>,
     hand: &mut Hand<Relay<P::In, P::Out>>,
-    config: &Config,
-    nest: Nest,
     board: &mut Board,
     ports: &mut P,
     keys: &mut K,
     gone: &mut Gone<P::Out>,
     request: &Request,
 ) -> Carried
-    requires turn { InTurn config.now turns.now hand.old nest board.old (P.told ports.old) }
-    requires anew { IsAnew (board_history (made_by hand.old) nest.number) nest.moment request.now }
+    requires turn { InTurn turn.now.config.now turn.now.turns.now hand.old turn.now.nest board.old (P.told ports.old) }
+    requires anew { IsAnew (board_history (made_by hand.old) turn.now.nest.number) turn.now.nest.moment request.now }
     requires empty { gone.old ≡ [] }
     ensures same { IsSameHand hand.old hand.new × SameTurns hand.old hand.new }
-    ensures may { MayNest config.now turns.now hand.new }
-    ensures carries { Carries config.now hand.old hand.new nest (hearing_by request.now (pairs_if result.dictionary) result.done) result.done.reply board.new (P.told ports.new) }
+    ensures may { MayNest turn.now.config.now turn.now.turns.now hand.new }
+    ensures carries { Carries turn.now.config.now hand.old hand.new turn.now.nest (hearing_by request.now (pairs_if result.dictionary) result.done) result.done.reply board.new (P.told ports.new) }
     ensures replies { KeepsReplies board.old board.new }
     ensures empty { gone.new ≡ [] }
-    ensures ties { Ties config.now (P.told ports.old) (P.told ports.new) (entries hand.old) (entries hand.new) }
+    ensures ties { Ties turn.now.config.now (P.told ports.old) (P.told ports.new) (entries hand.old) (entries hand.new) }
     ensures later { (P.faults ports.old ≤ P.faults ports.new) × (K.faults keys.old ≤ K.faults keys.new) }
-    ensures given { let h = board_history (made_by hand.old) nest.number in
-        IsGivenBy config.now (free config.now h) (given_by result.done.gave) (P.faults ports.old) (P.faults ports.new) (K.faults keys.old) (K.faults keys.new) (P.told ports.old) (P.told ports.new) (K.told keys.old) (K.told keys.new) }
+    ensures given { let h = board_history (made_by hand.old) turn.now.nest.number in
+        IsGivenBy turn.now.config.now (free turn.now.config.now h) (given_by result.done.gave) (P.faults ports.old) (P.faults ports.new) (K.faults keys.old) (K.faults keys.new) (P.told ports.old) (P.told ports.new) (K.told keys.old) (K.told keys.new) }
 {
     if request.too_long {
         let done = refused(alloc, request.cookie, ErrorCode::E18, Heard::none());
@@ -141,7 +133,7 @@ pub(crate) fn carry_out<P: PortMaker, K: KeySource, R: Wait>(
         command,
     } = body;
     let done = carry_out_command(
-        rt, alloc, turns, hand, config, nest, board, ports, keys, gone, request, &command,
+        rt, alloc, turn, hand, board, ports, keys, gone, request, &command,
     );
     Carried { dictionary, done }
 }

@@ -24,15 +24,15 @@ use crate::sending::{send, send_shortage};
 use call_board::Board;
 use call_cell::Gone;
 use control_entries::{Done, Gave, Request};
-use nested_steps::Nest;
+use nested_steps::{BoardTurn, Nest};
 use ng_bencode::Text;
 use ng_reply::ErrorCode;
 use offer_answer::Heard;
 use relay_core::{Part, Relay};
-use relay_outside::{Config, ControlLink, Failed, KeySource, PortMaker};
+use relay_outside::{ControlLink, Failed, KeySource, PortMaker};
 use std::alloc::Global;
 use std::sync::Wait;
-use turn_table::{Hand, Turns};
+use turn_table::Hand;
 
 /// What was made of a datagram.
 #[derive(Drop)]
@@ -64,10 +64,8 @@ fn answer_short<N: ControlLink>(link: &mut N, request: &Request) -> Answered
 fn answer_anew<N: ControlLink, P: PortMaker, K: KeySource, R: Wait>(
     rt: &R,
     alloc: Global,
-    turns: &Turns<Relay<P::In, P::Out>>,
+    turn: &BoardTurn<P::In, P::Out>,
     hand: &mut Hand<Relay<P::In, P::Out>>,
-    config: &Config,
-    nest: Nest,
     board: &mut Board,
     link: &mut N,
     ports: &mut P,
@@ -75,20 +73,20 @@ fn answer_anew<N: ControlLink, P: PortMaker, K: KeySource, R: Wait>(
     gone: &mut Gone<P::Out>,
     request: &Request,
 ) -> Answered
-    requires turn { InTurn config.now turns.now hand.old nest board.old (P.told ports.old) }
-    requires anew { IsAnew (board_history (made_by hand.old) nest.number) nest.moment request.now }
+    requires turn { InTurn turn.now.config.now turn.now.turns.now hand.old turn.now.nest board.old (P.told ports.old) }
+    requires anew { IsAnew (board_history (made_by hand.old) turn.now.nest.number) turn.now.nest.moment request.now }
     requires empty { gone.old ≡ [] }
     ensures same { IsSameHand hand.old hand.new × SameTurns hand.old hand.new }
-    ensures may { MayNest config.now turns.now hand.new }
-    ensures deals { Deals config.now hand.old hand.new nest (hearing_of request.now result.dealt) board.new (P.told ports.new) }
-    ensures sent { Sends request.now.source (control_of config.now (board_history (made_by hand.old) nest.number) nest.moment (hearing_of request.now result.dealt)).reply
+    ensures may { MayNest turn.now.config.now turn.now.turns.now hand.new }
+    ensures deals { Deals turn.now.config.now hand.old hand.new turn.now.nest (hearing_of request.now result.dealt) board.new (P.told ports.new) }
+    ensures sent { Sends request.now.source (control_of turn.now.config.now (board_history (made_by hand.old) turn.now.nest.number) turn.now.nest.moment (hearing_of request.now result.dealt)).reply
         result.sent (N.told link.old) (N.told link.new) }
     ensures cause { HasCause (N.faults link.old) (N.faults link.new) result.sent }
     ensures empty { gone.new ≡ [] }
-    ensures ties { Ties config.now (P.told ports.old) (P.told ports.new) (entries hand.old) (entries hand.new) }
+    ensures ties { Ties turn.now.config.now (P.told ports.old) (P.told ports.new) (entries hand.old) (entries hand.new) }
     ensures later { (P.faults ports.old ≤ P.faults ports.new) × (K.faults keys.old ≤ K.faults keys.new) }
-    ensures given { let h = board_history (made_by hand.old) nest.number in
-        IsGivenBy config.now (free config.now h) (given_by result.dealt.gave) (P.faults ports.old) (P.faults ports.new) (K.faults keys.old) (K.faults keys.new) (P.told ports.old) (P.told ports.new) (K.told keys.old) (K.told keys.new) }
+    ensures given { let h = board_history (made_by hand.old) turn.now.nest.number in
+        IsGivenBy turn.now.config.now (free turn.now.config.now h) (given_by result.dealt.gave) (P.faults ports.old) (P.faults ports.new) (K.faults keys.old) (K.faults keys.new) (P.told ports.old) (P.told ports.new) (K.told keys.old) (K.told keys.new) }
 {
     if board.reserve_reply().is_err() {
         return answer_short(link, request);
@@ -97,10 +95,10 @@ fn answer_anew<N: ControlLink, P: PortMaker, K: KeySource, R: Wait>(
         return answer_short(link, request);
     };
     let Carried { dictionary, done } = carry_out(
-        rt, alloc, turns, hand, config, nest, board, ports, keys, gone, request,
+        rt, alloc, turn, hand, board, ports, keys, gone, request,
     );
     let Done { heard, gave, reply } = done;
-    let sent = reply_to(board, link, request, nest.moment, cookie, reply);
+    let sent = reply_to(board, link, request, turn.nest.moment, cookie, reply);
     let dealt = Dealt {
         dictionary,
         heard,
@@ -113,10 +111,8 @@ fn answer_anew<N: ControlLink, P: PortMaker, K: KeySource, R: Wait>(
 fn deal<N: ControlLink, P: PortMaker, K: KeySource, R: Wait>(
     rt: &R,
     alloc: Global,
-    turns: &Turns<Relay<P::In, P::Out>>,
+    turn: &BoardTurn<P::In, P::Out>,
     hand: &mut Hand<Relay<P::In, P::Out>>,
-    config: &Config,
-    nest: Nest,
     board: &mut Board,
     link: &mut N,
     ports: &mut P,
@@ -124,22 +120,22 @@ fn deal<N: ControlLink, P: PortMaker, K: KeySource, R: Wait>(
     gone: &mut Gone<P::Out>,
     request: &Request,
 ) -> Answered
-    requires turn { InTurn config.now turns.now hand.old nest board.old (P.told ports.old) }
+    requires turn { InTurn turn.now.config.now turn.now.turns.now hand.old turn.now.nest board.old (P.told ports.old) }
     requires request { IsRequest request.now }
     requires empty { gone.old ≡ [] }
     ensures same { IsSameHand hand.old hand.new × SameTurns hand.old hand.new }
-    ensures may { MayNest config.now turns.now hand.new }
-    ensures deals { Deals config.now hand.old hand.new nest (hearing_of request.now result.dealt) board.new (P.told ports.new) }
-    ensures sent { Sends request.now.source (control_of config.now (board_history (made_by hand.old) nest.number) nest.moment (hearing_of request.now result.dealt)).reply
+    ensures may { MayNest turn.now.config.now turn.now.turns.now hand.new }
+    ensures deals { Deals turn.now.config.now hand.old hand.new turn.now.nest (hearing_of request.now result.dealt) board.new (P.told ports.new) }
+    ensures sent { Sends request.now.source (control_of turn.now.config.now (board_history (made_by hand.old) turn.now.nest.number) turn.now.nest.moment (hearing_of request.now result.dealt)).reply
         result.sent (N.told link.old) (N.told link.new) }
     ensures cause { HasCause (N.faults link.old) (N.faults link.new) result.sent }
     ensures empty { gone.new ≡ [] }
-    ensures ties { Ties config.now (P.told ports.old) (P.told ports.new) (entries hand.old) (entries hand.new) }
+    ensures ties { Ties turn.now.config.now (P.told ports.old) (P.told ports.new) (entries hand.old) (entries hand.new) }
     ensures later { (P.faults ports.old ≤ P.faults ports.new) × (K.faults keys.old ≤ K.faults keys.new) }
-    ensures given { let h = board_history (made_by hand.old) nest.number in
-        IsGivenBy config.now (free config.now h) (given_by result.dealt.gave) (P.faults ports.old) (P.faults ports.new) (K.faults keys.old) (K.faults keys.new) (P.told ports.old) (P.told ports.new) (K.told keys.old) (K.told keys.new) }
+    ensures given { let h = board_history (made_by hand.old) turn.now.nest.number in
+        IsGivenBy turn.now.config.now (free turn.now.config.now h) (given_by result.dealt.gave) (P.faults ports.old) (P.faults ports.new) (K.faults keys.old) (K.faults keys.new) (P.told ports.old) (P.told ports.new) (K.told keys.old) (K.told keys.new) }
 {
-    if let Some(kept) = board.find_reply(request.source, request.cookie, nest.moment) {
+    if let Some(kept) = board.find_reply(request.source, request.cookie, turn.nest.moment) {
         let sent = send(link, request.source, kept);
         let dealt = Dealt {
             dictionary: None,
@@ -149,48 +145,52 @@ fn deal<N: ControlLink, P: PortMaker, K: KeySource, R: Wait>(
         return Answered { dealt, sent };
     }
     answer_anew(
-        rt, alloc, turns, hand, config, nest, board, link, ports, keys, gone, request,
+        rt, alloc, turn, hand, board, link, ports, keys, gone, request,
     )
 }
 
-/// Deals with a request where the board's place is given, whose turn has this number. `now` is in milliseconds.
+/// Deals with a request where the board's place is given, in a turn of the board that was handed the moment which `turn` says: its
+/// entry has the later one of that moment and of the last entry's.
 pub(crate) fn deal_part<N: ControlLink, P: PortMaker, K: KeySource, R: Wait>(
     rt: &R,
     alloc: Global,
-    turns: &Turns<Relay<P::In, P::Out>>,
+    turn: &BoardTurn<P::In, P::Out>,
     hand: &mut Hand<Relay<P::In, P::Out>>,
-    config: &Config,
-    number: u64,
     part: &mut Part<P::In, P::Out>,
     link: &mut N,
     ports: &mut P,
     keys: &mut K,
     gone: &mut Gone<P::Out>,
     request: &Request,
-    now: u64,
 ) -> Answered
-    requires taken { IsTaken config.now turns.now hand.old number part.old (P.told ports.old) }
+    requires taken { IsTaken turn.now.config.now turn.now.turns.now hand.old turn.now.nest.number part.old (P.told ports.old) }
     requires request { IsRequest request.now }
     requires empty { gone.old ≡ [] }
     ensures same { IsSameHand hand.old hand.new × SameTurns hand.old hand.new }
-    ensures may { MayNest config.now turns.now hand.new }
-    ensures deals { let h = board_history (made_by hand.old) number in
-        DealsAt config.now hand.old hand.new number (moment_at h now) (hearing_of request.now result.dealt) part.new (P.told ports.new) }
-    ensures sent { let h = board_history (made_by hand.old) number in
-        Sends request.now.source (control_of config.now h (moment_at h now) (hearing_of request.now result.dealt)).reply result.sent (N.told link.old) (N.told link.new) }
+    ensures may { MayNest turn.now.config.now turn.now.turns.now hand.new }
+    ensures deals { let h = board_history (made_by hand.old) turn.now.nest.number in
+        DealsAt turn.now.config.now hand.old hand.new turn.now.nest.number (moment_at h turn.now.nest.moment) (hearing_of request.now result.dealt) part.new (P.told ports.new) }
+    ensures sent { let h = board_history (made_by hand.old) turn.now.nest.number in
+        Sends request.now.source (control_of turn.now.config.now h (moment_at h turn.now.nest.moment) (hearing_of request.now result.dealt)).reply result.sent (N.told link.old) (N.told link.new) }
     ensures cause { HasCause (N.faults link.old) (N.faults link.new) result.sent }
     ensures empty { gone.new ≡ [] }
-    ensures ties { Ties config.now (P.told ports.old) (P.told ports.new) (entries hand.old) (entries hand.new) }
+    ensures ties { Ties turn.now.config.now (P.told ports.old) (P.told ports.new) (entries hand.old) (entries hand.new) }
     ensures later { (P.faults ports.old ≤ P.faults ports.new) × (K.faults keys.old ≤ K.faults keys.new) }
-    ensures given { let h = board_history (made_by hand.old) number in
-        IsGivenBy config.now (free config.now h) (given_by result.dealt.gave) (P.faults ports.old) (P.faults ports.new) (K.faults keys.old) (K.faults keys.new) (P.told ports.old) (P.told ports.new) (K.told keys.old) (K.told keys.new) }
+    ensures given { let h = board_history (made_by hand.old) turn.now.nest.number in
+        IsGivenBy turn.now.config.now (free turn.now.config.now h) (given_by result.dealt.gave) (P.faults ports.old) (P.faults ports.new) (K.faults keys.old) (K.faults keys.new) (P.told ports.old) (P.told ports.new) (K.told keys.old) (K.told keys.new) }
 {
     match part {
         Part::Board(board) => {
-            let moment = board.advance(now);
-            let nest = Nest { number, moment };
+            let turn = BoardTurn {
+                turns: turn.turns,
+                config: turn.config,
+                nest: Nest {
+                    number: turn.nest.number,
+                    moment: board.advance(turn.nest.moment),
+                },
+            };
             deal(
-                rt, alloc, turns, hand, config, nest, board, link, ports, keys, gone, request,
+                rt, alloc, &turn, hand, board, link, ports, keys, gone, request,
             )
         }
         Part::Cell(_) => unreachable!(),

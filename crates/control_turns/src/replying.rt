@@ -16,7 +16,7 @@ use ng_bencode::Text;
 use relay_outside::{ControlLink, Failed};
 
 /// Sends the reply to a request to its source, and keeps it, in the room that was made for it; where there is none, it sends that
-/// memory was short.
+/// Out of memory.
 pub(crate) fn reply_to<N: ControlLink>(
     board: &mut Board,
     link: &mut N,

@@ -14,6 +14,7 @@ use crate::dealing::deal_part;
 use crate::putting::put_control;
 use call_cell::Gone;
 use control_entries::Request;
+use nested_steps::{BoardTurn, Nest};
 use relay_core::Relay;
 use relay_outside::{Config, ControlLink, Failed, KeySource, PortMaker};
 use std::alloc::Global;
@@ -25,7 +26,7 @@ use turn_table::{Hand, Turns};
 /// reply. What the send answered is answered; the command and its kept reply stand all the same.
 ///
 /// A kept reply is sent again and nothing is done. Else the command is carried out: an offer leases pairs, opens their ports and
-/// draws its keys, and all of it is undone after a fault; what ends closes its ports. Want of memory is answered as such, and
+/// draws its keys, and all of it is undone after a fault; what ends closes its ports. Running out of memory is answered as such, and
 /// then nothing is done. `now` is in milliseconds; a moment before that of the board's last entry counts as that one. `gone` is
 /// empty before and after.
 pub fn answer_datagram<N: ControlLink, P: PortMaker, K: KeySource, R: Wait>(
@@ -56,20 +57,25 @@ pub fn answer_datagram<N: ControlLink, P: PortMaker, K: KeySource, R: Wait>(
 {
     let mut turn = turns.turn(rt, hand, 0);
     let number = turn.front();
+    let board_turn = BoardTurn {
+        turns,
+        config,
+        nest: Nest {
+            number,
+            moment: now,
+        },
+    };
     let answered = deal_part(
         rt,
         alloc,
-        turns,
+        &board_turn,
         hand,
-        config,
-        number,
         turn.state(),
         link,
         ports,
         keys,
         gone,
         request,
-        now,
     );
     put_control::<P::In, P::Out, Brand>(turns, hand, turn, config, now, request, &answered.dealt);
     answered.sent

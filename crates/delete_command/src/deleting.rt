@@ -24,7 +24,7 @@ use call_board::Board;
 use call_cell::Gone;
 use control_entries::{Done, Gave, Request, missing, short};
 use control_replies::done_datagram;
-use nested_steps::Nest;
+use nested_steps::BoardTurn;
 use ng_bencode::Text;
 use ng_command::DeleteIn;
 use ng_reply::ErrorCode;
@@ -34,7 +34,7 @@ use relay_core::Relay;
 use relay_outside::{Config, PortMaker};
 use std::alloc::Global;
 use std::sync::Wait;
-use turn_table::{Hand, Turns};
+use turn_table::Hand;
 
 /// Whether this is the tag of a side of a live call.
 fn is_tag_of(board: &Board, call: u64, side: Side, tag: &Text) -> bool
@@ -62,31 +62,29 @@ fn names_side(board: &Board, call: u64, tag: &Option<Text>) -> bool
 
 /// Ends the live call of a delete, in the board's turn of its datagram, or tells that there is none to end: no live call has the
 /// call-id (`E9`), or the tag is of no side of it (`E10`), which is an error where the delete is fatal and else a warning. Then, and
-/// where memory is short, nothing is done. `gone` is empty before and after.
+/// where memory runs out, nothing is done. `gone` is empty before and after.
 pub fn delete<P: PortMaker, R: Wait>(
     rt: &R,
     alloc: Global,
-    turns: &Turns<Relay<P::In, P::Out>>,
+    turn: &BoardTurn<P::In, P::Out>,
     hand: &mut Hand<Relay<P::In, P::Out>>,
-    config: &Config,
-    nest: Nest,
     board: &mut Board,
     ports: &mut P,
     gone: &mut Gone<P::Out>,
     request: &Request,
     input: &DeleteIn,
 ) -> Done
-    requires turn { InTurn config.now turns.now hand.old nest board.old (P.told ports.old) }
-    requires anew { IsAnew (board_history (made_by hand.old) nest.number) nest.moment request.now }
+    requires turn { InTurn turn.now.config.now turn.now.turns.now hand.old turn.now.nest board.old (P.told ports.old) }
+    requires anew { IsAnew (board_history (made_by hand.old) turn.now.nest.number) turn.now.nest.moment request.now }
     requires empty { gone.old ≡ [] }
     requires asked { (pairs : Option Entries) × IsAsking request.now pairs (Delete input.now.call_id.list (list_of input.now.from_tag) input.now.fatal) }
     ensures same { IsSameHand hand.old hand.new × SameTurns hand.old hand.new }
-    ensures may { MayNest config.now turns.now hand.new }
+    ensures may { MayNest turn.now.config.now turn.now.turns.now hand.new }
     ensures carries { (pairs : Option Entries) → IsAsking request.now pairs (Delete input.now.call_id.list (list_of input.now.from_tag) input.now.fatal) →
-        Carries config.now hand.old hand.new nest (hearing_by request.now pairs result) result.reply board.new (P.told ports.new) }
+        Carries turn.now.config.now hand.old hand.new turn.now.nest (hearing_by request.now pairs result) result.reply board.new (P.told ports.new) }
     ensures replies { KeepsReplies board.old board.new }
     ensures empty { gone.new ≡ [] }
-    ensures ties { Ties config.now (P.told ports.old) (P.told ports.new) (entries hand.old) (entries hand.new) }
+    ensures ties { Ties turn.now.config.now (P.told ports.old) (P.told ports.new) (entries hand.old) (entries hand.new) }
     ensures later { P.faults ports.old ≤ P.faults ports.new }
     ensures closes { Gained (P.told ports.old) (P.told ports.new) OpensNone }
     ensures unasked { IsUnasked result.gave }
@@ -100,7 +98,7 @@ pub fn delete<P: PortMaker, R: Wait>(
     let Ok(reply) = done_datagram(alloc, request.cookie) else {
         return short();
     };
-    delete_call(rt, turns, hand, config, nest, board, ports, gone, call);
+    delete_call(rt, turn, hand, board, ports, gone, call);
     Done {
         heard: Heard::none(),
         gave: Gave::Nothing,

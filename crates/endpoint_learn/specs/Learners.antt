@@ -1,6 +1,5 @@
 -- Which lists a learner stands for.
-use Rattle.std.specs.Prelude.{◌≡◌, Bool, true, false, List, Option, Some}
-use Rattle.relay_outside.specs.declared.address.Addr.{Addr}
+use Rattle.std.specs.Prelude.{◌≡◌, Bool, true, false, List, Some}
 use Rattle.endpoint_learn.specs.declared.learner.Learner.{Learner}
 use Rattle.endpoint_learn.specs.declared.learner.Judge.{Judge}
 use Rattle.endpoint_learn.specs.declared.learner.Judge.TheVariants.{Pass, WrongSource}

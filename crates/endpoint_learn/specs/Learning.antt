@@ -3,7 +3,7 @@ use Rattle.std.specs.Prelude.{Bool, true, false, not, ◌&&◌, List, [], ◌∷
 use Rattle.relay_outside.specs.declared.address.Addr.{Addr}
 use Rattle.relay_outside.specs.declared.settings.Flags.{Flags}
 use Rattle.relay_outside.specs.Ports.{same_addr}
-use Rattle.histories.specs.Words.{first, final, or_else}
+use Rattle.histories.specs.Words.{final, or_else}
 
 -- an address was signalled with these flags; or an accepted packet came from this source
 pub data Step : Type 0 where

@@ -74,7 +74,7 @@ impl Learner {
         self.learned = taught(self.flags, self.learned, source);
     }
 
-    /// Takes a new signal. Learning begins anew exactly where the address is another one.
+    /// Takes a new signal. Learning begins again exactly where the address is another one.
     pub fn signal(&mut self, signalled: Addr, flags: Flags)
         ensures { (steps : List Step) → StandsFor self.old steps → StandsFor self.new (Signalled signalled flags ∷ steps) }
     {

@@ -13,7 +13,7 @@ pub enum Received {
         /// How many events the box had made, as was seen just after.
         front: u64,
     },
-    /// A datagram of more than 2,000 bytes was taken, and let go.
+    /// A datagram of more than 2,000 bytes was taken, and dropped.
     TooLong,
     /// The take of the end failed; its count of faults rose.
     TakeFault,

@@ -16,11 +16,11 @@ use rtp_packet::Half;
 use std::sync::Wait;
 use turn_table::Turns;
 
-/// How often a sweep looks for hints at the most. It visits a half each time, or as many cold ones as follow: with a half for each port
+/// How often a sweep looks for hints at most. It visits a half each time, or as many cold ones as follow: with a half for each port
 /// it never looks so often.
 const MOST_LOOKS: u32 = 131_072;
 
-/// How many halves are looked at in one pause, for cold ones: a packet that comes meanwhile waits for so many visits at the most.
+/// How many halves are looked at in one pause, for cold ones: a packet that comes meanwhile waits for this many visits at most.
 const COLD_HALVES: u32 = 64;
 
 /// The first even port of the range.
@@ -59,7 +59,7 @@ impl<I: InEnd, O: OutEnd> Lane<I, O> {
         Some((pair, half))
     }
 
-    /// The lane's own half with this number, from the lowest pair upwards, its half for RTP first; `None` behind the last.
+    /// The lane's own half with this number, from the lowest pair upwards, its half for RTP first; `None` after the last.
     fn own_half(&self, number: u32) -> Option<(u32, Half)>
         ensures { MatchOption result
             (pair_count (config_of self.now) ≤ index_of self.now + lanes_of self.now * (number / 2))

@@ -35,7 +35,7 @@ impl<I: InEnd, O: OutEnd> Lane<I, O> {
     ghost use Rattle.std.specs.Prelude.{[]};
     ghost use Rattle.media_lane.specs.Lanes.{hand_of, config_of, index_of, lanes_of, sent_of};
 
-    /// The lane with this number, of so many lanes, on a hand that holds no turn. The hand's table began with as many places as
+    /// The lane with this number, of this many lanes, on a hand that holds no turn. The hand's table began with as many places as
     /// the parts of the configuration, each of its kind.
     pub fn new(hand: Hand<Relay<I, O>>, index: u32, lanes: u32, config: &Config) -> Lane<I, O>
         requires one_of { index < lanes }

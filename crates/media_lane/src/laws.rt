@@ -3,7 +3,7 @@ ghost use Rattle.media_lane.specs.Starts.{PartsBeginLanes};
 
 use relay_outside::{InEnd, OutEnd};
 
-/// A law, and no code: the parts of a configuration are what the table of a lane of that configuration may begin as.
+/// Theorem (no run-time code): the parts of a configuration are what the table of a lane of that configuration may begin as.
 pub fn parts_begin_lanes<I: InEnd, O: OutEnd>()
     ensures { PartsBeginLanes I O }
 {}

@@ -6,7 +6,7 @@ use crate::visited::Visited;
 use rtp_packet::Half;
 use std::mem;
 
-/// For how many milliseconds a sweep waits for hints. All halves that no hint names wait so long at the most from one sweep to the next,
+/// For how many milliseconds a sweep waits for hints. All halves that no hint names wait so long at most from one sweep to the next,
 /// and so does a thread that is told to stop: a lost or a wrong hint costs time and nothing else.
 const LONGEST_MILLIS: u32 = 200;
 

@@ -177,7 +177,7 @@ impl<I: InEnd, O: OutEnd> Lane<I, O> {
     }
 
     /// Takes one datagram of a half at the box of a pair, under one turn of that box. It takes no memory, and may wait: it tries
-    /// again until it has the turn, so that it never answers `Busy`. At a box that has made 2^56 events it waits forever.
+    /// again until it has the turn, so that it never returns `Busy`. At a box that has made 2^56 events it waits forever.
     pub fn receive<W: Wait>(
         &mut self,
         rt: &W,

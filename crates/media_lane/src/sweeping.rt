@@ -135,7 +135,7 @@ impl<I: InEnd, O: OutEnd> Lane<I, O> {
 
     /// Takes once of each half of each of the lane's own pairs, whose numbers are the lane's modulo the number of lanes, and
     /// relays each datagram, handed a moment of the clock, before the next take. It may wait, where another hand has a turn, and for
-    /// the clock's hints, 200 milliseconds at the most.
+    /// the clock's hints, 200 milliseconds at most.
     ///
     /// The halves at whose ports the clock hints come first, in the order of its hints, and then all others, from the lowest pair
     /// upwards; some of these before, where the hints pause.

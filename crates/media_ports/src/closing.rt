@@ -54,9 +54,10 @@ fn close_first<P: PortMaker>(
     ensures room { opened.new.room ≡ opened.old.room }
     ensures later { P.faults ports.old ≤ P.faults ports.new }
 {
-    if let Some(ends) = opened.pop() {
-        close_pair(ports, interface, lease, ends);
-    }
+    let Some(ends) = opened.pop() else {
+        unreachable!();
+    };
+    close_pair(ports, interface, lease, ends);
 }
 
 /// Closes the opened pairs, which are those of the first leases, in their order, and leaves the list empty. Each end was opened for its

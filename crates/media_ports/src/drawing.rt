@@ -22,7 +22,7 @@ impl Model for DrawnList {
 }
 
 impl DrawnList {
-    /// No key yet, with room for so many.
+    /// No key yet, with capacity for this many.
     pub fn with_room(alloc: Global, room: usize) -> Result<DrawnList, OutOfMemory>
         ensures { IfOk result (λ drawn. drawn ≡ record { list = []; room = room }) }
     {
@@ -32,7 +32,7 @@ impl DrawnList {
         }
     }
 
-    /// Adds a key behind the others. It takes no memory.
+    /// Adds a key after the others. It takes no memory.
     fn push(&mut self, key: [u8; 30])
         requires { length self.old.list < self.old.room }
         ensures { self.new ≡ with_key self.old key }
@@ -52,7 +52,7 @@ impl DrawnList {
 #[derive(Clone, Copy, PartialEq, Eq, Debug)]
 pub struct KeyFault;
 
-/// Draws so many keys into an empty list with room for them. It takes no memory.
+/// Draws this many keys into an empty list with room for them. It takes no memory.
 pub fn draw_keys<K: KeySource>(
     keys: &mut K,
     count: usize,

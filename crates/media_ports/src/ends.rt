@@ -37,7 +37,7 @@ impl<I, O> Model for OpenedPairs<I, O> {
 }
 
 impl<I, O> OpenedPairs<I, O> {
-    /// No pair yet, with room for so many.
+    /// No pair yet, with capacity for this many.
     pub fn with_room(alloc: Global, room: usize) -> Result<OpenedPairs<I, O>, OutOfMemory>
         ensures { IfOk result (λ opened. opened ≡ record { list = []; room = room }) }
     {
@@ -54,7 +54,7 @@ impl<I, O> OpenedPairs<I, O> {
         self.pairs.len()
     }
 
-    /// Adds the ends of a pair behind the others. It takes no memory.
+    /// Adds the ends of a pair after the others. It takes no memory.
     pub(crate) fn push(&mut self, ends: PairEnds<I, O>)
         requires { length self.old.list < self.old.room }
         ensures { self.new ≡ with_ends self.old ends }

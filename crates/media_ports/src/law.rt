@@ -10,36 +10,36 @@ ghost use Rattle.media_ports.specs.Calls.{OpensPairs, OpensUpTo, ClosesPair, Non
 ghost use Rattle.media_ports.specs.Ends.{EndsTold};
 ghost use Rattle.media_ports.specs.Held.{TellsHeld, AreOthers, HasBoth, HasWithout};
 
-/// A law, and no work: the ports of leases of different pairs are ports of 16 bits, and no two leases have one.
+/// Theorem (no run-time code): the ports of leases of different pairs are ports of 16 bits, and no two leases have one.
 pub fn leases_have_ports()
     ensures { (config : Config) (leases : List Lease) → config.port_max < 2 ^ 16 → AreLeased config leases → ArePorts (ports_of leases) }
 {}
 
-/// A law, and no work: where just the ports of the held pairs are open, those of leases of other pairs are closed.
+/// Theorem (no run-time code): where just the ports of the held pairs are open, those of leases of other pairs are closed.
 pub fn other_pairs_are_closed()
     ensures { (config : Config) (told : Option (List PortCall)) (pairs : List ℕ) (leases : List Lease) → TellsHeld config told pairs → AreLeased config leases →
         AreOthers pairs (pairs_of leases) → WhereTold told (NoneOpen (addresses_of config.interface leases)) }
 {}
 
-/// A law, and no work: where just the ports of the held pairs are open, both ports of a lease of one of them are.
+/// Theorem (no run-time code): where just the ports of the held pairs are open, both ports of a lease of one of them are.
 pub fn held_pairs_are_open()
     ensures { (config : Config) (told : Option (List PortCall)) (pairs : List ℕ) (lease : Lease) → TellsHeld config told pairs → lease.pair < pair_count config →
         lease.rtp_port ≡ pair_port config lease.pair → has pairs lease.pair ≡ true → WhereTold told (AllOpen (addresses_of config.interface (lease ∷ []))) }
 {}
 
-/// A law, and no work: just the ports of the held pairs are open, also after more pairs were opened.
+/// Theorem (no run-time code): just the ports of the held pairs are open, also after more pairs were opened.
 pub fn opened_pairs_are_held()
     ensures { (config : Config) (old new : Option (List PortCall)) (pairs now : List ℕ) (leases : List Lease) → TellsHeld config old pairs → AreLeased config leases →
         Gained old new (OpensPairs config.interface leases) → HasBoth pairs (pairs_of leases) now → TellsHeld config new now }
 {}
 
-/// A law, and no work: just the ports of the held pairs are open, also after the opening of others failed and was undone.
+/// Theorem (no run-time code): just the ports of the held pairs are open, also after the opening of others failed and was undone.
 pub fn undone_pairs_are_not_held()
     ensures { (config : Config) (old new : Option (List PortCall)) (pairs : List ℕ) (leases : List Lease) (opened : ℕ) → TellsHeld config old pairs → AreLeased config leases →
         AreOthers pairs (pairs_of leases) → Gained old new (OpensUpTo (addresses_of config.interface leases) opened) → TellsHeld config new pairs }
 {}
 
-/// A law, and no work: just the ports of the held pairs are open, also after those of one were closed.
+/// Theorem (no run-time code): just the ports of the held pairs are open, also after those of one were closed.
 pub fn closed_pairs_are_not_held()
     ensures { (config : Config) (old new : Option (List PortCall)) (pairs now : List ℕ) (lease : Lease) (ends : EndsTold) → TellsHeld config old pairs →
         lease.rtp_port ≡ pair_port config lease.pair → Gained old new (ClosesPair config.interface lease ends) →

@@ -12,16 +12,16 @@ ghost use Rattle.relay_core.specs.Turning.{GainsNested, made_by};
 ghost use Rattle.nested_steps.specs.Nesting.{MayNest, nested, leaving, ends_left, AddsRow, IsShut, IsOpen, closing_of, Opens, Shuts};
 ghost use Rattle.nested_steps.specs.Taken.{CanOpen, CanShut, FitEnds, HasEnds};
 
-use crate::nest::Nest;
+use crate::nest::BoardTurn;
 use crate::puts::{put_closing, put_opening};
 use port_pool::Holder;
 use relay_core::{Part, Relay};
 use relay_outside::{Config, InEnd, OutEnd};
 use std::marker::Brand;
 use std::sync::Wait;
-use turn_table::{Hand, Turns};
+use turn_table::Hand;
 
-/// The place of a pair's box, behind the board and the cells.
+/// The place of a pair's box, after the board and the cells.
 fn box_place(config: &Config, pair: u32) -> usize
     ensures { result ≡ box_of config.now pair }
 {
@@ -57,50 +57,48 @@ fn shut_part<I: InEnd, O: OutEnd>(part: &mut Part<I, O>) -> (I, I)
 /// called since. The box is shut.
 pub fn open_box<I: InEnd, O: OutEnd, R: Wait>(
     rt: &R,
-    turns: &Turns<Relay<I, O>>,
+    turn: &BoardTurn<I, O>,
     hand: &mut Hand<Relay<I, O>>,
-    config: &Config,
-    nest: Nest,
     holder: Holder,
     rtp_end: I,
     rtcp_end: I,
 )
-    requires may { MayNest config.now turns.now hand.old }
-    requires pair { holder.pair < pair_count config.now }
-    requires cell { (1 ≤ holder.cell) × (holder.cell ≤ config.now.max_sessions) }
-    requires shut { IsShut (made_by hand.old) (box_of config.now holder.pair) }
-    requires ends { IsOpenedFor (port_address config.now holder.pair Rtp) (I.told rtp_end) × IsOpenedFor (port_address config.now holder.pair Rtcp) (I.told rtcp_end) }
+    requires may { MayNest turn.now.config.now turn.now.turns.now hand.old }
+    requires pair { holder.pair < pair_count turn.now.config.now }
+    requires cell { (1 ≤ holder.cell) × (holder.cell ≤ turn.now.config.now.max_sessions) }
+    requires shut { IsShut (made_by hand.old) (box_of turn.now.config.now holder.pair) }
+    requires ends { IsOpenedFor (port_address turn.now.config.now holder.pair Rtp) (I.told rtp_end) × IsOpenedFor (port_address turn.now.config.now holder.pair Rtcp) (I.told rtcp_end) }
     ensures same { IsSameHand hand.old hand.new × SameTurns hand.old hand.new }
-    ensures may { MayNest config.now turns.now hand.new }
-    ensures gained { GainsNested nest.number nest.moment (opening config.now holder ∷ []) hand.old hand.new }
-    ensures ends { Opens I.told I.faults O.told O.faults hand.old (box_of config.now holder.pair) (nested nest.number nest.moment 0 (Box (Open holder))) (rtp_end, rtcp_end) }
+    ensures may { MayNest turn.now.config.now turn.now.turns.now hand.new }
+    ensures gained { GainsNested turn.now.nest.number turn.now.nest.moment (opening turn.now.config.now holder ∷ []) hand.old hand.new }
+    ensures ends { Opens I.told I.faults O.told O.faults hand.old (box_of turn.now.config.now holder.pair) (nested turn.now.nest.number turn.now.nest.moment 0 (Box (Open holder))) (rtp_end, rtcp_end) }
 {
-    let mut turn = turns.turn(rt, hand, box_place(config, holder.pair));
-    open_part(turn.state(), holder, rtp_end, rtcp_end);
-    put_opening::<I, O, Brand>(turns, hand, turn, nest, holder);
+    let mut step = turn
+        .turns
+        .turn(rt, hand, box_place(turn.config, holder.pair));
+    open_part(step.state(), holder, rtp_end, rtcp_end);
+    put_opening::<I, O, Brand>(turn.turns, hand, step, turn.nest, holder);
 }
 
 /// Shuts the box of a pair and gives its ends back, that for RTP first: those that were opened for the pair's ports. The box is open.
 pub fn shut_box<I: InEnd, O: OutEnd, R: Wait>(
     rt: &R,
-    turns: &Turns<Relay<I, O>>,
+    turn: &BoardTurn<I, O>,
     hand: &mut Hand<Relay<I, O>>,
-    config: &Config,
-    nest: Nest,
     pair: u32,
 ) -> (I, I)
-    requires may { MayNest config.now turns.now hand.old }
-    requires pair { pair < pair_count config.now }
-    requires open { IsOpen (made_by hand.old) (box_of config.now pair) }
+    requires may { MayNest turn.now.config.now turn.now.turns.now hand.old }
+    requires pair { pair < pair_count turn.now.config.now }
+    requires open { IsOpen (made_by hand.old) (box_of turn.now.config.now pair) }
     ensures same { IsSameHand hand.old hand.new × SameTurns hand.old hand.new }
-    ensures may { MayNest config.now turns.now hand.new }
-    ensures gained { GainsNested nest.number nest.moment (closing_of config.now pair ∷ []) hand.old hand.new }
-    ensures row { AddsRow (box_of config.now pair) (Box Close) (ends_left I.told result) hand.old hand.new }
-    ensures home { AreOfPair I.told (port_address config.now pair Rtp) result.0 result.1 }
-    ensures ends { Shuts I.told I.faults O.told O.faults hand.old (box_of config.now pair) (leaving nest.number nest.moment 0 (Box Close) (ends_left I.told result)) result }
+    ensures may { MayNest turn.now.config.now turn.now.turns.now hand.new }
+    ensures gained { GainsNested turn.now.nest.number turn.now.nest.moment (closing_of turn.now.config.now pair ∷ []) hand.old hand.new }
+    ensures row { AddsRow (box_of turn.now.config.now pair) (Box Close) (ends_left I.told result) hand.old hand.new }
+    ensures home { AreOfPair I.told (port_address turn.now.config.now pair Rtp) result.0 result.1 }
+    ensures ends { Shuts I.told I.faults O.told O.faults hand.old (box_of turn.now.config.now pair) (leaving turn.now.nest.number turn.now.nest.moment 0 (Box Close) (ends_left I.told result)) result }
 {
-    let mut turn = turns.turn(rt, hand, box_place(config, pair));
-    let ends = shut_part(turn.state());
-    put_closing::<I, O, Brand>(turns, hand, turn, nest, &ends);
+    let mut step = turn.turns.turn(rt, hand, box_place(turn.config, pair));
+    let ends = shut_part(step.state());
+    put_closing::<I, O, Brand>(turn.turns, hand, step, turn.nest, &ends);
     ends
 }

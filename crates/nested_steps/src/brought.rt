@@ -28,7 +28,7 @@ pub struct Brought {
 }
 
 impl Brought {
-    /// Nothing yet, with room for so many keys and dropped sections.
+    /// Nothing yet, with capacity for this many keys and dropped sections.
     pub fn reserve(alloc: Global, keys: usize, dropped: usize) -> Result<Brought, OutOfMemory>
         ensures nothing { IfOk result (λ brought. (brought_keys brought ≡ []) × (brought_dropped brought ≡ [])) }
         ensures room { IfOk result (λ brought. (more_keys brought ≡ keys) × (more_dropped brought ≡ dropped)) }

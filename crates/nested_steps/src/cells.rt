@@ -13,16 +13,16 @@ ghost use Rattle.nested_steps.specs.Nesting.{MayNest, nested, leaving, gone_left
 ghost use Rattle.nested_steps.specs.InCells.{HasNewKeys, in_cell_of, moment_in, Ends, Expires, Reads, EndsPart, ExpiresPart, ReadsPart, TakesReading};
 ghost use Rattle.nested_steps.specs.Leaving.{AllWent};
 
-use crate::nest::Nest;
+use crate::nest::BoardTurn;
 use crate::puts::{put_end, put_expiry, put_reading};
 use call_cell::{Gone, LegReports};
 use relay_core::{Part, Relay};
 use relay_outside::{Config, InEnd, OutEnd};
 use std::marker::Brand;
 use std::sync::Wait;
-use turn_table::{Hand, Turns};
+use turn_table::Hand;
 
-/// The place of a cell, behind the board.
+/// The place of a cell, after the board.
 pub(crate) fn cell_place(config: &Config, cell: u32) -> usize
     requires { cell ≤ config.now.max_sessions }
     ensures { result ≡ cell }
@@ -72,51 +72,47 @@ fn read_part<I: InEnd, O: OutEnd>(part: &Part<I, O>, out: &mut LegReports)
 /// Ends the call of a cell: the legs that it had go to `gone`, which is empty. Cells are numbered from 1.
 pub fn end_cell<I: InEnd, O: OutEnd, R: Wait>(
     rt: &R,
-    turns: &Turns<Relay<I, O>>,
+    turn: &BoardTurn<I, O>,
     hand: &mut Hand<Relay<I, O>>,
-    config: &Config,
-    nest: Nest,
     cell: u32,
     gone: &mut Gone<O>,
 )
-    requires may { MayNest config.now turns.now hand.old }
-    requires cell { (1 ≤ cell) × (cell ≤ config.now.max_sessions) }
+    requires may { MayNest turn.now.config.now turn.now.turns.now hand.old }
+    requires cell { (1 ≤ cell) × (cell ≤ turn.now.config.now.max_sessions) }
     requires keys { HasNewKeys (made_by hand.old) cell }
     requires empty { gone.old ≡ [] }
     ensures same { IsSameHand hand.old hand.new × SameTurns hand.old hand.new }
-    ensures may { MayNest config.now turns.now hand.new }
-    ensures gained { GainsNested nest.number nest.moment (in_cell_of cell End ∷ []) hand.old hand.new }
+    ensures may { MayNest turn.now.config.now turn.now.turns.now hand.new }
+    ensures gained { GainsNested turn.now.nest.number turn.now.nest.moment (in_cell_of cell End ∷ []) hand.old hand.new }
     ensures row { AddsRow cell (Cell End) (gone_left O.told gone.new) hand.old hand.new }
-    ensures ended { Ends I.told I.faults O.told O.faults config.now hand.old cell gone.new }
-    ensures went { AllWent config.now (made_by hand.old) cell gone.new }
-    ensures home { GoneHome O.told config.now gone.new }
+    ensures ended { Ends I.told I.faults O.told O.faults turn.now.config.now hand.old cell gone.new }
+    ensures went { AllWent turn.now.config.now (made_by hand.old) cell gone.new }
+    ensures home { GoneHome O.told turn.now.config.now gone.new }
 {
-    let mut turn = turns.turn(rt, hand, cell_place(config, cell));
-    end_part(turn.state(), gone);
-    put_end::<I, O, Brand>(turns, hand, turn, nest, gone);
+    let mut step = turn.turns.turn(rt, hand, cell_place(turn.config, cell));
+    end_part(step.state(), gone);
+    put_end::<I, O, Brand>(turn.turns, hand, step, turn.nest, gone);
 }
 
 /// Whether the call of a cell is due to end at the moment of the board's entry. Nothing changes but the cell's last moment.
 /// Cells are numbered from 1.
 pub fn expire_cell<I: InEnd, O: OutEnd, R: Wait>(
     rt: &R,
-    turns: &Turns<Relay<I, O>>,
+    turn: &BoardTurn<I, O>,
     hand: &mut Hand<Relay<I, O>>,
-    config: &Config,
-    nest: Nest,
     cell: u32,
 ) -> bool
-    requires may { MayNest config.now turns.now hand.old }
-    requires cell { (1 ≤ cell) × (cell ≤ config.now.max_sessions) }
+    requires may { MayNest turn.now.config.now turn.now.turns.now hand.old }
+    requires cell { (1 ≤ cell) × (cell ≤ turn.now.config.now.max_sessions) }
     requires keys { HasNewKeys (made_by hand.old) cell }
     ensures same { IsSameHand hand.old hand.new × SameTurns hand.old hand.new }
-    ensures may { MayNest config.now turns.now hand.new }
-    ensures gained { GainsNested nest.number nest.moment (in_cell_of cell (Expire result) ∷ []) hand.old hand.new }
-    ensures asked { Expires I.told I.faults O.told O.faults config.now hand.old cell nest.moment result }
+    ensures may { MayNest turn.now.config.now turn.now.turns.now hand.new }
+    ensures gained { GainsNested turn.now.nest.number turn.now.nest.moment (in_cell_of cell (Expire result) ∷ []) hand.old hand.new }
+    ensures asked { Expires I.told I.faults O.told O.faults turn.now.config.now hand.old cell turn.now.nest.moment result }
 {
-    let mut turn = turns.turn(rt, hand, cell_place(config, cell));
-    let due = expire_part(turn.state(), nest.moment);
-    put_expiry::<I, O, Brand>(turns, hand, turn, nest, due);
+    let mut step = turn.turns.turn(rt, hand, cell_place(turn.config, cell));
+    let due = expire_part(step.state(), turn.nest.moment);
+    put_expiry::<I, O, Brand>(turn.turns, hand, step, turn.nest, due);
     due
 }
 
@@ -124,23 +120,21 @@ pub fn expire_cell<I: InEnd, O: OutEnd, R: Wait>(
 /// Nothing else changes. Cells are numbered from 1.
 pub fn read_cell<I: InEnd, O: OutEnd, R: Wait>(
     rt: &R,
-    turns: &Turns<Relay<I, O>>,
+    turn: &BoardTurn<I, O>,
     hand: &mut Hand<Relay<I, O>>,
-    config: &Config,
-    nest: Nest,
     cell: u32,
     out: &mut LegReports,
 )
-    requires may { MayNest config.now turns.now hand.old }
-    requires cell { (1 ≤ cell) × (cell ≤ config.now.max_sessions) }
+    requires may { MayNest turn.now.config.now turn.now.turns.now hand.old }
+    requires cell { (1 ≤ cell) × (cell ≤ turn.now.config.now.max_sessions) }
     requires keys { HasNewKeys (made_by hand.old) cell }
     ensures same { IsSameHand hand.old hand.new × SameTurns hand.old hand.new }
-    ensures may { MayNest config.now turns.now hand.new }
-    ensures gained { GainsNested nest.number nest.moment (in_cell_of cell (Read out.new) ∷ []) hand.old hand.new }
-    ensures told { Reads I.told I.faults O.told O.faults config.now hand.old cell out.new }
+    ensures may { MayNest turn.now.config.now turn.now.turns.now hand.new }
+    ensures gained { GainsNested turn.now.nest.number turn.now.nest.moment (in_cell_of cell (Read out.new) ∷ []) hand.old hand.new }
+    ensures told { Reads I.told I.faults O.told O.faults turn.now.config.now hand.old cell out.new }
     ensures counts { (report : LegReport) → In report out.new → CountsFit report }
 {
-    let mut turn = turns.turn(rt, hand, cell_place(config, cell));
-    read_part(turn.state(), out);
-    put_reading::<I, O, Brand>(turns, hand, turn, nest, out);
+    let mut step = turn.turns.turn(rt, hand, cell_place(turn.config, cell));
+    read_part(step.state(), out);
+    put_reading::<I, O, Brand>(turn.turns, hand, step, turn.nest, out);
 }

@@ -4,7 +4,7 @@
 //! Module `boxes` opens and shuts the box of a port pair, `cells` ends the call of a cell and
 //! asks it whether it is due and what is told of its legs, `signals` prepares a cell by an offer and commits it by an answer; `brought` has what an offer
 //! brings besides its legs. `puts` puts a turn back, one way for each kind of event. `nest` has
-//! the board's entry to which the steps belong. `specs/Nesting.antt` says who may make such steps and what a step tells.
+//! the board's turn in which the steps are made, and its entry, to which they belong. `specs/Nesting.antt` says who may make such steps and what a step tells.
 #![tactic(auto)]
 
 mod boxes;
@@ -17,5 +17,5 @@ mod signals;
 pub use boxes::{open_box, shut_box};
 pub use brought::{Brought, BroughtKey};
 pub use cells::{end_cell, expire_cell, read_cell};
-pub use nest::Nest;
+pub use nest::{BoardTurn, Nest};
 pub use signals::{commit_cell, prepare_cell};

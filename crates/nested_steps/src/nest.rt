@@ -1,3 +1,7 @@
+use relay_core::Relay;
+use relay_outside::{Config, InEnd, OutEnd};
+use turn_table::Turns;
+
 /// The entry of the board to which nested steps belong. It is made when the board's turn ends, after them.
 #[derive(Clone, Copy, PartialEq, Eq, Debug)]
 pub struct Nest {
@@ -5,4 +9,15 @@ pub struct Nest {
     pub number: u64,
     /// Its moment in milliseconds, which offers, answers and questions whether a call is due are handed.
     pub moment: u64,
+}
+
+/// A turn of the board, in which nested steps are made: what each of them stands on, and none of them changes.
+#[derive(Drop)]
+pub struct BoardTurn<'a, I: InEnd, O: OutEnd> {
+    /// The table of the board, the cells and the boxes.
+    pub turns: &'a Turns<Relay<I, O>>,
+    /// The configuration with which the table began.
+    pub config: &'a Config,
+    /// The turn's entry.
+    pub nest: Nest,
 }

@@ -14,16 +14,16 @@ ghost use Rattle.nested_steps.specs.Leaving.{DroppedWent, RejectedWent};
 
 use crate::brought::Brought;
 use crate::cells::cell_place;
-use crate::nest::Nest;
+use crate::nest::BoardTurn;
 use crate::puts::{put_commit, put_prepare};
 use call_cell::{Gone, InContexts, Prepare};
 use port_pool::Signal;
 use relay_core::{Part, Relay};
-use relay_outside::{Config, InEnd, OutEnd};
+use relay_outside::{InEnd, OutEnd};
 use std::marker::Brand;
 use std::snapshot::Snapshot;
 use std::sync::Wait;
-use turn_table::{Hand, Turns};
+use turn_table::Hand;
 
 fn prepare_part<I: InEnd, O: OutEnd>(
     part: &mut Part<I, O>,
@@ -73,67 +73,65 @@ fn commit_part<I: InEnd, O: OutEnd>(
 /// called since. Cells are numbered from 1.
 pub fn prepare_cell<I: InEnd, O: OutEnd, R: Wait>(
     rt: &R,
-    turns: &Turns<Relay<I, O>>,
+    turn: &BoardTurn<I, O>,
     hand: &mut Hand<Relay<I, O>>,
-    config: &Config,
-    nest: Nest,
     cell: u32,
     call: u64,
     signal: Prepare<O>,
     brought: &Brought,
     gone: &mut Gone<O>,
 )
-    requires may { MayNest config.now turns.now hand.old }
-    requires cell { (1 ≤ cell) × (cell ≤ config.now.max_sessions) }
+    requires may { MayNest turn.now.config.now turn.now.turns.now hand.old }
+    requires cell { (1 ≤ cell) × (cell ≤ turn.now.config.now.max_sessions) }
     requires keys { HasNewKeys (made_by hand.old) cell }
     requires tells { PrepareFor signal (brought_keys brought.now) (brought_dropped brought.now) }
-    requires comes { CanPrepare config.now (made_by hand.old) cell signal call (brought_keys brought.now) (brought_dropped brought.now) }
+    requires comes { CanPrepare turn.now.config.now (made_by hand.old) cell signal call (brought_keys brought.now) (brought_dropped brought.now) }
     requires ready { IsReady signal }
-    requires opened { AreOpened O.told config.now signal }
+    requires opened { AreOpened O.told turn.now.config.now signal }
     requires empty { gone.old ≡ [] }
     ensures same { IsSameHand hand.old hand.new × SameTurns hand.old hand.new }
-    ensures may { MayNest config.now turns.now hand.new }
-    ensures gained { GainsNested nest.number nest.moment
+    ensures may { MayNest turn.now.config.now turn.now.turns.now hand.new }
+    ensures gained { GainsNested turn.now.nest.number turn.now.nest.moment
         (in_cell_of cell (preparing call (added signal) (brought_keys brought.now) (brought_dropped brought.now)) ∷ []) hand.old hand.new }
     ensures row { AddsRow cell (Cell (preparing call (added signal) (brought_keys brought.now) (brought_dropped brought.now))) (gone_left O.told gone.new) hand.old hand.new }
-    ensures prepared { Prepares I.told I.faults O.told O.faults config.now hand.old cell signal call (brought_keys brought.now) (brought_dropped brought.now) nest.moment gone.new }
-    ensures went { DroppedWent config.now (made_by hand.old) cell (brought_dropped brought.now) gone.new }
-    ensures home { GoneHome O.told config.now gone.new }
+    ensures prepared { Prepares I.told I.faults O.told O.faults turn.now.config.now hand.old cell signal call (brought_keys brought.now) (brought_dropped brought.now) turn.now.nest.moment gone.new }
+    ensures went { DroppedWent turn.now.config.now (made_by hand.old) cell (brought_dropped brought.now) gone.new }
+    ensures home { GoneHome O.told turn.now.config.now gone.new }
 {
     let legs = Snapshot::of(&signal);
-    let mut turn = turns.turn(rt, hand, cell_place(config, cell));
-    prepare_part(turn.state(), call, signal, brought, gone, nest.moment);
-    put_prepare::<I, O, Brand>(turns, hand, turn, nest, call, &legs, brought, gone);
+    let mut step = turn.turns.turn(rt, hand, cell_place(turn.config, cell));
+    prepare_part(step.state(), call, signal, brought, gone, turn.nest.moment);
+    put_prepare::<I, O, Brand>(
+        turn.turns, hand, step, turn.nest, call, &legs, brought, gone,
+    );
 }
 
 /// Commits in a cell what an answer says of the call's legs. The legs of the sections that it rejects go to `gone`, which is
 /// empty. `contexts` has room for each inbound key or suite other than the one in force, or for 16. Cells are numbered from 1.
 pub fn commit_cell<I: InEnd, O: OutEnd, R: Wait>(
     rt: &R,
-    turns: &Turns<Relay<I, O>>,
+    turn: &BoardTurn<I, O>,
     hand: &mut Hand<Relay<I, O>>,
-    config: &Config,
-    nest: Nest,
     cell: u32,
     signal: &Signal,
     contexts: InContexts,
     gone: &mut Gone<O>,
 )
-    requires may { MayNest config.now turns.now hand.old }
-    requires cell { (1 ≤ cell) × (cell ≤ config.now.max_sessions) }
+    requires may { MayNest turn.now.config.now turn.now.turns.now hand.old }
+    requires cell { (1 ≤ cell) × (cell ≤ turn.now.config.now.max_sessions) }
     requires keys { HasNewKeys (made_by hand.old) cell }
     requires names { CanCommit (made_by hand.old) cell signal.now }
     requires room { HasSpace (made_by hand.old) cell signal.now contexts }
     requires empty { gone.old ≡ [] }
     ensures same { IsSameHand hand.old hand.new × SameTurns hand.old hand.new }
-    ensures may { MayNest config.now turns.now hand.new }
-    ensures gained { GainsNested nest.number nest.moment (in_cell_of cell (Commit signal.now) ∷ []) hand.old hand.new }
+    ensures may { MayNest turn.now.config.now turn.now.turns.now hand.new }
+    ensures gained { GainsNested turn.now.nest.number turn.now.nest.moment (in_cell_of cell (Commit signal.now) ∷ []) hand.old hand.new }
     ensures row { AddsRow cell (Cell (Commit signal.now)) (gone_left O.told gone.new) hand.old hand.new }
-    ensures committed { Commits I.told I.faults O.told O.faults config.now hand.old cell signal.now nest.moment gone.new }
-    ensures went { RejectedWent config.now (made_by hand.old) cell signal.now gone.new }
-    ensures home { GoneHome O.told config.now gone.new }
+    ensures committed { Commits I.told I.faults O.told O.faults turn.now.config.now hand.old cell signal.now turn.now.nest.moment gone.new }
+    ensures went { RejectedWent turn.now.config.now (made_by hand.old) cell signal.now gone.new }
+    ensures home { GoneHome O.told turn.now.config.now gone.new }
 {
-    let mut turn = turns.turn(rt, hand, cell_place(config, cell));
-    commit_part(turn.state(), signal, contexts, gone, nest.moment);
-    put_commit::<I, O, Brand>(turns, hand, turn, nest, signal, gone);
+    let mut step = turn.turns.turn(rt, hand, cell_place(turn.config, cell));
+    commit_part(step.state(), signal, contexts, gone, turn.nest.moment);
+    put_commit::<I, O, Brand>(turn.turns, hand, step, turn.nest, signal, gone);
 }

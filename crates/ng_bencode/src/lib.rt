@@ -20,6 +20,7 @@ pub use find::{lookup, same_key};
 pub use law::one_reading;
 pub use nested::decode;
 pub use row::Row;
+pub use scan::{read_decimal, read_until};
 pub use text::Text;
 pub use value::{Pairs, Value, Values};
 pub use write::encode;

@@ -35,8 +35,8 @@ pub(crate) fn read_end(bytes: &[u8]) -> Option<&[u8]>
     Some(&bytes[1..])
 }
 
-/// What stands before and after the first `stop`.
-fn read_until(bytes: &[u8], stop: u8) -> Option<(&[u8], &[u8])>
+/// What stands before and behind the first `stop`. `None`: there is none.
+pub fn read_until(bytes: &[u8], stop: u8) -> Option<(&[u8], &[u8])>
     ensures found { IfSome result (λ parts. bytes.now ≡ parts.0.now ++ stop ∷ parts.1.now) }
     ensures first { IfSome result (λ parts. IsFreeOf stop parts.0.now) }
     ensures missing { IfNone result ((front rest : List ℕ) → bytes.now ≡ front ++ stop ∷ rest → ⊥) }
@@ -75,8 +75,8 @@ fn read_signed(digits: &[u8]) -> Option<i64>
     }
 }
 
-/// The length that these bytes write, where they write one in decimal without a leading zero.
-fn read_decimal(digits: &[u8]) -> Option<usize>
+/// The number that these bytes write, where they write one below 2^64 in decimal without a leading zero.
+pub fn read_decimal(digits: &[u8]) -> Option<u64>
     ensures { MatchOption result
         ((n : ℕ) → n < 2 ^ 64 → digits.now ≡ decimal n → ⊥)
         (λ n. digits.now ≡ decimal n) }
@@ -84,12 +84,12 @@ fn read_decimal(digits: &[u8]) -> Option<usize>
     let Ok(text) = str::from_utf8(digits) else {
         return None;
     };
-    let Ok(len) = text.parse::<usize>() else {
+    let Ok(value) = text.parse::<u64>() else {
         return None;
     };
     let mut buffer = Buffer::new();
-    if buffer.format(len).as_bytes() == digits {
-        Some(len)
+    if buffer.format(value).as_bytes() == digits {
+        Some(value)
     } else {
         None
     }
@@ -121,7 +121,7 @@ fn read_length(bytes: &[u8]) -> Option<(usize, &[u8])>
         return None;
     };
     match read_decimal(digits) {
-        Some(len) => Some((len, rest)),
+        Some(len) => Some((len as usize, rest)),
         None => None,
     }
 }

@@ -15,7 +15,7 @@ pub enum Command {
     Delete(DeleteIn),
     /// Asks for the report of a call.
     Query(QueryIn),
-    /// Asks for at most so many of the live calls, 200 at most.
+    /// Asks for at most this many of the live calls, 200 at most.
     List(u32),
 }
 

@@ -5,8 +5,8 @@ use crate::code::ErrorCode;
 use crate::words::code_text;
 use itoa::Buffer;
 
-/// Writes the datagram of an error, the cookie, a space and the reply, and answers its length.
-/// It takes no memory. What stands in `out` behind the datagram is left open.
+/// Writes the datagram of an error, the cookie, a space and the reply, and returns its length.
+/// It takes no memory. What stands in `out` after the datagram is left open.
 pub fn fixed_error(cookie: &[u8], code: ErrorCode, out: &mut [u8; 512]) -> usize
     requires some { 0 < length cookie.now }
     requires short { length cookie.now ≤ 255 }
@@ -25,7 +25,7 @@ pub fn fixed_error(cookie: &[u8], code: ErrorCode, out: &mut [u8; 512]) -> usize
     put(out, at, b"6:result5:errore")
 }
 
-/// Writes bytes at a place, and answers the place behind them.
+/// Writes bytes at a place, and returns the place after them.
 fn put(out: &mut [u8; 512], at: usize, bytes: &[u8]) -> usize
     requires { at + length bytes.now ≤ 512 }
     ensures place { result ≡ at + length bytes.now }

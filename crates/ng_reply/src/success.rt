@@ -61,7 +61,7 @@ pub fn sdp_reply_len(sdp_len: usize) -> usize
     SDP_HEAD.len() + digits.len() + 1 + sdp_len + 1
 }
 
-/// Writes the reply with a description behind `out`, in room that was reserved for `sdp_reply_len` bytes.
+/// Writes the reply with a description after `out`, in room that was reserved for `sdp_reply_len` bytes.
 pub fn sdp_reply_into(sdp: &[u8], out: &mut Text)
     requires small { length sdp.now < 2 ^ 40 }
     requires room { length (spelling (sdp_reply sdp.now)) ≤ out.old.spare }
@@ -77,7 +77,7 @@ pub fn sdp_reply_into(sdp: &[u8], out: &mut Text)
     out.push(b'e');
 }
 
-/// Puts a pair of two texts behind the others.
+/// Puts a pair of two texts after the others.
 fn put_pair(alloc: Global, pairs: &mut Pairs, key: &[u8], text: &[u8]) -> Result<(), OutOfMemory>
     ensures { OnOk result (pairs_of (list_in pairs.new) ≡ with_text (pairs_of (list_in pairs.old)) key.now text.now) }
 {

@@ -5,8 +5,8 @@ ghost use Rattle.call_board.specs.Acts.{Control, Turn, BoardEntry, Lease, Undone
 ghost use Rattle.call_board.specs.Fits.{IsFitting};
 ghost use Rattle.ng_server.specs.Errors.{is_idle, LeavesAll, LeavesCalls};
 
-/// A law, and no work: after an error the calls, their descriptions and the held pairs are as before it, and the same pairs are
-/// free. After an error that comes before anything is leased, want of memory among them, the order of the free pairs and the
+/// Theorem (no run-time code): after an error the calls, their descriptions and the held pairs are as before it, and the same pairs are
+/// free. After an error that comes before anything is leased, running out of memory among them, the order of the free pairs and the
 /// number of keys drawn are as before, too; after an offer that was undone (`port fault`, `key source fault`) the keys that it had
 /// drawn are used up.
 pub fn errors_change_nothing()

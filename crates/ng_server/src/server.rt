@@ -82,7 +82,7 @@ impl<P: PortMaker> Server<P> {
     ///
     /// A datagram without a frame gets no reply. Every other gets exactly one, to its source: the one that is kept for its cookie,
     /// or else the one that is due, which is then kept, also where its send fails. An offer leases pairs and opens their ports, and
-    /// all of it is undone after a fault; what ends closes its ports. Want of memory is answered as such, and then nothing is done.
+    /// all of it is undone after a fault; what ends closes its ports. Running out of memory is answered as such, and then nothing is done.
     /// `now` is in milliseconds; a moment before that of the board's last entry counts as that one. It may wait for the board's turn, and
     /// for those of boxes and cells.
     pub fn control_turn<N: ControlLink, K: KeySource, R: Wait>(
@@ -123,7 +123,7 @@ impl<P: PortMaker> Server<P> {
         )
     }
 
-    /// Ends all live calls, in order of their creation, and answers how many. Then no port of a pair is open. It may wait for turns;
+    /// Ends all live calls, in order of their creation, and returns how many. Then no port of a pair is open. It may wait for turns;
     /// it takes no memory.
     pub fn stop<R: Wait>(
         &self,
@@ -182,7 +182,7 @@ impl<P: PortMaker> Server<P> {
         )
     }
 
-    /// Closes the table by the hand that has all its parts, and answers what its places hold, in order. It takes no memory.
+    /// Closes the table by the hand that has all its parts, and returns what its places hold, in order. It takes no memory.
     ///
     /// The hand's list is then that of all steps of all places, and it is legal, and so safe, with what each relay noted,
     /// protected and sent told beside its outcome.

@@ -1,28 +1,24 @@
 -- What an answer commits of a section, by what the dialog keeps of it, and what the dialog becomes by the answer.
-use Rattle.std.specs.Prelude.{◌≡◌, ◌≢◌, ◌<◌, ℕ, List, ◌∷◌, Option, Some, None, IsSome, Result, Ok, Err, if◌then◌else◌, slice_index_or}
+use Rattle.std.specs.Prelude.{◌≡◌, ◌<◌, ℕ, List, ◌∷◌, Option, Some, None, IsSome, if◌then◌else◌, slice_index_or}
 use Rattle.relay_outside.specs.declared.settings.Config.{Config}
 use Rattle.sdes_lines.specs.declared.crypto_line.CryptoLine.{CryptoLine}
 use Rattle.sdp_text.specs.Lines.{lines_of}
 use Rattle.ng_command.specs.declared.command.AnswerIn.{AnswerIn}
 use Rattle.port_pool.specs.declared.holder.Side.{Side}
-use Rattle.port_pool.specs.declared.signal.SectionSignal.{SectionSignal}
 use Rattle.port_pool.specs.Signals.{side_eq}
 use Rattle.offer_answer.specs.Rounds.{Round, Answered, AnswerAsk}
 use Rattle.offer_answer.specs.Sides.{MadeOffer, last_offer, offered_sdp}
 use Rattle.offer_answer.specs.Sections.{most_sections, section_count, section_in}
 use Rattle.offer_answer.specs.Profiles.{is_srtp_leg}
 use Rattle.offer_answer.specs.Keys.{chosen_in}
-use Rattle.offer_answer.specs.Plan.{AnswerHeard, answer_fault, signal}
+use Rattle.offer_answer.specs.Plan.{AnswerHeard}
 use Rattle.offer_answer.specs.Dialogs.{SectionFor, key_for, leg_at, no_state}
 use Rattle.offer_answer.specs.LastOffers.{MadeFor, LastFor}
-use Rattle.offer_answer.specs.Offering.{code_of}
 use Rattle.offer_answer.specs.declared.leg.DrawnKey.{DrawnKey}
 use Rattle.offer_answer.specs.declared.leg.Leg.{Leg}
 use Rattle.offer_answer.specs.declared.last_offer.LastOffer.{LastOffer}
 use Rattle.offer_answer.specs.declared.answered.AnsweredSection.{AnsweredSection}
 use Rattle.offer_answer.specs.declared.next_answer.AnsweredNext.{AnsweredNext}
-use Rattle.offer_answer.specs.declared.fault.OaFault.{OaFault}
-use Rattle.offer_answer.specs.declared.fault.OaFault.TheVariants as faults
 
 -- the offer is the last one of these rounds, and this is kept of it
 pub record IsLast (rounds : List Round) (offer : MadeOffer) (last : LastOffer) : Type 0 where
@@ -64,9 +60,3 @@ pub record AnsweredFor (config : Config) (rounds : List Round) (ask : AnswerAsk)
   pub to_tag_is : next.to_tag.list ≡ ask.to_tag
   pub count_is : next.count ≡ section_count (offered_sdp rounds)
   pub sections_are : (section : ℕ) → section < most_sections → SectionFor config (Answered ask ∷ rounds) section (slice_index_or next.sections section no_state)
-
--- What an answer is answered: its first fault, or what the dialog becomes by it and what it commits; or that memory was refused.
-abbrev pub AnswerPlanned : Config → List Round → AnswerAsk → Result (AnsweredNext × List SectionSignal) OaFault → Type 0
-AnswerPlanned config rounds ask (Err fault) = fault ≢ faults.OutOfMemory → answer_fault rounds ask ≡ code_of fault
-AnswerPlanned config rounds ask (Ok planned) =
-    (answer_fault rounds ask ≡ None) × AnsweredFor config rounds ask planned.0 × (planned.1 ≡ signal rounds ask)

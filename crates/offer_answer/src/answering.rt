@@ -1,6 +1,6 @@
 //! What an answer is answered, and what it commits.
 
-ghost use Rattle.std.specs.Prelude.{◌≡◌, ◌&&◌, ◌==◌, List, Some, IfOk};
+ghost use Rattle.std.specs.Prelude.{◌≡◌, ◌&&◌, ◌==◌, List, Some, None, IfOk, IfErr};
 ghost use Rattle.std.specs.List.{list_any};
 ghost use Rattle.std.specs.Str.{bytes_eq};
 ghost use Rattle.relay_outside.specs.declared.settings.Config.{Config};
@@ -11,22 +11,21 @@ ghost use Rattle.offer_answer.specs.Faults.{may_answer, takes_no_line, fault_of_
 ghost use Rattle.offer_answer.specs.Plan.{answer_fault};
 ghost use Rattle.offer_answer.specs.Dialogs.{DialogFor};
 ghost use Rattle.offer_answer.specs.LastOffers.{LastFor};
-ghost use Rattle.offer_answer.specs.Offering.{fault_code};
+ghost use Rattle.offer_answer.specs.Offering.{fault_code, code_of};
 ghost use Rattle.offer_answer.specs.Plans.{AnswerAnswered};
 ghost use Rattle.offer_answer.specs.Widths.{WritesFrom};
-ghost use Rattle.offer_answer.specs.Answering.{IsLast, HearsAnswer, AsksAnswer, AnswerPlanned};
+ghost use Rattle.offer_answer.specs.Answering.{IsLast, HearsAnswer, AsksAnswer};
 
 use crate::answered::answered_section;
 use crate::dialog::Dialog;
 use crate::fault::OaFault;
 use crate::last_offer::LastOffer;
-use crate::next_answer::{AnsweredNext, next_of_answer};
+use crate::next_answer::next_of_answer;
 use crate::plan::{Next, Plan};
 use crate::planning::is_some_sides;
 use crate::signalling::answer_signal;
 use crate::writing_back::answer_sections;
 use ng_command::AnswerIn;
-use port_pool::Signal;
 use relay_outside::Config;
 use sdp_edit::edit_len;
 use sdp_text::Sdp;
@@ -107,46 +106,29 @@ fn fault_of_answer_to(
     None
 }
 
-/// The first fault of an answer.
-fn answer_fault_of(dialog: &Dialog, input: &AnswerIn, sdp: &Sdp) -> Option<OaFault>
-    ensures { (config : Config) (rounds : List Round) (ask : AnswerAsk) → DialogFor config dialog.now rounds →
-        AsksAnswer input.now sdp.now rounds ask → answer_fault rounds ask ≡ fault_code result }
+/// The last offer, which an answer answers, or the first fault of the answer.
+fn answered_offer<'a>(
+    dialog: &'a Dialog,
+    input: &AnswerIn,
+    sdp: &Sdp,
+) -> Result<&'a LastOffer, OaFault>
+    ensures fault { (config : Config) (rounds : List Round) (ask : AnswerAsk) → DialogFor config dialog.now rounds →
+        AsksAnswer input.now sdp.now rounds ask → IfErr result (λ fault. answer_fault rounds ask ≡ code_of fault) }
+    ensures offer { (config : Config) (rounds : List Round) (ask : AnswerAsk) → DialogFor config dialog.now rounds →
+        AsksAnswer input.now sdp.now rounds ask →
+        IfOk result (λ last. (answer_fault rounds ask ≡ None) × ((offer : MadeOffer) × IsLast rounds offer last.now)) }
 {
     let from_tag = input.from_tag.as_slice();
     if !are_known(dialog, from_tag, input.to_tag.as_slice()) {
-        return Some(OaFault::UnknownTag);
-    }
-    match dialog.last_offer() {
-        Some(last) => fault_of_answer_to(dialog, last, from_tag, sdp),
-        None => Some(OaFault::UnknownTag),
-    }
-}
-
-/// The first fault of an answer (RFC 3264 section 6, RFC 4568), or what the dialog becomes by it and what it commits. The
-/// dialog stays as it is.
-pub(crate) fn planned_answer(
-    alloc: Global,
-    config: &Config,
-    dialog: &Dialog,
-    input: &AnswerIn,
-    sdp: &Sdp,
-) -> Result<(AnsweredNext, Signal), OaFault>
-    ensures { (rounds : List Round) (ask : AnswerAsk) → DialogFor config.now dialog.now rounds → AsksAnswer input.now sdp.now rounds ask →
-        AnswerPlanned config.now rounds ask result }
-{
-    if let Some(fault) = answer_fault_of(dialog, input, sdp) {
-        return Err(fault);
+        return Err(OaFault::UnknownTag);
     }
     let Some(last) = dialog.last_offer() else {
         return Err(OaFault::UnknownTag);
     };
-    let Ok(next) = next_of_answer(alloc, dialog, last, input, sdp) else {
-        return Err(OaFault::OutOfMemory);
-    };
-    let Ok(signal) = answer_signal(alloc, dialog, last, &input.options, sdp) else {
-        return Err(OaFault::OutOfMemory);
-    };
-    Ok((next, signal))
+    match fault_of_answer_to(dialog, last, from_tag, sdp) {
+        Some(fault) => Err(fault),
+        None => Ok(last),
+    }
 }
 
 /// The plan of an answer, or its first fault (RFC 3264 section 6, RFC 4568). It demands no pair and no key. The dialog stays as
@@ -162,12 +144,15 @@ pub fn answer(
         AnswerAnswered config.now rounds ask sdp.now result }
     ensures writes { IfOk result (λ plan. WritesFrom plan sdp.now) }
 {
-    let (next, signal) = match planned_answer(alloc, config, dialog, input, sdp) {
-        Ok(planned) => planned,
+    let last = match answered_offer(dialog, input, sdp) {
+        Ok(last) => last,
         Err(fault) => return Err(fault),
     };
-    let Some(last) = dialog.last_offer() else {
-        return Err(OaFault::UnknownTag);
+    let Ok(next) = next_of_answer(alloc, dialog, last, input, sdp) else {
+        return Err(OaFault::OutOfMemory);
+    };
+    let Ok(signal) = answer_signal(alloc, dialog, last, &input.options, sdp) else {
+        return Err(OaFault::OutOfMemory);
     };
     let Ok(edit) = answer_sections(alloc, config, dialog, last, &input.options, sdp) else {
         return Err(OaFault::OutOfMemory);

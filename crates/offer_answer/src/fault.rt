@@ -9,6 +9,6 @@ pub enum OaFault {
     MediaCount,
     /// A section with SRTP has no crypto line that can be used (RFC 4568).
     NoCrypto,
-    /// Memory was refused. The dialog is as before.
+    /// Out of memory. The dialog is as before.
     OutOfMemory,
 }

@@ -21,7 +21,7 @@ use std::marker::Model;
 /// Contracts see it as the list of them.
 #[derive(Drop)]
 pub struct Heard {
-    /// The lines that are chosen, section by section, and `None` behind them.
+    /// The lines that are chosen, section by section, and `None` after them.
     lines: [Option<CryptoLine>; 8],
     /// How many sections there are, at most 8.
     count: usize,

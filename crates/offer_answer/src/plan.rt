@@ -145,7 +145,7 @@ impl Plan {
         }
     }
 
-    /// Writes the description behind what `out` holds.
+    /// Writes the description after what `out` holds.
     fn write(&mut self, sdp: &Sdp, out: &mut Bytes)
         requires made { WritesFrom self.old sdp.now }
         requires room { self.old.reply_len ≤ out.old.spare }
@@ -166,7 +166,7 @@ impl Plan {
         }
     }
 
-    /// Writes the description for the other side behind what `out` holds, with these RTP ports and keys, each as many and in the
+    /// Writes the description for the other side after what `out` holds, with these RTP ports and keys, each as many and in the
     /// order as they are demanded; the keys have the numbers from `first_key` on. It needs the description from which the plan
     /// was made, and spare room of `reply_len`. It takes no memory.
     pub fn fill(

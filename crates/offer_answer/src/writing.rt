@@ -32,7 +32,7 @@ pub(crate) fn host_of_ip(interface: Ip) -> Host
     }
 }
 
-/// An edit without sections, with room for so many.
+/// An edit without sections, with capacity for this many.
 pub(crate) fn reserved_edit(
     alloc: Global,
     interface: Ip,
@@ -133,7 +133,7 @@ fn push_offered(sections: &mut SectionEdits, interface: Ip, next: &OfferedNext)
     }
 }
 
-/// Writes the offer behind what `out` holds, once its ports and keys are in. The edit is a reserved one.
+/// Writes the offer after what `out` holds, once its ports and keys are in. The edit is a reserved one.
 pub(crate) fn write_offer(
     next: &OfferedNext,
     interface: Ip,

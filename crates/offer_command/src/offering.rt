@@ -20,25 +20,23 @@ use call_board::Board;
 use call_cell::Gone;
 use control_entries::{Done, Request, misdescribed, short, unplanned};
 use control_reading::read_description;
-use nested_steps::Nest;
+use nested_steps::BoardTurn;
 use ng_command::OfferIn;
 use offer_answer::Heard;
-use offer_turns::offer_act;
+use offer_turns::{PlannedOffer, offer_act};
 use relay_core::Relay;
-use relay_outside::{Config, KeySource, PortMaker};
+use relay_outside::{KeySource, PortMaker};
 use std::alloc::Global;
 use std::sync::Wait;
-use turn_table::{Hand, Turns};
+use turn_table::Hand;
 
 /// Carries out an offer in the board's turn of its datagram, for which no reply is kept. It takes all memory that it needs before
 /// it leases anything, and where that is short it changes nothing. `gone` is empty before and after.
 pub fn offer<P: PortMaker, K: KeySource, R: Wait>(
     rt: &R,
     alloc: Global,
-    turns: &Turns<Relay<P::In, P::Out>>,
+    turn: &BoardTurn<P::In, P::Out>,
     hand: &mut Hand<Relay<P::In, P::Out>>,
-    config: &Config,
-    nest: Nest,
     board: &mut Board,
     ports: &mut P,
     keys: &mut K,
@@ -46,23 +44,23 @@ pub fn offer<P: PortMaker, K: KeySource, R: Wait>(
     request: &Request,
     input: &OfferIn,
 ) -> Done
-    requires turn { InTurn config.now turns.now hand.old nest board.old (P.told ports.old) }
-    requires anew { IsAnew (board_history (made_by hand.old) nest.number) nest.moment request.now }
+    requires turn { InTurn turn.now.config.now turn.now.turns.now hand.old turn.now.nest board.old (P.told ports.old) }
+    requires anew { IsAnew (board_history (made_by hand.old) turn.now.nest.number) turn.now.nest.moment request.now }
     requires empty { gone.old ≡ [] }
     requires small { length input.now.sdp.list < 2 ^ 31 }
     requires asked { (pairs : Option Entries) × IsAsking request.now pairs (Offer input.now.call_id.list input.now.from_tag.list input.now.sdp.list input.now.options) }
     ensures same { IsSameHand hand.old hand.new × SameTurns hand.old hand.new }
-    ensures may { MayNest config.now turns.now hand.new }
+    ensures may { MayNest turn.now.config.now turn.now.turns.now hand.new }
     ensures carries { (pairs : Option Entries) → IsAsking request.now pairs (Offer input.now.call_id.list input.now.from_tag.list input.now.sdp.list input.now.options) →
-        Carries config.now hand.old hand.new nest (hearing_by request.now pairs result) result.reply board.new (P.told ports.new) }
+        Carries turn.now.config.now hand.old hand.new turn.now.nest (hearing_by request.now pairs result) result.reply board.new (P.told ports.new) }
     ensures replies { KeepsReplies board.old board.new }
     ensures empty { gone.new ≡ [] }
-    ensures ties { Ties config.now (P.told ports.old) (P.told ports.new) (entries hand.old) (entries hand.new) }
+    ensures ties { Ties turn.now.config.now (P.told ports.old) (P.told ports.new) (entries hand.old) (entries hand.new) }
     ensures later { (P.faults ports.old ≤ P.faults ports.new) × (K.faults keys.old ≤ K.faults keys.new) }
-    ensures given { let h = board_history (made_by hand.old) nest.number in
-        IsGivenBy config.now (free config.now h) (given_by result.gave) (P.faults ports.old) (P.faults ports.new) (K.faults keys.old) (K.faults keys.new) (P.told ports.old) (P.told ports.new) (K.told keys.old) (K.told keys.new) }
+    ensures given { let h = board_history (made_by hand.old) turn.now.nest.number in
+        IsGivenBy turn.now.config.now (free turn.now.config.now h) (given_by result.gave) (P.faults ports.old) (P.faults ports.new) (K.faults keys.old) (K.faults keys.new) (P.told ports.old) (P.told ports.new) (K.told keys.old) (K.told keys.new) }
 {
-    let sdp = match read_description(alloc, config, input.sdp.as_slice()) {
+    let sdp = match read_description(alloc, turn.config, input.sdp.as_slice()) {
         Ok(sdp) => sdp,
         Err(fault) => return misdescribed(alloc, request.cookie, fault),
     };
@@ -76,9 +74,12 @@ pub fn offer<P: PortMaker, K: KeySource, R: Wait>(
     };
     let OfferMemory { room, reply } = memory;
     let opens = 2 * plan.planned().pairs();
-    let offered = match offer_act(
-        rt, turns, hand, config, nest, board, ports, keys, gone, plan, &sdp, room,
-    ) {
+    let offer = PlannedOffer {
+        plan,
+        sdp: &sdp,
+        room,
+    };
+    let offered = match offer_act(rt, turn, hand, board, ports, keys, gone, offer) {
         Ok(offered) => offered,
         Err(fault) => return undone(request.cookie, fault, opens, heard, reply),
     };

@@ -14,7 +14,7 @@ use offer_answer::Heard;
 use offer_leases::LeaseFault;
 use offer_turns::AcceptedOffer;
 
-/// The offer was accepted, and opened so many ports. Its reply is written into the room that was made for it. It takes no memory.
+/// The offer was accepted, and opened this many ports. Its reply is written into the room that was made for it. It takes no memory.
 pub(crate) fn accepted(
     cookie: &[u8],
     offered: AcceptedOffer,
@@ -37,7 +37,7 @@ pub(crate) fn accepted(
     }
 }
 
-/// The error of an offer that is undone, and what the outside gave for it, where it opens so many ports.
+/// The error of an offer that is undone, and what the outside gave for it, where it opens this many ports.
 fn undone_by(fault: LeaseFault, ports: usize) -> (ErrorCode, Gave)
     ensures { result ≡ (undone_code fault, undone_gave ports fault) }
 {
@@ -47,7 +47,7 @@ fn undone_by(fault: LeaseFault, ports: usize) -> (ErrorCode, Gave)
     }
 }
 
-/// The offer, which opens so many ports, was undone. Its reply is written into the room that was made for it. It takes no memory.
+/// The offer, which opens this many ports, was undone. Its reply is written into the room that was made for it. It takes no memory.
 pub(crate) fn undone(
     cookie: &[u8],
     fault: LeaseFault,

@@ -45,7 +45,7 @@ fn last_port(config: &Config) -> u16
     config.port_max
 }
 
-/// Numbers so many drawn keys.
+/// Numbers this many drawn keys.
 fn count_draws(board: &mut Board, count: usize)
     requires { (config : Config) × (v : View) × Shows config board.old v × (v.drawn + count ≤ 2 ^ 63) }
     ensures drawn { (config : Config) (v : View) → Shows config board.old v → Shows config board.new (with_draws v count) }
@@ -62,7 +62,7 @@ fn count_draws(board: &mut Board, count: usize)
 /// The plan is that of the last call on this board which planned or changed anything.
 ///
 /// After a fault all of it is undone: the ports that were opened are closed in the order of their openings and the pairs wait
-/// behind all free ones. The keys that were drawn stay numbered.
+/// after all free ones. The keys that were drawn stay numbered.
 pub fn lease_offer<P: PortMaker, K: KeySource>(
     config: &Config,
     board: &mut Board,

@@ -12,7 +12,7 @@ use media_ports::{DrawnList, OpenedPairs, close_opened, draw_keys, open_pairs};
 use port_pool::Leases;
 use relay_outside::{Ip, KeySource, PortMaker};
 
-/// Opens the ports of leased pairs, and then draws so many keys. It takes no memory. After a fault the ports that were opened are
+/// Opens the ports of leased pairs, and then draws this many keys. It takes no memory. After a fault the ports that were opened are
 /// closed again.
 pub(crate) fn open_and_draw<P: PortMaker, K: KeySource>(
     ports: &mut P,

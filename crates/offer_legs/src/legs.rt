@@ -24,7 +24,7 @@ impl Model for OfferedLegs {
 }
 
 impl OfferedLegs {
-    /// No leg yet, with room for so many.
+    /// No leg yet, with capacity for this many.
     pub fn with_room(alloc: Global, room: usize) -> Result<OfferedLegs, OutOfMemory>
         ensures { IfOk result (λ offered. offered ≡ record { list = []; room = room }) }
     {
@@ -41,7 +41,7 @@ impl OfferedLegs {
         self.legs.as_slice()
     }
 
-    /// Adds a leg behind the others. It takes no memory.
+    /// Adds a leg after the others. It takes no memory.
     pub(crate) fn push(&mut self, leg: Holder)
         requires { length self.old.list < self.old.room }
         ensures { self.new ≡ with_leg self.old leg }

@@ -20,41 +20,39 @@ ghost use Rattle.offer_legs.specs.Legs.{LegsFor, with_leg};
 ghost use Rattle.offer_legs.specs.Opening.{AreShut, IsOpened, leased_parts, leg_parts};
 
 use crate::legs::OfferedLegs;
+use call_board::BoardPlan;
 use call_cell::Prepare;
 use media_ports::{OpenedPairs, PairEnds};
-use nested_steps::{Nest, open_box};
-use offer_answer::Plan;
+use nested_steps::{BoardTurn, open_box};
 use port_pool::{Holder, Lease, Leases};
 use relay_core::Relay;
-use relay_outside::{Config, InEnd, OutEnd};
+use relay_outside::{InEnd, OutEnd};
 use std::sync::Wait;
-use turn_table::{Hand, Turns};
+use turn_table::Hand;
 
 /// Opens the box of a leg with the in ends of its ports, and prepares the leg with their out ends.
 fn open_leg<I: InEnd, O: OutEnd, R: Wait>(
     rt: &R,
-    turns: &Turns<Relay<I, O>>,
+    turn: &BoardTurn<I, O>,
     hand: &mut Hand<Relay<I, O>>,
-    config: &Config,
-    nest: Nest,
     holder: Holder,
     lease: Lease,
     ends: PairEnds<I, O>,
     prepare: &mut Prepare<O>,
     legs: &mut OfferedLegs,
 )
-    requires may { MayNest config.now turns.now hand.old }
-    requires pair { (holder.pair < pair_count config.now) × (lease.pair ≡ holder.pair) }
+    requires may { MayNest turn.now.config.now turn.now.turns.now hand.old }
+    requires pair { (holder.pair < pair_count turn.now.config.now) × (lease.pair ≡ holder.pair) }
     requires generation { lease.generation ≡ holder.generation }
-    requires cell { (1 ≤ holder.cell) × (holder.cell ≤ config.now.max_sessions) }
-    requires shut { IsShut (made_by hand.old) (box_of config.now holder.pair) }
-    requires port { lease.rtp_port ≡ pair_port config.now holder.pair }
-    requires ends { pair_ends.IsOpened I.told O.told config.now.interface lease ends }
+    requires cell { (1 ≤ holder.cell) × (holder.cell ≤ turn.now.config.now.max_sessions) }
+    requires shut { IsShut (made_by hand.old) (box_of turn.now.config.now holder.pair) }
+    requires port { lease.rtp_port ≡ pair_port turn.now.config.now holder.pair }
+    requires ends { pair_ends.IsOpened I.told O.told turn.now.config.now.interface lease ends }
     requires room { (0 < leg_room prepare.old) × (length legs.old.list < legs.old.room) }
     ensures same { IsSameHand hand.old hand.new × SameTurns hand.old hand.new }
-    ensures may { MayNest config.now turns.now hand.new }
-    ensures gained { GainsNested nest.number nest.moment (opening config.now holder ∷ []) hand.old hand.new }
-    ensures opened { IsOpened I.told I.faults O.told O.faults config.now nest.number nest.moment hand.old holder ends }
+    ensures may { MayNest turn.now.config.now turn.now.turns.now hand.new }
+    ensures gained { GainsNested turn.now.nest.number turn.now.nest.moment (opening turn.now.config.now holder ∷ []) hand.old hand.new }
+    ensures opened { IsOpened I.told I.faults O.told O.faults turn.now.config.now turn.now.nest.number turn.now.nest.moment hand.old holder ends }
     ensures added { added prepare.new ≡ added prepare.old ++ holder ∷ [] }
     ensures parts { parts_added prepare.new ≡ parts_added prepare.old ++ leg_parts lease ends ∷ [] }
     ensures stands { (keys : List NewKey) (dropped : List ℕ) → PrepareFor prepare.old keys dropped → PrepareFor prepare.new keys dropped }
@@ -68,71 +66,66 @@ fn open_leg<I: InEnd, O: OutEnd, R: Wait>(
         rtcp_in,
         rtcp_out,
     } = ends;
-    open_box(rt, turns, hand, config, nest, holder, rtp_in, rtcp_in);
+    open_box(rt, turn, hand, holder, rtp_in, rtcp_in);
     prepare.add_leg(holder, lease, rtp_out, rtcp_out);
     legs.push(holder);
 }
 
 /// Opens the boxes of a new offer's legs in the order of leases, each with the in ends of its ports, and prepares the legs with
-/// their out ends. Leases and opened pairs are as many as the plan demands, in one order. The legs belong to the call of
-/// that number and cell; they are told in `legs`, which is empty. It takes no memory. Cells are numbered from 1.
+/// their out ends. Leases and opened pairs are as many as the plan demands, in one order. The legs belong to the plan's call and
+/// cell; they are told in `legs`, which is empty. It takes no memory. Cells are numbered from 1.
 pub fn open_legs<I: InEnd, O: OutEnd, R: Wait>(
     rt: &R,
-    turns: &Turns<Relay<I, O>>,
+    turn: &BoardTurn<I, O>,
     hand: &mut Hand<Relay<I, O>>,
-    config: &Config,
-    nest: Nest,
-    plan: &Plan,
-    call: u64,
-    cell: u32,
+    plan: &BoardPlan,
     leases: Leases,
     opened: OpenedPairs<I, O>,
     prepare: &mut Prepare<O>,
     legs: &mut OfferedLegs,
 )
-    requires may { MayNest config.now turns.now hand.old }
-    requires cell { (1 ≤ cell) × (cell ≤ config.now.max_sessions) }
-    requires leases { length leases.list ≡ offering.pair_count plan.now }
-    requires pairs { length opened.list ≡ offering.pair_count plan.now }
-    requires leased { AreLeased config.now leases.list }
-    requires shut { AreShut config.now (made_by hand.old) (pairs_of leases.list) }
-    requires opened { pair_ends.AreOpened I.told O.told config.now.interface leases.list opened.list }
-    requires room { (offering.pair_count plan.now ≤ leg_room prepare.old) × (offering.pair_count plan.now ≤ legs.old.room) }
+    requires may { MayNest turn.now.config.now turn.now.turns.now hand.old }
+    requires cell { (1 ≤ plan.now.cell) × (plan.now.cell ≤ turn.now.config.now.max_sessions) }
+    requires leases { length leases.list ≡ offering.pair_count plan.now.plan }
+    requires pairs { length opened.list ≡ offering.pair_count plan.now.plan }
+    requires leased { AreLeased turn.now.config.now leases.list }
+    requires shut { AreShut turn.now.config.now (made_by hand.old) (pairs_of leases.list) }
+    requires opened { pair_ends.AreOpened I.told O.told turn.now.config.now.interface leases.list opened.list }
+    requires room { (offering.pair_count plan.now.plan ≤ leg_room prepare.old) × (offering.pair_count plan.now.plan ≤ legs.old.room) }
     requires none { legs.old.list ≡ [] }
 
     // The legs are those that the plan demands, with these leases.
-    ensures legs { LegsFor plan.now call cell leases.list legs.new.list }
+    ensures legs { LegsFor plan.now.plan plan.now.call plan.now.cell leases.list legs.new.list }
 
     // Their boxes are opened, in order, with these ends.
     ensures same { IsSameHand hand.old hand.new × SameTurns hand.old hand.new }
-    ensures may { MayNest config.now turns.now hand.new }
-    ensures gained { GainsNested nest.number nest.moment (map (opening config.now) legs.new.list) hand.old hand.new }
-    ensures opened { AllZip (IsOpened I.told I.faults O.told O.faults config.now nest.number nest.moment hand.old) legs.new.list opened.list }
+    ensures may { MayNest turn.now.config.now turn.now.turns.now hand.new }
+    ensures gained { GainsNested turn.now.nest.number turn.now.nest.moment (map (opening turn.now.config.now) legs.new.list) hand.old hand.new }
+    ensures opened { AllZip (IsOpened I.told I.faults O.told O.faults turn.now.config.now turn.now.nest.number turn.now.nest.moment hand.old) legs.new.list opened.list }
 
     // They are prepared, in order, with their leases and these ends.
     ensures added { added prepare.new ≡ added prepare.old ++ legs.new.list }
     ensures parts { parts_added prepare.new ≡ parts_added prepare.old ++ leased_parts leases.list opened.list }
     ensures stands { (keys : List NewKey) (dropped : List ℕ) → PrepareFor prepare.old keys dropped → PrepareFor prepare.new keys dropped }
-    ensures room { (leg_room prepare.new + offering.pair_count plan.now ≡ leg_room prepare.old) × (key_room prepare.new ≡ key_room prepare.old) }
+    ensures room { (leg_room prepare.new + offering.pair_count plan.now.plan ≡ leg_room prepare.old) × (key_room prepare.new ≡ key_room prepare.old) }
     ensures ready { IsReady prepare.old → IsReady prepare.new }
 {
     let mut leases = leases;
     let mut opened = opened;
-    for index in 0..plan.pairs() {
-        let (section, side) = plan.pair_leg(index);
+    let demanded = plan.planned();
+    for index in 0..demanded.pairs() {
+        let (section, side) = demanded.pair_leg(index);
         let lease = leases.pop().unwrap();
         let ends = opened.pop().unwrap();
         let holder = Holder {
-            cell,
-            call,
+            cell: plan.cell(),
+            call: plan.call(),
             section,
             side,
             pair: lease.pair(),
             generation: lease.generation(),
         };
-        open_leg(
-            rt, turns, hand, config, nest, holder, lease, ends, prepare, legs,
-        );
+        open_leg(rt, turn, hand, holder, lease, ends, prepare, legs);
     }
     opened.destroy_empty();
 }

@@ -18,7 +18,7 @@ use media_ports::DrawnList;
 use sdp_text::{Bytes, Sdp};
 
 /// Takes an accepted offer in at the moment `now`, by its plan with the ports of its pairs and its drawn keys, and writes its
-/// description behind what `out` holds. It takes no memory.
+/// description after what `out` holds. It takes no memory.
 pub(crate) fn apply_offer(
     board: &mut Board,
     plan: BoardPlan,

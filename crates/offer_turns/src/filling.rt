@@ -26,7 +26,7 @@ pub(crate) fn list_ports(leases: &Leases, numbers: &mut Vec<u16>)
     }
 }
 
-/// Puts the ports of its pairs and its drawn keys into the plan of an offer, and writes its description behind what `out` holds.
+/// Puts the ports of its pairs and its drawn keys into the plan of an offer, and writes its description after what `out` holds.
 /// It takes no memory.
 pub(crate) fn fill_plan(
     plan: &mut BoardPlan,

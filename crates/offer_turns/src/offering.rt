@@ -23,18 +23,21 @@ ghost use Rattle.offer_turns.specs.Offers.{CanOffer, offer_of, undone_leases, te
 ghost use Rattle.offer_turns.specs.Brings.{HasOfferRoom};
 ghost use Rattle.board_turns.specs.Ties.{Ties};
 
+use crate::applying::apply_offer;
+use crate::filling::list_ports;
+use crate::preparing::{KeyedPlan, prepare_offer};
 use crate::room::OfferRoom;
-use crate::taking::take_in;
+use board_turns::close_legs;
 use call_board::{Board, BoardPlan};
 use call_cell::Gone;
 use media_ports::DrawnList;
-use nested_steps::Nest;
+use nested_steps::BoardTurn;
 use offer_leases::{LeaseFault, LeasedOffer, lease_offer};
 use relay_core::Relay;
-use relay_outside::{Config, KeySource, PortMaker};
+use relay_outside::{KeySource, PortMaker};
 use sdp_text::{Bytes, Sdp};
 use std::sync::Wait;
-use turn_table::{Hand, Turns};
+use turn_table::Hand;
 
 /// What an accepted offer gives its caller.
 #[derive(Drop)]
@@ -45,87 +48,108 @@ pub struct AcceptedOffer {
     pub text: Bytes,
 }
 
+/// An offer that the board planned, before anything is leased.
+#[derive(Drop)]
+pub struct PlannedOffer<'a, 's, I, O> {
+    /// Its plan.
+    pub plan: BoardPlan,
+    /// Its description.
+    pub sdp: &'a Sdp<'s>,
+    /// All memory that it takes beside the board's.
+    pub room: OfferRoom<I, O>,
+}
+
 /// Carries out the plan of an offer in the board's turn: leases its pairs, opens their ports, draws its keys, opens the boxes of
 /// its legs, prepares its call's cell, takes the plan in, and closes the legs of the sections that it drops. `gone` is empty
 /// before and after. It takes no memory.
 ///
-/// `Port`: a port could not be opened. `Key`: a draw failed. Then what was opened is closed again, the pairs wait behind all free
+/// `Port`: a port could not be opened. `Key`: a draw failed. Then what was opened is closed again, the pairs wait after all free
 /// ones, and the keys that were drawn are used up; nothing else has changed.
 pub fn offer_act<P: PortMaker, K: KeySource, R: Wait>(
     rt: &R,
-    turns: &Turns<Relay<P::In, P::Out>>,
+    turn: &BoardTurn<P::In, P::Out>,
     hand: &mut Hand<Relay<P::In, P::Out>>,
-    config: &Config,
-    nest: Nest,
     board: &mut Board,
     ports: &mut P,
     keys: &mut K,
     gone: &mut Gone<P::Out>,
-    plan: BoardPlan,
-    sdp: &Sdp,
-    room: OfferRoom<P::In, P::Out>,
+    offer: PlannedOffer<P::In, P::Out>,
 ) -> Result<AcceptedOffer, LeaseFault>
-    requires turn { InTurn config.now turns.now hand.old nest board.old (P.told ports.old) }
-    requires due { (id : List ℕ) × (ask : OfferAsk) × CanOffer config.now (board_history (made_by hand.old) nest.number) id ask sdp.now plan }
-    requires planned { HasRoom board.old plan }
-    requires made { WritesFrom plan.plan sdp.now }
-    requires room { HasOfferRoom plan.plan room }
+    requires turn { InTurn turn.now.config.now turn.now.turns.now hand.old turn.now.nest board.old (P.told ports.old) }
+    requires due { (id : List ℕ) × (ask : OfferAsk) × CanOffer turn.now.config.now (board_history (made_by hand.old) turn.now.nest.number) id ask offer.sdp.now offer.plan }
+    requires planned { HasRoom board.old offer.plan }
+    requires made { WritesFrom offer.plan.plan offer.sdp.now }
+    requires room { HasOfferRoom offer.plan.plan offer.room }
     requires empty { gone.old ≡ [] }
     ensures same { IsSameHand hand.old hand.new × SameTurns hand.old hand.new }
-    ensures may { MayNest config.now turns.now hand.new }
+    ensures may { MayNest turn.now.config.now turn.now.turns.now hand.new }
     ensures empty { gone.new ≡ [] }
     ensures replies { KeepsReplies board.old board.new }
-    ensures ties { Ties config.now (P.told ports.old) (P.told ports.new) (entries hand.old) (entries hand.new) }
+    ensures ties { Ties turn.now.config.now (P.told ports.old) (P.told ports.new) (entries hand.old) (entries hand.new) }
     ensures later { (P.faults ports.old ≤ P.faults ports.new) × (K.faults keys.old ≤ K.faults keys.new) }
 
     // An accepted offer does what its entry owes, and its description is the one that is due.
-    ensures does { IfOk result (λ accepted. (id : List ℕ) (ask : OfferAsk) → CanOffer config.now (board_history (made_by hand.old) nest.number) id ask sdp.now plan →
-        (e : BoardEntry) → FitsBoard config.now (board_history (made_by hand.old) nest.number) e →
-        act e ≡ Offered (offer_of config.now (board_history (made_by hand.old) nest.number) id ask accepted.drawn.list) → e.moment ≡ nest.moment →
-        DoesAct config.now hand.old hand.new nest e board.new (P.told ports.new)) }
-    ensures text { IfOk result (λ accepted. (id : List ℕ) (ask : OfferAsk) → CanOffer config.now (board_history (made_by hand.old) nest.number) id ask sdp.now plan →
-        accepted.text.list ≡ text_of config.now (board_history (made_by hand.old) nest.number) id (offer_of config.now (board_history (made_by hand.old) nest.number) id ask accepted.drawn.list)) }
-    ensures within { IfOk result (λ accepted. length accepted.text.list ≤ plan.plan.reply_len) }
-    ensures count { IfOk result (λ accepted. length accepted.drawn.list ≡ key_count plan.plan) }
-    ensures opens { let h = board_history (made_by hand.old) nest.number in
-        IfOk result (λ accepted. Gained (P.told ports.old) (P.told ports.new) (OpensAt config.now (free config.now h) (replicate (2 * pair_count plan.plan) true))) }
+    ensures does { IfOk result (λ accepted. (id : List ℕ) (ask : OfferAsk) → CanOffer turn.now.config.now (board_history (made_by hand.old) turn.now.nest.number) id ask offer.entry.sdp.now offer.entry.plan →
+        (e : BoardEntry) → FitsBoard turn.now.config.now (board_history (made_by hand.old) turn.now.nest.number) e →
+        act e ≡ Offered (offer_of turn.now.config.now (board_history (made_by hand.old) turn.now.nest.number) id ask accepted.drawn.list) → e.moment ≡ turn.now.nest.moment →
+        DoesAct turn.now.config.now hand.old hand.new turn.now.nest e board.new (P.told ports.new)) }
+    ensures text { IfOk result (λ accepted. (id : List ℕ) (ask : OfferAsk) → CanOffer turn.now.config.now (board_history (made_by hand.old) turn.now.nest.number) id ask offer.entry.sdp.now offer.entry.plan →
+        accepted.text.list ≡ text_of turn.now.config.now (board_history (made_by hand.old) turn.now.nest.number) id (offer_of turn.now.config.now (board_history (made_by hand.old) turn.now.nest.number) id ask accepted.drawn.list)) }
+    ensures within { IfOk result (λ accepted. length accepted.text.list ≤ offer.entry.plan.plan.reply_len) }
+    ensures count { IfOk result (λ accepted. length accepted.drawn.list ≡ key_count offer.entry.plan.plan) }
+    ensures opens { let h = board_history (made_by hand.old) turn.now.nest.number in
+        IfOk result (λ accepted. Gained (P.told ports.old) (P.told ports.new) (OpensAt turn.now.config.now (free turn.now.config.now h) (replicate (2 * pair_count offer.entry.plan.plan) true))) }
     ensures draws { IfOk result (λ accepted. Gained (K.told keys.old) (K.told keys.new) (DrawsAll accepted.drawn.list)) }
 
     // One that is undone does what its entry owes.
-    ensures undoes { IfErr result (λ fault. (id : List ℕ) (ask : OfferAsk) → CanOffer config.now (board_history (made_by hand.old) nest.number) id ask sdp.now plan →
-        (e : BoardEntry) (code : ErrorCode) → act e ≡ Undone code (undone_leases config.now (board_history (made_by hand.old) nest.number) id ask) (keys_before fault) →
-        DoesAct config.now hand.old hand.new nest e board.new (P.told ports.new)) }
-    ensures early { IfErr result (ComesEarly (pairs_of_plan plan) (keys_of_plan plan)) }
-    ensures opens_before { let h = board_history (made_by hand.old) nest.number in
-        IfErr result (λ fault. Gained (P.told ports.old) (P.told ports.new) (OpensAt config.now (free config.now h) (opens_before (pair_count plan.plan) fault))) }
+    ensures undoes { IfErr result (λ fault. (id : List ℕ) (ask : OfferAsk) → CanOffer turn.now.config.now (board_history (made_by hand.old) turn.now.nest.number) id ask offer.entry.sdp.now offer.entry.plan →
+        (e : BoardEntry) (code : ErrorCode) → act e ≡ Undone code (undone_leases turn.now.config.now (board_history (made_by hand.old) turn.now.nest.number) id ask) (keys_before fault) →
+        DoesAct turn.now.config.now hand.old hand.new turn.now.nest e board.new (P.told ports.new)) }
+    ensures early { IfErr result (ComesEarly (pairs_of_plan offer.entry.plan) (keys_of_plan offer.entry.plan)) }
+    ensures opens_before { let h = board_history (made_by hand.old) turn.now.nest.number in
+        IfErr result (λ fault. Gained (P.told ports.old) (P.told ports.new) (OpensAt turn.now.config.now (free turn.now.config.now h) (opens_before (pair_count offer.entry.plan.plan) fault))) }
     ensures draws_before { IfErr result (λ fault. DrawsBefore fault (K.told keys.old) (K.told keys.new)) }
     ensures cause { IfErr result (λ fault. HasRisen fault (P.faults ports.old) (P.faults ports.new) (K.faults keys.old) (K.faults keys.new)) }
 {
+    let PlannedOffer { plan, sdp, room } = offer;
     let OfferRoom {
         opened,
         drawn,
         bring,
-        numbers,
+        mut numbers,
         mut text,
     } = room;
-    match lease_offer(config, board, ports, keys, plan, opened, drawn) {
-        Ok(leased) => {
-            let LeasedOffer {
-                plan,
-                leases,
-                opened,
-                drawn,
-                first_key,
-            } = leased;
-            take_in(
-                rt, turns, hand, config, nest, board, ports, gone, plan, leases, opened, first_key,
-                &drawn, sdp, bring, numbers, &mut text,
-            );
-            Ok(AcceptedOffer { drawn, text })
-        }
+    let leased = match lease_offer(turn.config, board, ports, keys, plan, opened, drawn) {
+        Ok(leased) => leased,
         Err(fault) => {
             bring.destroy_empty();
-            Err(fault)
+            return Err(fault);
         }
-    }
+    };
+    let LeasedOffer {
+        plan,
+        leases,
+        opened,
+        drawn,
+        first_key,
+    } = leased;
+    list_ports(&leases, &mut numbers);
+    let keyed = KeyedPlan {
+        plan: &plan,
+        first_key,
+        drawn: &drawn,
+    };
+    prepare_offer(rt, turn, hand, &keyed, leases, opened, bring, gone);
+    apply_offer(
+        board,
+        plan,
+        sdp,
+        numbers.as_slice(),
+        first_key,
+        &drawn,
+        turn.nest.moment,
+        &mut text,
+    );
+    close_legs(rt, turn, hand, board, ports, gone);
+    Ok(AcceptedOffer { drawn, text })
 }

@@ -24,14 +24,14 @@ ghost use Rattle.offer_turns.specs.Brings.{HasLegRoom, HasToldRoom, HasListRoom}
 use call_board::BoardPlan;
 use call_cell::{Gone, Prepare};
 use media_ports::{DrawnList, OpenedPairs};
-use nested_steps::{Brought, Nest, prepare_cell};
+use nested_steps::{BoardTurn, Brought, prepare_cell};
 use offer_answer::Plan;
 use offer_legs::{OfferedLegs, add_drops, add_keys, open_legs};
 use port_pool::Leases;
 use relay_core::Relay;
 use relay_outside::{Config, InEnd, OutEnd};
 use std::sync::Wait;
-use turn_table::{Hand, Turns};
+use turn_table::Hand;
 
 /// The last port of the range.
 fn last_port(config: &Config) -> u16
@@ -87,42 +87,49 @@ impl<O> BringRoom<O> {
     }
 }
 
+/// The plan of an accepted offer, whose leases were made, with the keys that were drawn for it.
+#[derive(Clone, Copy)]
+pub(crate) struct KeyedPlan<'a> {
+    /// The plan.
+    pub plan: &'a BoardPlan,
+    /// The number of the first of its keys; the others follow.
+    pub first_key: u64,
+    /// Its keys, in the order in which it demands them.
+    pub drawn: &'a DrawnList,
+}
+
 /// Opens the boxes of an accepted offer's legs, in the order of leases, and prepares its call's cell with them, with the drawn
 /// keys and with the dropped sections. The legs of these go to `gone`, which is empty. It takes no memory.
 pub(crate) fn prepare_offer<I: InEnd, O: OutEnd, R: Wait>(
     rt: &R,
-    turns: &Turns<Relay<I, O>>,
+    turn: &BoardTurn<I, O>,
     hand: &mut Hand<Relay<I, O>>,
-    config: &Config,
-    nest: Nest,
-    plan: &BoardPlan,
+    keyed: &KeyedPlan,
     leases: Leases,
     opened: OpenedPairs<I, O>,
-    first_key: u64,
-    drawn: &DrawnList,
     room: BringRoom<O>,
     gone: &mut Gone<O>,
 )
-    requires may { MayNest config.now turns.now hand.old }
-    requires above { IsAbove (made_by hand.old) 0 nest.number }
-    requires orderly { Orderly config.now (made_by hand.old) }
-    requires due { (id : List ℕ) × (ask : OfferAsk) × IsDue config.now (board_history (made_by hand.old) nest.number) id ask plan.now drawn.now.list }
-    requires leases { leases.list ≡ leases_of config.now (view_of config.now (board_history (made_by hand.old) nest.number)) (pair_count plan.now.plan) }
-    requires count { length leases.list ≡ pair_count plan.now.plan }
-    requires opened { length opened.list ≡ pair_count plan.now.plan }
-    requires ends { AreOpened I.told O.told config.now.interface leases.list opened.list }
-    requires first { first_key ≡ next_key (board_history (made_by hand.old) nest.number) }
-    requires low { first_key ≤ 2 ^ 63 }
-    requires keys { length drawn.now.list ≡ key_count plan.now.plan }
-    requires room { HasLegRoom plan.now.plan room.prepare × HasToldRoom plan.now.plan room.brought × HasListRoom plan.now.plan room.legs }
+    requires may { MayNest turn.now.config.now turn.now.turns.now hand.old }
+    requires above { IsAbove (made_by hand.old) 0 turn.now.nest.number }
+    requires orderly { Orderly turn.now.config.now (made_by hand.old) }
+    requires due { (id : List ℕ) × (ask : OfferAsk) × IsDue turn.now.config.now (board_history (made_by hand.old) turn.now.nest.number) id ask keyed.now.plan.now keyed.now.drawn.now.list }
+    requires leases { leases.list ≡ leases_of turn.now.config.now (view_of turn.now.config.now (board_history (made_by hand.old) turn.now.nest.number)) (pair_count keyed.now.plan.now.plan) }
+    requires count { length leases.list ≡ pair_count keyed.now.plan.now.plan }
+    requires opened { length opened.list ≡ pair_count keyed.now.plan.now.plan }
+    requires ends { AreOpened I.told O.told turn.now.config.now.interface leases.list opened.list }
+    requires first { keyed.now.first_key ≡ next_key (board_history (made_by hand.old) turn.now.nest.number) }
+    requires low { keyed.now.first_key ≤ 2 ^ 63 }
+    requires keys { length keyed.now.drawn.now.list ≡ key_count keyed.now.plan.now.plan }
+    requires room { HasLegRoom keyed.now.plan.now.plan room.prepare × HasToldRoom keyed.now.plan.now.plan room.brought × HasListRoom keyed.now.plan.now.plan room.legs }
     requires empty { gone.old ≡ [] }
     ensures same { IsSameHand hand.old hand.new × SameTurns hand.old hand.new }
-    ensures may { MayNest config.now turns.now hand.new }
-    ensures gained { (id : List ℕ) (ask : OfferAsk) → IsDue config.now (board_history (made_by hand.old) nest.number) id ask plan.now drawn.now.list →
-        GainsNested nest.number nest.moment (bringing_of config.now (offer_of config.now (board_history (made_by hand.old) nest.number) id ask drawn.now.list)) hand.old hand.new }
-    ensures went { (id : List ℕ) (ask : OfferAsk) → IsDue config.now (board_history (made_by hand.old) nest.number) id ask plan.now drawn.now.list →
-        AreLeasesOf config.now gone.new (dropped_legs (board_history (made_by hand.old) nest.number) (offer_of config.now (board_history (made_by hand.old) nest.number) id ask drawn.now.list)) }
-    ensures home { GoneHome O.told config.now gone.new }
+    ensures may { MayNest turn.now.config.now turn.now.turns.now hand.new }
+    ensures gained { (id : List ℕ) (ask : OfferAsk) → IsDue turn.now.config.now (board_history (made_by hand.old) turn.now.nest.number) id ask keyed.now.plan.now keyed.now.drawn.now.list →
+        GainsNested turn.now.nest.number turn.now.nest.moment (bringing_of turn.now.config.now (offer_of turn.now.config.now (board_history (made_by hand.old) turn.now.nest.number) id ask keyed.now.drawn.now.list)) hand.old hand.new }
+    ensures went { (id : List ℕ) (ask : OfferAsk) → IsDue turn.now.config.now (board_history (made_by hand.old) turn.now.nest.number) id ask keyed.now.plan.now keyed.now.drawn.now.list →
+        AreLeasesOf turn.now.config.now gone.new (dropped_legs (board_history (made_by hand.old) turn.now.nest.number) (offer_of turn.now.config.now (board_history (made_by hand.old) turn.now.nest.number) id ask keyed.now.drawn.now.list)) }
+    ensures home { GoneHome O.told turn.now.config.now gone.new }
     ensures leave { LegsLeave O.told gone.new (entries hand.old) (entries hand.new) }
 {
     let BringRoom {
@@ -130,27 +137,27 @@ pub(crate) fn prepare_offer<I: InEnd, O: OutEnd, R: Wait>(
         mut brought,
         mut legs,
     } = room;
-    let last = last_port(config);
+    let last = last_port(turn.config);
     prove!(last <= 65_535);
-    let of_call = plan.call();
-    let of_cell = plan.cell();
-    let demanded = plan.planned();
+    let of_call = keyed.plan.call();
+    let of_cell = keyed.plan.cell();
+    let demanded = keyed.plan.planned();
     open_legs(
         rt,
-        turns,
+        turn,
         hand,
-        config,
-        nest,
-        demanded,
-        of_call,
-        of_cell,
+        keyed.plan,
         leases,
         opened,
         &mut prepare,
         &mut legs,
     );
-    bring_keys(demanded, first_key, drawn, &mut prepare, &mut brought);
-    prepare_cell(
-        rt, turns, hand, config, nest, of_cell, of_call, prepare, &brought, gone,
+    bring_keys(
+        demanded,
+        keyed.first_key,
+        keyed.drawn,
+        &mut prepare,
+        &mut brought,
     );
+    prepare_cell(rt, turn, hand, of_cell, of_call, prepare, &brought, gone);
 }

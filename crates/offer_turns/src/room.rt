@@ -32,7 +32,7 @@ pub struct OfferRoom<I, O> {
     pub(crate) text: Bytes,
 }
 
-/// Room for so many keys and legs, as contracts tell them, and for the drawn keys.
+/// Room for this many keys and legs, as contracts tell them, and for the drawn keys.
 fn reserve_lists(
     alloc: Global,
     pairs: usize,
@@ -49,7 +49,7 @@ fn reserve_lists(
     Ok((brought, legs, drawn))
 }
 
-/// Room for so many ports, and for a description of so many bytes.
+/// Room for this many ports, and for a description of this many bytes.
 fn reserve_text(alloc: Global, pairs: usize, len: usize) -> Result<(Vec<u16>, Bytes), OutOfMemory>
     ensures numbers { IfOk result (λ both. (both.0.items ≡ []) × (pairs ≤ vec_capacity both.0)) }
     ensures text { IfOk result (λ both. (both.1.list ≡ []) × (len ≤ both.1.spare)) }

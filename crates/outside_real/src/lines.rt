@@ -10,7 +10,7 @@ use std::marker::Model;
 /// Where the reading of a line stopped.
 #[derive(Clone, Copy)]
 pub(crate) enum Stop {
-    /// Behind its line feed.
+    /// After its line feed.
     LineFeed,
     /// At the end of the stream.
     End,

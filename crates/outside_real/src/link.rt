@@ -1,3 +1,5 @@
+ghost use Rattle.std.specs.Prelude.{◌≡◌};
+
 use crate::address::{addr_of, socket_addr};
 use crate::faults::Faults;
 use crate::readiness::Readiness;
@@ -13,13 +15,13 @@ const READ_MILLIS: u64 = 1;
 /// Where the program waits for a datagram of the control socket.
 #[derive(Drop)]
 enum Waits<'a> {
-    /// In the link's take, for so many milliseconds at the most.
+    /// In the link's take, for at most this many milliseconds.
     InTake { millis: u32 },
     /// In the sweep of lane 0, for which the socket is watched there. The take doesn't wait.
     InSweep { readiness: &'a Readiness },
 }
 
-/// How long a take waits at the most, in milliseconds.
+/// How long a take waits at most, in milliseconds.
 fn longest_wait(waits: &Waits) -> u32 {
     match waits {
         Waits::InTake { millis } => *millis,
@@ -46,9 +48,9 @@ pub enum LinkFault {
 
 /// A UDP socket as the control link. It tells nothing.
 ///
-/// A take of a bound link answers `End` once its pipe has ended, as `StopPipe` says it, and from then on always. It looks there
+/// A take of a bound link returns `End` once its pipe has ended, as `StopPipe` says it, and from then on always. It looks there
 /// first: a datagram that stands at the socket then is not taken. In no other case does a take answer `End`.
-/// A take that finds no datagram answers `Nothing`. So does one that ends in an error which passes by itself: that a
+/// A take that finds no datagram returns `Nothing`. So does one that ends in an error which passes by itself: that a
 /// signal came, or that an earlier datagram of this socket reached nobody or found no way (ICMP). Any other error of
 /// the system is a fault: it says that the socket can't be read from at all.
 /// A send makes a fault of each error; where the link is watched it doesn't wait for room either.
@@ -66,21 +68,27 @@ pub struct UdpLink<'a, R: Net> {
 }
 
 impl<'a, R: Net> UdpLink<'a, R> {
-    /// A link whose takes wait for so many milliseconds at the most, 0 counting as 1: for a thread that has nothing
+    /// A link whose takes wait for at most this many milliseconds, 0 counting as 1: for a thread that has nothing
     /// else to do. The end of the pipe ends such a wait. It is not bound yet. Until it is, its takes and sends fail.
-    pub fn waiting(net: &'a R, stop: StopPipe, millis: u32) -> UdpLink<'a, R> {
+    pub fn waiting(net: &'a R, stop: StopPipe, millis: u32) -> UdpLink<'a, R>
+        ensures { result.faults ≡ 0 }
+    {
         let millis = millis.max(1);
         UdpLink::that(net, stop, Waits::InTake { millis })
     }
 
     /// A link whose takes don't wait, since the sweep of lane 0 does, and wakes for it and for the end of the pipe: for a
     /// thread that also sweeps. It is not bound yet. Until it is, its takes and sends fail.
-    pub fn watched(net: &'a R, stop: StopPipe, readiness: &'a Readiness) -> UdpLink<'a, R> {
+    pub fn watched(net: &'a R, stop: StopPipe, readiness: &'a Readiness) -> UdpLink<'a, R>
+        ensures { result.faults ≡ 0 }
+    {
         UdpLink::that(net, stop, Waits::InSweep { readiness })
     }
 
     /// A link that waits so, and is not bound yet.
-    fn that(net: &'a R, stop: StopPipe, waits: Waits<'a>) -> UdpLink<'a, R> {
+    fn that(net: &'a R, stop: StopPipe, waits: Waits<'a>) -> UdpLink<'a, R>
+        ensures { result.faults ≡ 0 }
+    {
         UdpLink {
             net,
             waits,

@@ -74,7 +74,9 @@ pub struct UdpMaker<'a, R: Net> {
 
 impl<'a, R: Net> UdpMaker<'a, R> {
     /// A maker that has opened no port yet. Each port that it opens is watched there.
-    pub fn new(net: &'a R, readiness: &'a Readiness) -> UdpMaker<'a, R> {
+    pub fn new(net: &'a R, readiness: &'a Readiness) -> UdpMaker<'a, R>
+        ensures { result.faults ≡ 0 }
+    {
         UdpMaker {
             net,
             readiness,
@@ -85,7 +87,8 @@ impl<'a, R: Net> UdpMaker<'a, R> {
 
 /// The two ends of a socket that is bound here, never waits, and is watched.
 fn open<R: Net>(net: &R, readiness: &Readiness, at: Addr) -> io::Result<(UdpIn, UdpOut)>
-    ensures { IfOk result (λ ends. (ends.0.at ≡ at) × (ends.1.at ≡ at)) }
+    ensures at { IfOk result (λ ends. (ends.0.at ≡ at) × (ends.1.at ≡ at)) }
+    ensures faults { IfOk result (λ ends. (ends.0.faults ≡ 0) × (ends.1.faults ≡ 0)) }
 {
     let socket = UdpSocket::bind(net, socket_addr(at))?;
     socket.set_nonblocking(true)?;

@@ -10,10 +10,10 @@ use std::sync::atomic::{AtomicBool, Ordering};
 use std::time::Duration;
 use std::{rt, thread};
 
-/// How long a wait lasts at the most where the system can't tell all that is readable, in milliseconds.
+/// How long a wait lasts at most where the system can't tell all that is readable, in milliseconds.
 const BLIND_MILLIS: u32 = 2;
 
-/// How many sockets one wait tells at the most.
+/// How many sockets one wait tells at most.
 const EVENTS: usize = 64;
 
 /// The number of the control socket in its set, and of the pipe whose end stops the program. No media port has it.
@@ -89,7 +89,7 @@ impl EventSet {
     }
 }
 
-/// Sleeps for so many milliseconds, and for no more than 2.
+/// Sleeps for this many milliseconds, and for no more than 2.
 fn rest(clock: &impl rt::Clock, millis: u32) {
     let millis = millis.min(BLIND_MILLIS);
     thread::sleep(clock, Duration::from_millis(u64::from(millis)));
@@ -111,7 +111,7 @@ pub struct Readiness {
 }
 
 impl Readiness {
-    /// A set for each of so many lanes, without sockets; no lane counts as one. The first port is the even one of
+    /// A set for each of this many lanes, without sockets; no lane counts as one. The first port is the even one of
     /// the range's first pair: pair n, from 0, has the ports `first_port + 2 * n` and the next, and is of lane n
     /// modulo the number of lanes.
     pub fn new(alloc: Global, lanes: u32, first_port: u16) -> Readiness {
@@ -163,8 +163,8 @@ impl Readiness {
         }
     }
 
-    /// Waits until a socket of the lane is readable, for so many milliseconds at the most, and writes the ports of
-    /// those that are to the front of the buffer, 64 at the most: how many they are.
+    /// Waits until a socket of the lane is readable, for at most this many milliseconds, and writes the ports of
+    /// those that are to the front of the buffer, 64 at most: how many they are.
     ///
     /// 0 says that the time is up, that a signal came, or that the system can't tell; a lane without a set always
     /// gets 0, after 2 ms or less.

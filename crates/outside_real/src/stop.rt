@@ -42,7 +42,7 @@ impl StopPipe {
         self.descriptor
     }
 
-    /// Waits until the pipe has ended or something stands at the socket, for so many milliseconds at the most: whether the
+    /// Waits until the pipe has ended or something stands at the socket, for at most this many milliseconds: whether the
     /// pipe has ended. A signal ends the wait too, and so does a system that can't tell.
     pub(crate) fn ends_within(&self, socket: &UdpSocket, millis: u32) -> bool {
         let end = self.descriptor.unwrap_or(NOTHING);

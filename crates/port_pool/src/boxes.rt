@@ -93,7 +93,7 @@ impl<I: InEnd> Opened<I> {
 }
 
 impl<I: InEnd> PairBox<I> {
-    /// The closed box of a pair that was never held, where there are so many cells, and its port for RTP has this address.
+    /// The closed box of a pair that was never held, where there are this many cells, and its port for RTP has this address.
     pub fn empty(cells: u32, at: Addr) -> PairBox<I>
         ensures history { BoxFor result [] }
         ensures ends { ends_in result ≡ None }

@@ -24,7 +24,7 @@ impl Model for Leases {
 }
 
 impl Leases {
-    /// No leases yet, with room for so many.
+    /// No leases yet, with capacity for this many.
     pub fn with_room(alloc: Global, room: usize) -> Result<Leases, OutOfMemory>
         ensures { IfOk result (λ leases. leases ≡ record { list = []; room = room }) }
     {
@@ -34,7 +34,7 @@ impl Leases {
         }
     }
 
-    /// Adds a lease behind the others. It takes no memory.
+    /// Adds a lease after the others. It takes no memory.
     pub fn push(&mut self, lease: Lease)
         requires { length self.old.list < self.old.room }
         ensures { self.new ≡ with_lease self.old lease }

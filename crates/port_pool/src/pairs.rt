@@ -125,7 +125,7 @@ impl Pool {
         })
     }
 
-    /// Takes a lease back: its pair waits behind all others that are free. It takes no memory. The lease is the last one
+    /// Takes a lease back: its pair waits after all others that are free. It takes no memory. The lease is the last one
     /// of a pair of this pool that isn't free.
     pub fn give_back(&mut self, lease: Lease)
         requires of_pool { lease.pair < length self.old.generations }

@@ -80,7 +80,7 @@ impl LegReports {
         self.reports.clear();
     }
 
-    /// Adds a report behind the others. It takes no memory.
+    /// Adds a report after the others. It takes no memory.
     pub fn push(&mut self, report: LegReport)
         requires { length self.old < 16 }
         ensures { self.new ≡ self.old ++ report ∷ [] }

@@ -20,7 +20,7 @@ use std::alloc::Global;
 use std::sync::Wait;
 use std::thread::Threads;
 
-/// How many bytes the line of totals has at the most.
+/// How many bytes the line of totals has at most.
 const LINE: usize = 512;
 
 /// An empty text with room for the line of totals.
@@ -34,7 +34,7 @@ fn line_room(alloc: Global) -> Result<Text, OutOfMemory>
     }
 }
 
-/// An empty list with room for so many threads of media.
+/// An empty list with capacity for this many threads of media.
 fn thread_room<I: InEnd, O: OutEnd>(
     alloc: Global,
     count: u32,
@@ -123,22 +123,24 @@ where
     }
 }
 
-/// Runs the relay as the words of a command line say, over the devices that it is handed, and answers how
+/// Runs the relay as the words of a command line say, over the devices that it is handed, and returns how
 /// it ended.
 ///
-/// `serve --interface=ADDRESS [--listen-ng=ADDRESS:PORT] [--port-min=PORT] [--port-max=PORT] [--max-sessions=NUMBER] [--turns=NUMBER] [--num-threads=NUMBER]`
+/// `serve --interface=ADDRESS [--listen-ng=ADDRESS:PORT] [--port-min=PORT] [--port-max=PORT] [--max-sessions=NUMBER] [--timeout=SECONDS]
+/// [--offer-timeout=SECONDS] [--turns=NUMBER] [--num-threads=NUMBER]`
 /// binds the control link and answers the datagrams that it takes until the link gives no more, a take
 /// fails, or `--turns` takes gave a datagram or nothing. Calls begin, are answered and end as the datagrams ask: their ports are
-/// opened and closed by the port maker, their keys drawn from the key source. Beside that `--num-threads` threads relay media, each the
+/// opened and closed by the port maker, their keys drawn from the key source. Once a second of the timer, calls end whose last activity is
+/// `--timeout` ago, or whose first offer is `--offer-timeout` ago and was not answered. Beside that `--num-threads` threads relay media, each the
 /// packets of its own pairs of ports, handed moments of the clock; with 0, at most one packet of each port is relayed after each take.
 /// At the end the threads end, then all calls, and a line of totals is printed. The timer, in milliseconds, is asked once for each take
 /// of the link. Where no thread can be started, each thread's work is done after the last take.
 ///
-/// `replay [--interface=ADDRESS] [--seed=NUMBER] [--port-min=PORT] [--port-max=PORT] [--max-sessions=NUMBER]` reads the script, makes its
-/// steps over devices in memory, and prints a line for each event. It leaves the control link, the ports, the keys, the timer, the
+/// `replay [--interface=ADDRESS] [--seed=NUMBER] [--port-min=PORT] [--port-max=PORT] [--max-sessions=NUMBER] [--timeout=SECONDS]
+/// [--offer-timeout=SECONDS]` reads the script, makes its steps over devices in memory, and prints a line for each event. It leaves the control link, the ports, the keys, the timer, the
 /// clock and the gate alone.
 ///
-/// Any other words are answered `Usage`. It may wait for the turns of its own table.
+/// Any other words return `Usage`. It may wait for the turns of its own table.
 pub fn run<R, N, P, K, T, C, G, S, O>(
     rt: &R,
     alloc: Global,

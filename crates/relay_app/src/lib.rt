@@ -1,5 +1,5 @@
 //! The relay as one call: `run` reads the words of a command line, drives the devices that it is handed,
-//! and answers how it ended. Its contract says what was taken, sent and printed, for every status.
+//! and returns how it ended. Its contract says what was taken, sent and printed, for every status.
 //! The program `rtpengine` makes the real devices and calls it.
 #![tactic(auto)]
 

@@ -327,7 +327,7 @@ where
 }
 
 /// Serves with a server that answered nothing yet: its control turns, with as many threads of media beside them as the settings say, then the
-/// stop, which ends all calls, and the close of its table. Where no thread relays media, a sweep stands behind each control turn and before
+/// stop, which ends all calls, and the close of its table. Where no thread relays media, a sweep stands after each control turn and before
 /// the stop. The list of threads is empty, and has room for them.
 pub(crate) fn serve_turns<N, P, K, T, C, G, R>(
     rt: &R,

@@ -9,7 +9,7 @@ pub enum Status {
     ControlFault,
     /// The sink met a fault; this takes the place of any other status.
     PrintFault,
-    /// Memory was refused.
+    /// Out of memory.
     OutOfMemory,
     /// `replay`: a line of the script is not in the grammar, or names a receipt that is not held.
     ScriptFault,

@@ -43,7 +43,7 @@ impl<I: InEnd, O: OutEnd, C: Clock, G: Gate> MediaWork<Turns<Relay<I, O>>, C, G>
     }
 }
 
-/// So many threads of media, into an empty list with room for them: each has a part of the main hand, and the pairs whose number is its own
+/// This many threads of media, into an empty list with room for them: each has a part of the main hand, and the pairs whose number is its own
 /// modulo their number.
 pub(crate) fn make_threads<I: InEnd, O: OutEnd>(
     turns: &Turns<Relay<I, O>>,

@@ -19,7 +19,7 @@ use crate::part::Part;
 use relay_outside::{InEnd, OutEnd};
 use turn_table::{Hand, Turns};
 
-/// Closes the table of a relay by the hand that has all its parts, and answers what its places hold, in order. It takes no
+/// Closes the table of a relay by the hand that has all its parts, and returns what its places hold, in order. It takes no
 /// memory.
 ///
 /// The hand's list is then that of all steps of all places. Of a relay it has the packet and the outcome. With what each relay

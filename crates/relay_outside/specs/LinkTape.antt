@@ -21,11 +21,11 @@ pub record LinkState : Type 0 where
   pub gifts : List LinkGift
   pub failures : Failures
 
--- a take gives the front of the list, a datagram cut at the room of the buffer; after the list, the end
+-- a take gives the front of the list, a datagram cut at the room of the buffer; after the list, the end, and so from its first end on
 abbrev pub GivesGift : List LinkGift → List LinkGift → Taken → List ℕ → Type 0
 GivesGift [] left answer buf = (answer ≡ taken.End) × (left ≡ [])
 GivesGift (gift.Nothing ∷ gifts) left answer buf = (answer ≡ taken.Nothing) × (left ≡ gifts)
-GivesGift (gift.End ∷ gifts) left answer buf = (answer ≡ taken.End) × (left ≡ gifts)
+GivesGift (gift.End ∷ gifts) left answer buf = (answer ≡ taken.End) × (left ≡ [])
 GivesGift (gift.Datagram from bytes ∷ gifts) left answer buf =
     let len = min (length bytes) (length buf) in
     (answer ≡ taken.Datagram from len) × (take len buf ≡ take len bytes) × (left ≡ gifts)

@@ -6,47 +6,17 @@ ghost use Rattle.relay_outside.specs.declared.address.Ip.{Ip};
 ghost use Rattle.relay_script.specs.Fields.{IsNumber, IsCount, IsHost, IsAddr, InBrackets};
 ghost use Rattle.relay_script.specs.Lines.{IsKey};
 
-use itoa::Buffer;
+use ng_bencode::{read_decimal, read_until};
 use relay_outside::{Addr, Ip};
 use sdp_text::{Host, read_ipv4, read_ipv6};
 
-/// What stands before and behind the first space.
+/// What stands before and after the first space.
 pub(crate) fn read_word(text: &[u8]) -> Option<(&[u8], &[u8])>
     ensures found { IfSome result (λ parts. text.now ≡ parts.0.now ++ 32 ∷ parts.1.now) }
     ensures first { IfSome result (λ parts. IsFreeOf 32 parts.0.now) }
     ensures missing { IfNone result ((front rest : List ℕ) → text.now ≡ front ++ 32 ∷ rest → ⊥) }
 {
-    let Some(at) = first_space(text) else {
-        return None;
-    };
-    Some((&text[..at], &text[at + 1..]))
-}
-
-fn first_space(text: &[u8]) -> Option<usize>
-    ensures place { result ≡ position (λ byte. byte == 32) text.now }
-    ensures within { IfSome result (λ at. at < length text.now) }
-{
-    text.iter().position(|byte| *byte == b' ')
-}
-
-/// The number that these digits write, where they write one in decimal without a leading zero.
-fn read_decimal(digits: &[u8]) -> Option<u64>
-    ensures { MatchOption result
-        ((n : ℕ) → n < 2 ^ 64 → digits.now ≡ decimal n → ⊥)
-        (λ n. digits.now ≡ decimal n) }
-{
-    let Ok(text) = str::from_utf8(digits) else {
-        return None;
-    };
-    let Ok(number) = text.parse::<u64>() else {
-        return None;
-    };
-    let mut buffer = Buffer::new();
-    if buffer.format(number).as_bytes() == digits {
-        Some(number)
-    } else {
-        None
-    }
+    read_until(text, b' ')
 }
 
 /// A moment.

@@ -5,7 +5,7 @@ ghost use Rattle.relay_script.specs.Lines.{Spells};
 ghost use Rattle.relay_script.specs.Printing.{shown_text};
 ghost use Rattle.relay_script.specs.Steps.{Step};
 
-/// A line asks for at most one step, so that `parse` answers exactly that one.
+/// A line asks for at most one step, so that `parse` returns exactly that one.
 pub fn one_step()
     ensures { (line : List ℕ) (first second : Step) → Spells line first → Spells line second → first ≡ second }
 {}

@@ -15,7 +15,7 @@ use std::alloc::Global;
 /// The most bytes that a line may have.
 const MOST_BYTES: usize = 40_000;
 
-/// The words by which lines begin behind which more stands.
+/// The words by which lines begin after which more stands.
 #[derive(Clone, Copy)]
 enum Keyword {
     At,
@@ -180,7 +180,7 @@ fn read_fail(rest: &[u8]) -> Result<Step, ParseFault>
     }
 }
 
-/// `PORT N` behind `send`.
+/// `PORT N` after `send`.
 fn read_send_failure(text: &[u8]) -> Result<Step, ParseFault>
     ensures { ReadsSendFailure text.now result }
 {
@@ -196,7 +196,7 @@ fn read_send_failure(text: &[u8]) -> Result<Step, ParseFault>
     }
 }
 
-/// What stands behind a first word.
+/// What stands after a first word.
 fn read_behind(alloc: Global, keyword: Keyword, rest: &[u8]) -> Result<Step, ParseFault>
     ensures { Reads (keyword_text keyword) rest.now result }
 {

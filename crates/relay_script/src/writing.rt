@@ -11,7 +11,7 @@ use relay_outside::{Addr, Ip};
 use sdp_text::{Host, host_text};
 use std::alloc::Global;
 
-/// Puts bytes behind the line.
+/// Puts bytes after the line.
 fn put(line: &mut Text, bytes: &[u8]) -> Result<(), OutOfMemory>
     ensures { OnOk result (line.new.list ≡ line.old.list ++ bytes.now) }
 {

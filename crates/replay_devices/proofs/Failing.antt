@@ -12,7 +12,7 @@ use Rattle.srtp_sources.specs.Notes.{is_half}
 use Rattle.histories.specs.Words.{until}
 use Rattle.port_pool.specs.Ports.{half_port}
 use Rattle.replay_model.specs.Steps as model
-use Rattle.replay_model.specs.Devices.{Happening, Made, Opened, Drew, Replied, Sent, Received, behind, makes_end, makes_at, sends_by, fails_send, next_send, send_fails}
+use Rattle.replay_model.specs.Devices.{Happening, Made, Opened, Drew, Replied, Sent, behind, makes_end, makes_at, sends_by, fails_send, next_send, send_fails}
 use Rattle.replay_devices.specs.declared.failures.Stage.{Stage}
 use Rattle.replay_devices.specs.declared.failures.Stage.TheVariants.{Waiting, Counting}
 use Rattle.replay_devices.specs.declared.failures.SendFailure.{SendFailure}
@@ -177,7 +177,6 @@ module _ (config : Config) (pair : ℕ) (half : Half) where
   at_same (Drew ok) = refl
   at_same (Replied ok) = refl
   at_same (Sent a g ok) = refl
-  at_same (Received r) = refl
 
   abbrev any_made : ℕ → List Happening → Bool
   any_made j past = list_any (is_made port (j + 1)) (sends config past)
@@ -304,7 +303,6 @@ module _ (config : Config) (pair : ℕ) (half : Half) where
   all_are (Drew ok ∷ past) = all_are past
   all_are (Replied ok ∷ past) = all_are past
   all_are (Sent a g ok ∷ past) = (sent_case_of a g ok past (half_port config a g == port) refl (all_are past).0, sent_waits a g ok past (all_are past).1)
-  all_are (Received r ∷ past) = all_are past
 
   -- the next send by the end fails where one of them is the next
   pub sends_fail : (past : List Happening) → any_next_at port (sends config past) ≡ send_fails config past pair half

@@ -4,7 +4,7 @@ use Rattle.std.specs.List.{list_any}
 use Rattle.std.proofs.lemmas.Bool.Decides.{nat_tests}
 use Rattle.relay_outside.specs.declared.settings.Config.{Config}
 use Rattle.replay_model.specs.Steps as model
-use Rattle.replay_model.specs.Devices.{Happening, Made, Opened, Drew, Replied, Sent, Received, counts_for, same_kind, fails_nth, fails_behind, fails}
+use Rattle.replay_model.specs.Devices.{Happening, Made, Opened, Drew, Replied, Sent, counts_for, same_kind, fails_nth, fails_behind, fails}
 use Rattle.replay_devices.specs.Countdowns.{after_call, next_fails}
 use Rattle.replay_devices.specs.declared.failures.SendFailure.{SendFailure}
 use Rattle.replay_devices.specs.Watch.{asked_now, counts, sends_after, due, WatchState, Notes}
@@ -59,7 +59,6 @@ asked_nth kind m (Opened pair half ok) = refl
 asked_nth kind m (Drew ok) = refl
 asked_nth kind m (Replied ok) = refl
 asked_nth kind m (Sent pair half ok) = refl
-asked_nth kind m (Received r) = refl
 
 behind_counts : (kind : model.FailKind) (past : List Happening) (later : ℕ) → fails_behind kind past later ≡ list_any (λ n. n == later + 1) (counts kind past)
 behind_counts kind [] later = refl

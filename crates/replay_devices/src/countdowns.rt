@@ -21,7 +21,7 @@ impl Model for Countdowns {
 }
 
 impl Countdowns {
-    /// None yet, and room for so many.
+    /// None yet, and capacity for this many.
     pub(crate) fn with_room(alloc: Global, room: usize) -> Result<Countdowns, OutOfMemory>
         ensures list { IfOk result (λ calls. calls.list ≡ []) }
         ensures room { IfOk result (λ calls. calls.spare ≡ room) }

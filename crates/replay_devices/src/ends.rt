@@ -14,7 +14,7 @@ use std::alloc::Global;
 use std::marker::Model;
 
 /// The receiving end of a port in a replay. Its takes give, in order, the packets of the lines `take` and `packet`
-/// at its port behind the line at which it was opened, and then nothing. A take fails where a line `fail take` asks
+/// at its port after the line at which it was opened, and then nothing. A take fails where a line `fail take` asks
 /// for it; the packet of that line is dropped.
 #[derive(Drop)]
 pub struct ReplayIn<'a> {

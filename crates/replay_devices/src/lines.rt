@@ -6,7 +6,7 @@ ghost use Rattle.replay_devices.specs.Lines.{between, key_of, asked_of, asked_by
 use relay_outside::{Addr, Ip};
 use relay_script::{FailKind, Step};
 
-/// The first so many lines.
+/// The first this many lines.
 fn front(steps: &[Step], count: usize) -> &[Step]
     ensures { result.now ≡ take count steps.now }
 {
@@ -17,7 +17,7 @@ fn front(steps: &[Step], count: usize) -> &[Step]
     }
 }
 
-/// The lines behind the first so many.
+/// The lines after the first this many.
 fn behind(steps: &[Step], count: usize) -> &[Step]
     ensures { result.now ≡ drop count steps.now }
 {

@@ -27,7 +27,7 @@ pub struct ReplayPorts<'a> {
     timetable: &'a Timetable<'a>,
     step: usize,
     opens: Countdowns,
-    /// For each number of a port, the index of the first line behind the last open of it that made ends.
+    /// For each number of a port, the index of the first line after the last open of it that made ends.
     since: Vec<usize>,
     faults: u64,
 }

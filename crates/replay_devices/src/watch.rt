@@ -39,7 +39,7 @@ impl Model for Watch {
 }
 
 impl Watch {
-    /// Before the first line, with keys of that seed behind those of the lines.
+    /// Before the first line, with keys of that seed after those of the lines.
     pub fn new(alloc: Global, seed: u64) -> Result<Watch, OutOfMemory>
         ensures { IfOk result (λ watch. (config : Config) → StandsFor config seed [] watch) }
     {

@@ -54,7 +54,7 @@ fn read_step<S: LineSource>(
     }
 }
 
-/// Reads what stands behind as many lines as a script may have.
+/// Reads what stands after as many lines as a script may have.
 fn read_past<S: LineSource>(source: &mut S, buf: &mut [u8]) -> Ending
     requires { length buf.old ≡ 40001 }
     ensures read { OneRead (S.told source.old) (S.told source.new) (ReadsEnding 50000 result) }
@@ -68,7 +68,7 @@ fn read_past<S: LineSource>(source: &mut S, buf: &mut [u8]) -> Ending
     }
 }
 
-/// Puts a step behind the others.
+/// Puts a step after the others.
 fn keep_step(steps: &mut Vec<Step>, step: Step) -> Result<(), OutOfMemory>
     ensures { OnOk result (steps.new.items ≡ steps.old.items ++ step ∷ []) }
 {
@@ -108,7 +108,7 @@ fn read_lines<S: LineSource>(
 }
 
 /// Reads a script, up to its end, a fault of its source, or the first line that is outside the grammar: one of more than
-/// 40,000 bytes, one past the 50,000th line, or one that `parse` doesn't know. The lines behind that one are not read.
+/// 40,000 bytes, one past the 50,000th line, or one that `parse` doesn't know. The lines after that one are not read.
 ///
 /// Where memory is wanting the source has given some lines, each of which asked for a step but perhaps the last.
 pub fn read_script<S: LineSource>(alloc: Global, source: &mut S) -> Result<Script, OutOfMemory>

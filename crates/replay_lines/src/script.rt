@@ -37,7 +37,7 @@ impl Script {
         self.steps.as_slice()
     }
 
-    /// How the reading ended, behind the steps.
+    /// How the reading ended, after the steps.
     pub fn ending(&self) -> Ending
         ensures { result ≡ self.now.ending }
     {

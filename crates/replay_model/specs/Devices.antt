@@ -1,48 +1,25 @@
 -- The devices of a replay: what they give and which of their calls fail, by the lines of the script and the calls that were
 -- made so far.
-use Rattle.std.specs.Prelude.{ℕ, zero, suc, ◌+◌, Bool, true, false, not, ◌&&◌, ◌||◌, ◌==◌, nat_lt, List, [], ◌∷◌, ◌++◌, drop, take, length, Option, Some, None, filter_map, count_by, if◌then◌else◌}
+use Rattle.std.specs.Prelude.{ℕ, ◌+◌, Bool, true, false, not, ◌&&◌, ◌||◌, ◌==◌, List, [], ◌∷◌, ◌++◌, drop, Option, Some, None, count_by, if◌then◌else◌}
 use Rattle.std.specs.List.{list_any}
-use Rattle.relay_outside.specs.declared.address.Addr.{Addr}
 use Rattle.relay_outside.specs.declared.settings.Config.{Config}
 use Rattle.rtp_packet.specs.declared.head.Half.{Half}
 use Rattle.srtp_sources.specs.Notes.{is_half}
-use Rattle.histories.specs.Words.{first, until, numbers}
-use Rattle.port_pool.specs.declared.holder.Holder.{Holder}
+use Rattle.histories.specs.Words.{first, until}
 use Rattle.port_pool.specs.Ports.{half_port}
-use Rattle.port_pool.specs.Boxes as box
-use Rattle.port_pool.specs.Boxes.{Taken}
-use Rattle.call_cell.specs.Cells.{Receipt}
+use Rattle.call_cell.specs.Cells.{Sending}
 use Rattle.replay_model.specs.Steps.{FailKind, Opening, Drawing, Replying, Reading, Taking, Step}
 use Rattle.replay_model.specs.Steps as step
 
 -- What happened in a replay, in a list of which the latest stands first: a step was made; a port of a pair was opened, or the
 -- open failed; a key was drawn, or the draw failed; a reply was sent, or the send failed; an out end sent a packet, or its send
--- failed; a packet was received for a later line `relay`
+-- failed
 pub data Happening : Type 0 where
   Made : Step → Happening
   Opened : (pair : ℕ) → Half → (ok : Bool) → Happening
   Drew : (ok : Bool) → Happening
   Replied : (ok : Bool) → Happening
   Sent : (pair : ℕ) → Half → (ok : Bool) → Happening
-  Received : Receipt → Happening
-
--- The clock.
-
-abbrev pub moment_of_step : Step → Option ℕ
-moment_of_step (step.At moment) = Some moment
-moment_of_step _ = None
-
-abbrev pub moment_set : Happening → Option ℕ
-moment_set (Made s) = moment_of_step s
-moment_set _ = None
-
-abbrev pub or_zero : Option ℕ → ℕ
-or_zero None = 0
-or_zero (Some n) = n
-
--- the moment of the last line `at`, at first 0
-abbrev pub clock : List Happening → ℕ
-clock past = or_zero (first (filter_map moment_set past))
 
 -- Failures.
 
@@ -132,6 +109,16 @@ abbrev pub send_fails : Config → List Happening → (pair : ℕ) → Half → 
 send_fails config past pair half =
     list_any (fails_send (half_port config pair half) (next_send past pair half)) (waiting config past pair half)
 
+-- what a send by an end answers, where one is made; where none is made, none fails
+abbrev pub send_answers : Config → List Happening → Option Sending → Bool
+send_answers config past None = true
+send_answers config past (Some sending) = not (send_fails config past sending.pair sending.half)
+
+-- what then has happened
+abbrev pub after_send : List Happening → (ok : Bool) → Option Sending → List Happening
+after_send past ok None = past
+after_send past ok (Some sending) = Sent sending.pair sending.half ok ∷ past
+
 -- Keys.
 
 abbrev pub key_of_step : Step → List (List ℕ)
@@ -162,88 +149,3 @@ streamed (x ∷ past) = if is_of_stream x (unused past) then streamed past + 1 e
 -- what the next draw gives: the oldest unused key of a line, or else the next one of the stream of the seed
 abbrev pub next_key : (ℕ → List ℕ) → List Happening → List ℕ
 next_key stream past = elim (first (unused past)) [ None ↦ stream (streamed past) | Some bytes ↦ bytes ]
-
--- Calls in a row.
-
--- the answers of opens, and what then has happened
-pub record Opens : Type 0 where
-  pub answers : List Bool
-  pub past : List Happening
-
-abbrev pub after_open : Opens → Opens
-after_open rest = record { answers = true ∷ rest.answers; past = rest.past }
-
--- the ports are opened in order, up to the first open that fails
-abbrev pub opens : List Happening → List (ℕ × Half) → Opens
-opens past [] = record { answers = []; past = past }
-opens past (e ∷ ends) =
-    if fails Opening past then record { answers = false ∷ []; past = Opened e.0 e.1 false ∷ past }
-    else after_open (opens (Opened e.0 e.1 true ∷ past) ends)
-
--- the keys that draws gave, whether the next draw failed, and what then has happened
-pub record Draws : Type 0 where
-  pub keys : List (List ℕ)
-  pub failed : Bool
-  pub past : List Happening
-
-abbrev pub after_draw : List ℕ → Draws → Draws
-after_draw key rest = record { keys = key ∷ rest.keys; failed = rest.failed; past = rest.past }
-
--- so many keys are drawn, up to the first draw that fails
-abbrev pub draws : (ℕ → List ℕ) → List Happening → ℕ → Draws
-draws stream past zero = record { keys = []; failed = false; past = past }
-draws stream past (suc count) =
-    if fails Drawing past then record { keys = []; failed = true; past = Drew false ∷ past }
-    else after_draw (next_key stream past) (draws stream (Drew true ∷ past) count)
-
--- Arriving packets.
-
--- what the take of an in end gives for the packet of a line: a failing take drops it; 2,001 bytes are all that is filled
-abbrev pub arriving : Holder → (failing : Bool) → Addr → List ℕ → Taken
-arriving leg failing source bytes =
-    if failing then box.Fault
-    else if nat_lt 2000 (length bytes) then box.TooLong source (take 2001 bytes)
-    else box.Datagram leg source bytes
-
-abbrev pub arriving_at : Option Holder → (failing : Bool) → Addr → List ℕ → Taken
-arriving_at None failing source bytes = box.Closed
-arriving_at (Some leg) failing source bytes = arriving leg failing source bytes
-
--- Receipts.
-
-abbrev pub is_receipt : Happening → Bool
-is_receipt (Received packet) = true
-is_receipt _ = false
-
--- how many packets were received by lines `take`; their numbers count from 1
-abbrev pub received_count : List Happening → ℕ
-received_count past = count_by is_receipt past
-
-abbrev pub receipt_of : Happening → Option Receipt
-receipt_of (Received packet) = Some packet
-receipt_of _ = None
-
--- the one that was received under this number
-abbrev pub receipt_numbered : List Happening → ℕ → Option Receipt
-receipt_numbered [] n = None
-receipt_numbered (x ∷ past) n = if is_receipt x && (received_count past + 1 == n) then receipt_of x else receipt_numbered past n
-
-abbrev pub relays : ℕ → Step → Bool
-relays n (step.Relay receipt) = receipt == n
-relays n _ = false
-
-abbrev pub uses_up : ℕ → Happening → Bool
-uses_up n (Made s) = relays n s
-uses_up n _ = false
-
--- a line `relay` uses a receipt up
-abbrev pub is_used_up : List Happening → ℕ → Bool
-is_used_up past n = list_any (uses_up n) past
-
--- the receipt that is held under this number
-abbrev pub held : List Happening → ℕ → Option Receipt
-held past n = if is_used_up past n then None else receipt_numbered past n
-
--- how many receipts are held
-abbrev pub held_count : List Happening → ℕ
-held_count past = count_by (λ n. not (is_used_up past n)) (numbers 1 (received_count past))

@@ -25,9 +25,3 @@ pub data Step : Type 0 where
   Relay : (receipt : ℕ) → Step
   Packet : (port : ℕ) → (source : Addr) → (bytes : List ℕ) → Step
   Tick : Step
-
--- How the reading of a script ended: at its end or at a fault of its source, or at a line outside the grammar, which is the
--- one after the steps
-pub data Ending : Type 0 where
-  NoMoreLines : Ending
-  LineOutside : Ending

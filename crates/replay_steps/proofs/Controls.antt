@@ -15,7 +15,7 @@ use Rattle.relay_outside.specs.declared.settings.Config.{Config}
 use Rattle.relay_outside.specs.Link.{datagram_of, sent_of}
 use Rattle.relay_outside.proofs.Telling.{gained_none, gained_less}
 use Rattle.call_board.specs.Pairs.{free}
-use Rattle.media_ports.specs.Asked.{OpensWith, OpensAt}
+use Rattle.media_ports.specs.Asked.{OpensAt}
 use Rattle.turn_table.specs.declared.machine.Entry as table
 use Rattle.turn_table.specs.declared.hands.Hand.{Hand}
 use Rattle.turn_table.specs.Hands.{entries}
@@ -96,7 +96,7 @@ module _ (config : Config) {M I O T : Type 0} {g : _} where
   unanswered old new now answer (Some x) unsent follows = absurd (let k : false ≡ true = sym unsent ∙ follows.0 in cc)
 
   module _ (now : ℕ) (source : Addr) (bytes : List ℕ) (reply_fails : Bool) (e : Printed) (old new : Hand M (Part I O) Made T g) (answer : ControlTurn) (x : Hearing) (opened : List PortCall)
-      (drawn : List KeyCall) (opens : OpensWith x.given.opens opened) (draws : drawn ≡ draws_of x.given) (follows : Follows config old new now answer (Some x)) where
+      (drawn : List KeyCall) (opens : OpensAt config (free config (board_of (made_by old))) x.given.opens opened) (draws : drawn ≡ draws_of x.given) (follows : Follows config old new now answer (Some x)) where
     reply : List ℕ
     reply = (control_of config (board_of (made_by old)) (moment_at (board_of (made_by old)) now) x).reply
 
@@ -197,7 +197,7 @@ module _ (config : Config) {M I O T : Type 0} {g : _} where
     answers answer (Some x) before after sent follows gave gained tells of =
         gained_less opened opened_now (OpensAt config (free config (board_of (made_by old))) x.given.opens) _
         (λ opens opens_are. gained_less drew drew_now (λ draws. draws ≡ draws_of x.given) _
-        (λ draws draws_are. inr (taken_told now source bytes reply_fails e old new answer x opens draws opens_are.answered draws_are follows sent before after tells of gained)) gave.draws) gave.opens
+        (λ draws draws_are. inr (taken_told now source bytes reply_fails e old new answer x opens draws opens_are draws_are follows sent before after tells of gained)) gave.draws) gave.opens
 
     controls_line : (read_fails : Bool) (answer : ControlTurn) (before after : Option (List LinkCall)) (made : Option Hearing) → Follows config old new now answer made
         → GaveFor config (board_of (made_by old)) made ports ports_now keys keys_now opened opened_now drew drew_now → Gained before after (DidTurn config (board_of (made_by old)) now answer made)

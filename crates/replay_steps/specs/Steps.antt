@@ -13,6 +13,7 @@ use Rattle.port_pool.specs.Boxes as box
 use Rattle.port_pool.specs.Boxes.{Taken, FitsTaken, holder}
 use Rattle.call_board.specs.Acts.{Call, BoardEntry}
 use Rattle.call_board.specs.Calls.{live}
+use Rattle.call_board.specs.Pairs.{free}
 use Rattle.call_board.specs.Views.{last_moment}
 use Rattle.call_cell.specs.declared.outcome.Outcome.{Outcome}
 use Rattle.call_cell.specs.Cells as cells
@@ -29,15 +30,14 @@ use Rattle.board_turns.specs.Ticking.{IsDueBy, tick_entry}
 use Rattle.control_entries.specs.Controls.{Hearing, control_of, entry_at, moment_at}
 use Rattle.control_entries.specs.Giving.{draws_of}
 use Rattle.control_turns.specs.Taking.{is_too_long}
-use Rattle.media_ports.specs.Asked.{OpensWith}
+use Rattle.media_ports.specs.Asked.{OpensAt}
 use Rattle.main_sweeps.specs.Steps.{take_entry, deed_after, RelaysBy}
 use Rattle.relay_script.specs.Steps as step
 use Rattle.relay_script.specs.Steps.{Step}
 use Rattle.relay_script.specs.Printing as event
 use Rattle.relay_script.specs.Printing.{Printed, event_of}
 use Rattle.replay_model.specs.Steps as model
-use Rattle.replay_model.specs.Devices.{Happening, Made, Opened, Drew, Replied, fails, next_key}
-use Rattle.replay_model.specs.Replay.{send_answers, after_send}
+use Rattle.replay_model.specs.Devices.{Happening, Made, Opened, Drew, Replied, fails, send_answers, after_send, next_key}
 use Rattle.replay_devices.specs.Due.{stream_from}
 use Rattle.replay_devices.specs.Watch.{step_of}
 use Rattle.replay_steps.specs.Arrivals.{End, IsEndAt, IsNoEnd}
@@ -120,12 +120,13 @@ Replying true source reply e = e ≡ event.ReplyFault
 Replying false source reply e = e ≡ event.Reply source reply
 
 -- The datagram is answered in one turn of the board, whose entry and reply are those that the board's history demands at that
--- moment for what was heard. The calls of the port maker and of the key source in the turn are those that the entry tells
+-- moment for what was heard. The port maker's openings in the turn are those that the entry tells, with their answers: of the ports of the
+-- pairs that were free before it, from the front, pair by pair, that for RTP first. The draws of the key source are those that the entry tells
 pub record Answers (config : Config) (clock : ℕ) (l : List Entry) (source : Addr) (bytes : List ℕ) (failing : Bool) (opened : List PortCall) (drawn : List KeyCall) (e : Printed) (new : List Entry) : Type 0 where
   pub heard : Hearing
   pub is_heard : IsHeard heard source bytes
   pub turns : TurnsBoard config l (entry_at config (board_of l) (moment_at (board_of l) clock) heard) new
-  pub opens : OpensWith heard.given.opens opened
+  pub opens : OpensAt config (free config (board_of l)) heard.given.opens opened
   pub draws : drawn ≡ draws_of heard.given
   pub replies : Replying failing source (control_of config (board_of l) (moment_at (board_of l) clock) heard).reply e
 

@@ -23,7 +23,7 @@ use turn_table::Hand;
 /// How many bytes of a datagram the link's room takes.
 const ROOM: usize = 16_385;
 
-/// The first bytes of some, at most so many.
+/// The first bytes of some, at most this many.
 fn front(bytes: &[u8], count: usize) -> &[u8]
     ensures { result.now ≡ take count bytes.now }
 {

@@ -15,7 +15,7 @@ pub(crate) struct Devices<'a> {
 }
 
 impl<'a> Devices<'a> {
-    /// Those of a replay of these steps, with keys of that seed behind those of the lines.
+    /// Those of a replay of these steps, with keys of that seed after those of the lines.
     pub(crate) fn new(
         alloc: Global,
         steps: &'a [Step],

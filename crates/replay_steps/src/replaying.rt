@@ -102,7 +102,7 @@ fn play<O: LineSink, R: Wait>(
     ended
 }
 
-/// Replays the script that a source gives, with this configuration and keys of that seed behind those of its lines, and writes a
+/// Replays the script that a source gives, with this configuration and keys of that seed after those of its lines, and writes a
 /// line for each event.
 pub fn replay<S: LineSource, O: LineSink, R: Wait>(
     rt: &R,

@@ -77,7 +77,7 @@ fn note_draws(watch: &mut Watch, calls: &[KeyCall]) -> bool
     true
 }
 
-/// The calls behind the first so many.
+/// The calls after the first this many.
 fn behind<C>(calls: &[C], count: usize) -> &[C]
     ensures { result.now ≡ drop count calls.now }
 {
@@ -108,7 +108,7 @@ pub(crate) fn count_draws(keys: &ReplayKeys<'_>) -> usize
     }
 }
 
-/// Notes the calls of the port maker and of the key source behind the first so many, and says whether both tell them, whether each
+/// Notes the calls of the port maker and of the key source after the first this many, and says whether both tell them, whether each
 /// call failed just where it had to, and whether each draw gave the key that was due.
 pub(crate) fn note_calls(
     watch: &mut Watch,

@@ -149,7 +149,7 @@ fn near_to(greatest: u64, seq: u64) -> Near
     }
 }
 
-/// A law, and no work: of all whole numbers that end in a sequence number, those below zero among them, `near` takes the
+/// Theorem (no run-time code): of all whole numbers that end in a sequence number, those below zero among them, `near` takes the
 /// one nearest to the greatest noted index (RFC 3711 section 3.3.1), and at a tie the one in that index's own cycle.
 pub fn near_is_nearest()
     ensures { (top : ℕ) (seq : ℕ) → seq < 65536 → IsNearest top seq (nearest_lifted top seq) }

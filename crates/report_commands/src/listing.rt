@@ -15,7 +15,7 @@ use offer_answer::Heard;
 use relay_outside::OutOfMemory;
 use std::alloc::Global;
 
-/// The datagram of a list's reply. `Err` is want of memory.
+/// The datagram of a list's reply. `Err`: out of memory.
 fn list_datagram(
     alloc: Global,
     board: &Board,
@@ -32,7 +32,7 @@ fn list_datagram(
     value_datagram(alloc, cookie, &value)
 }
 
-/// Tells the call-ids of the live calls, in order of their creation, up to so many. Nothing is done.
+/// Tells the call-ids of the live calls, in order of their creation, up to this many. Nothing is done.
 pub fn list(alloc: Global, board: &Board, request: &Request, limit: u32) -> Done
     requires shown { (config : Config) × (v : View) × Shows config board.now v }
     ensures tells { (config : Config) (v : View) → Shows config board.now v →

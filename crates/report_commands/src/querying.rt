@@ -25,7 +25,7 @@ use board_turns::query_call;
 use call_board::Board;
 use control_entries::{Done, Gave, Request, refused, short};
 use control_replies::value_datagram;
-use nested_steps::Nest;
+use nested_steps::BoardTurn;
 use ng_bencode::Text;
 use ng_command::QueryIn;
 use ng_reply::ErrorCode;
@@ -35,9 +35,9 @@ use relay_core::Relay;
 use relay_outside::{Config, InEnd, OutEnd, OutOfMemory};
 use std::alloc::Global;
 use std::sync::Wait;
-use turn_table::{Hand, Turns};
+use turn_table::Hand;
 
-/// The datagram of the reply to a query of a live call with these reports of its legs. `Err` is want of memory.
+/// The datagram of the reply to a query of a live call with these reports of its legs. `Err`: out of memory.
 fn report_datagram(
     alloc: Global,
     board: &Board,
@@ -81,22 +81,20 @@ fn reported(reports: LegReports, reply: Result<Text, OutOfMemory>) -> Done
 pub fn query<I: InEnd, O: OutEnd, R: Wait>(
     rt: &R,
     alloc: Global,
-    turns: &Turns<Relay<I, O>>,
+    turn: &BoardTurn<I, O>,
     hand: &mut Hand<Relay<I, O>>,
-    config: &Config,
-    nest: Nest,
     board: &Board,
     request: &Request,
     input: &QueryIn,
 ) -> Done
-    requires turn { (told : Option (List PortCall)) × InTurn config.now turns.now hand.old nest board.now told }
-    requires anew { IsAnew (board_history (made_by hand.old) nest.number) nest.moment request.now }
+    requires turn { (told : Option (List PortCall)) × InTurn turn.now.config.now turn.now.turns.now hand.old turn.now.nest board.now told }
+    requires anew { IsAnew (board_history (made_by hand.old) turn.now.nest.number) turn.now.nest.moment request.now }
     ensures same { IsSameHand hand.old hand.new × SameTurns hand.old hand.new }
-    ensures may { MayNest config.now turns.now hand.new }
-    ensures carries { (told : Option (List PortCall)) (pairs : Option Entries) → InTurn config.now turns.now hand.old nest board.now told →
+    ensures may { MayNest turn.now.config.now turn.now.turns.now hand.new }
+    ensures carries { (told : Option (List PortCall)) (pairs : Option Entries) → InTurn turn.now.config.now turn.now.turns.now hand.old turn.now.nest board.now told →
         IsAsking request.now pairs (Query input.now.call_id.list) →
-        Carries config.now hand.old hand.new nest (hearing_by request.now pairs result) result.reply board.now told }
-    ensures ties { (told : Option (List PortCall)) → Ties config.now told told (entries hand.old) (entries hand.new) }
+        Carries turn.now.config.now hand.old hand.new turn.now.nest (hearing_by request.now pairs result) result.reply board.now told }
+    ensures ties { (told : Option (List PortCall)) → Ties turn.now.config.now told told (entries hand.old) (entries hand.new) }
     ensures unasked { IsUnasked result.gave }
 {
     let Some(call) = board.find_call(input.call_id.as_slice()) else {
@@ -105,7 +103,7 @@ pub fn query<I: InEnd, O: OutEnd, R: Wait>(
     let Ok(mut reports) = LegReports::new(alloc) else {
         return short();
     };
-    query_call(rt, turns, hand, config, nest, board, call, &mut reports);
+    query_call(rt, turn, hand, board, call, &mut reports);
     let reply = report_datagram(alloc, board, request.cookie, call, &reports);
     reported(reports, reply)
 }

@@ -44,7 +44,7 @@ fn read_u32(packet: &[u8], place: usize) -> u32
     u32::from(read_u16(packet, place)) * 65_536 + u32::from(read_u16(packet, place + 2))
 }
 
-// The bytes of the extension that begins at `place`, behind the contributing sources.
+// The bytes of the extension that begins at `place`, after the contributing sources.
 fn read_extension_size(packet: &[u8], place: usize) -> usize
     requires { place + 4 ≤ length packet.now }
     ensures { result ≡ extension_size packet.now place }

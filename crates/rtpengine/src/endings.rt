@@ -5,7 +5,7 @@ use std::io::{self, Error, ErrorKind};
 /// Why the program ends.
 #[derive(Drop)]
 pub(crate) enum Ending {
-    /// Nothing was run: memory was refused.
+    /// Nothing was run: out of memory.
     NoMemory,
     /// Nothing was run: the system gave no random bytes.
     NoSeed(Error),

@@ -2,18 +2,18 @@ use std::alloc::Global;
 use std::env;
 use std::io::ErrorKind;
 
-/// The words of the command line behind the program's name.
+/// The words of the command line after the program's name.
 #[derive(Drop)]
 pub(crate) enum Words {
     /// They are text.
     Read(Vec<String>),
     /// One of them isn't UTF-8.
     NotText,
-    /// Memory was refused.
+    /// Out of memory.
     OutOfMemory,
 }
 
-/// Reads the words behind the program's name.
+/// Reads the words after the program's name.
 pub(crate) fn read_words(rt: &HostRuntime, alloc: Global) -> Words {
     let mut args = match env::args(rt) {
         Ok(args) => args,

@@ -1,7 +1,7 @@
 //! Crypto lines of a session description (SDES, RFC 4568): `a=crypto` attributes of the two suites
 //! that this proxy speaks, read and written.
 //!
-//! [`usable`] answers a line's tag, suite and key exactly where the line is of the grammar that
+//! [`usable`] returns a line's tag, suite and key exactly where the line is of the grammar that
 //! `specs/CryptoLine.antt` states, and [`write_line`] writes a line that is usable again.
 //! A line with an MKI, a session parameter, a further key or another suite is passed over.
 //!

@@ -1,4 +1,4 @@
-//! What the lines behind a line say of it.
+//! What the lines after a line say of it.
 
 ghost use Rattle.std.specs.Prelude.{◌≡◌, drop};
 ghost use Rattle.std.specs.Option.{option_copied};

@@ -50,7 +50,7 @@ pub fn choose_among(
     None
 }
 
-// The index of the line behind the `m=` line of a section, or how many lines there are.
+// The index of the line after the `m=` line of a section, or how many lines there are.
 fn section_start(sdp: &Sdp, section: usize) -> usize
     ensures lines { section_lines section sdp.now ≡ up_to_media (drop result sdp.now) }
     ensures within { result ≤ length sdp.now }

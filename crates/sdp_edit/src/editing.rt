@@ -25,7 +25,7 @@ pub fn edit_len(sdp: &Sdp, edit: &Edit) -> usize
     length
 }
 
-/// Writes the edited text behind what `out` holds. It needs spare room of `edit_len`.
+/// Writes the edited text after what `out` holds. It needs spare room of `edit_len`.
 pub fn edit_into(sdp: &Sdp, edit: &Edit, out: &mut Bytes)
     requires tags { HaveTags edit.now.sections.list }
     requires room { length (edited sdp.now edit.now) ≤ out.old.spare }

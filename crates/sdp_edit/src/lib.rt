@@ -3,7 +3,7 @@
 //! becomes of each line, and which lines are added after it. All other lines are passed on unchanged.
 //!
 //! - `edits`: what is to be written in each section
-//! - `place`, `ahead`: what the lines before and behind a line say of it
+//! - `place`, `ahead`: what the lines before and after a line say of it
 //! - `attribute`: which attributes are removed
 //! - `image`: what becomes of a line
 //! - `field`, `text`: the texts of rewritten lines

@@ -55,7 +55,7 @@ impl Place {
         }
     }
 
-    /// The place behind a line.
+    /// The place after a line.
     pub(crate) fn after(self, line: &[u8]) -> Place
         requires { self.section < 2 ^ 64 - 1 }
         ensures { (before : List (List ℕ)) → self ≡ place_of before → result ≡ place_of (line.now ∷ before) }

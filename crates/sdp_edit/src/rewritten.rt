@@ -66,7 +66,7 @@ impl Inserted {
     }
 }
 
-/// A line to be written, with its end: a part of a line that was read, a text inserted behind it, and
+/// A line to be written, with its end: a part of a line that was read, a text inserted after it, and
 /// another part of that line.
 #[derive(Drop)]
 pub(crate) struct OutLine<'a> {
@@ -139,7 +139,7 @@ impl<'a> OutLine<'a> {
         self.head.len() + self.inserted.as_slice().len() + self.tail.len() + 2
     }
 
-    /// Writes it, with its end, behind what `out` holds.
+    /// Writes it, with its end, after what `out` holds.
     #[tactic(auto, unfolding(crate::specs::Texts::with_end))]
     pub(crate) fn write_into(&self, out: &mut Bytes)
         requires { length self.now ≤ out.old.spare }

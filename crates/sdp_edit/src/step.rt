@@ -22,7 +22,7 @@ pub(crate) struct Step<'a> {
     connection: Option<OutLine<'a>>,
     first_key: Option<OutLine<'a>>,
     second_key: Option<OutLine<'a>>,
-    /// The place behind the line.
+    /// The place after the line.
     pub(crate) here: Place,
 }
 
@@ -149,7 +149,7 @@ impl<'a> Step<'a> {
         line_len(&self.image) + line_len(&self.connection) + keys
     }
 
-    /// Writes them behind what `out` holds.
+    /// Writes them after what `out` holds.
     pub(crate) fn write_into(&self, out: &mut Bytes)
         requires { length (step_text self.now) ≤ out.old.spare }
         ensures list { out.new.list ≡ out.old.list ++ step_text self.now }

@@ -12,6 +12,6 @@ pub enum SdpFault {
     TooManyMedia(u32),
     /// A section asks for DTLS-SRTP (`UDP/TLS/..`).
     Dtls,
-    /// Memory was refused.
+    /// Out of memory.
     OutOfMemory,
 }

@@ -9,7 +9,7 @@ use std::marker::Model;
 /// At most eight groups of an IPv6 address.
 #[derive(Drop)]
 pub(crate) struct Groups {
-    /// The groups, and behind them numbers that mean nothing.
+    /// The groups, and after them numbers that mean nothing.
     values: [u16; 8],
     /// How many groups there are.
     len: usize,
@@ -160,7 +160,7 @@ fn whole(text: &[u8]) -> Option<Groups>
     if all.len() == 8 { Some(all) } else { None }
 }
 
-// The groups before `::` and behind it.
+// The groups before `::` and after it.
 fn shortened(before: &[u8], behind: &[u8]) -> Option<Groups>
     ensures { result ≡ filled_up (groups before.now) (groups behind.now) }
 {

@@ -3,7 +3,7 @@ ghost use Rattle.std.specs.List.{list_all};
 ghost use Rattle.sdp_text.specs.Hosts.{octet, ipv4_bytes, ipv4, ipv6, host_of, is_unspecified, is_v6};
 
 use crate::group::eight_groups;
-use crate::piece::{cut, read_number};
+use crate::piece::{cut, read_number_up_to};
 
 /// The address of a host: bytes in network order.
 #[derive(Clone, Copy, Debug, PartialEq, Eq)]
@@ -17,9 +17,9 @@ pub enum Host {
 fn read_octet(text: &[u8]) -> Option<u8>
     ensures { result ≡ octet text.now }
 {
-    match read_number(text) {
-        Some(n) if n <= 255 => Some(n as u8),
-        _ => None,
+    match read_number_up_to(text, 255) {
+        Some(octet) => Some(octet as u8),
+        None => None,
     }
 }
 

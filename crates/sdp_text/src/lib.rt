@@ -20,6 +20,7 @@ mod written;
 pub use bytes::{Bytes, OutOfMemory};
 pub use fault::SdpFault;
 pub use host::{Host, read_host, read_ipv4, read_ipv6};
+pub use piece::read_number_up_to;
 pub use proto::Proto;
 pub use sdp::{Sdp, read};
 pub use section::Section;

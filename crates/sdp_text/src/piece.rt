@@ -1,10 +1,7 @@
-ghost use Rattle.std.specs.Prelude.{◌≡◌, ℕ, ◌+◌, ◌≤◌, ◌<◌, ◌==◌, if◌then◌else◌, [], ◌∷◌, length, min, Some, None, IfSome, MatchOption};
+ghost use Rattle.std.specs.Prelude.{◌≡◌, ℕ, ◌+◌, ◌≤◌, ◌<◌, ◌^◌, ◌==◌, if◌then◌else◌, [], ◌∷◌, length, min, Some, None, IfSome, MatchOption};
 ghost use Rattle.std.specs.List.{position_or_len};
 ghost use Rattle.std.specs.Option.{option_map, option_copied};
-ghost use Rattle.sdp_text.specs.Pieces.{pieces, pieces_after, fields, is_digit, are_filled, is_filled, number, port_number};
-
-/// Numbers from here on are all read as this one: no field may be as great.
-pub(crate) const GREATEST: u32 = 65_536;
+ghost use Rattle.sdp_text.specs.Pieces.{pieces, pieces_after, fields, is_digit, are_filled, is_filled, number, at_most, port_number};
 
 // The place of the first byte `stop`, or the length.
 fn place_of(text: &[u8], stop: u8) -> usize
@@ -39,9 +36,10 @@ pub(crate) fn is_digit(byte: u8) -> bool
     byte >= b'0' && byte <= b'9'
 }
 
-/// The decimal number that a text is, and `GREATEST` in place of any greater one.
-pub(crate) fn read_number(text: &[u8]) -> Option<u32>
-    ensures { result ≡ option_map (min 65536) (number text.now) }
+/// The decimal number that a text is, and `greatest` in place of any greater one; leading zeros are allowed.
+pub(crate) fn read_number(text: &[u8], greatest: u128) -> Option<u128>
+    requires { greatest ≤ 2 ^ 64 }
+    ensures { result ≡ option_map (min greatest) (number text.now) }
 {
     if text.is_empty() {
         return None;
@@ -51,18 +49,32 @@ pub(crate) fn read_number(text: &[u8]) -> Option<u32>
         if !is_digit(*byte) {
             return None;
         }
-        value = (10 * value + u32::from(*byte - b'0')).min(GREATEST);
+        value = (10 * value + u128::from(*byte - b'0')).min(greatest);
     }
     Some(value)
+}
+
+/// The decimal number that a text is, where it is no greater than `most`; leading zeros are allowed.
+pub fn read_number_up_to(text: &[u8], most: u64) -> Option<u64>
+    ensures value { result ≡ at_most most (number text.now) }
+    ensures within { IfSome result (λ value. value ≤ most) }
+{
+    let most = u128::from(most);
+    let value = read_number(text, most + 1)?;
+    if value <= most {
+        Some(value as u64)
+    } else {
+        None
+    }
 }
 
 /// A port: a decimal number of at most 65535.
 pub(crate) fn read_port(text: &[u8]) -> Option<u16>
     ensures { result ≡ port_number text.now }
 {
-    match read_number(text) {
-        Some(n) if n < GREATEST => Some(n as u16),
-        _ => None,
+    match read_number_up_to(text, 65_535) {
+        Some(port) => Some(port as u16),
+        None => None,
     }
 }
 

@@ -81,7 +81,7 @@ fn read_media_port(field: &[u8]) -> Option<MediaPort>
     if after_second.is_some() {
         return None;
     }
-    let Some(count) = read_number(second) else {
+    let Some(count) = read_number(second, 2) else {
         return None;
     };
     Some(MediaPort {

@@ -44,7 +44,7 @@ fn section_at(sections: &[Section], index: usize) -> Section
 /// Reads a description. Its lines end by LF, or by CR and LF; the last line may lack its end, and empty
 /// lines at the very end are dropped. `SdpFault` says when it is refused: first the first malformed line,
 /// then an active section without a place, then DTLS, then more than eight sections, then the first line
-/// with a number of ports or an address that can't be served. Want of memory may come at any time.
+/// with a number of ports or an address that can't be served. Running out of memory may come at any time.
 pub fn read(alloc: Global, text: &[u8]) -> Result<Sdp, SdpFault>
     requires { length text.now < 2 ^ 31 }
     ensures lines { IfOk result (λ sdp. sdp ≡ lines_of text.now) }

@@ -9,7 +9,7 @@ use std::marker::Model;
 /// The text of an address: at most 39 bytes.
 #[derive(Drop)]
 pub struct HostText {
-    /// The text, and behind it bytes that mean nothing.
+    /// The text, and after it bytes that mean nothing.
     bytes: [u8; 48],
     /// How many bytes the text has.
     len: usize,

@@ -28,7 +28,7 @@ pub struct InRtcp {
 impl InRtcp {
     ghost use Rattle.srtcp_context.specs.Contexts.{InFor, OpensTo};
 
-    /// The context of a master key of 16 bytes with a master salt of 14 behind it, which has taken no packet.
+    /// The context of a master key of 16 bytes with a master salt of 14 after it, which has taken no packet.
     pub fn new(key: &[u8; 30]) -> InRtcp
         ensures { InFor key.now result [] }
     {
@@ -38,7 +38,7 @@ impl InRtcp {
         }
     }
 
-    /// Checks and opens in place the packet in the buffer's first `len` bytes, and answers the length of the plain packet.
+    /// Checks and opens in place the packet in the buffer's first `len` bytes, and returns the length of the plain packet.
     ///
     /// The checks are, in this order and before any byte changes: its length, its tag, the index that it carries against
     /// those of its source, and the number of sources (RFC 3711 section 3.4). A packet without the E bit is checked alike

@@ -32,8 +32,8 @@ impl OutRtcp {
         }
     }
 
-    /// Protects in place the packet in the buffer's first `len` bytes, and answers the length of the protected packet and
-    /// the index that it used. Index and tag take 14 bytes behind the packet.
+    /// Protects in place the packet in the buffer's first `len` bytes, and returns the length of the protected packet and
+    /// the index that it used. Index and tag take 14 bytes after the packet.
     ///
     /// The indices of a source count from 0; a new source must have room, and the index must be below 2^31 (RFC 3711
     /// sections 3.4 and 9.2). After a refusal nothing has changed.

@@ -48,7 +48,7 @@ pub(crate) fn read_word(bytes: &[u8]) -> u32
 impl RtcpSession {
     ghost use Rattle.srtcp_context.specs.Sessions.{SessionFor};
 
-    /// The session of a master key of 16 bytes with a master salt of 14 behind it.
+    /// The session of a master key of 16 bytes with a master salt of 14 after it.
     pub(crate) fn new(master: &[u8; 30]) -> RtcpSession
         ensures { SessionFor master.now result }
     {
@@ -60,7 +60,7 @@ impl RtcpSession {
         }
     }
 
-    /// Enciphers or deciphers what stands behind a packet's first 8 bytes.
+    /// Enciphers or deciphers what stands after a packet's first 8 bytes.
     pub(crate) fn cipher(&self, payload: &mut [u8], ssrc: u32, index: u32)
         ensures { (master : List ℕ) → SessionFor master self.now → payload.new ≡ xored payload.old (packet_keystream master ssrc index (length payload.old)) }
     {
@@ -87,7 +87,7 @@ impl RtcpSession {
         bytes[end..] == code[..TAG]
     }
 
-    /// Enciphers in place the packet in the buffer's first `len` bytes, and writes the E bit and the index behind it.
+    /// Enciphers in place the packet in the buffer's first `len` bytes, and writes the E bit and the index after it.
     fn seal(&self, buf: &mut [u8], len: usize, ssrc: u32, index: u32)
         requires room { len + 14 ≤ length buf.old }
         requires clear { 8 ≤ len }
@@ -99,7 +99,7 @@ impl RtcpSession {
         buf[len..len + TRAILER].copy_from_slice(&word.to_be_bytes());
     }
 
-    /// Protects in place the packet in the buffer's first `len` bytes, and answers its new length.
+    /// Protects in place the packet in the buffer's first `len` bytes, and returns its new length.
     pub(crate) fn wrap(&self, buf: &mut [u8], len: usize, ssrc: u32, index: u32) -> usize
         requires room { len + 14 ≤ length buf.old }
         requires size { len < 2 ^ 31 }
@@ -116,7 +116,7 @@ impl RtcpSession {
         end + TAG
     }
 
-    /// Opens in place the packet in the buffer's first `len` bytes, and answers the plain packet's length.
+    /// Opens in place the packet in the buffer's first `len` bytes, and returns the plain packet's length.
     pub(crate) fn open(&self, buf: &mut [u8], len: usize, ssrc: u32) -> usize
         requires held { len ≤ length buf.old }
         requires head { rtcp_ssrc (take len buf.old) ≡ Some ssrc }

@@ -25,7 +25,7 @@ pub struct InRtp {
 impl InRtp {
     ghost use Rattle.srtp_context.specs.Contexts.{InFor, OpensTo};
 
-    /// The context of a master key of 16 bytes with a master salt of 14 behind it, which has taken no packet.
+    /// The context of a master key of 16 bytes with a master salt of 14 after it, which has taken no packet.
     pub fn new(key: &[u8; 30], suite: Suite) -> InRtp
         ensures { InFor key.now suite result [] }
     {
@@ -35,7 +35,7 @@ impl InRtp {
         }
     }
 
-    /// Checks and opens in place the packet in the buffer's first `len` bytes, and answers the length of the plain packet.
+    /// Checks and opens in place the packet in the buffer's first `len` bytes, and returns the length of the plain packet.
     ///
     /// The checks are, in this order and before any byte changes: its length, its tag, its index against those of its
     /// source, and the number of sources (RFC 3711 section 3.3). After a refusal nothing has changed.

@@ -35,8 +35,8 @@ impl OutRtp {
         }
     }
 
-    /// Protects in place the packet in the buffer's first `len` bytes, and answers the length of the protected packet and
-    /// the index that it used. The tag takes at most 10 bytes behind the packet.
+    /// Protects in place the packet in the buffer's first `len` bytes, and returns the length of the protected packet and
+    /// the index that it used. The tag takes at most 10 bytes after the packet.
     ///
     /// The index is the nearest to the greatest that the source used; it may not be too old or used before, a new source
     /// must have room, and the key must not be spent (RFC 3711 sections 3.3.1 and 9.2). After a refusal nothing has

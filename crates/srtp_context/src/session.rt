@@ -36,7 +36,7 @@ pub(crate) struct RtpSession {
 impl RtpSession {
     ghost use Rattle.srtp_context.specs.Sessions.{SessionFor};
 
-    /// The session of a master key of 16 bytes with a master salt of 14 behind it.
+    /// The session of a master key of 16 bytes with a master salt of 14 after it.
     pub(crate) fn new(master: &[u8; 30], suite: Suite) -> RtpSession
         ensures { SessionFor master.now suite result }
     {
@@ -49,7 +49,7 @@ impl RtpSession {
         }
     }
 
-    /// Enciphers or deciphers what stands behind a packet's head.
+    /// Enciphers or deciphers what stands after a packet's head.
     pub(crate) fn cipher(&self, payload: &mut [u8], ssrc: u32, index: u64)
         requires { index < 2 ^ 48 }
         ensures { (master : List ℕ) (suite : Suite) → SessionFor master suite self.now → payload.new ≡ xored payload.old (packet_keystream master ssrc index (length payload.old)) }
@@ -81,7 +81,7 @@ impl RtpSession {
         bytes[end..] == code[..size]
     }
 
-    /// Protects in place the packet with this head in the buffer's first `len` bytes, and answers its new length.
+    /// Protects in place the packet with this head in the buffer's first `len` bytes, and returns its new length.
     pub(crate) fn wrap(&self, buf: &mut [u8], len: usize, found: RtpHead, index: u64) -> usize
         requires room { len + 10 ≤ length buf.old }
         requires size { len < 2 ^ 31 }
@@ -98,7 +98,7 @@ impl RtpSession {
         len + size
     }
 
-    /// Opens in place the packet with this head in the buffer's first `len` bytes, and answers the plain packet's length.
+    /// Opens in place the packet with this head in the buffer's first `len` bytes, and returns the plain packet's length.
     pub(crate) fn open(&self, buf: &mut [u8], len: usize, found: RtpHead, index: u64) -> usize
         requires held { len ≤ length buf.old }
         requires head { rtp_head (take len buf.old) ≡ Some found }

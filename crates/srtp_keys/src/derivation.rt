@@ -54,7 +54,7 @@ fn master_key(master: &[u8; 30]) -> [u8; 16]
     key
 }
 
-/// The salt behind the master key.
+/// The salt after the master key.
 fn master_salt(master: &[u8; 30]) -> &[u8]
     ensures length { length result.now ≡ 14 }
     ensures bytes { result.now ≡ drop 16 master.now }
@@ -62,7 +62,7 @@ fn master_salt(master: &[u8; 30]) -> &[u8]
     &master[16..]
 }
 
-/// A salt with two zeros behind it.
+/// A salt with two zeros after it.
 fn salt_block(salt: &[u8]) -> [u8; 16]
     requires { length salt.now ≡ 14 }
     ensures { result ≡ salt.now ++ 0 ∷ 0 ∷ [] }
@@ -83,7 +83,7 @@ fn label_counter(salt: &[u8], label: u8) -> u128
 }
 
 /// The session of a half: its encryption key, its authentication key and its salt, from a master key
-/// of 16 bytes with a master salt of 14 behind it, at a key derivation rate of 0.
+/// of 16 bytes with a master salt of 14 after it, at a key derivation rate of 0.
 pub fn derive(master: &[u8; 30], half: Half) -> Session
     ensures cipher { result.cipher ≡ cipher_key master.now half }
     ensures auth { result.auth ≡ authentication_key master.now half }

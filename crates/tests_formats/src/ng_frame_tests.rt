@@ -51,7 +51,7 @@ fn a_datagram_is_taken_apart_and_put_together(rt: HostRuntime) {
     one_frame();
 }
 
-/// Whether a datagram whose cookie has so many bytes is a frame, or isn't.
+/// Whether a datagram whose cookie has this many bytes is a frame, or isn't.
 fn is_framed(alloc: Global, len: usize, framed: bool) -> bool {
     let Ok(cookie) = Vec::from_elem(alloc, b'c', len) else {
         return false;

@@ -140,7 +140,7 @@ fn descriptions_are_edited(rt: HostRuntime) {
     );
 }
 
-/// Writes the edited text behind what is there, with room for it.
+/// Writes the edited text after what is there, with room for it.
 fn write_behind(rt: &impl Abort, sdp: &Sdp, wanted: &Edit, out: &mut Bytes)
     requires { HaveTags wanted.now.sections.list }
 {

@@ -46,7 +46,7 @@ const SOURCE: Addr = Addr {
     port: 6000,
 };
 
-// An in end that gives so many datagrams of three bytes.
+// An in end that gives this many datagrams of three bytes.
 fn in_end(alloc: Global, count: usize) -> Result<SteadyIn, Fail> {
     let mut packets = Vec::new(alloc);
     for _ in 0..count {
@@ -58,7 +58,7 @@ fn in_end(alloc: Global, count: usize) -> Result<SteadyIn, Fail> {
     Ok(receiving)
 }
 
-// A box that is held by the leg, whose two ports give so many datagrams.
+// A box that is held by the leg, whose two ports give this many datagrams.
 fn held_box(alloc: Global, rtp: usize, rtcp: usize) -> Result<PairBox<SteadyIn>, Fail>
     ensures { IfOk result (λ held. HasCells 1 held) }
 {
@@ -69,7 +69,7 @@ fn held_box(alloc: Global, rtp: usize, rtcp: usize) -> Result<PairBox<SteadyIn>,
     Ok(held)
 }
 
-// A table whose box gives so many datagrams at its two ports, and whose cell has no call.
+// A table whose box gives this many datagrams at its two ports, and whose cell has no call.
 fn begin(
     alloc: Global,
     rtp: usize,

@@ -214,7 +214,7 @@ fn is_outside(alloc: Global, line: &[u8]) -> bool {
     matches!(parse(alloc, line), Err(ParseFault::NotInGrammar))
 }
 
-/// Whether a comment of so many bytes is outside the grammar.
+/// Whether a comment of this many bytes is outside the grammar.
 fn is_comment_outside(rt: &impl Abort, alloc: Global, len: usize) -> bool {
     let Ok(comment) = vec![in alloc; b'#'; len] else {
         panic!(rt; "no memory");

@@ -82,7 +82,7 @@ fn counted_up(steps: &[Step]) -> usize {
     steps.len()
 }
 
-/// Whether the script of these lines has so many steps, `at 1`, `at 2` and so on, and this ending.
+/// Whether the script of these lines has this many steps, `at 1`, `at 2` and so on, and this ending.
 fn counts_up(
     rt: &impl Abort,
     alloc: Global,
@@ -109,7 +109,7 @@ const READ: &[(&[&[u8]], u64, usize, Ending)] = &[
     (&[b"at 1", b"at 2"], 1, 0, Ending::Fault),
     (&[b"at 1", b"at 2"], 2, 1, Ending::Fault),
     (&[b"at 1", b"at 2"], 3, 2, Ending::Fault),
-    // the reading doesn't go on behind a line outside the grammar
+    // the reading doesn't go on after a line outside the grammar
     (&[b"at 1", b"relay 0"], 3, 1, Ending::Outside),
 ];
 
@@ -127,7 +127,7 @@ fn measured(rt: &impl Abort, alloc: Global, lines: &[&[u8]], failing: u64) -> (u
     (script.steps().len(), script.ending())
 }
 
-/// The same of a comment of so many bytes and an empty line.
+/// The same of a comment of this many bytes and an empty line.
 fn measured_comment(rt: &impl Abort, alloc: Global, len: usize) -> (usize, Ending) {
     let Ok(comment) = vec![in alloc; b'#'; len] else {
         panic!(rt; "no memory");
@@ -151,7 +151,7 @@ fn no_line_has_more_than_40000_bytes(rt: HostRuntime) {
     }
 }
 
-/// The same of so many empty lines.
+/// The same of this many empty lines.
 fn measured_empty(rt: &impl Abort, alloc: Global, count: usize, failing: u64) -> (usize, Ending) {
     let Ok(lines) = vec![in alloc; b"".as_slice(); count] else {
         panic!(rt; "no memory");

@@ -55,6 +55,7 @@ const TAKEN: Case = Case {
             goes: &[],
         },
     ],
+    relays: 3,
     reply: Some(
         b"2 d6:result2:ok3:sdp118:v=0\r\no=- 1 1 IN IP4 198.51.100.20\r\ns=-\r\nc=IN IP4 198.51.100.20\r\nt=0 0\r\nm=audio 30002 RTP/AVP 0\r\nc=IN IP4 203.0.113.1\r\ne",
     ),
@@ -142,6 +143,7 @@ const RANGE: Case = Case {
             ],
         },
     ],
+    relays: 12,
     reply: Some(
         b"2 d6:result2:ok3:sdp117:v=0\r\no=- 1 1 IN IP4 198.51.100.20\r\ns=-\r\nc=IN IP4 198.51.100.20\r\nt=0 0\r\nm=audio 1028 RTP/AVP 0\r\nc=IN IP4 203.0.113.1\r\ne",
     ),

@@ -4,10 +4,11 @@ use crate::table_devices::{
     SameKey, TableLines, TableLink, TablePort, TablePorts, TableSink, TableTimer,
 };
 use relay_app::{Status, run};
-use relay_outside::{Addr, HandClock, Ip, OpenGate};
+use relay_outside::{Addr, Gate, HandClock, Ip};
 use std::alloc::Global;
 use std::process::Abort;
 use std::sync::Wait;
+use std::sync::atomic::{AtomicU64, Ordering};
 use std::thread::Threads;
 
 /// A run.
@@ -17,7 +18,7 @@ pub(crate) struct Case {
     pub(crate) words: &'static [&'static str],
     /// The datagrams that the control link gives, all from one source.
     pub(crate) asked: &'static [&'static [u8]],
-    /// How many calls are offered behind them.
+    /// How many calls are offered after them.
     pub(crate) offers: u16,
     /// The moments of the timer.
     pub(crate) moments: &'static [u64],
@@ -25,6 +26,8 @@ pub(crate) struct Case {
     pub(crate) clock: u64,
     /// What comes to the ports, in the order in which they are to be opened, and what is to leave from them.
     pub(crate) ports: &'static [TablePort],
+    /// How many relays are made, each inside the gate that the run is handed.
+    pub(crate) relays: u64,
     /// The lines of the script.
     pub(crate) script: &'static [&'static [u8]],
     /// The number, from 1, of the call of the link that fails: with 0 none does.
@@ -59,6 +62,7 @@ pub(crate) const SERVING: Case = Case {
     moments: &[],
     clock: 0,
     ports: &[],
+    relays: 0,
     script: &[],
     link_fails: 0,
     read_fails: 0,
@@ -96,6 +100,18 @@ pub(crate) const OFFER: &[u8] =
 pub(crate) const ANSWER: &[u8] =
     b"2 d7:call-id2:c17:command6:answer8:from-tag1:a3:sdp95:v=0\r\no=- 1 1 IN IP4 198.51.100.20\r\ns=-\r\nc=IN IP4 198.51.100.20\r\nt=0 0\r\nm=audio 7000 RTP/AVP 0\r\n6:to-tag1:be";
 
+/// A gate that counts the relays that were inside it.
+#[derive(Drop)]
+struct CountingGate {
+    relays: AtomicU64,
+}
+
+impl Gate for CountingGate {
+    fn inside(&self, _cell: u32) {
+        self.relays.fetch_add(1, Ordering::SeqCst);
+    }
+}
+
 /// Runs the words over these devices.
 fn run_with<R: Threads + Wait + Sync>(
     rt: &R,
@@ -103,6 +119,7 @@ fn run_with<R: Threads + Wait + Sync>(
     case: &Case,
     link: &mut TableLink,
     ports: &mut TablePorts,
+    gate: &CountingGate,
     script: &mut TableLines,
     sink: &mut TableSink,
 ) -> Status {
@@ -115,7 +132,7 @@ fn run_with<R: Threads + Wait + Sync>(
         &mut SameKey,
         &mut TableTimer::new(case.moments),
         &HandClock::new(case.clock),
-        &OpenGate::new(),
+        gate,
         script,
         sink,
     )
@@ -133,6 +150,9 @@ fn are_closed(ports: &TablePorts) -> bool {
 fn is_so<R: Threads + Wait + Sync>(rt: &R, alloc: Global, case: &Case) -> bool {
     let mut link = TableLink::new(case.asked, case.offers, case.reply, case.link_fails);
     let mut ports = TablePorts::new(case.ports);
+    let gate = CountingGate {
+        relays: AtomicU64::new(0),
+    };
     let mut script = TableLines::new(case.script, case.read_fails);
     let mut sink = TableSink::new(case.lines, case.are_beginnings, case.write_fails);
     let status = run_with(
@@ -141,6 +161,7 @@ fn is_so<R: Threads + Wait + Sync>(rt: &R, alloc: Global, case: &Case) -> bool {
         case,
         &mut link,
         &mut ports,
+        &gate,
         &mut script,
         &mut sink,
     );
@@ -148,6 +169,7 @@ fn is_so<R: Threads + Wait + Sync>(rt: &R, alloc: Global, case: &Case) -> bool {
         && link.bound() == case.bound
         && link.is_answered()
         && are_closed(&ports)
+        && gate.relays.load(Ordering::SeqCst) == case.relays
         && sink.is_printed()
 }
 

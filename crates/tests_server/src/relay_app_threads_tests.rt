@@ -12,7 +12,7 @@ use std::sync::atomic::{AtomicBool, Ordering};
 /// How often a relay looks for the other one.
 const MOST_LOOKS: u64 = 1_000_000_000;
 
-/// How many takes of the link give nothing at the most.
+/// How many takes of the link give nothing at most.
 const MOST_TAKES: u64 = 1_000_000;
 
 /// The offer of a second call, and its answer.

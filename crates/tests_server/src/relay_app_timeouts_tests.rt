@@ -8,7 +8,7 @@ const PING: &[u8] = b"3 d7:command4:pinge";
 
 const DELETE: &[u8] = b"4 d7:call-id2:c17:command6:deletee";
 
-/// A call that is not answered, and is deleted behind a ping.
+/// A call that is not answered, and is deleted after a ping.
 const OFFERED: Case = Case {
     words: &[
         "serve",
@@ -28,7 +28,7 @@ const OFFERED_STILL: Case = Case {
     ..OFFERED
 };
 
-/// The moments of the takes of the offer, of the ping and of the delete. The tick comes behind the ping.
+/// The moments of the takes of the offer, of the ping and of the delete. The tick comes after the ping.
 const OFFERS: &[Case] = &[
     Case {
         moments: &[7, 5_007, 5_007],
@@ -43,7 +43,7 @@ const OFFERS: &[Case] = &[
         moments: &[7, 5_006, 5_007],
         ..OFFERED_STILL
     },
-    // the tick behind the delete is too late
+    // the tick after the delete is too late
     Case {
         moments: &[7, 7, 5_007],
         ..OFFERED_STILL
@@ -127,7 +127,7 @@ const BOB: Addr = Addr {
 /// The interface of the proxy.
 const HERE: Ip = Ip::V4([203, 0, 113, 1]);
 
-/// A packet of the caller is relayed behind the answer and one behind the ping, both at the moment of the clock, after one that was refused.
+/// A packet of the caller is relayed after the answer and one after the ping, both at the moment of the clock, after one that was refused.
 const TALKED: Case = Case {
     clock: 102_000,
     ports: &[
@@ -155,6 +155,7 @@ const TALKED: Case = Case {
             goes: &[],
         },
     ],
+    relays: 3,
     lines: &[b"turns 4 datagrams 4 replies 4 sent 2 refused 1 lost 0\n"],
     ..ANSWERED
 };

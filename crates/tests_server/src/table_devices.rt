@@ -85,7 +85,7 @@ fn fill_numbered(buf: &mut [u8], number: u16) -> usize
     len
 }
 
-/// A control link that gives a list of datagrams, then the offers of so many calls, and then the end. Of the replies it keeps
+/// A control link that gives a list of datagrams, then the offers of this many calls, and then the end. Of the replies it keeps
 /// whether the last one is that which is wanted.
 #[derive(Drop)]
 pub(crate) struct TableLink {

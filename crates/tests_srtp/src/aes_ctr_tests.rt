@@ -29,7 +29,7 @@ fn is_block(bytes: &[u8], word: u128) -> bool {
     bytes == word.to_be_bytes().as_slice()
 }
 
-/// Whether this is the keystream of the RFC's key, from a counter so far behind the RFC's first.
+/// Whether this is the keystream of the RFC's key, from a counter so far after the RFC's first.
 fn has_keystream(counter: u128, words: &[u128; 3]) -> bool {
     let mut bytes = [0u8; 48];
     Cipher::new(RFC_KEY.to_be_bytes()).apply(&mut bytes, RFC_COUNTER.wrapping_add(counter));

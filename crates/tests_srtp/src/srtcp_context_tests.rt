@@ -15,7 +15,7 @@ fn outbound() -> OutRtcp {
     OutRtcp::new(key)
 }
 
-/// Whether a packet of so many bytes is protected so; not where the call's conditions don't hold.
+/// Whether a packet of this many bytes is protected so; not where the call's conditions don't hold.
 fn is_protected(
     context: &mut OutRtcp,
     buf: &mut [u8; 64],

@@ -13,7 +13,7 @@ fn outbound(suite: Suite) -> OutRtp {
     OutRtp::new(key, suite)
 }
 
-/// Whether a packet of so many bytes is protected so; not where the call's conditions don't hold.
+/// Whether a packet of this many bytes is protected so; not where the call's conditions don't hold.
 fn is_protected(
     context: &mut OutRtp,
     buf: &mut [u8; 64],

@@ -120,7 +120,7 @@ fn opens(due: Option<Due>, at: Addr) -> bool {
     }
 }
 
-/// Whether a closing of this address is due, with its own ends and so many calls of theirs.
+/// Whether a closing of this address is due, with its own ends and this many calls of theirs.
 fn closes(due: Option<Due>, at: Addr, receiving: &In, sending: &Out) -> bool {
     match due {
         Some(Due::Closes(port, takes, sends)) => {
@@ -293,7 +293,7 @@ const FAILING: &[&[Due]] = &[
     ],
 ];
 
-/// Whether all is undone by these calls after so many openings.
+/// Whether all is undone by these calls after this many openings.
 fn is_undone(rt: &impl Abort, alloc: Global, opened: usize, due: &'static [Due]) -> bool {
     let leases = two_leases(rt, alloc);
     let mut maker = Maker::new(due);
@@ -341,7 +341,7 @@ impl KeySource for Draws {
 /// Two keys, and a draw between them that fails.
 const DRAWN: &[Option<[u8; 30]>] = &[Some([1; 30]), None, Some([2; 30])];
 
-/// Whether all of so many keys are drawn, and these are drawn.
+/// Whether all of this many keys are drawn, and these are drawn.
 fn is_drawn(
     rt: &impl Abort,
     alloc: Global,

@@ -4,7 +4,7 @@ ghost use Rattle.port_pool.specs.Ports.{port_at};
 use crate::first_relay::{CONFIG, begin};
 use crate::quiet_devices::{Mute, Quiet};
 use media_ports::address_of;
-use nested_steps::{Nest, open_box, shut_box};
+use nested_steps::{BoardTurn, Nest, open_box, shut_box};
 use port_pool::{BoxTake, Holder, Side};
 use relay_core::Part;
 use rtp_packet::Half;
@@ -44,12 +44,16 @@ fn a_box_is_opened_for_its_leg(rt: HostRuntime) {
     let Some((turns, mut hand)) = begin(rt.alloc()) else {
         panic!(rt; "no memory");
     };
-    let nest = Nest {
-        number: 0,
-        moment: 5,
+    let turn = BoardTurn {
+        turns: &turns,
+        config: &CONFIG,
+        nest: Nest {
+            number: 0,
+            moment: 5,
+        },
     };
     let (rtp, rtcp) = (quiet(30_002), quiet(30_003));
-    open_box(&rt, &turns, &mut hand, &CONFIG, nest, HOLDER, rtp, rtcp);
+    open_box(&rt, &turn, &mut hand, HOLDER, rtp, rtcp);
     let mut places = turns.close(hand);
     assert!(rt; taken(places.as_mut_slice(), 3) == Some(BoxTake::Closed));
     assert!(rt; taken(places.as_mut_slice(), 4) == Some(BoxTake::Nothing));
@@ -60,13 +64,17 @@ fn a_box_that_is_shut_gives_its_ends_back(rt: HostRuntime) {
     let Some((turns, mut hand)) = begin(rt.alloc()) else {
         panic!(rt; "no memory");
     };
-    let nest = Nest {
-        number: 0,
-        moment: 5,
+    let turn = BoardTurn {
+        turns: &turns,
+        config: &CONFIG,
+        nest: Nest {
+            number: 0,
+            moment: 5,
+        },
     };
     let (rtp, rtcp) = (quiet(30_002), quiet(30_003));
-    open_box(&rt, &turns, &mut hand, &CONFIG, nest, HOLDER, rtp, rtcp);
-    let (rtp, rtcp) = shut_box(&rt, &turns, &mut hand, &CONFIG, nest, HOLDER.pair);
+    open_box(&rt, &turn, &mut hand, HOLDER, rtp, rtcp);
+    let (rtp, rtcp) = shut_box(&rt, &turn, &mut hand, HOLDER.pair);
     assert!(rt; (rtp.at.port, rtcp.at.port) == (30_002, 30_003));
     let mut places = turns.close(hand);
     assert!(rt; taken(places.as_mut_slice(), 4) == Some(BoxTake::Closed));

@@ -9,7 +9,7 @@ use std::sync::{Mutex, Wait};
 use std::thread::{Threads, join};
 use std::time::Instant;
 
-/// So many locks, of the states from the first on, one after the other and again.
+/// This many locks, of the states from the first on, one after the other and again.
 fn lock_rounds<L: Load, R: Wait>(
     rt: &R,
     locks: &[Mutex<L>],
@@ -28,7 +28,7 @@ fn lock_once<L: Load, R: Wait>(rt: &R, lock: &Mutex<L>) {
     lock.lock(rt).touch();
 }
 
-/// So many locks of one state.
+/// This many locks of one state.
 fn lock_times<R: Wait>(rt: &R, lock: &Mutex<Small>, rounds: usize) {
     for _ in 0..rounds {
         lock_once(rt, lock);
@@ -48,7 +48,7 @@ fn lock_two<R: Threads + Wait + Sync>(
     );
 }
 
-/// New states, each behind a lock.
+/// New states, each after a lock.
 fn make_locks<L: Load>(alloc: Global, count: usize) -> Option<Vec<Mutex<L>>>
     ensures { IfSome result (λ v. vec_len v ≡ count) }
 {
@@ -59,7 +59,7 @@ fn make_locks<L: Load>(alloc: Global, count: usize) -> Option<Vec<Mutex<L>>>
     Some(locks)
 }
 
-/// Nanoseconds of so many locks of one thread, over so many states.
+/// Nanoseconds of this many locks of one thread, over this many states.
 pub(crate) fn time_alone<L: Load, R: Wait + Clock>(
     rt: &R,
     alloc: Global,
@@ -74,7 +74,7 @@ pub(crate) fn time_alone<L: Load, R: Wait + Clock>(
     nanos_since(rt, &start)
 }
 
-/// Nanoseconds of so many locks of each of two threads.
+/// Nanoseconds of this many locks of each of two threads.
 pub(crate) fn time_two<R: Threads + Wait + Sync + Clock>(
     rt: &R,
     own: Own,
@@ -90,7 +90,7 @@ pub(crate) fn time_two<R: Threads + Wait + Sync + Clock>(
     nanos_since(rt, &start)
 }
 
-/// Nanoseconds of so many locks of each of four threads.
+/// Nanoseconds of this many locks of each of four threads.
 pub(crate) fn time_four<R: Threads + Wait + Sync + Clock>(
     rt: &R,
     own: Own,

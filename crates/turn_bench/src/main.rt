@@ -1,5 +1,5 @@
 //! What a turn of the turn table costs, beside a lock of std round the same state. Without words it prints one fixed
-//! line; with words it measures, by threads that each make so many rounds, and prints nanoseconds a round.
+//! line; with words it measures, by threads that each make this many rounds, and prints nanoseconds a round.
 #![tactic(auto)]
 
 mod load;

@@ -10,7 +10,7 @@ use std::thread::{Threads, join_mut};
 use std::time::Instant;
 use turn_table::{Hand, Turns};
 
-/// So many turns, of the places from the first on, one after the other and again.
+/// This many turns, of the places from the first on, one after the other and again.
 fn turn_rounds<L: Load, R: Wait>(
     rt: &R,
     turns: &Turns<Loaded<L>>,
@@ -108,7 +108,7 @@ fn make_states<L: Load>(alloc: Global, count: usize) -> Option<Vec<L>>
     Some(states)
 }
 
-/// Nanoseconds of so many turns of one thread, over so many places.
+/// Nanoseconds of this many turns of one thread, over this many places.
 pub(crate) fn time_alone<L: Load, R: Wait + Clock>(
     rt: &R,
     alloc: Global,
@@ -125,7 +125,7 @@ pub(crate) fn time_alone<L: Load, R: Wait + Clock>(
     nanos
 }
 
-/// Nanoseconds of so many turns of each of two threads.
+/// Nanoseconds of this many turns of each of two threads.
 pub(crate) fn time_two<R: Threads + Wait + Sync + Clock>(
     rt: &R,
     alloc: Global,
@@ -143,7 +143,7 @@ pub(crate) fn time_two<R: Threads + Wait + Sync + Clock>(
     nanos
 }
 
-/// Nanoseconds of so many turns of each of four threads.
+/// Nanoseconds of this many turns of each of four threads.
 pub(crate) fn time_four<R: Threads + Wait + Sync + Clock>(
     rt: &R,
     alloc: Global,

@@ -11,7 +11,7 @@ use std::alloc::{AllocError, Global};
 use std::marker::Model;
 use std::mem;
 
-/// A value with 64 spare bytes behind it.
+/// A value with 64 spare bytes after it.
 #[derive(Drop)]
 pub struct Spaced<S> {
     pub(crate) value: S,

@@ -31,7 +31,7 @@ pub struct Turns<M: Machine> {
 /// Contracts see in it the table's start states, the list of the entries that it made, what it has seen of each
 /// front, which places' marks it tried and what it found there, its number of the table's 1,024 parts, and whether it is
 /// the main hand.
-/// A hand that is let go keeps its parts, so that its table can't be closed any more.
+/// A hand that is dropped keeps its parts, so that its table can't be closed any more.
 pub struct Hand<M: Machine> {
     pub(crate) seat: Seat<Slot<M::State>, View<M::State, M::Event, M::Outcome>>,
     ghost empty: { seat.me.1 ≡ [] },

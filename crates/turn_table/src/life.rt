@@ -10,10 +10,10 @@ use atomic_table::Table;
 use std::alloc::{AllocError, Global};
 use std::snapshot::Snapshot;
 
-/// From so many places on, no allocator has room for their words.
+/// From this many places on, no allocator has room for their words.
 const MOST: usize = 1 << 59;
 
-/// So many words of 0.
+/// This many words of 0.
 fn clear_words(alloc: Global, count: usize) -> Result<Vec<u64>, AllocError>
     ensures length { IfOk result (λ v. length v.items ≡ count) }
     ensures clear { IfOk result (λ v. (i : ℕ) → get_or v.items i 0 ≡ 0) }

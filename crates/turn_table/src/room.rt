@@ -23,7 +23,7 @@ pub(crate) struct Room<S> {
 }
 
 impl<S> Room<S> {
-    /// Keeps an empty vector that has room for so many items.
+    /// Keeps an empty vector that has capacity for this many items.
     pub(crate) fn keep(alloc: Global, empty: Vec<S>, places: usize) -> Result<Room<S>, AllocError>
         requires empty { empty.items ≡ [] }
         requires room { places ≤ vec_capacity empty }

@@ -51,7 +51,7 @@ impl<M: Machine> Turns<M> {
         })
     }
 
-    /// Puts a turn back, by which its event is made. It answers the event's number at its place.
+    /// Puts a turn back, by which its event is made. It returns the event's number at its place.
     pub fn put<X: Said<M>>(&self, hand: &mut Hand<M>, turn: Turn<M>) -> u64
         requires table { IsHandOf self.now hand.old }
         requires turn { HasTurn hand.old turn }

@@ -240,7 +240,7 @@ fn take_back(ports: &mut Vec<MemoryPort>, at: Addr, receiving: MemoryIn, sending
 ///
 /// What an end has not given when it is closed goes back to that entry, and so do the numbers of the
 /// failing calls, whether these calls were made or not: at each opening of the address the calls with
-/// these numbers fail, counted anew. A failing opening moves nothing.
+/// these numbers fail, counted again. A failing opening moves nothing.
 #[derive(Drop)]
 pub struct MemoryMaker {
     alloc: Global,

@@ -25,7 +25,7 @@ pub enum LinkGift {
     },
     /// Nothing is there.
     Nothing,
-    /// The link gives no more.
+    /// The link gives no more: what the list has after it is never given.
     End,
 }
 
@@ -121,6 +121,7 @@ impl Tape {
                 Taken::Nothing
             }
             LinkGift::End => {
+                self.next = self.gifts.len();
                 let given = LinkGiven::End;
                 self.told.note(Some(LinkCall::Take { room, given }));
                 Taken::End

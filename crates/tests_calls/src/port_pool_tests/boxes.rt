@@ -38,7 +38,7 @@ fn end(rt: &impl Abort, alloc: Global, packets: Vec<Packet>) -> SteadyIn {
     receiving
 }
 
-/// A datagram of so many bytes.
+/// A datagram of this many bytes.
 fn datagram(rt: &impl Abort, alloc: Global, len: usize) -> Packet {
     let bytes = Vec::from_elem(alloc, 5u8, len).expect(rt, "memory");
     Packet::datagram(alloc, HERE, bytes.as_slice()).expect(rt, "memory")
@@ -60,7 +60,7 @@ fn full(rt: &impl Abort, alloc: Global) -> PairBox<SteadyIn> {
     pair
 }
 
-/// A datagram of so many bytes for that leg.
+/// A datagram of this many bytes for that leg.
 fn for_leg(len: usize) -> BoxTake {
     BoxTake::Datagram {
         holder: LEG,

@@ -6,7 +6,7 @@ use media_lane::{Lane, Totals};
 use relay_outside::{Clock, OpenGate};
 use std::test::Fail;
 
-// A clock that stands still. It hints at these ports whenever it is asked, and says that it has written so many.
+// A clock that stands still. It hints at these ports whenever it is asked, and says that it has written this many.
 #[derive(Drop)]
 struct HintingClock {
     hints: [u16; 4],
@@ -28,7 +28,7 @@ impl Clock for HintingClock {
     }
 }
 
-// What comes of so many datagrams for a cell that has no call.
+// What comes of this many datagrams for a cell that has no call.
 fn refused(count: u64) -> Totals {
     Totals {
         taken: count,

@@ -6,7 +6,9 @@ ghost use Rattle.nested_steps.specs.Bringing.{brought_keys, brought_dropped};
 use crate::first_relay::{CONFIG, begin};
 use crate::quiet_devices::Mute;
 use call_cell::{Gone, InContexts, LegReports, Prepare};
-use nested_steps::{Brought, Nest, commit_cell, end_cell, expire_cell, prepare_cell, read_cell};
+use nested_steps::{
+    BoardTurn, Brought, Nest, commit_cell, end_cell, expire_cell, prepare_cell, read_cell,
+};
 use port_pool::{Side, Signal};
 use relay_outside::OutOfMemory;
 use sdes_lines::Suite;
@@ -50,28 +52,59 @@ fn a_call_is_prepared_asked_and_ended(rt: HostRuntime) {
     };
     prepare_cell(
         &rt,
-        &turns,
+        &BoardTurn {
+            turns: &turns,
+            config: &CONFIG,
+            nest: at(0, 5),
+        },
         &mut hand,
-        &CONFIG,
-        at(0, 5),
         1,
         0,
         signal,
         &brought,
         &mut dropped,
     );
-    let young = expire_cell(&rt, &turns, &mut hand, &CONFIG, at(1, 120_004), 1);
-    let old = expire_cell(&rt, &turns, &mut hand, &CONFIG, at(2, 120_005), 1);
+    let young = expire_cell(
+        &rt,
+        &BoardTurn {
+            turns: &turns,
+            config: &CONFIG,
+            nest: at(1, 120_004),
+        },
+        &mut hand,
+        1,
+    );
+    let old = expire_cell(
+        &rt,
+        &BoardTurn {
+            turns: &turns,
+            config: &CONFIG,
+            nest: at(2, 120_005),
+        },
+        &mut hand,
+        1,
+    );
     end_cell(
         &rt,
-        &turns,
+        &BoardTurn {
+            turns: &turns,
+            config: &CONFIG,
+            nest: at(3, 120_006),
+        },
         &mut hand,
-        &CONFIG,
-        at(3, 120_006),
         1,
         &mut ended,
     );
-    let gone = expire_cell(&rt, &turns, &mut hand, &CONFIG, at(4, 999_999), 1);
+    let gone = expire_cell(
+        &rt,
+        &BoardTurn {
+            turns: &turns,
+            config: &CONFIG,
+            nest: at(4, 999_999),
+        },
+        &mut hand,
+        1,
+    );
     drop(turns.close(hand));
     assert!(rt;
         !young && old,
@@ -101,17 +134,37 @@ fn a_committed_call_is_due_by_its_last_answer(rt: HostRuntime) {
     };
     commit_cell(
         &rt,
-        &turns,
+        &BoardTurn {
+            turns: &turns,
+            config: &CONFIG,
+            nest: at(0, 200_000),
+        },
         &mut hand,
-        &CONFIG,
-        at(0, 200_000),
         2,
         &signal,
         contexts,
         &mut rejected,
     );
-    let young = expire_cell(&rt, &turns, &mut hand, &CONFIG, at(1, 259_999), 2);
-    let old = expire_cell(&rt, &turns, &mut hand, &CONFIG, at(2, 260_000), 2);
+    let young = expire_cell(
+        &rt,
+        &BoardTurn {
+            turns: &turns,
+            config: &CONFIG,
+            nest: at(1, 259_999),
+        },
+        &mut hand,
+        2,
+    );
+    let old = expire_cell(
+        &rt,
+        &BoardTurn {
+            turns: &turns,
+            config: &CONFIG,
+            nest: at(2, 260_000),
+        },
+        &mut hand,
+        2,
+    );
     drop(turns.close(hand));
     assert!(rt; !young && old && rejected.pop().is_none());
 }
@@ -125,7 +178,17 @@ fn a_cell_without_a_leg_tells_of_none(rt: HostRuntime) {
     let Some((turns, mut hand)) = begin(alloc) else {
         panic!(rt; "no memory");
     };
-    read_cell(&rt, &turns, &mut hand, &CONFIG, at(0, 5), 1, &mut told);
+    read_cell(
+        &rt,
+        &BoardTurn {
+            turns: &turns,
+            config: &CONFIG,
+            nest: at(0, 5),
+        },
+        &mut hand,
+        1,
+        &mut told,
+    );
     drop(turns.close(hand));
     assert!(rt; told.len() == 0);
 }

@@ -16,17 +16,17 @@ use Rattle.board_turns.proofs.closing.close_leg.Goals as goal
 
 pub shut_box-rtp_in-requires-clause-open : goal.shut_box-rtp_in-requires-clause-open
 shut_box-rtp_in-requires-clause-open g c =
-    subst (λ (p : ℕ). IsOpen (made_by c.args.hand.now) (box_of c.args.config.now p)) (sym c.pair.ensures) (c.requires.can.boxes_open c.args.leg.0.pair (here refl))
+    subst (λ (p : ℕ). IsOpen (made_by c.args.hand.now) (box_of c.args.turn.now.config.now p)) (sym c.pair.ensures) (c.requires.can.boxes_open c.args.leg.0.pair (here refl))
 
 pub close_pair-requires-clause-open : goal.close_pair-requires-clause-open
 close_pair-requires-clause-open g c =
     let can = c.requires.can in
-    told_open c.args.config.now (g.P.PortMaker.told c.args.ports.now) can.held c.args.leg.0 can.may_return.0.of_range can.have_ports.0
+    told_open c.args.turn.now.config.now (g.P.PortMaker.told c.args.ports.now) can.held c.args.leg.0 can.may_return.0.of_range can.have_ports.0
     (can.are_held c.args.leg.0.pair (here refl)) can.opens
 
 pub close_pair-requires-clause-ends : goal.close_pair-requires-clause-ends
 close_pair-requires-clause-ends g c =
-    let config = c.args.config.now in
+    let config = c.args.turn.now.config.now in
     let lease = c.args.leg.0 in
     let ends = c.shut_box-rtp_in.result in
     let at : port_address config lease.pair Rtp ≡ port_at config.interface lease.rtp_port = ap (port_at config.interface) (sym c.requires.can.have_ports.0) in
@@ -38,8 +38,8 @@ close_pair-requires-clause-ends g c =
 pub returns-clause-open : goal.returns-clause-open
 returns-clause-open g c held opens =
     let lease = c.args.leg.0 in
-    let at = λ (port : ℕ). port_at c.args.config.now.interface port in
-    told_closed c.args.config.now (g.P.PortMaker.told c.args.ports.now) (g.P.PortMaker.told c.close_pair.new.ports)
+    let at = λ (port : ℕ). port_at c.args.turn.now.config.now.interface port in
+    told_closed c.args.turn.now.config.now (g.P.PortMaker.told c.args.ports.now) (g.P.PortMaker.told c.close_pair.new.ports)
     (λ (calls : List PortCall). calls ≡ Close (at lease.rtp_port) (g.P.In.InEnd.told c.shut_box-rtp_in.result.0).calls (g.P.Out.OutEnd.told c.args.leg.1).calls
     ∷ Close (at (lease.rtp_port + 1)) (g.P.In.InEnd.told c.shut_box-rtp_in.result.1).calls (g.P.Out.OutEnd.told c.args.leg.2).calls ∷ [])
     held lease c.requires.can.have_ports.0 c.close_pair.ensures.closes c.close_pair.ensures.«open» opens
@@ -48,8 +48,8 @@ pub returns-clause-takes : goal.returns-clause-takes
 returns-clause-takes g c =
     let can = c.requires.can in
     let ends = c.shut_box-rtp_in.result in
-    takes_closed g.P.In.InEnd.told g.P.Out.OutEnd.told c.args.config.now (g.P.PortMaker.told c.args.ports.now) (g.P.PortMaker.told c.close_pair.new.ports) c.args.hand.now
+    takes_closed g.P.In.InEnd.told g.P.Out.OutEnd.told c.args.turn.now.config.now (g.P.PortMaker.told c.args.ports.now) (g.P.PortMaker.told c.close_pair.new.ports) c.args.hand.now
     c.shut_box-rtp_in.new.hand c.args.leg.0 (record { rtp_in = ends.0; rtp_out = c.args.leg.1; rtcp_in = ends.1; rtcp_out = c.args.leg.2 }) can.may_return.0.of_range can.have_ports.0
-    (subst (λ (p : ℕ). AddsRow (box_of c.args.config.now p) (Box boxes.Close) (ends_left g.P.In.InEnd.told ends) c.args.hand.now c.shut_box-rtp_in.new.hand) c.pair.ensures
+    (subst (λ (p : ℕ). AddsRow (box_of c.args.turn.now.config.now p) (Box boxes.Close) (ends_left g.P.In.InEnd.told ends) c.args.hand.now c.shut_box-rtp_in.new.hand) c.pair.ensures
     c.shut_box-rtp_in.ensures.row)
     c.close_pair.ensures.closes

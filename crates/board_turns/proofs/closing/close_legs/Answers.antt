@@ -30,13 +30,13 @@ loop-leg-init g c =
       may = c.requires.may;
       can = c.requires.can;
       home = c.requires.home;
-      gained = gains_nothing c.args.nest.number c.args.nest.moment c.args.hand.now;
+      gained = gains_nothing c.args.turn.now.nest.number c.args.turn.now.nest.moment c.args.hand.now;
       returned = λ config v shows. subst (λ w. Shows config c.args.board.now w) (sym (returned_none v)) shows;
       calls = record { calls_are = refl; begun_is = refl };
       replies = refl;
-      closes = gained_none told (ClosesLegs g.P.Out.OutEnd.told c.args.config.now.interface []) refl;
-      opens = λ held opens. told_alike c.args.config.now told held (pairs_left [] held) (left_none held) opens;
-      takes = ties_takes_none c.args.config.now told (entries c.args.hand.now);
+      closes = gained_none told (ClosesLegs g.P.Out.OutEnd.told c.args.turn.now.config.now.interface []) refl;
+      opens = λ held opens. told_alike c.args.turn.now.config.now told held (pairs_left [] held) (left_none held) opens;
+      takes = ties_takes_none c.args.turn.now.config.now told (entries c.args.hand.now);
       later = omega arith;
     }
 
@@ -44,19 +44,19 @@ pub close_leg-requires-clause-can : goal.close_leg-requires-clause-can
 close_leg-requires-clause-can g c =
     let told = g.P.PortMaker.told c.loop-leg.ports in
     let l = made_by c.loop-leg.hand in
-    first_can c.args.config.now l c.loop-leg.board told c.in-Some.leg c.pop.new.self
-    (subst (λ gone. CanClose c.args.config.now l c.loop-leg.board told gone) c.in-Some.ensures.takes c.loop-leg.invariant.can)
+    first_can c.args.turn.now.config.now l c.loop-leg.board told c.in-Some.leg c.pop.new.self
+    (subst (λ gone. CanClose c.args.turn.now.config.now l c.loop-leg.board told gone) c.in-Some.ensures.takes c.loop-leg.invariant.can)
 
 pub close_leg-requires-clause-home : goal.close_leg-requires-clause-home
 close_leg-requires-clause-home g c =
-    let all = subst (λ gone. GoneHome g.P.Out.OutEnd.told c.args.config.now gone) c.in-Some.ensures.takes c.loop-leg.invariant.home in
+    let all = subst (λ gone. GoneHome g.P.Out.OutEnd.told c.args.turn.now.config.now gone) c.in-Some.ensures.takes c.loop-leg.invariant.home in
     λ leg i. all leg (in_left (c.in-Some.leg ∷ []) c.pop.new.self i)
 
 pub loop-leg-preserved : goal.loop-leg-preserved
 loop-leg-preserved g c =
-    let config = c.args.config.now in
-    let number = c.args.nest.number in
-    let moment = c.args.nest.moment in
+    let config = c.args.turn.now.config.now in
+    let number = c.args.turn.now.nest.number in
+    let moment = c.args.turn.now.nest.moment in
     let before = g.P.PortMaker.told c.args.ports.now in
     let told = g.P.PortMaker.told c.loop-leg.ports in
     let after = g.P.PortMaker.told c.close_leg.new.ports in
@@ -98,5 +98,5 @@ returns-clause-open g c held opens =
     let was = c.loop-leg.invariant in
     let none = c.in_default.ensures.takes ∙ c.in_default.ensures.none refl in
     let all = was.split ∙ ap (λ legs. was.closed ++ legs) none ∙ append-nil was.closed in
-    subst (λ gone. WhereTold (g.P.PortMaker.told c.loop-leg.ports) (λ (calls : List PortCall). OpensHeld c.args.config.now calls (pairs_left (pairs_in (leases_of gone)) held))) (sym all)
+    subst (λ gone. WhereTold (g.P.PortMaker.told c.loop-leg.ports) (λ (calls : List PortCall). OpensHeld c.args.turn.now.config.now calls (pairs_left (pairs_in (leases_of gone)) held))) (sym all)
     (was.opens held opens)

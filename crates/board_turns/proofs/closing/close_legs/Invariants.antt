@@ -20,17 +20,17 @@ invariant-loop-leg g l =
       closed : List (Lease × g.row.P-Out.Denot × g.row.P-Out.Denot);
       split : l.initial.gone ≡ closed ++ l.gone;
       same : IsSameHand l.initial.hand l.hand × SameTurns l.initial.hand l.hand;
-      may : MayNest l.config l.turns l.hand;
-      can : CanClose l.config (made_by l.hand) l.board (told l.ports) l.gone;
-      home : GoneHome g.P.Out.OutEnd.told l.config l.gone;
-      gained : GainsNested l.nest.number l.nest.moment (closings_of l.config closed) l.initial.hand l.hand;
+      may : MayNest l.turn.config.now l.turn.turns.now l.hand;
+      can : CanClose l.turn.config.now (made_by l.hand) l.board (told l.ports) l.gone;
+      home : GoneHome g.P.Out.OutEnd.told l.turn.config.now l.gone;
+      gained : GainsNested l.turn.nest.number l.turn.nest.moment (closings_of l.turn.config.now closed) l.initial.hand l.hand;
       returned : (config : Config) (v : View) → Shows config l.initial.board v → Shows config l.board (with_returned v (pairs_in (leases_of closed)));
       calls : KeepsCalls l.initial.board l.board;
       replies : KeepsReplies l.initial.board l.board;
-      closes : Gained (told l.initial.ports) (told l.ports) (ClosesLegs g.P.Out.OutEnd.told l.config.interface closed);
-      opens : (held : List ℕ) → WhereTold (told l.initial.ports) (λ calls. OpensHeld l.config calls held) →
-          WhereTold (told l.ports) (λ calls. OpensHeld l.config calls (pairs_left (pairs_in (leases_of closed)) held));
-      takes : TiesTakes l.config (told l.initial.ports) (told l.ports) (entries l.initial.hand) (entries l.hand);
+      closes : Gained (told l.initial.ports) (told l.ports) (ClosesLegs g.P.Out.OutEnd.told l.turn.config.now.interface closed);
+      opens : (held : List ℕ) → WhereTold (told l.initial.ports) (λ calls. OpensHeld l.turn.config.now calls held) →
+          WhereTold (told l.ports) (λ calls. OpensHeld l.turn.config.now calls (pairs_left (pairs_in (leases_of closed)) held));
+      takes : TiesTakes l.turn.config.now (told l.initial.ports) (told l.ports) (entries l.initial.hand) (entries l.hand);
       later : g.P.PortMaker.faults l.initial.ports ≤ g.P.PortMaker.faults l.ports;
     }
 

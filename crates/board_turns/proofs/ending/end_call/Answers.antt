@@ -22,7 +22,7 @@ use Rattle.board_turns.proofs.ending.end_call.Goals as goal
 pub end_call-cell-requires : goal.end_call-cell-requires
 end_call-cell-requires g c =
     let can = c.requires.can.2 in
-    found_is_live c.args.config.now c.args.board.now can.view c.args.call can.seen can.shows can.found
+    found_is_live c.args.turn.now.config.now c.args.board.now can.view c.args.call can.seen can.shows can.found
 
 pub close_legs-requires-clause-can : goal.close_legs-requires-clause-can
 close_legs-requires-clause-can g c =
@@ -31,40 +31,40 @@ close_legs-requires-clause-can g c =
     let can = c.requires.can.2 in
     let told = g.P.PortMaker.told c.args.ports.now in
     let l = made_by c.args.hand.now in
-    let is = cell_is c.args.config.now l c.args.board.now told c.args.call of legs c.end_call-cell.result can c.end_call-cell.ensures.cell in
+    let is = cell_is c.args.turn.now.config.now l c.args.board.now told c.args.call of legs c.end_call-cell.result can c.end_call-cell.ensures.cell in
     let was = c.end_cell.ensures.ended.was in
-    let are = went_are c.args.config.now l c.args.board.now told c.args.call of legs c.end_call-cell.result was.number c.end_cell.new.gone can is c.end_cell.ensures.went
+    let are = went_are c.args.turn.now.config.now l c.args.board.now told c.args.call of legs c.end_call-cell.result was.number c.end_cell.new.gone can is c.end_cell.ensures.went
     (above_rows (entries c.args.hand.now) c.end_call-cell.result was.number was.given.above) in
-    can_close c.args.config.now c.args.nest.number c.args.nest.moment c.args.hand.now c.end_cell.new.hand c.args.board.now c.end_call-cell.new.self told c.args.call of legs
+    can_close c.args.turn.now.config.now c.args.turn.now.nest.number c.args.turn.now.nest.moment c.args.hand.now c.end_cell.new.hand c.args.board.now c.end_call-cell.new.self told c.args.call of legs
     c.end_call-cell.result c.end_cell.new.gone can is c.end_cell.ensures.gained c.end_call-cell.ensures.shows are
 
 pub returns-clause-gained : goal.returns-clause-gained
 returns-clause-gained g c of legs can =
     let told = g.P.PortMaker.told c.args.ports.now in
     let l = made_by c.args.hand.now in
-    let config = c.args.config.now in
+    let config = c.args.turn.now.config.now in
     let cell = c.end_call-cell.result in
     let is = cell_is config l c.args.board.now told c.args.call of legs cell can c.end_call-cell.ensures.cell in
     let was = c.end_cell.ensures.ended.was in
     let are = went_are config l c.args.board.now told c.args.call of legs cell was.number c.end_cell.new.gone can is c.end_cell.ensures.went
     (above_rows (entries c.args.hand.now) cell was.number was.given.above) in
-    let all = gains_more c.args.nest.number c.args.nest.moment (in_cell_of cell End ∷ []) (closings_of config c.end_cell.new.gone) c.args.hand.now c.end_cell.new.hand
+    let all = gains_more c.args.turn.now.nest.number c.args.turn.now.nest.moment (in_cell_of cell End ∷ []) (closings_of config c.end_cell.new.gone) c.args.hand.now c.end_cell.new.hand
     c.close_legs.new.hand c.end_cell.ensures.gained c.close_legs.ensures.gained in
     let same : in_cell_of cell End ∷ closings_of config c.end_cell.new.gone ≡ ending_of config of legs
     = ap (λ (k : ℕ). in_cell_of k End ∷ closings_of config c.end_cell.new.gone) is
     ∙ ap (λ (ws : List Owed). in_cell_of of.cell End ∷ ws) (closings_are config c.end_cell.new.gone legs are) in
-    subst (λ (ws : List Owed). GainsNested c.args.nest.number c.args.nest.moment ws c.args.hand.now c.close_legs.new.hand) same all
+    subst (λ (ws : List Owed). GainsNested c.args.turn.now.nest.number c.args.turn.now.nest.moment ws c.args.hand.now c.close_legs.new.hand) same all
 
 pub returns-clause-ended : goal.returns-clause-ended
 returns-clause-ended g c of legs can config v shows apart =
     let told = g.P.PortMaker.told c.args.ports.now in
     let l = made_by c.args.hand.now in
     let cell = c.end_call-cell.result in
-    let is = cell_is c.args.config.now l c.args.board.now told c.args.call of legs cell can c.end_call-cell.ensures.cell in
+    let is = cell_is c.args.turn.now.config.now l c.args.board.now told c.args.call of legs cell can c.end_call-cell.ensures.cell in
     let was = c.end_cell.ensures.ended.was in
-    let are = went_are c.args.config.now l c.args.board.now told c.args.call of legs cell was.number c.end_cell.new.gone can is c.end_cell.ensures.went
+    let are = went_are c.args.turn.now.config.now l c.args.board.now told c.args.call of legs cell was.number c.end_cell.new.gone can is c.end_cell.ensures.went
     (above_rows (entries c.args.hand.now) cell was.number was.given.above) in
-    subst (λ (ps : List ℕ). Shows config c.close_legs.new.board (with_returned (without_call v c.args.call) ps)) (pairs_are c.args.config.now c.end_cell.new.gone legs are)
+    subst (λ (ps : List ℕ). Shows config c.close_legs.new.board (with_returned (without_call v c.args.call) ps)) (pairs_are c.args.turn.now.config.now c.end_cell.new.gone legs are)
     (c.close_legs.ensures.returned config (without_call v c.args.call) (c.end_call-cell.ensures.shows config v shows apart))
 
 pub returns-clause-closes : goal.returns-clause-closes
@@ -72,28 +72,28 @@ returns-clause-closes g c of legs can =
     let told = g.P.PortMaker.told c.args.ports.now in
     let l = made_by c.args.hand.now in
     let cell = c.end_call-cell.result in
-    let is = cell_is c.args.config.now l c.args.board.now told c.args.call of legs cell can c.end_call-cell.ensures.cell in
+    let is = cell_is c.args.turn.now.config.now l c.args.board.now told c.args.call of legs cell can c.end_call-cell.ensures.cell in
     let was = c.end_cell.ensures.ended.was in
-    let are = went_are c.args.config.now l c.args.board.now told c.args.call of legs cell was.number c.end_cell.new.gone can is c.end_cell.ensures.went
+    let are = went_are c.args.turn.now.config.now l c.args.board.now told c.args.call of legs cell was.number c.end_cell.new.gone can is c.end_cell.ensures.went
     (above_rows (entries c.args.hand.now) cell was.number was.given.above) in
-    gained_less told (g.P.PortMaker.told c.close_legs.new.ports) (ClosesLegs g.P.Out.OutEnd.told c.args.config.now.interface c.end_cell.new.gone)
-    (ClosesTheirs g.P.Out.OutEnd.told c.args.config.now legs) (λ calls closes. (c.end_cell.new.gone, are, closes)) c.close_legs.ensures.closes
+    gained_less told (g.P.PortMaker.told c.close_legs.new.ports) (ClosesLegs g.P.Out.OutEnd.told c.args.turn.now.config.now.interface c.end_cell.new.gone)
+    (ClosesTheirs g.P.Out.OutEnd.told c.args.turn.now.config.now legs) (λ calls closes. (c.end_cell.new.gone, are, closes)) c.close_legs.ensures.closes
 
 pub returns-clause-open : goal.returns-clause-open
 returns-clause-open g c of legs can held opens =
     let told = g.P.PortMaker.told c.args.ports.now in
     let l = made_by c.args.hand.now in
     let cell = c.end_call-cell.result in
-    let is = cell_is c.args.config.now l c.args.board.now told c.args.call of legs cell can c.end_call-cell.ensures.cell in
+    let is = cell_is c.args.turn.now.config.now l c.args.board.now told c.args.call of legs cell can c.end_call-cell.ensures.cell in
     let was = c.end_cell.ensures.ended.was in
-    let are = went_are c.args.config.now l c.args.board.now told c.args.call of legs cell was.number c.end_cell.new.gone can is c.end_cell.ensures.went
+    let are = went_are c.args.turn.now.config.now l c.args.board.now told c.args.call of legs cell was.number c.end_cell.new.gone can is c.end_cell.ensures.went
     (above_rows (entries c.args.hand.now) cell was.number was.given.above) in
-    subst (λ (ps : List ℕ). WhereTold (g.P.PortMaker.told c.close_legs.new.ports) (λ (calls : List PortCall). OpensHeld c.args.config.now calls (pairs_left ps held)))
-    (pairs_are c.args.config.now c.end_cell.new.gone legs are) (c.close_legs.ensures.«open» held opens)
+    subst (λ (ps : List ℕ). WhereTold (g.P.PortMaker.told c.close_legs.new.ports) (λ (calls : List PortCall). OpensHeld c.args.turn.now.config.now calls (pairs_left ps held)))
+    (pairs_are c.args.turn.now.config.now c.end_cell.new.gone legs are) (c.close_legs.ensures.«open» held opens)
 
 pub returns-clause-ties : goal.returns-clause-ties
 returns-clause-ties g c =
-    let config = c.args.config.now in
+    let config = c.args.turn.now.config.now in
     let of = c.requires.can.0 in
     let legs = c.requires.can.1 in
     let can = c.requires.can.2 in

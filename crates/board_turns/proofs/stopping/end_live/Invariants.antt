@@ -18,17 +18,17 @@ use Rattle.board_turns.proofs.stopping.end_live.Given as goal
 
 abbrev pub invariant-loop-ended : goal.invariant-loop-ended
 invariant-loop-ended g l =
-    let h = board_history (made_by l.initial.hand) l.nest.number in
+    let h = board_history (made_by l.initial.hand) l.turn.nest.number in
     let e = stop_entry h in
     let gone = take l.ended (live h) in
     record {
       same : IsSameHand l.initial.hand l.hand × SameTurns l.initial.hand l.hand;
-      may : MayNest l.config l.turns l.hand;
-      gained : GainsNested l.nest.number l.nest.moment (flat_map (ending l.config h e) gone) l.initial.hand l.hand;
-      shows : Shows l.config l.board (with_ended h e gone (view_of l.config h));
-      opens : WhereTold (g.P.PortMaker.told l.ports) (λ calls. OpensHeld l.config calls (still_held h e gone));
+      may : MayNest l.turn.config.now l.turn.turns.now l.hand;
+      gained : GainsNested l.turn.nest.number l.turn.nest.moment (flat_map (ending l.turn.config.now h e) gone) l.initial.hand l.hand;
+      shows : Shows l.turn.config.now l.board (with_ended h e gone (view_of l.turn.config.now h));
+      opens : WhereTold (g.P.PortMaker.told l.ports) (λ calls. OpensHeld l.turn.config.now calls (still_held h e gone));
       closes : Gained (g.P.PortMaker.told l.initial.ports) (g.P.PortMaker.told l.ports) OpensNone;
-      ties : Ties l.config (g.P.PortMaker.told l.initial.ports) (g.P.PortMaker.told l.ports) (entries l.initial.hand) (entries l.hand);
+      ties : Ties l.turn.config.now (g.P.PortMaker.told l.initial.ports) (g.P.PortMaker.told l.ports) (entries l.initial.hand) (entries l.hand);
       replies : KeepsReplies l.initial.board l.board;
       later : g.P.PortMaker.faults l.initial.ports ≤ g.P.PortMaker.faults l.ports;
       empty : l.gone ≡ [];

@@ -15,14 +15,14 @@ end_live-requires-clause-board g c =
     let config = c.args.config.now in
     let h = board_history (made_by c.args.hand.now) c.args.number in
     let was = stood config h c.args.part.now c.in-Board.board c.in-Board.is c.requires.board in
-    at_last config h c.advance-moment.new.self (c.advance-moment.ensures.moment config (view_of config h) was.1).0
+    at_last config h c.advance.new.self (c.advance.ensures.moment config (view_of config h) was.1).0
 
 pub returns-clause-gained : goal.returns-clause-gained
 returns-clause-gained g c =
     let config = c.args.config.now in
     let h = board_history (made_by c.args.hand.now) c.args.number in
     let was = stood config h c.args.part.now c.in-Board.board c.in-Board.is c.requires.board in
-    let at : c.advance-moment.result ≡ max 0 (last_moment h) = (c.advance-moment.ensures.moment config (view_of config h) was.1).1 in
+    let at : c.advance.result ≡ max 0 (last_moment h) = (c.advance.ensures.moment config (view_of config h) was.1).1 in
     let last : max 0 (last_moment h) ≡ last_moment h = omega arith in
     subst (λ (m : ℕ). GainsNested c.args.number m (script config h (stop_entry h)) c.args.hand.now c.end_live.new.hand) (at ∙ last) c.end_live.ensures.gained
 

@@ -22,10 +22,10 @@ loop-asked-init g c =
     record {
       same = ((refl, refl, refl, refl), λ j. refl);
       may = c.requires.turn.may;
-      asked = none_asked c.args.config.now c.args.turns.now c.args.hand.now c.args.nest c.args.board.now (g.P.PortMaker.told c.args.ports.now) c.requires.turn;
+      asked = none_asked c.args.turn.now.config.now c.args.turn.now.turns.now c.args.hand.now c.args.turn.now.nest c.args.board.now (g.P.PortMaker.told c.args.ports.now) c.requires.turn;
       few = omega arith;
       closes = gained_no_opening (g.P.PortMaker.told c.args.ports.now);
-      ties = ties_none c.args.config.now (g.P.PortMaker.told c.args.ports.now) (entries c.args.hand.now);
+      ties = ties_none c.args.turn.now.config.now (g.P.PortMaker.told c.args.ports.now) (entries c.args.hand.now);
       replies = refl;
       later = omega arith;
       empty = c.requires.empty;
@@ -33,9 +33,9 @@ loop-asked-init g c =
 
 pub expire_call-requires-clause-can : goal.expire_call-requires-clause-can
 expire_call-requires-clause-can g c =
-    let config = c.args.config.now in
-    let number = c.args.nest.number in
-    let moment = c.args.nest.moment in
+    let config = c.args.turn.now.config.now in
+    let number = c.args.turn.now.nest.number in
+    let moment = c.args.turn.now.nest.moment in
     let l = made_by c.args.hand.now in
     let h = board_history l number in
     let count = c.live_count-count.ensures.live config (at_moment (view_of config h) moment) c.requires.turn.shows in
@@ -54,9 +54,9 @@ expire_call-requires-clause-can g c =
 
 pub loop-asked-preserved : goal.loop-asked-preserved
 loop-asked-preserved g c =
-    let config = c.args.config.now in
-    let number = c.args.nest.number in
-    let moment = c.args.nest.moment in
+    let config = c.args.turn.now.config.now in
+    let number = c.args.turn.now.nest.number in
+    let moment = c.args.turn.now.nest.moment in
     let l = made_by c.args.hand.now in
     let h = board_history l number in
     let told = g.P.PortMaker.told c.args.ports.now in
@@ -101,9 +101,9 @@ loop-asked-preserved g c =
 
 pub returns-clause-ends : goal.returns-clause-ends
 returns-clause-ends g c =
-    let config = c.args.config.now in
-    let number = c.args.nest.number in
-    let moment = c.args.nest.moment in
+    let config = c.args.turn.now.config.now in
+    let number = c.args.turn.now.nest.number in
+    let moment = c.args.turn.now.nest.moment in
     let h = board_history (made_by c.args.hand.now) number in
     let count = c.live_count-count.ensures.live config (at_moment (view_of config h) moment) c.requires.turn.shows in
     let long = length-map (live h) (call_view h) in

@@ -14,11 +14,11 @@ abbrev pub invariant-loop-asked : goal.invariant-loop-asked
 invariant-loop-asked g l =
     record {
       same : IsSameHand l.initial.hand l.hand × SameTurns l.initial.hand l.hand;
-      may : MayNest l.config l.turns l.hand;
-      asked : Asked l.config (board_history (made_by l.initial.hand) l.nest.number) l.nest.number l.nest.moment l.initial.hand l.hand l.board (g.P.PortMaker.told l.ports) l.asked l.ended;
+      may : MayNest l.turn.config.now l.turn.turns.now l.hand;
+      asked : Asked l.turn.config.now (board_history (made_by l.initial.hand) l.turn.nest.number) l.turn.nest.number l.turn.nest.moment l.initial.hand l.hand l.board (g.P.PortMaker.told l.ports) l.asked l.ended;
       few : l.ended ≤ l.asked;
       closes : Gained (g.P.PortMaker.told l.initial.ports) (g.P.PortMaker.told l.ports) OpensNone;
-      ties : Ties l.config (g.P.PortMaker.told l.initial.ports) (g.P.PortMaker.told l.ports) (entries l.initial.hand) (entries l.hand);
+      ties : Ties l.turn.config.now (g.P.PortMaker.told l.initial.ports) (g.P.PortMaker.told l.ports) (entries l.initial.hand) (entries l.hand);
       replies : KeepsReplies l.initial.board l.board;
       later : g.P.PortMaker.faults l.initial.ports ≤ g.P.PortMaker.faults l.ports;
       empty : l.gone ≡ [];

@@ -16,19 +16,19 @@ use Rattle.delete_command.proofs.deleting.delete.Goals as goal
 
 pub returns-in_default-clause-carries : goal.returns-in_default-clause-carries
 returns-in_default-clause-carries g c pairs asking =
-    let config = c.args.config.now in
-    let nest = c.args.nest in
+    let config = c.args.turn.now.config.now in
+    let nest = c.args.turn.now.nest in
     let input = c.args.input.now in
     let h = board_history (made_by c.args.hand.now) nest.number in
     let none = no_call config h nest.moment c.as_slice.result.now input.call_id.list c.find_call.result
     (c.find_call.ensures config (at_moment (view_of config h) nest.moment) c.requires.turn.shows) c.as_slice.ensures c.in_default.is in
-    unknown_carries config c.args.turns.now c.args.hand.now nest c.args.request.now pairs input.call_id.list (list_of input.from_tag) input.fatal c.missing.result c.args.board.now
+    unknown_carries config c.args.turn.now.turns.now c.args.hand.now nest c.args.request.now pairs input.call_id.list (list_of input.from_tag) input.fatal c.missing.result c.args.board.now
     (g.P.PortMaker.told c.args.ports.now) c.requires.turn c.requires.anew asking none (c.missing.ensures.tells config)
 
 pub names_side-requires : goal.names_side-requires
 names_side-requires g c =
-    let config = c.args.config.now in
-    let nest = c.args.nest in
+    let config = c.args.turn.now.config.now in
+    let nest = c.args.turn.now.nest in
     let input = c.args.input.now in
     let h = board_history (made_by c.args.hand.now) nest.number in
     let v = at_moment (view_of config h) nest.moment in
@@ -40,8 +40,8 @@ names_side-requires g c =
 
 pub returns-then-not-names_side-clause-carries : goal.returns-then-not-names_side-clause-carries
 returns-then-not-names_side-clause-carries g c pairs asking =
-    let config = c.args.config.now in
-    let nest = c.args.nest in
+    let config = c.args.turn.now.config.now in
+    let nest = c.args.turn.now.nest in
     let input = c.args.input.now in
     let h = board_history (made_by c.args.hand.now) nest.number in
     let v = at_moment (view_of config h) nest.moment in
@@ -50,19 +50,19 @@ returns-then-not-names_side-clause-carries g c pairs asking =
     (c.find_call.ensures config v c.requires.turn.shows) c.as_slice.ensures c.in-Some.is in
     let is_called = called config h nest.moment input.call_id.list call (good_history config (made_by c.args.hand.now) c.requires.turn.orderly nest.number) found in
     let names = c.names_side.ensures config v (call_view h found.of) c.requires.turn.shows is_called in
-    stranger_carries config c.args.turns.now c.args.hand.now nest c.args.request.now pairs input.call_id.list (list_of input.from_tag) input.fatal found.of
+    stranger_carries config c.args.turn.now.turns.now c.args.hand.now nest c.args.request.now pairs input.call_id.list (list_of input.from_tag) input.fatal found.of
     c.missing-then-not-names_side.result c.args.board.now (g.P.PortMaker.told c.args.ports.now) c.requires.turn c.requires.anew asking found.is
     (sym names ∙ c.if-not-names_side.true) (c.missing-then-not-names_side.ensures.tells config)
 
 pub returns-in_default-done_datagram-clause-carries : goal.returns-in_default-done_datagram-clause-carries
 returns-in_default-done_datagram-clause-carries g c pairs asking =
-    is_short_carries c.args.config.now c.args.turns.now c.args.hand.now c.args.nest c.args.request.now pairs c.short.result c.args.board.now
+    is_short_carries c.args.turn.now.config.now c.args.turn.now.turns.now c.args.hand.now c.args.turn.now.nest c.args.request.now pairs c.short.result c.args.board.now
     (g.P.PortMaker.told c.args.ports.now) c.requires.turn c.requires.anew c.short.ensures.is_short
 
 pub delete_call-requires-clause-live : goal.delete_call-requires-clause-live
 delete_call-requires-clause-live g c =
-    let config = c.args.config.now in
-    let nest = c.args.nest in
+    let config = c.args.turn.now.config.now in
+    let nest = c.args.turn.now.nest in
     let h = board_history (made_by c.args.hand.now) nest.number in
     let found = found_call config h nest.moment c.as_slice.result.now c.args.input.now.call_id.list c.in-Some.call c.find_call.result
     (c.find_call.ensures config (at_moment (view_of config h) nest.moment) c.requires.turn.shows) c.as_slice.ensures c.in-Some.is in
@@ -70,8 +70,8 @@ delete_call-requires-clause-live g c =
 
 pub returns-clause-carries : goal.returns-clause-carries
 returns-clause-carries g c pairs asking =
-    let config = c.args.config.now in
-    let nest = c.args.nest in
+    let config = c.args.turn.now.config.now in
+    let nest = c.args.turn.now.nest in
     let input = c.args.input.now in
     let request = c.args.request.now in
     let h = board_history (made_by c.args.hand.now) nest.number in
@@ -96,10 +96,10 @@ pub returns-in_default-done_datagram-clause-closes : goal.returns-in_default-don
 returns-in_default-done_datagram-clause-closes g c = gained_no_opening (g.P.PortMaker.told c.args.ports.now)
 
 pub returns-in_default-clause-ties : goal.returns-in_default-clause-ties
-returns-in_default-clause-ties g c = ties_none c.args.config.now (g.P.PortMaker.told c.args.ports.now) (entries c.args.hand.now)
+returns-in_default-clause-ties g c = ties_none c.args.turn.now.config.now (g.P.PortMaker.told c.args.ports.now) (entries c.args.hand.now)
 
 pub returns-then-not-names_side-clause-ties : goal.returns-then-not-names_side-clause-ties
-returns-then-not-names_side-clause-ties g c = ties_none c.args.config.now (g.P.PortMaker.told c.args.ports.now) (entries c.args.hand.now)
+returns-then-not-names_side-clause-ties g c = ties_none c.args.turn.now.config.now (g.P.PortMaker.told c.args.ports.now) (entries c.args.hand.now)
 
 pub returns-in_default-done_datagram-clause-ties : goal.returns-in_default-done_datagram-clause-ties
-returns-in_default-done_datagram-clause-ties g c = ties_none c.args.config.now (g.P.PortMaker.told c.args.ports.now) (entries c.args.hand.now)
+returns-in_default-done_datagram-clause-ties g c = ties_none c.args.turn.now.config.now (g.P.PortMaker.told c.args.ports.now) (entries c.args.hand.now)

@@ -11,38 +11,38 @@ use Rattle.nested_steps.proofs.boxes.shut_box.Goals as goal
 pub shut_part-ends-requires : goal.shut_part-ends-requires
 shut_part-ends-requires g c =
     subst CanShut (sym c.state.ensures.value)
-    (open_given g.I.InEnd.told g.I.InEnd.faults g.O.OutEnd.told g.O.OutEnd.faults c.args.config.now c.args.turns.now c.args.hand.now c.args.pair c.box_place.result _ _
-    c.requires.may c.requires.«open» c.box_place.ensures c.turn-turn.ensures.turn.1)
+    (open_given g.I.InEnd.told g.I.InEnd.faults g.O.OutEnd.told g.O.OutEnd.faults c.args.turn.now.config.now c.args.turn.now.turns.now c.args.hand.now c.args.pair c.box_place.result _ _
+    c.requires.may c.requires.«open» c.box_place.ensures c.turn-step.ensures.turn.1)
 
 pub returns-clause-gained : goal.returns-clause-gained
 returns-clause-gained g c =
-    let given = c.turn-turn.ensures.turn.1 in
-    turn_gained c.args.nest.number c.args.nest.moment 0 (box_of c.args.config.now c.args.pair) c.box_place.result (Box Close)
-    (ends_left g.I.InEnd.told c.shut_part-ends.result) tt c.args.hand.now c.turn-turn.new.hand
-    c.put_closing.new.hand c.turn-turn.result c.box_place.ensures (above_rows _ _ _ given.above) c.turn-turn.ensures.same c.turn-turn.ensures.turn.0 c.put_closing.ensures.entry
+    let given = c.turn-step.ensures.turn.1 in
+    turn_gained c.args.turn.now.nest.number c.args.turn.now.nest.moment 0 (box_of c.args.turn.now.config.now c.args.pair) c.box_place.result (Box Close)
+    (ends_left g.I.InEnd.told c.shut_part-ends.result) tt c.args.hand.now c.turn-step.new.hand
+    c.put_closing.new.hand c.turn-step.result c.box_place.ensures (above_rows _ _ _ given.above) c.turn-step.ensures.same c.turn-step.ensures.turn.0 c.put_closing.ensures.entry
 
 pub returns-clause-row : goal.returns-clause-row
 returns-clause-row g c =
-    turn_row c.args.nest.number c.args.nest.moment 0 (box_of c.args.config.now c.args.pair) c.box_place.result (Box Close)
-    (ends_left g.I.InEnd.told c.shut_part-ends.result) tt c.args.hand.now c.turn-turn.new.hand c.put_closing.new.hand c.turn-turn.result c.box_place.ensures
-    c.turn-turn.ensures.same c.turn-turn.ensures.turn.0 c.put_closing.ensures.entry
+    turn_row c.args.turn.now.nest.number c.args.turn.now.nest.moment 0 (box_of c.args.turn.now.config.now c.args.pair) c.box_place.result (Box Close)
+    (ends_left g.I.InEnd.told c.shut_part-ends.result) tt c.args.hand.now c.turn-step.new.hand c.put_closing.new.hand c.turn-step.result c.box_place.ensures
+    c.turn-step.ensures.same c.turn-step.ensures.turn.0 c.put_closing.ensures.entry
 
 pub returns-clause-may : goal.returns-clause-may
 returns-clause-may g c =
     let at = c.box_place.ensures in
-    turn_may c.args.config.now c.args.turns.now c.args.nest.number c.args.nest.moment 0 (box_of c.args.config.now c.args.pair) c.box_place.result (Box Close)
+    turn_may c.args.turn.now.config.now c.args.turn.now.turns.now c.args.turn.now.nest.number c.args.turn.now.nest.moment 0 (box_of c.args.turn.now.config.now c.args.pair) c.box_place.result (Box Close)
     (ends_left g.I.InEnd.told c.shut_part-ends.result) tt
-    c.args.hand.now c.turn-turn.new.hand c.put_closing.new.hand c.turn-turn.result c.requires.may (omega (arith, at)) c.turn-turn.ensures.same c.turn-turn.ensures.turn.0
+    c.args.hand.now c.turn-step.new.hand c.put_closing.new.hand c.turn-step.result c.requires.may (omega (arith, at)) c.turn-step.ensures.same c.turn-step.ensures.turn.0
     c.put_closing.ensures.same c.put_closing.ensures.entry (returns-clause-gained g c)
 
 pub returns-clause-ends : goal.returns-clause-ends
 returns-clause-ends g c =
-    let made = leaving c.args.nest.number c.args.nest.moment 0 (Box Close) (ends_left g.I.InEnd.told c.shut_part-ends.result) in
-    shut_from g.I.InEnd.told g.I.InEnd.faults g.O.OutEnd.told g.O.OutEnd.faults c.args.hand.now c.box_place.result (box_of c.args.config.now c.args.pair) c.turn-turn.result.front
-    c.turn-turn.result.state c.state.result.now
-    c.shut_part-ends.new.part made c.shut_part-ends.result c.box_place.ensures c.state.ensures.value c.turn-turn.ensures.turn.1
-    (c.shut_part-ends.ensures.step c.args.nest.number c.args.nest.moment) c.shut_part-ends.ensures.ends
+    let made = leaving c.args.turn.now.nest.number c.args.turn.now.nest.moment 0 (Box Close) (ends_left g.I.InEnd.told c.shut_part-ends.result) in
+    shut_from g.I.InEnd.told g.I.InEnd.faults g.O.OutEnd.told g.O.OutEnd.faults c.args.hand.now c.box_place.result (box_of c.args.turn.now.config.now c.args.pair) c.turn-step.result.front
+    c.turn-step.result.state c.state.result.now
+    c.shut_part-ends.new.part made c.shut_part-ends.result c.box_place.ensures c.state.ensures.value c.turn-step.ensures.turn.1
+    (c.shut_part-ends.ensures.step c.args.turn.now.nest.number c.args.turn.now.nest.moment) c.shut_part-ends.ensures.ends
 
 pub returns-clause-home : goal.returns-clause-home
 returns-clause-home g c =
-    shut_home g.I.InEnd.told g.I.InEnd.faults g.O.OutEnd.told g.O.OutEnd.faults c.args.config.now c.args.turns.now c.args.hand.now c.args.pair _ c.shut_part-ends.result c.requires.may (returns-clause-ends g c)
+    shut_home g.I.InEnd.told g.I.InEnd.faults g.O.OutEnd.told g.O.OutEnd.faults c.args.turn.now.config.now c.args.turn.now.turns.now c.args.hand.now c.args.pair _ c.shut_part-ends.result c.requires.may (returns-clause-ends g c)

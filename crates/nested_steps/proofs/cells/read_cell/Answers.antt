@@ -9,31 +9,31 @@ use Rattle.nested_steps.proofs.cells.read_cell.Goals as goal
 
 pub read_part-requires : goal.read_part-requires
 read_part-requires g c =
-    reading_given g.I.InEnd.told g.I.InEnd.faults g.O.OutEnd.told g.O.OutEnd.faults c.args.config.now c.args.turns.now c.args.hand.now c.args.cell c.cell_place.result
-    c.turn-turn.result.front _ c.state.result.now c.requires.may c.requires.cell.0 c.requires.cell.1 c.requires.keys c.cell_place.ensures c.state.ensures.value
-    c.turn-turn.ensures.turn.0.2 c.turn-turn.ensures.turn.1
+    reading_given g.I.InEnd.told g.I.InEnd.faults g.O.OutEnd.told g.O.OutEnd.faults c.args.turn.now.config.now c.args.turn.now.turns.now c.args.hand.now c.args.cell c.cell_place.result
+    c.turn-step.result.front _ c.state.result.now c.requires.may c.requires.cell.0 c.requires.cell.1 c.requires.keys c.cell_place.ensures c.state.ensures.value
+    c.turn-step.ensures.turn.0.2 c.turn-step.ensures.turn.1
 
 pub returns-clause-gained : goal.returns-clause-gained
 returns-clause-gained g c =
-    let given = c.turn-turn.ensures.turn.1 in
-    turn_gained c.args.nest.number c.args.nest.moment (moment_in c.turn-turn.result.taken.value) c.args.cell c.cell_place.result (Cell (Read c.read_part.new.out))
-    nothing_left tt c.args.hand.now c.turn-turn.new.hand c.put_reading.new.hand c.turn-turn.result c.cell_place.ensures (above_rows _ _ _ given.above)
-    c.turn-turn.ensures.same c.turn-turn.ensures.turn.0 c.put_reading.ensures.entry
+    let given = c.turn-step.ensures.turn.1 in
+    turn_gained c.args.turn.now.nest.number c.args.turn.now.nest.moment (moment_in c.turn-step.result.taken.value) c.args.cell c.cell_place.result (Cell (Read c.read_part.new.out))
+    nothing_left tt c.args.hand.now c.turn-step.new.hand c.put_reading.new.hand c.turn-step.result c.cell_place.ensures (above_rows _ _ _ given.above)
+    c.turn-step.ensures.same c.turn-step.ensures.turn.0 c.put_reading.ensures.entry
 
 pub returns-clause-may : goal.returns-clause-may
 returns-clause-may g c =
     let at = c.cell_place.ensures in
     let low = c.requires.cell.0 in
-    turn_may c.args.config.now c.args.turns.now c.args.nest.number c.args.nest.moment (moment_in c.turn-turn.result.taken.value) c.args.cell c.cell_place.result
+    turn_may c.args.turn.now.config.now c.args.turn.now.turns.now c.args.turn.now.nest.number c.args.turn.now.nest.moment (moment_in c.turn-step.result.taken.value) c.args.cell c.cell_place.result
     (Cell (Read c.read_part.new.out)) nothing_left tt
-    c.args.hand.now c.turn-turn.new.hand c.put_reading.new.hand c.turn-turn.result c.requires.may (omega (arith, at, low)) c.turn-turn.ensures.same c.turn-turn.ensures.turn.0
+    c.args.hand.now c.turn-step.new.hand c.put_reading.new.hand c.turn-step.result c.requires.may (omega (arith, at, low)) c.turn-step.ensures.same c.turn-step.ensures.turn.0
     c.put_reading.ensures.same c.put_reading.ensures.entry (returns-clause-gained g c)
 
 pub returns-clause-told : goal.returns-clause-told
 returns-clause-told g c =
-    reads_by g.I.InEnd.told g.I.InEnd.faults g.O.OutEnd.told g.O.OutEnd.faults c.args.config.now c.args.hand.now c.args.cell c.turn-turn.result.front c.state.result.now
+    reads_by g.I.InEnd.told g.I.InEnd.faults g.O.OutEnd.told g.O.OutEnd.faults c.args.turn.now.config.now c.args.hand.now c.args.cell c.turn-step.result.front c.state.result.now
     c.read_part.new.out
-    (cell_given g.I.InEnd.told g.I.InEnd.faults g.O.OutEnd.told g.O.OutEnd.faults c.args.config.now c.args.turns.now c.args.hand.now c.args.cell c.cell_place.result
-    c.turn-turn.result.front _ c.state.result.now c.requires.may c.requires.cell.0 c.requires.cell.1 c.requires.keys c.cell_place.ensures c.state.ensures.value
-    c.turn-turn.ensures.turn.1)
+    (cell_given g.I.InEnd.told g.I.InEnd.faults g.O.OutEnd.told g.O.OutEnd.faults c.args.turn.now.config.now c.args.turn.now.turns.now c.args.hand.now c.args.cell c.cell_place.result
+    c.turn-step.result.front _ c.state.result.now c.requires.may c.requires.cell.0 c.requires.cell.1 c.requires.keys c.cell_place.ensures c.state.ensures.value
+    c.turn-step.ensures.turn.1)
     c.read_part.ensures.reads

@@ -13,51 +13,51 @@ use Rattle.nested_steps.proofs.signals.commit_cell.Goals as goal
 
 pub commit_part-requires-clause-takes : goal.commit_part-requires-clause-takes
 commit_part-requires-clause-takes g c =
-    let given = c.turn-turn.ensures.turn.1 in
-    let own = cell_history (made_by c.args.hand.now) c.args.cell c.turn-turn.result.front in
-    let is = cell_given g.I.InEnd.told g.I.InEnd.faults g.O.OutEnd.told g.O.OutEnd.faults c.args.config.now c.args.turns.now c.args.hand.now c.args.cell c.cell_place.result
-    c.turn-turn.result.front _ c.state.result.now c.requires.may c.requires.cell.0 c.requires.cell.1 c.requires.keys c.cell_place.ensures c.state.ensures.value
-    c.turn-turn.ensures.turn.1 in
-    let above = above_rows _ c.args.cell c.turn-turn.result.front is.0.above in
-    takes_answer c.args.config.now c.state.result.now own c.args.signal.now c.args.contexts is.1 (c.requires.names c.turn-turn.result.front above)
-    (space_is c.args.config.now c.state.result.now (made_by c.args.hand.now) c.args.cell c.turn-turn.result.front c.args.signal.now c.args.contexts is.1 above c.requires.room)
+    let given = c.turn-step.ensures.turn.1 in
+    let own = cell_history (made_by c.args.hand.now) c.args.cell c.turn-step.result.front in
+    let is = cell_given g.I.InEnd.told g.I.InEnd.faults g.O.OutEnd.told g.O.OutEnd.faults c.args.turn.now.config.now c.args.turn.now.turns.now c.args.hand.now c.args.cell c.cell_place.result
+    c.turn-step.result.front _ c.state.result.now c.requires.may c.requires.cell.0 c.requires.cell.1 c.requires.keys c.cell_place.ensures c.state.ensures.value
+    c.turn-step.ensures.turn.1 in
+    let above = above_rows _ c.args.cell c.turn-step.result.front is.0.above in
+    takes_answer c.args.turn.now.config.now c.state.result.now own c.args.signal.now c.args.contexts is.1 (c.requires.names c.turn-step.result.front above)
+    (space_is c.args.turn.now.config.now c.state.result.now (made_by c.args.hand.now) c.args.cell c.turn-step.result.front c.args.signal.now c.args.contexts is.1 above c.requires.room)
 
 pub returns-clause-gained : goal.returns-clause-gained
 returns-clause-gained g c =
-    let given = c.turn-turn.ensures.turn.1 in
-    turn_gained c.args.nest.number c.args.nest.moment (max c.args.nest.moment (moment_in c.turn-turn.result.taken.value)) c.args.cell c.cell_place.result
+    let given = c.turn-step.ensures.turn.1 in
+    turn_gained c.args.turn.now.nest.number c.args.turn.now.nest.moment (max c.args.turn.now.nest.moment (moment_in c.turn-step.result.taken.value)) c.args.cell c.cell_place.result
     (Cell (Commit c.args.signal.now)) (gone_left g.O.OutEnd.told c.commit_part.new.gone) tt c.args.hand.now
-    c.turn-turn.new.hand c.put_commit.new.hand c.turn-turn.result c.cell_place.ensures (above_rows _ _ _ given.above) c.turn-turn.ensures.same
-    c.turn-turn.ensures.turn.0 c.put_commit.ensures.entry
+    c.turn-step.new.hand c.put_commit.new.hand c.turn-step.result c.cell_place.ensures (above_rows _ _ _ given.above) c.turn-step.ensures.same
+    c.turn-step.ensures.turn.0 c.put_commit.ensures.entry
 
 pub returns-clause-row : goal.returns-clause-row
 returns-clause-row g c =
-    turn_row c.args.nest.number c.args.nest.moment (max c.args.nest.moment (moment_in c.turn-turn.result.taken.value)) c.args.cell c.cell_place.result
-    (Cell (Commit c.args.signal.now)) (gone_left g.O.OutEnd.told c.commit_part.new.gone) tt c.args.hand.now c.turn-turn.new.hand c.put_commit.new.hand c.turn-turn.result
-    c.cell_place.ensures c.turn-turn.ensures.same c.turn-turn.ensures.turn.0 c.put_commit.ensures.entry
+    turn_row c.args.turn.now.nest.number c.args.turn.now.nest.moment (max c.args.turn.now.nest.moment (moment_in c.turn-step.result.taken.value)) c.args.cell c.cell_place.result
+    (Cell (Commit c.args.signal.now)) (gone_left g.O.OutEnd.told c.commit_part.new.gone) tt c.args.hand.now c.turn-step.new.hand c.put_commit.new.hand c.turn-step.result
+    c.cell_place.ensures c.turn-step.ensures.same c.turn-step.ensures.turn.0 c.put_commit.ensures.entry
 
 pub returns-clause-may : goal.returns-clause-may
 returns-clause-may g c =
     let at = c.cell_place.ensures in
     let low = c.requires.cell.0 in
-    turn_may c.args.config.now c.args.turns.now c.args.nest.number c.args.nest.moment (max c.args.nest.moment (moment_in c.turn-turn.result.taken.value)) c.args.cell
+    turn_may c.args.turn.now.config.now c.args.turn.now.turns.now c.args.turn.now.nest.number c.args.turn.now.nest.moment (max c.args.turn.now.nest.moment (moment_in c.turn-step.result.taken.value)) c.args.cell
     c.cell_place.result (Cell (Commit c.args.signal.now)) (gone_left g.O.OutEnd.told c.commit_part.new.gone) tt
-    c.args.hand.now c.turn-turn.new.hand c.put_commit.new.hand c.turn-turn.result c.requires.may (omega (arith, at, low)) c.turn-turn.ensures.same c.turn-turn.ensures.turn.0
+    c.args.hand.now c.turn-step.new.hand c.put_commit.new.hand c.turn-step.result c.requires.may (omega (arith, at, low)) c.turn-step.ensures.same c.turn-step.ensures.turn.0
     c.put_commit.ensures.same c.put_commit.ensures.entry (returns-clause-gained g c)
 
 pub returns-clause-committed : goal.returns-clause-committed
 returns-clause-committed g c =
-    let is = cell_given g.I.InEnd.told g.I.InEnd.faults g.O.OutEnd.told g.O.OutEnd.faults c.args.config.now c.args.turns.now c.args.hand.now c.args.cell c.cell_place.result
-    c.turn-turn.result.front _ c.state.result.now c.requires.may c.requires.cell.0 c.requires.cell.1 c.requires.keys c.cell_place.ensures c.state.ensures.value
-    c.turn-turn.ensures.turn.1 in
-    let above = above_rows _ c.args.cell c.turn-turn.result.front is.0.above in
-    commits_by g.I.InEnd.told g.I.InEnd.faults g.O.OutEnd.told g.O.OutEnd.faults c.args.config.now c.args.hand.now c.args.cell c.turn-turn.result.front c.args.signal.now
-    c.args.nest.moment c.state.result.now c.commit_part.new.part c.commit_part.new.gone is (c.requires.names c.turn-turn.result.front above) c.commit_part.ensures.commits
+    let is = cell_given g.I.InEnd.told g.I.InEnd.faults g.O.OutEnd.told g.O.OutEnd.faults c.args.turn.now.config.now c.args.turn.now.turns.now c.args.hand.now c.args.cell c.cell_place.result
+    c.turn-step.result.front _ c.state.result.now c.requires.may c.requires.cell.0 c.requires.cell.1 c.requires.keys c.cell_place.ensures c.state.ensures.value
+    c.turn-step.ensures.turn.1 in
+    let above = above_rows _ c.args.cell c.turn-step.result.front is.0.above in
+    commits_by g.I.InEnd.told g.I.InEnd.faults g.O.OutEnd.told g.O.OutEnd.faults c.args.turn.now.config.now c.args.hand.now c.args.cell c.turn-step.result.front c.args.signal.now
+    c.args.turn.now.nest.moment c.state.result.now c.commit_part.new.part c.commit_part.new.gone is (c.requires.names c.turn-step.result.front above) c.commit_part.ensures.commits
 
 pub returns-clause-went : goal.returns-clause-went
-returns-clause-went g c = committed_went g.I.InEnd.told g.I.InEnd.faults g.O.OutEnd.told g.O.OutEnd.faults c.args.config.now c.args.hand.now c.args.cell c.args.signal.now c.args.nest.moment c.commit_part.new.gone (returns-clause-committed g c)
+returns-clause-went g c = committed_went g.I.InEnd.told g.I.InEnd.faults g.O.OutEnd.told g.O.OutEnd.faults c.args.turn.now.config.now c.args.hand.now c.args.cell c.args.signal.now c.args.turn.now.nest.moment c.commit_part.new.gone (returns-clause-committed g c)
 
 pub returns-clause-home : goal.returns-clause-home
 returns-clause-home g c =
-    committed_home g.I.InEnd.told g.I.InEnd.faults g.O.OutEnd.told g.O.OutEnd.faults c.args.config.now c.args.turns.now c.args.hand.now c.args.cell c.args.signal.now c.args.nest.moment c.commit_part.new.gone c.requires.may
+    committed_home g.I.InEnd.told g.I.InEnd.faults g.O.OutEnd.told g.O.OutEnd.faults c.args.turn.now.config.now c.args.turn.now.turns.now c.args.hand.now c.args.cell c.args.signal.now c.args.turn.now.nest.moment c.commit_part.new.gone c.requires.may
     c.requires.cell.0 c.requires.cell.1 c.requires.keys (returns-clause-committed g c)

@@ -14,73 +14,73 @@ use Rattle.nested_steps.proofs.signals.prepare_cell.Goals as goal
 
 pub prepare_part-requires-clause-takes : goal.prepare_part-requires-clause-takes
 prepare_part-requires-clause-takes g c =
-    let is = cell_given g.I.InEnd.told g.I.InEnd.faults g.O.OutEnd.told g.O.OutEnd.faults c.args.config.now c.args.turns.now c.args.hand.now c.args.cell c.cell_place.result
-    c.turn-turn.result.front _ c.state.result.now c.requires.may c.requires.cell.0 c.requires.cell.1 c.requires.keys c.cell_place.ensures c.state.ensures.value
-    c.turn-turn.ensures.turn.1 in
-    let above = above_rows _ c.args.cell c.turn-turn.result.front is.0.above in
-    takes_offer c.args.config.now c.state.result.now _ c.args.signal c.args.call (brought_keys c.args.brought.now) (brought_dropped c.args.brought.now) is.1 c.requires.tells
-    (c.requires.comes c.turn-turn.result.front above)
+    let is = cell_given g.I.InEnd.told g.I.InEnd.faults g.O.OutEnd.told g.O.OutEnd.faults c.args.turn.now.config.now c.args.turn.now.turns.now c.args.hand.now c.args.cell c.cell_place.result
+    c.turn-step.result.front _ c.state.result.now c.requires.may c.requires.cell.0 c.requires.cell.1 c.requires.keys c.cell_place.ensures c.state.ensures.value
+    c.turn-step.ensures.turn.1 in
+    let above = above_rows _ c.args.cell c.turn-step.result.front is.0.above in
+    takes_offer c.args.turn.now.config.now c.state.result.now _ c.args.signal c.args.call (brought_keys c.args.brought.now) (brought_dropped c.args.brought.now) is.1 c.requires.tells
+    (c.requires.comes c.turn-step.result.front above)
 
 pub returns-clause-gained : goal.returns-clause-gained
 returns-clause-gained g c =
-    let given = c.turn-turn.ensures.turn.1 in
-    turn_gained c.args.nest.number c.args.nest.moment (max c.args.nest.moment (moment_in c.turn-turn.result.taken.value)) c.args.cell c.cell_place.result
+    let given = c.turn-step.ensures.turn.1 in
+    turn_gained c.args.turn.now.nest.number c.args.turn.now.nest.moment (max c.args.turn.now.nest.moment (moment_in c.turn-step.result.taken.value)) c.args.cell c.cell_place.result
     (Cell (Prepare c.args.call (added c.args.signal) (brought_keys c.args.brought.now) (brought_dropped c.args.brought.now))) (gone_left g.O.OutEnd.told c.prepare_part.new.gone) tt c.args.hand.now
-    c.turn-turn.new.hand c.put_prepare.new.hand c.turn-turn.result c.cell_place.ensures (above_rows _ _ _ given.above) c.turn-turn.ensures.same
-    c.turn-turn.ensures.turn.0 (tells_legs c.turn-turn.result.place c.turn-turn.result.front c.args.nest.number c.args.nest.moment
-    (max c.args.nest.moment (moment_in c.turn-turn.result.taken.value)) c.args.call c.of-legs.result.value c.args.signal (brought_keys c.args.brought.now)
-    (brought_dropped c.args.brought.now) (gone_left g.O.OutEnd.told c.prepare_part.new.gone) tt c.turn-turn.new.hand c.put_prepare.new.hand c.of-legs.ensures c.put_prepare.ensures.entry)
+    c.turn-step.new.hand c.put_prepare.new.hand c.turn-step.result c.cell_place.ensures (above_rows _ _ _ given.above) c.turn-step.ensures.same
+    c.turn-step.ensures.turn.0 (tells_legs c.turn-step.result.place c.turn-step.result.front c.args.turn.now.nest.number c.args.turn.now.nest.moment
+    (max c.args.turn.now.nest.moment (moment_in c.turn-step.result.taken.value)) c.args.call c.of-legs.result.value c.args.signal (brought_keys c.args.brought.now)
+    (brought_dropped c.args.brought.now) (gone_left g.O.OutEnd.told c.prepare_part.new.gone) tt c.turn-step.new.hand c.put_prepare.new.hand c.of-legs.ensures c.put_prepare.ensures.entry)
 
 pub returns-clause-row : goal.returns-clause-row
 returns-clause-row g c =
-    turn_row c.args.nest.number c.args.nest.moment (max c.args.nest.moment (moment_in c.turn-turn.result.taken.value)) c.args.cell c.cell_place.result
-    (Cell (Prepare c.args.call (added c.args.signal) (brought_keys c.args.brought.now) (brought_dropped c.args.brought.now))) (gone_left g.O.OutEnd.told c.prepare_part.new.gone) tt c.args.hand.now c.turn-turn.new.hand
-    c.put_prepare.new.hand c.turn-turn.result c.cell_place.ensures c.turn-turn.ensures.same c.turn-turn.ensures.turn.0
-    (tells_legs c.turn-turn.result.place c.turn-turn.result.front c.args.nest.number c.args.nest.moment
-    (max c.args.nest.moment (moment_in c.turn-turn.result.taken.value)) c.args.call c.of-legs.result.value c.args.signal (brought_keys c.args.brought.now)
-    (brought_dropped c.args.brought.now) (gone_left g.O.OutEnd.told c.prepare_part.new.gone) tt c.turn-turn.new.hand c.put_prepare.new.hand c.of-legs.ensures c.put_prepare.ensures.entry)
+    turn_row c.args.turn.now.nest.number c.args.turn.now.nest.moment (max c.args.turn.now.nest.moment (moment_in c.turn-step.result.taken.value)) c.args.cell c.cell_place.result
+    (Cell (Prepare c.args.call (added c.args.signal) (brought_keys c.args.brought.now) (brought_dropped c.args.brought.now))) (gone_left g.O.OutEnd.told c.prepare_part.new.gone) tt c.args.hand.now c.turn-step.new.hand
+    c.put_prepare.new.hand c.turn-step.result c.cell_place.ensures c.turn-step.ensures.same c.turn-step.ensures.turn.0
+    (tells_legs c.turn-step.result.place c.turn-step.result.front c.args.turn.now.nest.number c.args.turn.now.nest.moment
+    (max c.args.turn.now.nest.moment (moment_in c.turn-step.result.taken.value)) c.args.call c.of-legs.result.value c.args.signal (brought_keys c.args.brought.now)
+    (brought_dropped c.args.brought.now) (gone_left g.O.OutEnd.told c.prepare_part.new.gone) tt c.turn-step.new.hand c.put_prepare.new.hand c.of-legs.ensures c.put_prepare.ensures.entry)
 
 pub returns-clause-may : goal.returns-clause-may
 returns-clause-may g c =
     let at = c.cell_place.ensures in
     let low = c.requires.cell.0 in
-    turn_may c.args.config.now c.args.turns.now c.args.nest.number c.args.nest.moment (max c.args.nest.moment (moment_in c.turn-turn.result.taken.value)) c.args.cell
+    turn_may c.args.turn.now.config.now c.args.turn.now.turns.now c.args.turn.now.nest.number c.args.turn.now.nest.moment (max c.args.turn.now.nest.moment (moment_in c.turn-step.result.taken.value)) c.args.cell
     c.cell_place.result (Cell (Prepare c.args.call (added c.args.signal) (brought_keys c.args.brought.now) (brought_dropped c.args.brought.now))) (gone_left g.O.OutEnd.told c.prepare_part.new.gone) tt
-    c.args.hand.now c.turn-turn.new.hand c.put_prepare.new.hand c.turn-turn.result c.requires.may (omega (arith, at, low)) c.turn-turn.ensures.same
-    c.turn-turn.ensures.turn.0 c.put_prepare.ensures.same (tells_legs c.turn-turn.result.place c.turn-turn.result.front c.args.nest.number c.args.nest.moment
-    (max c.args.nest.moment (moment_in c.turn-turn.result.taken.value)) c.args.call c.of-legs.result.value c.args.signal (brought_keys c.args.brought.now)
-    (brought_dropped c.args.brought.now) (gone_left g.O.OutEnd.told c.prepare_part.new.gone) tt c.turn-turn.new.hand c.put_prepare.new.hand c.of-legs.ensures c.put_prepare.ensures.entry) (returns-clause-gained g c)
+    c.args.hand.now c.turn-step.new.hand c.put_prepare.new.hand c.turn-step.result c.requires.may (omega (arith, at, low)) c.turn-step.ensures.same
+    c.turn-step.ensures.turn.0 c.put_prepare.ensures.same (tells_legs c.turn-step.result.place c.turn-step.result.front c.args.turn.now.nest.number c.args.turn.now.nest.moment
+    (max c.args.turn.now.nest.moment (moment_in c.turn-step.result.taken.value)) c.args.call c.of-legs.result.value c.args.signal (brought_keys c.args.brought.now)
+    (brought_dropped c.args.brought.now) (gone_left g.O.OutEnd.told c.prepare_part.new.gone) tt c.turn-step.new.hand c.put_prepare.new.hand c.of-legs.ensures c.put_prepare.ensures.entry) (returns-clause-gained g c)
 
 pub returns-clause-prepared : goal.returns-clause-prepared
 returns-clause-prepared g c =
-    let is = cell_given g.I.InEnd.told g.I.InEnd.faults g.O.OutEnd.told g.O.OutEnd.faults c.args.config.now c.args.turns.now c.args.hand.now c.args.cell c.cell_place.result
-    c.turn-turn.result.front _ c.state.result.now c.requires.may c.requires.cell.0 c.requires.cell.1 c.requires.keys c.cell_place.ensures c.state.ensures.value
-    c.turn-turn.ensures.turn.1 in
-    let above = above_rows _ c.args.cell c.turn-turn.result.front is.0.above in
-    prepares_by g.I.InEnd.told g.I.InEnd.faults g.O.OutEnd.told g.O.OutEnd.faults c.args.config.now c.args.hand.now c.args.cell c.turn-turn.result.front c.args.signal
-    c.args.call (brought_keys c.args.brought.now) (brought_dropped c.args.brought.now) c.args.nest.moment c.state.result.now c.prepare_part.new.part c.prepare_part.new.gone is
-    (c.requires.comes c.turn-turn.result.front above) c.prepare_part.ensures.prepares
+    let is = cell_given g.I.InEnd.told g.I.InEnd.faults g.O.OutEnd.told g.O.OutEnd.faults c.args.turn.now.config.now c.args.turn.now.turns.now c.args.hand.now c.args.cell c.cell_place.result
+    c.turn-step.result.front _ c.state.result.now c.requires.may c.requires.cell.0 c.requires.cell.1 c.requires.keys c.cell_place.ensures c.state.ensures.value
+    c.turn-step.ensures.turn.1 in
+    let above = above_rows _ c.args.cell c.turn-step.result.front is.0.above in
+    prepares_by g.I.InEnd.told g.I.InEnd.faults g.O.OutEnd.told g.O.OutEnd.faults c.args.turn.now.config.now c.args.hand.now c.args.cell c.turn-step.result.front c.args.signal
+    c.args.call (brought_keys c.args.brought.now) (brought_dropped c.args.brought.now) c.args.turn.now.nest.moment c.state.result.now c.prepare_part.new.part c.prepare_part.new.gone is
+    (c.requires.comes c.turn-step.result.front above) c.prepare_part.ensures.prepares
 
 pub returns-clause-went : goal.returns-clause-went
-returns-clause-went g c = prepared_went g.I.InEnd.told g.I.InEnd.faults g.O.OutEnd.told g.O.OutEnd.faults c.args.config.now c.args.hand.now c.args.cell c.args.signal c.args.call (brought_keys c.args.brought.now) (brought_dropped c.args.brought.now) c.args.nest.moment c.prepare_part.new.gone (returns-clause-prepared g c)
+returns-clause-went g c = prepared_went g.I.InEnd.told g.I.InEnd.faults g.O.OutEnd.told g.O.OutEnd.faults c.args.turn.now.config.now c.args.hand.now c.args.cell c.args.signal c.args.call (brought_keys c.args.brought.now) (brought_dropped c.args.brought.now) c.args.turn.now.nest.moment c.prepare_part.new.gone (returns-clause-prepared g c)
 
 pub returns-clause-same : goal.returns-clause-same
 returns-clause-same g c =
     let at = c.cell_place.ensures in
     let low = c.requires.cell.0 in
-    turn_same c.args.config.now c.args.turns.now c.cell_place.result
-    (leaving c.args.nest.number c.args.nest.moment (max c.args.nest.moment (moment_in c.turn-turn.result.taken.value))
-    (Cell (Prepare c.args.call (added c.of-legs.result.value) (brought_keys c.args.brought.now) (brought_dropped c.args.brought.now))) (gone_left g.O.OutEnd.told c.prepare_part.new.gone)) tt c.args.hand.now c.turn-turn.new.hand c.put_prepare.new.hand c.turn-turn.result c.requires.may
-    (omega (arith, at, low)) c.turn-turn.ensures.same c.turn-turn.ensures.turn.0 c.put_prepare.ensures.same c.put_prepare.ensures.entry
+    turn_same c.args.turn.now.config.now c.args.turn.now.turns.now c.cell_place.result
+    (leaving c.args.turn.now.nest.number c.args.turn.now.nest.moment (max c.args.turn.now.nest.moment (moment_in c.turn-step.result.taken.value))
+    (Cell (Prepare c.args.call (added c.of-legs.result.value) (brought_keys c.args.brought.now) (brought_dropped c.args.brought.now))) (gone_left g.O.OutEnd.told c.prepare_part.new.gone)) tt c.args.hand.now c.turn-step.new.hand c.put_prepare.new.hand c.turn-step.result c.requires.may
+    (omega (arith, at, low)) c.turn-step.ensures.same c.turn-step.ensures.turn.0 c.put_prepare.ensures.same c.put_prepare.ensures.entry
 
 pub returns-clause-home : goal.returns-clause-home
 returns-clause-home g c =
-    prepared_home g.I.InEnd.told g.I.InEnd.faults g.O.OutEnd.told g.O.OutEnd.faults c.args.config.now c.args.turns.now c.args.hand.now c.args.cell c.args.signal c.args.call (brought_keys c.args.brought.now)
-    (brought_dropped c.args.brought.now) c.args.nest.moment c.prepare_part.new.gone c.requires.may c.requires.cell.0 c.requires.cell.1 c.requires.keys (returns-clause-prepared g c)
+    prepared_home g.I.InEnd.told g.I.InEnd.faults g.O.OutEnd.told g.O.OutEnd.faults c.args.turn.now.config.now c.args.turn.now.turns.now c.args.hand.now c.args.cell c.args.signal c.args.call (brought_keys c.args.brought.now)
+    (brought_dropped c.args.brought.now) c.args.turn.now.nest.moment c.prepare_part.new.gone c.requires.may c.requires.cell.0 c.requires.cell.1 c.requires.keys (returns-clause-prepared g c)
 
 pub prepare_part-requires-clause-opened : goal.prepare_part-requires-clause-opened
 prepare_part-requires-clause-opened g c =
-    let is = cell_given g.I.InEnd.told g.I.InEnd.faults g.O.OutEnd.told g.O.OutEnd.faults c.args.config.now c.args.turns.now c.args.hand.now c.args.cell c.cell_place.result
-    c.turn-turn.result.front _ c.state.result.now c.requires.may c.requires.cell.0 c.requires.cell.1 c.requires.keys c.cell_place.ensures c.state.ensures.value
-    c.turn-turn.ensures.turn.1 in
-    opened_for g.I.InEnd.told g.O.OutEnd.told c.args.config.now c.state.result.now _ c.args.signal is.1 c.requires.opened
+    let is = cell_given g.I.InEnd.told g.I.InEnd.faults g.O.OutEnd.told g.O.OutEnd.faults c.args.turn.now.config.now c.args.turn.now.turns.now c.args.hand.now c.args.cell c.cell_place.result
+    c.turn-step.result.front _ c.state.result.now c.requires.may c.requires.cell.0 c.requires.cell.1 c.requires.keys c.cell_place.ensures c.state.ensures.value
+    c.turn-step.ensures.turn.1 in
+    opened_for g.I.InEnd.told g.O.OutEnd.told c.args.turn.now.config.now c.state.result.now _ c.args.signal is.1 c.requires.opened

@@ -1,10 +1,14 @@
-use Rattle.std.proofs.Common.{◌≡◌, ◌∙◌, ◌+◌, ◌++◌, ℕ, List, [], ◌∷◌, ap, sym, subst, refl, length, map, arith}
+use Rattle.std.proofs.Common.{◌≡◌, ◌∙◌, ◌+◌, ◌++◌, ℕ, List, [], ◌∷◌, Some, ap, sym, subst, refl, length, map, arith}
 use Rattle.std.proofs.lemmas.List.{length_push}
+use Rattle.std.specs.Prelude.{slice_get}
 use Rattle.histories.specs.Words.{here}
 use Rattle.port_pool.specs.Ports.{pair_count, pair_port}
 use Rattle.port_pool.specs.declared.pairs.Lease.{Lease}
 use Rattle.port_pool.specs.Pools.{AreFree}
 use Rattle.port_pool.specs.declared.holder.Holder.{Holder}
+use Rattle.offer_answer.specs.Rounds.{Demand}
+use Rattle.offer_answer.specs.Offering.{PlanFor, leg_asked, pair_count as pairs_of_plan}
+use Rattle.offer_answer.specs.declared.plan.Plan.{Plan}
 use Rattle.call_cell.specs.Preparing.{added, parts_added}
 use Rattle.media_ports.specs.Addresses.{pairs_of, HavePorts}
 use Rattle.media_ports.specs.Ends.{AreOpened}
@@ -22,9 +26,9 @@ loop-index-init g c =
     record {
       same = ((refl, refl, refl, refl), λ j. refl);
       may = c.requires.may;
-      gained = subst (λ (legs : List Holder). GainsNested c.args.nest.number c.args.nest.moment (map (opening c.args.config.now) legs) c.args.hand.now c.args.hand.now) (sym none)
-          (gains_nothing c.args.nest.number c.args.nest.moment c.args.hand.now);
-      done = none_done c.args.plan.now c.args.call c.args.cell _ c.args.leases.list c.args.opened.list c.args.legs.now.list (parts_added c.args.prepare.now) none;
+      gained = subst (λ (legs : List Holder). GainsNested c.args.turn.now.nest.number c.args.turn.now.nest.moment (map (opening c.args.turn.now.config.now) legs) c.args.hand.now c.args.hand.now) (sym none)
+          (gains_nothing c.args.turn.now.nest.number c.args.turn.now.nest.moment c.args.hand.now);
+      done = none_done c.args.plan.now.plan c.args.plan.now.call c.args.plan.now.cell _ c.args.leases.list c.args.opened.list c.args.legs.now.list (parts_added c.args.prepare.now) none;
       leased = c.requires.leased.differ;
       shut = c.requires.shut;
       ports = c.requires.leased.ports;
@@ -40,29 +44,29 @@ loop-index-init g c =
 
 pub unwrap-lease-requires : goal.unwrap-lease-requires
 unwrap-lease-requires g c =
-    let low = leases_left _ _ _ _ _ _ _ _ _ _ _ _ c.loop-index.invariant.done (let a = c.loop-index-test.true in let b = c.requires.leases in let d = c.pairs-index-end.ensures.count in omega arith) in
+    let low = leases_left _ _ _ _ _ _ _ _ _ _ _ _ c.loop-index.invariant.done (let a = c.loop-index-test.true in let b = c.requires.leases in let d = c.pairs-index-end.ensures.count in let p = ap pairs_of_plan c.planned-demanded.ensures in omega arith) in
     c.pop.ensures.left.1 low
 
 pub unwrap-ends-requires : goal.unwrap-ends-requires
 unwrap-ends-requires g c =
-    let low = ends_left _ _ _ _ _ _ _ _ _ _ _ _ c.loop-index.invariant.done (let a = c.loop-index-test.true in let b = c.requires.pairs in let d = c.pairs-index-end.ensures.count in omega arith) in
+    let low = ends_left _ _ _ _ _ _ _ _ _ _ _ _ c.loop-index.invariant.done (let a = c.loop-index-test.true in let b = c.requires.pairs in let d = c.pairs-index-end.ensures.count in let p = ap pairs_of_plan c.planned-demanded.ensures in omega arith) in
     c.pop-in-loop-index.ensures.left.1 low
 
 pub open_leg-requires-clause-shut : goal.open_leg-requires-clause-shut
 open_leg-requires-clause-shut g c =
     let rest = c.pop.new.self.list in
     let left = popped c.loop-index.leases.list rest c.pop.result c.unwrap-lease.result c.pop.ensures.list c.unwrap-lease.ensures in
-    subst (AreShut c.args.config.now (made_by c.loop-index.hand)) (pairs_left c.loop-index.leases.list rest c.unwrap-lease.result c.pair.result left c.pair.ensures)
+    subst (AreShut c.args.turn.now.config.now (made_by c.loop-index.hand)) (pairs_left c.loop-index.leases.list rest c.unwrap-lease.result c.pair.result left c.pair.ensures)
     c.loop-index.invariant.shut c.pair.result (here refl)
 
 pub open_leg-requires-clause-port : goal.open_leg-requires-clause-port
 open_leg-requires-clause-port g c =
     let left = popped c.loop-index.leases.list c.pop.new.self.list c.pop.result c.unwrap-lease.result c.pop.ensures.list c.unwrap-lease.ensures in
-    (subst (HavePorts c.args.config.now) left c.loop-index.invariant.ports).0 ∙ ap (pair_port c.args.config.now) (sym c.pair.ensures)
+    (subst (HavePorts c.args.turn.now.config.now) left c.loop-index.invariant.ports).0 ∙ ap (pair_port c.args.turn.now.config.now) (sym c.pair.ensures)
 
 pub open_leg-requires-clause-ends : goal.open_leg-requires-clause-ends
 open_leg-requires-clause-ends g c =
-    let opens = AreOpened g.I.InEnd.told g.O.OutEnd.told c.args.config.now.interface in
+    let opens = AreOpened g.I.InEnd.told g.O.OutEnd.told c.args.turn.now.config.now.interface in
     let ends = c.unwrap-ends.result in
     let open_rest = c.pop-in-loop-index.new.self.list in
     let left = popped c.loop-index.leases.list c.pop.new.self.list c.pop.result c.unwrap-lease.result c.pop.ensures.list c.unwrap-lease.ensures in
@@ -73,9 +77,9 @@ pub loop-index-preserved : goal.loop-index-preserved
 loop-index-preserved g c =
     let inv = c.loop-index.invariant in
     let step = c.open_leg.ensures in
-    let config = c.args.config.now in
-    let number = c.args.nest.number in
-    let moment = c.args.nest.moment in
+    let config = c.args.turn.now.config.now in
+    let number = c.args.turn.now.nest.number in
+    let moment = c.args.turn.now.nest.moment in
     let leg = c.pair_leg-section.result in
     let lease = c.unwrap-lease.result in
     let ends = c.unwrap-ends.result in
@@ -86,8 +90,13 @@ loop-index-preserved g c =
     let new = c.open_leg.new.hand in
     let legs = c.loop-index.legs.list in
     let more = c.open_leg.new.legs.list in
-    let holder = holder_read c.args.call c.args.cell leg c.pair.result c.generation.result in
-    let same_holder : holder ≡ holder_for c.args.call c.args.cell lease leg = holder_same c.args.call c.args.cell lease leg c.pair.result c.generation.result c.pair.ensures c.generation.ensures in
+    let call = c.args.plan.now.call in
+    let cell = c.args.plan.now.cell in
+    let holder = holder_read c.call.result c.cell.result leg c.pair.result c.generation.result in
+    let same_holder : holder ≡ holder_for call cell lease leg = holder_same c.call.result c.cell.result lease leg c.pair.result c.generation.result c.pair.ensures c.generation.ensures
+    ∙ ap (λ (n : ℕ). holder_for n c.cell.result lease leg) c.call.ensures ∙ ap (λ (n : ℕ). holder_for call n lease leg) c.cell.ensures in
+    let says : (asked : Demand) → PlanFor c.args.plan.now.plan asked → slice_get asked.pairs c.loop-index.index ≡ Some (leg_asked leg) =
+    λ asked demands. c.pair_leg-section.ensures asked (subst (λ (q : Plan). PlanFor q asked) (sym c.planned-demanded.ensures) demands) in
     let left = popped c.loop-index.leases.list rest c.pop.result lease c.pop.ensures.list c.unwrap-lease.ensures in
     let open_left = popped c.loop-index.opened.list open_rest c.pop-in-loop-index.result ends c.pop-in-loop-index.ensures.list c.unwrap-ends.ensures in
     let pairs = pairs_left c.loop-index.leases.list rest lease c.pair.result left c.pair.ensures in
@@ -97,11 +106,11 @@ loop-index-preserved g c =
       same = (same_again old mid new inv.same.0 step.same.0, λ j. step.same.1 j ∙ inv.same.1 j);
       may = step.may;
       gained = gains_leg config number moment legs more holder old mid new more_is inv.gained step.gained;
-      done = one_done c.args.plan.now c.args.call c.args.cell
+      done = one_done c.args.plan.now.plan call cell
           (IsOpened g.I.InEnd.told g.I.InEnd.faults g.O.OutEnd.told g.O.OutEnd.faults config number moment old)
           c.args.leases.list c.loop-index.leases.list rest c.args.opened.list c.loop-index.opened.list open_rest c.loop-index.index legs more (parts_added c.args.prepare.now)
-          (parts_added c.loop-index.prepare) (parts_added c.open_leg.new.prepare) lease ends leg inv.done left open_left c.pair_leg-section.ensures
-          (opened_since g.I.InEnd.told g.I.InEnd.faults g.O.OutEnd.told g.O.OutEnd.faults config number moment old mid (holder_for c.args.call c.args.cell lease leg) ends inv.same.0
+          (parts_added c.loop-index.prepare) (parts_added c.open_leg.new.prepare) lease ends leg inv.done left open_left says
+          (opened_since g.I.InEnd.told g.I.InEnd.faults g.O.OutEnd.told g.O.OutEnd.faults config number moment old mid (holder_for call cell lease leg) ends inv.same.0
           (subst (λ (h : Holder). IsOpened g.I.InEnd.told g.I.InEnd.faults g.O.OutEnd.told g.O.OutEnd.faults config number moment mid h ends) same_holder step.opened))
           (more_is ∙ ap (λ (h : Holder). legs ++ h ∷ []) same_holder) step.parts;
       leased = free.2;
@@ -120,13 +129,14 @@ loop-index-preserved g c =
 
 pub returns-clause-legs : goal.returns-clause-legs
 returns-clause-legs g c =
-    all_legs _ _ _ _ _ _ _ _ _ _ _ _ c.loop-index.invariant.done (let a = c.loop-index-test.false in let b = c.requires.leases in let d = c.pairs-index-end.ensures.count in let e = c.loop-index.auto.index-end in omega arith)
+    all_legs _ _ _ _ _ _ _ _ _ _ _ _ c.loop-index.invariant.done (let a = c.loop-index-test.false in let b = c.requires.leases in let d = c.pairs-index-end.ensures.count in let p = ap pairs_of_plan c.planned-demanded.ensures in let e = c.loop-index.auto.index-end in omega arith)
 
 pub returns-clause-opened : goal.returns-clause-opened
 returns-clause-opened g c =
-    all_opened _ _ _ _ _ _ _ _ _ _ _ _ c.loop-index.invariant.done (let a = c.loop-index-test.false in let b = c.requires.pairs in let d = c.pairs-index-end.ensures.count in let e = c.loop-index.auto.index-end in omega arith)
+    all_opened _ _ _ _ _ _ _ _ _ _ _ _ c.loop-index.invariant.done (let a = c.loop-index-test.false in let b = c.requires.pairs in let d = c.pairs-index-end.ensures.count in let p = ap pairs_of_plan c.planned-demanded.ensures in let e = c.loop-index.auto.index-end in omega arith)
 
 pub returns-clause-parts : goal.returns-clause-parts
 returns-clause-parts g c =
     let d = c.pairs-index-end.ensures.count in
+    let p = ap pairs_of_plan c.planned-demanded.ensures in
     all_parts _ _ _ _ _ _ _ _ _ _ _ _ c.loop-index.invariant.done (omega arith) (omega arith)

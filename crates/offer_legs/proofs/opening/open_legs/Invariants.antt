@@ -16,14 +16,14 @@ use Rattle.offer_legs.proofs.opening.open_legs.Given as goal
 abbrev pub invariant-loop-index : goal.invariant-loop-index
 invariant-loop-index g l = record {
   same : IsSameHand l.initial.hand l.hand × SameTurns l.initial.hand l.hand;
-  may : MayNest l.config l.turns l.hand;
-  gained : GainsNested l.nest.number l.nest.moment (map (opening l.config) l.legs.list) l.initial.hand l.hand;
-  done : AreDone l.plan l.call l.cell (IsOpened g.I.InEnd.told g.I.InEnd.faults g.O.OutEnd.told g.O.OutEnd.faults l.config l.nest.number l.nest.moment l.initial.hand)
+  may : MayNest l.turn.config.now l.turn.turns.now l.hand;
+  gained : GainsNested l.turn.nest.number l.turn.nest.moment (map (opening l.turn.config.now) l.legs.list) l.initial.hand l.hand;
+  done : AreDone l.plan.plan l.plan.call l.plan.cell (IsOpened g.I.InEnd.told g.I.InEnd.faults g.O.OutEnd.told g.O.OutEnd.faults l.turn.config.now l.turn.nest.number l.turn.nest.moment l.initial.hand)
       l.initial.leases.list l.leases.list l.initial.opened.list l.opened.list l.index l.legs.list (parts_added l.initial.prepare) (parts_added l.prepare);
-  leased : AreFree (pair_count l.config) (pairs_of l.leases.list);
-  shut : AreShut l.config (made_by l.hand) (pairs_of l.leases.list);
-  ports : HavePorts l.config l.leases.list;
-  opened : AreOpened g.I.InEnd.told g.O.OutEnd.told l.config.interface l.leases.list l.opened.list;
+  leased : AreFree (pair_count l.turn.config.now) (pairs_of l.leases.list);
+  shut : AreShut l.turn.config.now (made_by l.hand) (pairs_of l.leases.list);
+  ports : HavePorts l.turn.config.now l.leases.list;
+  opened : AreOpened g.I.InEnd.told g.O.OutEnd.told l.turn.config.now.interface l.leases.list l.opened.list;
   added : added l.prepare ≡ added l.initial.prepare ++ l.legs.list;
   stands : (keys : List NewKey) (dropped : List ℕ) → PrepareFor l.initial.prepare keys dropped → PrepareFor l.prepare keys dropped;
   leg_room : leg_room l.prepare + l.index ≡ leg_room l.initial.prepare;

@@ -1,4 +1,4 @@
-use Rattle.std.proofs.Common.{◌∙◌, ◌++◌, refl, sym, ap, subst, ℕ, ◌*◌, true, List, length, take, replicate, arith}
+use Rattle.std.proofs.Common.{◌≡◌, ◌∙◌, ◌++◌, refl, sym, ap, subst, ℕ, ◌*◌, true, List, length, take, replicate, arith}
 use Rattle.std.proofs.lemmas.List.{length-map}
 use Rattle.turn_table.specs.Hands.{entries}
 use Rattle.offer_answer.specs.Offering.{pair_count, key_count}
@@ -11,162 +11,252 @@ use Rattle.call_board.proofs.Entries.{draws_keep}
 use Rattle.relay_core.specs.Entries.{board_history}
 use Rattle.relay_core.specs.Turning.{made_by}
 use Rattle.relay_core.proofs.Histories.{good_history}
+use Rattle.media_ports.specs.Held.{TellsHeld}
 use Rattle.media_ports.proofs.Asked.{gained_opens_alone}
+use Rattle.nested_steps.proofs.Nesting.{same_again}
 use Rattle.board_turns.specs.Ending.{leg_pairs}
-use Rattle.board_turns.proofs.Tying.{ties_both, ties_uncalled}
+use Rattle.board_turns.proofs.Ended.{ports_are as have_ports}
+use Rattle.board_turns.proofs.Tying.{ties_both, ties_gone, ties_uncalled}
+use Rattle.board_turns.proofs.Unopened.{gone_open_none}
 use Rattle.offer_leases.specs.Leasing.{with_taken}
 use Rattle.offer_leases.specs.Undoing.{keys_before}
 use Rattle.offer_leases.proofs.Asked.{gained_pairs, gained_undone}
 use Rattle.offer_leases.proofs.Counted.{plan_few, may_lease}
-use Rattle.offer_turns.specs.Offers.{target_of, offer_of, leased_view, text_of}
+use Rattle.offer_turns.specs.Offers.{target_of, offer_of, dropped_legs, leased_view, next_key, demand_of, text_of, with_offer}
 use Rattle.offer_turns.proofs.Kept.{both_held}
-use Rattle.offer_turns.proofs.Leased.{are_fronts}
-use Rattle.offer_turns.proofs.Targets.{pairs_count}
+use Rattle.offer_turns.proofs.Leased.{are_fronts, pairs_leased}
+use Rattle.offer_turns.proofs.Taken.{ports_are, pairs_of_legs}
+use Rattle.offer_turns.proofs.Done.{can_close, does_offer, keys_length}
+use Rattle.offer_turns.proofs.Targets.{pairs_count, keys_count}
 use Rattle.offer_turns.proofs.Limits.{sound_of, some_due, enough_free, may_apply, due_leased, board_history_short}
 use Rattle.offer_turns.proofs.Undone.{does_undone}
 use Rattle.offer_turns.proofs.offering.offer_act.Goals as goal
 
 pub lease_offer-requires-clause-can : goal.lease_offer-requires-clause-can
 lease_offer-requires-clause-can g c =
-    let config = c.args.config.now in
+    let config = c.args.turn.now.config.now in
     let l = made_by c.args.hand.now in
-    let h = board_history l c.args.nest.number in
+    let h = board_history l c.args.turn.now.nest.number in
     let turn = c.requires.turn in
     let id = c.requires.due.0 in
     let ask = c.requires.due.1 in
-    let d = some_due config h id ask c.args.sdp.now c.args.plan c.requires.due.2 in
-    let few = plan_few c.args.plan (target_of config h id).rounds ask d.plans.1.plan_for.demands (sound_of config h id ask c.args.plan _ d) in
-    let short = board_history_short l c.args.nest.number turn.may.numbered in
+    let d = some_due config h id ask c.args.offer.sdp.now c.args.offer.plan c.requires.due.2 in
+    let few = plan_few c.args.offer.plan (target_of config h id).rounds ask d.plans.1.plan_for.demands (sound_of config h id ask c.args.offer.plan _ d) in
+    let short = board_history_short l c.args.turn.now.nest.number turn.may.numbered in
     let low = turn.low in
-    may_lease config h c.args.board.now (g.P.PortMaker.told c.args.ports.now) c.args.plan (at_moment (view_of config h) c.args.nest.moment) (good_history config l turn.orderly c.args.nest.number)
+    may_lease config h c.args.board.now (g.P.PortMaker.told c.args.ports.now) c.args.offer.plan (at_moment (view_of config h) c.args.turn.now.nest.moment) (good_history config l turn.orderly c.args.turn.now.nest.number)
     (omega (arith, short, low)) c.requires.planned few.0 few.1 turn.shows refl refl refl turn.opens
 
-pub take_in-requires-clause-due : goal.take_in-requires-clause-due
-take_in-requires-clause-due g c =
-    let h = board_history (made_by c.args.hand.now) c.args.nest.number in
+pub prepare_offer-requires-clause-due : goal.prepare_offer-requires-clause-due
+prepare_offer-requires-clause-due g c =
+    let h = board_history (made_by c.args.hand.now) c.args.turn.now.nest.number in
     let id = c.requires.due.0 in
     let ask = c.requires.due.1 in (
       id,
       ask,
-      due_leased c.args.config.now h id ask c.args.plan c.in-Ok.leased.plan c.in-Ok.leased.drawn.list c.in-Ok.ensures.plan
+      due_leased c.args.turn.now.config.now h id ask c.args.offer.plan c.in-Ok.leased.plan c.in-Ok.leased.drawn.list c.in-Ok.ensures.plan
           (c.requires.due.2.due c.in-Ok.leased.drawn.list c.in-Ok.ensures.keys),
     )
 
-pub take_in-requires-clause-leases : goal.take_in-requires-clause-leases
-take_in-requires-clause-leases g c =
-    let config = c.args.config.now in
-    let h = board_history (made_by c.args.hand.now) c.args.nest.number in
-    c.in-Ok.ensures.leases (at_moment (view_of config h) c.args.nest.moment) c.requires.turn.shows
+pub prepare_offer-requires-clause-leases : goal.prepare_offer-requires-clause-leases
+prepare_offer-requires-clause-leases g c =
+    let config = c.args.turn.now.config.now in
+    let h = board_history (made_by c.args.hand.now) c.args.turn.now.nest.number in
+    c.in-Ok.ensures.leases (at_moment (view_of config h) c.args.turn.now.nest.moment) c.requires.turn.shows
     ∙ ap (λ (q : BoardPlan). leases_of config (view_of config h) (pair_count q.plan)) (sym c.in-Ok.ensures.plan)
 
-pub take_in-requires-clause-first : goal.take_in-requires-clause-first
-take_in-requires-clause-first g c =
-    let config = c.args.config.now in
-    let h = board_history (made_by c.args.hand.now) c.args.nest.number in
-    c.in-Ok.ensures.first (at_moment (view_of config h) c.args.nest.moment) c.requires.turn.shows
-
-pub take_in-requires-clause-shows : goal.take_in-requires-clause-shows
-take_in-requires-clause-shows g c =
-    let config = c.args.config.now in
-    let h = board_history (made_by c.args.hand.now) c.args.nest.number in
-    let board = c.lease_offer.new.board in
-    subst (λ (q : BoardPlan). Shows config board (leased_view config h c.args.nest.moment (pair_count q.plan) (key_count q.plan))) (sym c.in-Ok.ensures.plan)
-    (subst (λ (k : ℕ). Shows config board (leased_view config h c.args.nest.moment (pair_count c.args.plan.plan) k)) c.in-Ok.ensures.keys
-    (c.in-Ok.ensures.taken (at_moment (view_of config h) c.args.nest.moment) c.requires.turn.shows))
-
-pub take_in-requires-clause-applies : goal.take_in-requires-clause-applies
-take_in-requires-clause-applies g c =
-    let config = c.args.config.now in
-    let l = made_by c.args.hand.now in
-    let h = board_history l c.args.nest.number in
-    let turn = c.requires.turn in
-    let id = c.requires.due.0 in
-    let ask = c.requires.due.1 in
-    let draws = c.in-Ok.leased.drawn.list in
-    let d = due_leased config h id ask c.args.plan c.in-Ok.leased.plan draws c.in-Ok.ensures.plan (c.requires.due.2.due draws c.in-Ok.ensures.keys) in
-    let v = at_moment (view_of config h) c.args.nest.moment in
-    let keep = draws_keep (with_leases v (pair_count c.args.plan.plan)) (length draws) in
-    let short = board_history_short l c.args.nest.number turn.may.numbered in
-    let low = turn.low in
-    may_apply config h id ask c.in-Ok.leased.plan c.args.board.now c.lease_offer.new.board (with_taken v (pair_count c.args.plan.plan) (length draws))
-    (good_history config l turn.orderly c.args.nest.number) (c.in-Ok.ensures.taken v turn.shows) keep.calls_are keep.begun_is (omega (arith, short, low)) c.lease_offer.ensures.calls d.plans.1
-    (subst (λ (q : BoardPlan). CallRoom c.args.board.now q.begun) (sym c.in-Ok.ensures.plan) c.requires.planned.call)
-
-pub take_in-requires-clause-opens : goal.take_in-requires-clause-opens
-take_in-requires-clause-opens g c =
-    let pairs = leg_pairs (held (board_history (made_by c.args.hand.now) c.args.nest.number)) in
-    let more = pairs_in c.in-Ok.leased.leases.list in
-    c.in-Ok.ensures.are_open pairs (more ++ pairs) c.requires.turn.opens (both_held pairs more)
-
-pub returns-in-Ok-clause-does : goal.returns-in-Ok-clause-does
-returns-in-Ok-clause-does g c id ask can e fits acts now =
-    let h = board_history (made_by c.args.hand.now) c.args.nest.number in
-    c.take_in.ensures.does id ask (due_leased c.args.config.now h id ask c.args.plan c.in-Ok.leased.plan c.in-Ok.leased.drawn.list c.in-Ok.ensures.plan
-    (can.due c.in-Ok.leased.drawn.list c.in-Ok.ensures.keys)) e fits acts now
-
-pub returns-in-Ok-clause-text : goal.returns-in-Ok-clause-text
-returns-in-Ok-clause-text g c id ask can =
-    let config = c.args.config.now in
-    let h = board_history (made_by c.args.hand.now) c.args.nest.number in
-    c.take_in.ensures.text id ask (due_leased config h id ask c.args.plan c.in-Ok.leased.plan c.in-Ok.leased.drawn.list c.in-Ok.ensures.plan
-    (can.due c.in-Ok.leased.drawn.list c.in-Ok.ensures.keys)) can.lines_are
-    ∙ ap (λ (xs : List ℕ). xs ++ text_of config h id (offer_of config h id ask c.in-Ok.leased.drawn.list)) c.requires.room.text.0
+pub prepare_offer-requires-clause-first : goal.prepare_offer-requires-clause-first
+prepare_offer-requires-clause-first g c =
+    let config = c.args.turn.now.config.now in
+    let h = board_history (made_by c.args.hand.now) c.args.turn.now.nest.number in
+    c.in-Ok.ensures.first (at_moment (view_of config h) c.args.turn.now.nest.moment) c.requires.turn.shows
 
 pub returns-in-Err-clause-undoes : goal.returns-in-Err-clause-undoes
 returns-in-Err-clause-undoes g c id ask can e code acts =
-    let config = c.args.config.now in
-    let h = board_history (made_by c.args.hand.now) c.args.nest.number in
-    let v = at_moment (view_of config h) c.args.nest.moment in
+    let config = c.args.turn.now.config.now in
+    let h = board_history (made_by c.args.hand.now) c.args.turn.now.nest.number in
+    let v = at_moment (view_of config h) c.args.turn.now.nest.moment in
     let turn = c.requires.turn in
-    let d = some_due config h id ask c.args.sdp.now c.args.plan can in
-    does_undone config c.args.hand.now c.args.nest e c.lease_offer.new.board (g.P.PortMaker.told c.lease_offer.new.ports) id ask code (keys_before c.in-Err.fault) (pair_count c.args.plan.plan) acts
-    (ap (λ (n : ℕ). take n (free config h)) (sym (pairs_count config h id ask c.args.plan d.plans.1)))
-    (enough_free config h c.args.board.now c.args.plan v turn.shows refl c.requires.planned)
+    let d = some_due config h id ask c.args.offer.sdp.now c.args.offer.plan can in
+    does_undone config c.args.hand.now c.args.turn.now.nest e c.lease_offer.new.board (g.P.PortMaker.told c.lease_offer.new.ports) id ask code (keys_before c.in-Err.fault) (pair_count c.args.offer.plan.plan) acts
+    (ap (λ (n : ℕ). take n (free config h)) (sym (pairs_count config h id ask c.args.offer.plan d.plans.1)))
+    (enough_free config h c.args.board.now c.args.offer.plan v turn.shows refl c.requires.planned)
     (c.in-Err.ensures.undone v turn.shows) (c.in-Err.ensures.still_open (leg_pairs (held h)) turn.opens)
-
-pub returns-in-Ok-clause-within : goal.returns-in-Ok-clause-within
-returns-in-Ok-clause-within g c =
-    let within = c.take_in.ensures.within in
-    let none = ap length c.requires.room.text.0 in
-    let same = ap (λ (q : BoardPlan). q.plan.reply_len) c.in-Ok.ensures.plan in
-    omega (arith, within, none, same)
-
-pub returns-in-Ok-clause-opens : goal.returns-in-Ok-clause-opens
-returns-in-Ok-clause-opens g c =
-    let told = g.P.PortMaker.told in
-    let config = c.args.config.now in
-    let l = made_by c.args.hand.now in
-    let h = board_history l c.args.nest.number in
-    let v = at_moment (view_of config h) c.args.nest.moment in
-    let pairs = pair_count c.args.plan.plan in
-    let turn = c.requires.turn in
-    let leases = c.in-Ok.leased.leases.list in
-    let are = are_fronts config h pairs leases (good_history config l turn.orderly c.args.nest.number) (c.in-Ok.ensures.leases v turn.shows) c.in-Ok.ensures.pairs in
-    gained_opens_alone config (free config h) (replicate (2 * pairs) true) (told c.args.ports.now) (told c.lease_offer.new.ports) (told c.take_in.new.ports)
-    (gained_pairs config (free config h) pairs leases are (told c.args.ports.now) (told c.lease_offer.new.ports) c.in-Ok.ensures.opens) c.take_in.ensures.closes
 
 pub returns-in-Err-clause-opens_before : goal.returns-in-Err-clause-opens_before
 returns-in-Err-clause-opens_before g c =
     let told = g.P.PortMaker.told in
-    let config = c.args.config.now in
+    let config = c.args.turn.now.config.now in
     let l = made_by c.args.hand.now in
-    let h = board_history l c.args.nest.number in
-    let v = at_moment (view_of config h) c.args.nest.moment in
-    let pairs = pair_count c.args.plan.plan in
+    let h = board_history l c.args.turn.now.nest.number in
+    let v = at_moment (view_of config h) c.args.turn.now.nest.moment in
+    let pairs = pair_count c.args.offer.plan.plan in
     let turn = c.requires.turn in
     let leases = leases_of config v pairs in
-    let many = length-map (take pairs (free config h)) (lease_at config v.leases) ∙ enough_free config h c.args.board.now c.args.plan v turn.shows refl c.requires.planned in
-    gained_undone config (free config h) pairs leases (are_fronts config h pairs leases (good_history config l turn.orderly c.args.nest.number) refl many) (key_count c.args.plan.plan) c.in-Err.fault
+    let many = length-map (take pairs (free config h)) (lease_at config v.leases) ∙ enough_free config h c.args.board.now c.args.offer.plan v turn.shows refl c.requires.planned in
+    gained_undone config (free config h) pairs leases (are_fronts config h pairs leases (good_history config l turn.orderly c.args.turn.now.nest.number) refl many) (key_count c.args.offer.plan.plan) c.in-Err.fault
     (told c.args.ports.now) (told c.lease_offer.new.ports) c.in-Err.ensures.early (c.in-Err.ensures.closes v turn.shows)
-
-pub returns-in-Ok-clause-ties : goal.returns-in-Ok-clause-ties
-returns-in-Ok-clause-ties g c =
-    let config = c.args.config.now in
-    let told = g.P.PortMaker.told in
-    let rows = entries c.args.hand.now in
-    ties_both config (told c.args.ports.now) (told c.lease_offer.new.ports) (told c.take_in.new.ports) rows rows (entries c.take_in.new.hand)
-    (ties_uncalled config (told c.args.ports.now) (told c.lease_offer.new.ports) rows c.lease_offer.ensures.gives_back) c.take_in.ensures.ties
 
 pub returns-in-Err-clause-ties : goal.returns-in-Err-clause-ties
 returns-in-Err-clause-ties g c =
-    ties_uncalled c.args.config.now (g.P.PortMaker.told c.args.ports.now) (g.P.PortMaker.told c.lease_offer.new.ports) (entries c.args.hand.now) c.lease_offer.ensures.gives_back
+    ties_uncalled c.args.turn.now.config.now (g.P.PortMaker.told c.args.ports.now) (g.P.PortMaker.told c.lease_offer.new.ports) (entries c.args.hand.now) c.lease_offer.ensures.gives_back
+
+pub apply_offer-requires-clause-may : goal.apply_offer-requires-clause-may
+apply_offer-requires-clause-may g c =
+    let config = c.args.turn.now.config.now in
+    let l = made_by c.args.hand.now in
+    let h = board_history l c.args.turn.now.nest.number in
+    let turn = c.requires.turn in
+    let id = c.requires.due.0 in
+    let ask = c.requires.due.1 in
+    let draws = c.in-Ok.leased.drawn.list in
+    let d = due_leased config h id ask c.args.offer.plan c.in-Ok.leased.plan draws c.in-Ok.ensures.plan (c.requires.due.2.due draws c.in-Ok.ensures.keys) in
+    let v = at_moment (view_of config h) c.args.turn.now.nest.moment in
+    let keep = draws_keep (with_leases v (pair_count c.args.offer.plan.plan)) (length draws) in
+    let short = board_history_short l c.args.turn.now.nest.number turn.may.numbered in
+    let low = turn.low in
+    may_apply config h id ask c.in-Ok.leased.plan c.args.board.now c.lease_offer.new.board (with_taken v (pair_count c.args.offer.plan.plan) (length draws))
+    (good_history config l turn.orderly c.args.turn.now.nest.number) (c.in-Ok.ensures.taken v turn.shows) keep.calls_are keep.begun_is (omega (arith, short, low)) c.lease_offer.ensures.calls d.plans.1
+    (subst (λ (q : BoardPlan). CallRoom c.args.board.now q.begun) (sym c.in-Ok.ensures.plan) c.requires.planned.call)
+
+pub close_legs-requires-clause-can : goal.close_legs-requires-clause-can
+close_legs-requires-clause-can g c =
+    let config = c.args.turn.now.config.now in
+    let l = made_by c.args.hand.now in
+    let nest = c.args.turn.now.nest in
+    let h = board_history l nest.number in
+    let turn = c.requires.turn in
+    let good = good_history config l turn.orderly nest.number in
+    let id = c.requires.due.0 in
+    let ask = c.requires.due.1 in
+    let p = c.in-Ok.leased.plan in
+    let leases = c.in-Ok.leased.leases.list in
+    let draws = c.in-Ok.leased.drawn.list in
+    let told = g.P.PortMaker.told c.lease_offer.new.ports in
+    let board = c.lease_offer.new.board in
+    let d = due_leased config h id ask c.args.offer.plan p draws c.in-Ok.ensures.plan (c.requires.due.2.due draws c.in-Ok.ensures.keys) in
+    let count = pair_count p.plan in
+    let v = at_moment (view_of config h) nest.moment in
+    let fronts = c.in-Ok.ensures.leases v turn.shows ∙ ap (λ (q : BoardPlan). leases_of config (view_of config h) (pair_count q.plan)) (sym c.in-Ok.ensures.plan) in
+    let first = c.in-Ok.ensures.first v turn.shows in
+    let shows =
+    subst (λ (q : BoardPlan). Shows config board (leased_view config h nest.moment (pair_count q.plan) (key_count q.plan))) (sym c.in-Ok.ensures.plan)
+    (subst (λ (k : ℕ). Shows config board (leased_view config h nest.moment (pair_count c.args.offer.plan.plan) k)) c.in-Ok.ensures.keys (c.in-Ok.ensures.taken v turn.shows)) in
+    let others = leg_pairs (held h) in
+    let more = pairs_in leases in
+    let opens = c.in-Ok.ensures.are_open others (more ++ others) turn.opens (both_held others more) in
+    let same = pairs_count config h id ask p d.plans.1 in
+    let keep = draws_keep (with_leases v count) (key_count p.plan) in
+    let ports = c.as_slice.ensures.value ∙ c.list_ports.ensures ∙ ports_are config h id ask draws count leases fronts same in
+    let pairs : pairs_in leases ≡ leg_pairs (offer_of config h id ask draws).legs =
+    pairs_leased config h count leases fronts ∙ ap (λ (n : ℕ). take n (free config h)) same ∙ sym (pairs_of_legs config h id ask draws) in
+    can_close config nest.number nest.moment c.args.hand.now c.prepare_offer.new.hand c.apply_offer.new.board told id ask p draws count (key_count p.plan)
+    c.prepare_offer.new.gone turn.orderly turn.above d (c.prepare_offer.ensures.gained id ask d) (c.prepare_offer.ensures.went id ask d)
+    (c.apply_offer.ensures.taken config h id ask (leased_view config h nest.moment count (key_count p.plan)) good d first ports shows keep.calls_are keep.begun_is)
+    (subst (λ (ps : List ℕ). TellsHeld config told (ps ++ leg_pairs (held h))) pairs opens)
+
+pub returns-clause-does : goal.returns-clause-does
+returns-clause-does g c id ask can e fits acts now =
+    let config = c.args.turn.now.config.now in
+    let l = made_by c.args.hand.now in
+    let nest = c.args.turn.now.nest in
+    let h = board_history l nest.number in
+    let turn = c.requires.turn in
+    let good = good_history config l turn.orderly nest.number in
+    let p = c.in-Ok.leased.plan in
+    let leases = c.in-Ok.leased.leases.list in
+    let draws = c.in-Ok.leased.drawn.list in
+    let told = g.P.PortMaker.told c.lease_offer.new.ports in
+    let board = c.lease_offer.new.board in
+    let d = due_leased config h id ask c.args.offer.plan p draws c.in-Ok.ensures.plan (can.due draws c.in-Ok.ensures.keys) in
+    let count = pair_count p.plan in
+    let v = at_moment (view_of config h) nest.moment in
+    let fronts = c.in-Ok.ensures.leases v turn.shows ∙ ap (λ (q : BoardPlan). leases_of config (view_of config h) (pair_count q.plan)) (sym c.in-Ok.ensures.plan) in
+    let first = c.in-Ok.ensures.first v turn.shows in
+    let before =
+    subst (λ (q : BoardPlan). Shows config board (leased_view config h nest.moment (pair_count q.plan) (key_count q.plan))) (sym c.in-Ok.ensures.plan)
+    (subst (λ (k : ℕ). Shows config board (leased_view config h nest.moment (pair_count c.args.offer.plan.plan) k)) c.in-Ok.ensures.keys (c.in-Ok.ensures.taken v turn.shows)) in
+    let others = leg_pairs (held h) in
+    let more = pairs_in leases in
+    let opens = c.in-Ok.ensures.are_open others (more ++ others) turn.opens (both_held others more) in
+    let same = pairs_count config h id ask p d.plans.1 in
+    let keep = draws_keep (with_leases v count) (key_count p.plan) in
+    let ports = c.as_slice.ensures.value ∙ c.list_ports.ensures ∙ ports_are config h id ask draws count leases fronts same in
+    let pairs : pairs_in leases ≡ leg_pairs (offer_of config h id ask draws).legs =
+    pairs_leased config h count leases fronts ∙ ap (λ (n : ℕ). take n (free config h)) same ∙ sym (pairs_of_legs config h id ask draws) in
+    let counted = c.in-Ok.ensures.pairs ∙ ap (λ (q : BoardPlan). pair_count q.plan) (sym c.in-Ok.ensures.plan) in
+    let drawn = c.in-Ok.ensures.keys ∙ ap (λ (q : BoardPlan). key_count q.plan) (sym c.in-Ok.ensures.plan) in
+    let many : length (take count (free config h)) ≡ count =
+    sym (length-map (take count (free config h)) (lease_at config (view_of config h).leases)) ∙ sym (ap length fronts) ∙ counted in
+    let shows = c.apply_offer.ensures.taken config h id ask (leased_view config h nest.moment count (key_count p.plan)) good d first ports before keep.calls_are keep.begun_is in
+    does_offer config c.args.hand.now c.prepare_offer.new.hand c.close_legs.new.hand nest e c.close_legs.new.board (g.P.PortMaker.told c.close_legs.new.ports) id ask draws count (key_count p.plan)
+    c.prepare_offer.new.gone turn.orderly fits acts now
+    (ap (λ (n : ℕ). length (take n (free config h))) (sym same) ∙ many)
+    (keys_length (next_key h) draws (demand_of config h id ask).keys (drawn ∙ keys_count config h id ask p d.plans.1) ∙ drawn)
+    (c.prepare_offer.ensures.went id ask d) (c.prepare_offer.ensures.gained id ask d) c.close_legs.ensures.gained
+    (c.close_legs.ensures.returned config (with_offer (offer_of config h id ask draws) nest.moment (leased_view config h nest.moment count (key_count p.plan))) shows)
+    (c.close_legs.ensures.«open» (leg_pairs (offer_of config h id ask draws).legs ++ leg_pairs (held h))
+    (subst (λ (ps : List ℕ). TellsHeld config told (ps ++ leg_pairs (held h))) pairs opens))
+
+pub returns-clause-text : goal.returns-clause-text
+returns-clause-text g c id ask can =
+    let config = c.args.turn.now.config.now in
+    let l = made_by c.args.hand.now in
+    let nest = c.args.turn.now.nest in
+    let h = board_history l nest.number in
+    let turn = c.requires.turn in
+    let p = c.in-Ok.leased.plan in
+    let leases = c.in-Ok.leased.leases.list in
+    let draws = c.in-Ok.leased.drawn.list in
+    let d = due_leased config h id ask c.args.offer.plan p draws c.in-Ok.ensures.plan (can.due draws c.in-Ok.ensures.keys) in
+    let v = at_moment (view_of config h) nest.moment in
+    let fronts = c.in-Ok.ensures.leases v turn.shows ∙ ap (λ (q : BoardPlan). leases_of config (view_of config h) (pair_count q.plan)) (sym c.in-Ok.ensures.plan) in
+    let ports = c.as_slice.ensures.value ∙ c.list_ports.ensures ∙ ports_are config h id ask draws (pair_count p.plan) leases fronts (pairs_count config h id ask p d.plans.1) in
+    c.apply_offer.ensures.text config h id ask (good_history config l turn.orderly nest.number) d (c.in-Ok.ensures.first v turn.shows) ports can.lines_are
+    ∙ ap (λ (xs : List ℕ). xs ++ text_of config h id (offer_of config h id ask draws)) c.requires.room.text.0
+
+pub returns-clause-within : goal.returns-clause-within
+returns-clause-within g c =
+    let within = c.apply_offer.ensures.within in
+    let none = ap length c.requires.room.text.0 in
+    let same = ap (λ (q : BoardPlan). q.plan.reply_len) c.in-Ok.ensures.plan in
+    omega (arith, within, none, same)
+
+pub returns-clause-opens : goal.returns-clause-opens
+returns-clause-opens g c =
+    let told = g.P.PortMaker.told in
+    let config = c.args.turn.now.config.now in
+    let l = made_by c.args.hand.now in
+    let nest = c.args.turn.now.nest in
+    let h = board_history l nest.number in
+    let v = at_moment (view_of config h) nest.moment in
+    let pairs = pair_count c.args.offer.plan.plan in
+    let turn = c.requires.turn in
+    let leases = c.in-Ok.leased.leases.list in
+    let are = are_fronts config h pairs leases (good_history config l turn.orderly nest.number) (c.in-Ok.ensures.leases v turn.shows) c.in-Ok.ensures.pairs in
+    gained_opens_alone config (free config h) (replicate (2 * pairs) true) (told c.args.ports.now) (told c.lease_offer.new.ports) (told c.close_legs.new.ports)
+    (gained_pairs config (free config h) pairs leases are (told c.args.ports.now) (told c.lease_offer.new.ports) c.in-Ok.ensures.opens)
+    (gone_open_none g.P.Out.OutEnd.told config.interface c.prepare_offer.new.gone (told c.lease_offer.new.ports) (told c.close_legs.new.ports) c.close_legs.ensures.closes)
+
+pub returns-clause-same : goal.returns-clause-same
+returns-clause-same g c = (
+  same_again c.args.hand.now c.prepare_offer.new.hand c.close_legs.new.hand c.prepare_offer.ensures.same.0 c.close_legs.ensures.same.0,
+  λ j. c.close_legs.ensures.same.1 j ∙ c.prepare_offer.ensures.same.1 j,
+)
+
+pub returns-clause-ties : goal.returns-clause-ties
+returns-clause-ties g c =
+    let config = c.args.turn.now.config.now in
+    let told = g.P.PortMaker.told in
+    let rows = entries c.args.hand.now in
+    let h = board_history (made_by c.args.hand.now) c.args.turn.now.nest.number in
+    let id = c.requires.due.0 in
+    let ask = c.requires.due.1 in
+    let draws = c.in-Ok.leased.drawn.list in
+    let d = due_leased config h id ask c.args.offer.plan c.in-Ok.leased.plan draws c.in-Ok.ensures.plan (c.requires.due.2.due draws c.in-Ok.ensures.keys) in
+    let gone = c.prepare_offer.new.gone in
+    ties_both config (told c.args.ports.now) (told c.lease_offer.new.ports) (told c.close_legs.new.ports) rows rows (entries c.close_legs.new.hand)
+    (ties_uncalled config (told c.args.ports.now) (told c.lease_offer.new.ports) rows c.lease_offer.ensures.gives_back)
+    (ties_gone g.P.Out.OutEnd.told config (told c.lease_offer.new.ports) (told c.close_legs.new.ports) rows (entries c.prepare_offer.new.hand) (entries c.close_legs.new.hand) gone
+    (have_ports config gone (dropped_legs h (offer_of config h id ask draws)) (c.prepare_offer.ensures.went id ask d))
+    c.prepare_offer.ensures.leave c.close_legs.ensures.takes c.close_legs.ensures.closes)

@@ -1,7 +1,7 @@
 use Rattle.std.proofs.Common.{◌≡◌, ◌∙◌, ◌≤◌, refl, ap, sym, subst, ◌++◌, List, [], length, arith}
 use Rattle.offer_answer.specs.Offering.{PlanFor, pair_count, key_count}
 use Rattle.offer_answer.specs.declared.plan.Plan.{Plan}
-use Rattle.call_cell.specs.Preparing.{added, leg_room, key_room}
+use Rattle.call_cell.specs.Preparing.{added, key_room}
 use Rattle.nested_steps.specs.Bringing.{brought_keys, brought_dropped}
 use Rattle.relay_core.specs.Entries.{Cell, board_history}
 use Rattle.relay_core.specs.Turning.{made_by}
@@ -21,42 +21,32 @@ use Rattle.offer_turns.proofs.preparing.prepare_offer.Goals as goal
 
 pub open_legs-requires-clause-cell : goal.open_legs-requires-clause-cell
 open_legs-requires-clause-cell g c =
-    let config = c.args.config.now in
-    let h = board_history (made_by c.args.hand.now) c.args.nest.number in
-    let good = good_history config (made_by c.args.hand.now) c.requires.orderly c.args.nest.number in
+    let config = c.args.turn.now.config.now in
+    let h = board_history (made_by c.args.hand.now) c.args.turn.now.nest.number in
+    let good = good_history config (made_by c.args.hand.now) c.requires.orderly c.args.turn.now.nest.number in
     let d = c.requires.due.2 in
-    let within = cell_within config h c.requires.due.0 c.requires.due.1 c.args.plan.now c.args.drawn.now.list good d in
-    let is = c.cell-of_cell.ensures ∙ d.plans.1.cell_is in
+    let within = cell_within config h c.requires.due.0 c.requires.due.1 c.args.keyed.now.plan.now c.args.keyed.now.drawn.now.list good d in
+    let is = d.plans.1.cell_is in
     let low = within.0 in
     let high = within.1 in
     (omega (arith, low, is), omega (arith, high, is))
 
-pub open_legs-requires-clause-leases : goal.open_legs-requires-clause-leases
-open_legs-requires-clause-leases g c =
-    subst (λ (q : Plan). length c.args.leases.list ≡ pair_count q) (sym c.planned-demanded.ensures) c.requires.count
-
-pub open_legs-requires-clause-pairs : goal.open_legs-requires-clause-pairs
-open_legs-requires-clause-pairs g c =
-    subst (λ (q : Plan). length c.args.opened.list ≡ pair_count q) (sym c.planned-demanded.ensures) c.requires.opened
-
 pub open_legs-requires-clause-leased : goal.open_legs-requires-clause-leased
 open_legs-requires-clause-leased g c =
-    let config = c.args.config.now in
+    let config = c.args.turn.now.config.now in
     let l = made_by c.args.hand.now in
-    are_leased config (board_history l c.args.nest.number) (pair_count c.args.plan.now.plan) c.args.leases.list (good_history config l c.requires.orderly c.args.nest.number) c.requires.leases
+    are_leased config (board_history l c.args.turn.now.nest.number) (pair_count c.args.keyed.now.plan.now.plan) c.args.leases.list (good_history config l c.requires.orderly c.args.turn.now.nest.number) c.requires.leases
 
 pub open_legs-requires-clause-shut : goal.open_legs-requires-clause-shut
 open_legs-requires-clause-shut g c =
-    are_shut c.args.config.now (made_by c.args.hand.now) c.requires.orderly c.args.nest.number c.requires.above (pair_count c.args.plan.now.plan) c.args.leases.list c.requires.leases
+    are_shut c.args.turn.now.config.now (made_by c.args.hand.now) c.requires.orderly c.args.turn.now.nest.number c.requires.above (pair_count c.args.keyed.now.plan.now.plan) c.args.leases.list c.requires.leases
 
 pub open_legs-requires-clause-room : goal.open_legs-requires-clause-room
-open_legs-requires-clause-room g c =
-    subst (λ (q : Plan). (pair_count q ≤ leg_room c.args.room.prepare) × (pair_count q ≤ c.args.room.legs.room)) (sym c.planned-demanded.ensures)
-    (c.requires.room.0.legs, c.requires.room.2.room)
+open_legs-requires-clause-room g c = (c.requires.room.0.legs, c.requires.room.2.room)
 
 pub bring_keys-requires-clause-keys : goal.bring_keys-requires-clause-keys
 bring_keys-requires-clause-keys g c =
-    subst (λ (q : Plan). length c.args.drawn.now.list ≡ key_count q) (sym c.planned-demanded.ensures) c.requires.keys
+    subst (λ (q : Plan). length c.args.keyed.now.drawn.now.list ≡ key_count q) (sym c.planned-demanded.ensures) c.requires.keys
 
 pub bring_keys-requires-clause-room : goal.bring_keys-requires-clause-room
 bring_keys-requires-clause-room g c =
@@ -70,11 +60,11 @@ bring_keys-requires-clause-told g c =
 
 pub prepare_cell-requires-clause-cell : goal.prepare_cell-requires-clause-cell
 prepare_cell-requires-clause-cell g c =
-    let config = c.args.config.now in
-    let h = board_history (made_by c.args.hand.now) c.args.nest.number in
-    let good = good_history config (made_by c.args.hand.now) c.requires.orderly c.args.nest.number in
+    let config = c.args.turn.now.config.now in
+    let h = board_history (made_by c.args.hand.now) c.args.turn.now.nest.number in
+    let good = good_history config (made_by c.args.hand.now) c.requires.orderly c.args.turn.now.nest.number in
     let d = c.requires.due.2 in
-    let within = cell_within config h c.requires.due.0 c.requires.due.1 c.args.plan.now c.args.drawn.now.list good d in
+    let within = cell_within config h c.requires.due.0 c.requires.due.1 c.args.keyed.now.plan.now c.args.keyed.now.drawn.now.list good d in
     let is = c.cell-of_cell.ensures ∙ d.plans.1.cell_is in
     let low_cell = within.0 in
     let high_cell = within.1 in
@@ -83,36 +73,36 @@ prepare_cell-requires-clause-cell g c =
 
 pub prepare_cell-requires-clause-keys : goal.prepare_cell-requires-clause-keys
 prepare_cell-requires-clause-keys g c =
-    let config = c.args.config.now in
-    let h = board_history (made_by c.args.hand.now) c.args.nest.number in
-    let good = good_history config (made_by c.args.hand.now) c.requires.orderly c.args.nest.number in
+    let config = c.args.turn.now.config.now in
+    let h = board_history (made_by c.args.hand.now) c.args.turn.now.nest.number in
+    let good = good_history config (made_by c.args.hand.now) c.requires.orderly c.args.turn.now.nest.number in
     let d = c.requires.due.2 in
-    let within = cell_within config h c.requires.due.0 c.requires.due.1 c.args.plan.now c.args.drawn.now.list good d in
+    let within = cell_within config h c.requires.due.0 c.requires.due.1 c.args.keyed.now.plan.now c.args.keyed.now.drawn.now.list good d in
     let is = c.cell-of_cell.ensures ∙ d.plans.1.cell_is in
     let low_cell = within.0 in
     let high_cell = within.1 in
     let high : c.cell-of_cell.result ≤ config.max_sessions = omega (arith, high_cell, is) in
-    keys_new config c.args.nest.number c.args.nest.moment c.cell-of_cell.result c.open_legs.new.legs.list c.args.hand.now c.open_legs.new.hand c.requires.orderly high
+    keys_new config c.args.turn.now.nest.number c.args.turn.now.nest.moment c.cell-of_cell.result c.open_legs.new.legs.list c.args.hand.now c.open_legs.new.hand c.requires.orderly high
     c.open_legs.ensures.gained
 
 pub prepare_cell-requires-clause-tells : goal.prepare_cell-requires-clause-tells
 prepare_cell-requires-clause-tells g c =
-    let h = board_history (made_by c.args.hand.now) c.args.nest.number in
-    let asked = demand_of c.args.config.now h c.requires.due.0 c.requires.due.1 in
+    let h = board_history (made_by c.args.hand.now) c.args.turn.now.nest.number in
+    let asked = demand_of c.args.turn.now.config.now h c.requires.due.0 c.requires.due.1 in
     let demands : PlanFor c.planned-demanded.result.now asked = subst (λ (q : Plan). PlanFor q asked) (sym c.planned-demanded.ensures) c.requires.due.2.plans.1.plan_for.demands in
     c.bring_keys.ensures.stands asked demands (c.open_legs.ensures.stands [] [] c.requires.room.0.nothing)
 
 pub prepare_cell-requires-clause-comes : goal.prepare_cell-requires-clause-comes
 prepare_cell-requires-clause-comes g c =
-    let config = c.args.config.now in
+    let config = c.args.turn.now.config.now in
     let l = made_by c.args.hand.now in
-    let h = board_history l c.args.nest.number in
-    let good = good_history config l c.requires.orderly c.args.nest.number in
+    let h = board_history l c.args.turn.now.nest.number in
+    let good = good_history config l c.requires.orderly c.args.turn.now.nest.number in
     let id = c.requires.due.0 in
     let ask = c.requires.due.1 in
     let d = c.requires.due.2 in
-    let p = c.args.plan.now in
-    let draws = c.args.drawn.now.list in
+    let p = c.args.keyed.now.plan.now in
+    let draws = c.args.keyed.now.drawn.now.list in
     let t = target_of config h id in
     let asked = demand_of config h id ask in
     let demands : PlanFor c.planned-demanded.result.now asked = subst (λ (q : Plan). PlanFor q asked) (sym c.planned-demanded.ensures) d.plans.1.plan_for.demands in
@@ -120,57 +110,55 @@ prepare_cell-requires-clause-comes g c =
     let call = c.call-of_call.ensures ∙ d.plans.1.call_is in
     let list : c.open_legs.new.legs.list ≡ (offer_of config h id ask draws).legs =
     legs_are config h id ask p draws c.args.leases.list c.open_legs.new.legs.list d.plans.1 c.requires.leases
-    (λ a of demanded number in_cell. c.open_legs.ensures.legs a of (subst (λ (q : Plan). PlanFor q a) (sym c.planned-demanded.ensures) demanded)
-    (number ∙ sym c.call-of_call.ensures) (in_cell ∙ sym c.cell-of_cell.ensures)) in
-    let within = cell_within config h id ask c.args.plan.now c.args.drawn.now.list good d in
+    c.open_legs.ensures.legs in
+    let within = cell_within config h id ask c.args.keyed.now.plan.now c.args.keyed.now.drawn.now.list good d in
     let is = c.cell-of_cell.ensures ∙ d.plans.1.cell_is in
     let low_cell = within.0 in
     let high_cell = within.1 in
     let high : c.cell-of_cell.result ≤ config.max_sessions = omega (arith, high_cell, is) in
     let added_are = c.bring_keys.ensures.legs.added_are ∙ c.open_legs.ensures.added ∙ ap (λ (ls : List Holder). ls ++ c.open_legs.new.legs.list) c.requires.room.0.no_legs ∙ list in
     let parts = c.bring_keys.ensures.legs.parts_are ∙ c.open_legs.ensures.parts ∙ ap (λ (xs : List _). xs ++ leased_parts c.args.leases.list c.args.opened.list) c.requires.room.0.no_parts in
-    can_prepare config c.args.nest.number c.args.nest.moment c.args.hand.now c.open_legs.new.hand id ask p draws c.bring_keys.new.prepare c.args.leases.list c.args.opened.list
+    can_prepare config c.args.turn.now.nest.number c.args.turn.now.nest.moment c.args.hand.now c.open_legs.new.hand id ask p draws c.bring_keys.new.prepare c.args.leases.list c.args.opened.list
     c.open_legs.new.legs.list c.call-of_call.result c.cell-of_cell.result (brought_keys c.bring_keys.new.brought) (brought_dropped c.bring_keys.new.brought)
     c.requires.orderly c.requires.above (let port = c.last_port-last.ensures in omega (arith, port)) d high cell call added_are
-    (keys_are config h id ask p draws c.args.first_key (brought_keys c.bring_keys.new.brought) c.requires.first (c.bring_keys.ensures.keys asked demands))
+    (keys_are config h id ask p draws c.args.keyed.now.first_key (brought_keys c.bring_keys.new.brought) c.requires.first (c.bring_keys.ensures.keys asked demands))
     (c.bring_keys.ensures.dropped t.rounds ask demands)
     (are_leased config h (pair_count p.plan) c.args.leases.list good c.requires.leases) parts
     (c.bring_keys.ensures.stands asked demands (c.open_legs.ensures.stands [] [] c.requires.room.0.nothing)) c.open_legs.ensures.gained
 
 pub returns-clause-gained : goal.returns-clause-gained
 returns-clause-gained g c id ask d =
-    let config = c.args.config.now in
+    let config = c.args.turn.now.config.now in
     let l = made_by c.args.hand.now in
-    let h = board_history l c.args.nest.number in
-    let p = c.args.plan.now in
-    let draws = c.args.drawn.now.list in
+    let h = board_history l c.args.turn.now.nest.number in
+    let p = c.args.keyed.now.plan.now in
+    let draws = c.args.keyed.now.drawn.now.list in
     let t = target_of config h id in
     let asked = demand_of config h id ask in
     let demands : PlanFor c.planned-demanded.result.now asked = subst (λ (q : Plan). PlanFor q asked) (sym c.planned-demanded.ensures) d.plans.1.plan_for.demands in
     let list : c.open_legs.new.legs.list ≡ (offer_of config h id ask draws).legs =
     legs_are config h id ask p draws c.args.leases.list c.open_legs.new.legs.list d.plans.1 c.requires.leases
-    (λ a of demanded number in_cell. c.open_legs.ensures.legs a of (subst (λ (q : Plan). PlanFor q a) (sym c.planned-demanded.ensures) demanded)
-    (number ∙ sym c.call-of_call.ensures) (in_cell ∙ sym c.cell-of_cell.ensures)) in
-    brings config c.args.nest.number c.args.nest.moment c.args.hand.now c.open_legs.new.hand c.prepare_cell.new.hand (offer_of config h id ask draws) c.open_legs.new.legs.list
+    c.open_legs.ensures.legs in
+    brings config c.args.turn.now.nest.number c.args.turn.now.nest.moment c.args.hand.now c.open_legs.new.hand c.prepare_cell.new.hand (offer_of config h id ask draws) c.open_legs.new.legs.list
     c.call-of_call.result c.cell-of_cell.result (added c.bring_keys.new.prepare) (brought_keys c.bring_keys.new.brought) (brought_dropped c.bring_keys.new.brought)
     list (c.cell-of_cell.ensures ∙ d.plans.1.cell_is) (c.call-of_call.ensures ∙ d.plans.1.call_is)
     (c.bring_keys.ensures.legs.added_are ∙ c.open_legs.ensures.added ∙ ap (λ (ls : List Holder). ls ++ c.open_legs.new.legs.list) c.requires.room.0.no_legs ∙ list)
-    (keys_are config h id ask p draws c.args.first_key (brought_keys c.bring_keys.new.brought) c.requires.first (c.bring_keys.ensures.keys asked demands))
+    (keys_are config h id ask p draws c.args.keyed.now.first_key (brought_keys c.bring_keys.new.brought) c.requires.first (c.bring_keys.ensures.keys asked demands))
     (c.bring_keys.ensures.dropped t.rounds ask demands) c.open_legs.ensures.gained c.prepare_cell.ensures.gained
 
 pub returns-clause-went : goal.returns-clause-went
 returns-clause-went g c id ask d =
-    let config = c.args.config.now in
-    let h = board_history (made_by c.args.hand.now) c.args.nest.number in
-    let good = good_history config (made_by c.args.hand.now) c.requires.orderly c.args.nest.number in
+    let config = c.args.turn.now.config.now in
+    let h = board_history (made_by c.args.hand.now) c.args.turn.now.nest.number in
+    let good = good_history config (made_by c.args.hand.now) c.requires.orderly c.args.turn.now.nest.number in
     let asked = demand_of config h id ask in
-    let within = cell_within config h id ask c.args.plan.now c.args.drawn.now.list good d in
+    let within = cell_within config h id ask c.args.keyed.now.plan.now c.args.keyed.now.drawn.now.list good d in
     let is = c.cell-of_cell.ensures ∙ d.plans.1.cell_is in
     let low_cell = within.0 in
     let high_cell = within.1 in
     let high : c.cell-of_cell.result ≤ config.max_sessions = omega (arith, high_cell, is) in
     let demands : PlanFor c.planned-demanded.result.now asked = subst (λ (q : Plan). PlanFor q asked) (sym c.planned-demanded.ensures) d.plans.1.plan_for.demands in
-    went_dropped config c.args.nest.number c.args.nest.moment c.cell-of_cell.result c.open_legs.new.legs.list c.args.hand.now c.open_legs.new.hand id ask c.args.plan.now c.args.drawn.now.list
+    went_dropped config c.args.turn.now.nest.number c.args.turn.now.nest.moment c.cell-of_cell.result c.open_legs.new.legs.list c.args.hand.now c.open_legs.new.hand id ask c.args.keyed.now.plan.now c.args.keyed.now.drawn.now.list
     (brought_dropped c.bring_keys.new.brought) c.prepare_cell.new.gone c.requires.orderly c.requires.above d high
     (c.cell-of_cell.ensures ∙ d.plans.1.cell_is) (c.bring_keys.ensures.dropped (target_of config h id).rounds ask demands) c.open_legs.ensures.gained c.prepare_cell.ensures.went
 
@@ -183,16 +171,16 @@ returns-clause-same g c = (
 pub prepare_cell-requires-clause-opened : goal.prepare_cell-requires-clause-opened
 prepare_cell-requires-clause-opened g c =
     let parts = c.bring_keys.ensures.legs.parts_are ∙ c.open_legs.ensures.parts ∙ ap (λ (xs : List _). xs ++ leased_parts c.args.leases.list c.args.opened.list) c.requires.room.0.no_parts in
-    let config = c.args.config.now in
+    let config = c.args.turn.now.config.now in
     let l = made_by c.args.hand.now in
-    let leased = are_leased config (board_history l c.args.nest.number) (pair_count c.args.plan.now.plan) c.args.leases.list
-    (good_history config l c.requires.orderly c.args.nest.number) c.requires.leases in
+    let leased = are_leased config (board_history l c.args.turn.now.nest.number) (pair_count c.args.keyed.now.plan.now.plan) c.args.leases.list
+    (good_history config l c.requires.orderly c.args.turn.now.nest.number) c.requires.leases in
     legs_opened g.I.InEnd.told g.O.OutEnd.told config c.bring_keys.new.prepare _ _ c.args.leases.list c.args.opened.list parts leased.ports c.requires.ends
     (prepare_cell-requires-clause-tells g c)
 
 pub returns-clause-leave : goal.returns-clause-leave
 returns-clause-leave g c =
     let brought = c.bring_keys.new.brought in
-    opened_leave g.O.OutEnd.told c.args.config.now c.args.nest.number c.args.nest.moment c.open_legs.new.legs.list c.prepare_cell.new.gone c.cell-of_cell.result
+    opened_leave g.O.OutEnd.told c.args.turn.now.config.now c.args.turn.now.nest.number c.args.turn.now.nest.moment c.open_legs.new.legs.list c.prepare_cell.new.gone c.cell-of_cell.result
     (Cell (preparing c.call-of_call.result (added c.bring_keys.new.prepare) (brought_keys brought) (brought_dropped brought)))
     c.args.hand.now c.open_legs.new.hand c.prepare_cell.new.hand refl c.open_legs.ensures.gained c.prepare_cell.ensures.row

@@ -6,7 +6,7 @@ use Rattle.sdp_text.proofs.piece.read_number.Given as goal
 -- what the digits so far say
 abbrev pub invariant-loop-byte : goal.invariant-loop-byte
 invariant-loop-byte l = record {
-  limit : l.value ≤ 65536;
+  limit : l.value ≤ l.greatest;
   digits : list_all is_digit (take l.byte-index l.text) ≡ true;
-  value : l.value ≡ min 65536 (decimal_value (take l.byte-index l.text));
+  value : l.value ≡ min l.greatest (decimal_value (take l.byte-index l.text));
 }

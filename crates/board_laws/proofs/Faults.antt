@@ -1,0 +1,62 @@
+-- The faults that come before crypto lines are chosen don't depend on these.
+use Rattle.std.proofs.Common.{◌≡◌, ◌⊎◌, inl, inr, refl, ℕ, List, [], Bool, true, false, cond, not, Option, Some, None}
+use Rattle.std.specs.Prelude.{nat_lt, ◌&&◌, ◌==◌}
+use Rattle.std.specs.List.{list_any}
+use Rattle.std.specs.Str.{bytes_eq}
+use Rattle.ng_command.specs.declared.command.Options.{Options}
+use Rattle.ng_reply.specs.declared.code.ErrorCode.{ErrorCode}
+use Rattle.ng_reply.specs.declared.code.ErrorCode.TheVariants.{E8, E10, E11, E12}
+use Rattle.sdes_lines.specs.declared.crypto_line.CryptoLine.{CryptoLine}
+use Rattle.offer_answer.specs.Rounds.{Round}
+use Rattle.offer_answer.specs.Sides.{MadeOffer, last_offer, is_some_sides}
+use Rattle.offer_answer.specs.Sections.{active_sections, all_sections, section_count, committed_count}
+use Rattle.offer_answer.specs.Faults.{is_strangers, lacks_line, may_answer, takes_no_line, fault_of_answer_to}
+use Rattle.offer_answer.specs.Plan.{offer_fault, answer_fault}
+use Rattle.call_board.specs.Answers.{offer_ask, answer_ask}
+
+abbrev pub Chosen : Type 0
+Chosen = List (Option CryptoLine)
+
+-- whatever is chosen, this is the fault
+abbrev pub IsEarly : (Chosen → Option ErrorCode) → Type 0
+IsEarly fault = (code : ErrorCode) × ((xs : Chosen) → fault xs ≡ Some code)
+
+-- whatever is chosen, a section lacks its line, or there is no fault
+abbrev pub IsLate : (Chosen → Option ErrorCode) → Type 0
+IsLate fault = (xs : Chosen) → (fault xs ≡ Some E8) ⊎ (fault xs ≡ None)
+
+abbrev pub Split : (Chosen → Option ErrorCode) → Type 0
+Split fault = IsEarly fault ⊎ IsLate fault
+
+lacking : (lacks : Bool) → (cond lacks (Some E8) None ≡ Some E8) ⊎ (cond lacks (Some E8) None ≡ None)
+lacking true = inl refl
+lacking false = inr refl
+
+offer_case : (stranger fewer : Bool) (lacks : Chosen → Bool) → Split (λ xs. cond stranger (Some E10) (cond fewer (Some E12) (cond (lacks xs) (Some E8) None)))
+offer_case true fewer lacks = inl (E10, λ xs. refl)
+offer_case false true lacks = inl (E12, λ xs. refl)
+offer_case false false lacks = inr (λ xs. lacking (lacks xs))
+
+pub offer_split : (before : List Round) (from_tag sdp : List ℕ) (options : Options) → Split (λ xs. offer_fault before (offer_ask from_tag sdp options xs))
+unfolding offer_fault
+offer_split before from_tag sdp options =
+    offer_case (is_strangers before (offer_ask from_tag sdp options [])) (nat_lt (section_count sdp) (committed_count before))
+    (λ xs. list_any (lacks_line (offer_ask from_tag sdp options xs)) (active_sections sdp))
+
+answer_case : (wrong fewer : Bool) (lacks : Chosen → Bool) → Split (λ xs. cond wrong (Some E11) (cond fewer (Some E12) (cond (lacks xs) (Some E8) None)))
+answer_case true fewer lacks = inl (E11, λ xs. refl)
+answer_case false true lacks = inl (E12, λ xs. refl)
+answer_case false false lacks = inr (λ xs. lacking (lacks xs))
+
+made_case : (from_tag to_tag sdp : List ℕ) (options : Options) (unknown : Bool) (made : Option MadeOffer)
+    → Split (λ xs. cond unknown (Some E10) (elim made [ None ↦ Some E10 | Some offer ↦ fault_of_answer_to offer (answer_ask from_tag to_tag sdp options xs) ]))
+made_case from_tag to_tag sdp options true made = inl (E10, λ xs. refl)
+made_case from_tag to_tag sdp options false None = inl (E10, λ xs. refl)
+made_case from_tag to_tag sdp options false (Some offer) =
+    answer_case (not (bytes_eq from_tag offer.ask.from_tag)) (not (section_count sdp == section_count offer.ask.sdp))
+    (λ xs. list_any (takes_no_line offer (answer_ask from_tag to_tag sdp options xs)) (all_sections sdp))
+
+pub answer_split : (before : List Round) (from_tag to_tag sdp : List ℕ) (options : Options) → Split (λ xs. answer_fault before (answer_ask from_tag to_tag sdp options xs))
+unfolding answer_fault
+answer_split before from_tag to_tag sdp options =
+    made_case from_tag to_tag sdp options (not (is_some_sides before from_tag && may_answer before (answer_ask from_tag to_tag sdp options []))) (last_offer before)

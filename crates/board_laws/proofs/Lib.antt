@@ -1,0 +1,5 @@
+pub mod Spelled
+pub mod Faults
+pub mod Given
+pub mod Commands
+pub mod Answered

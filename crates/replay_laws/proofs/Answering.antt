@@ -1,0 +1,147 @@
+-- Two control turns that are alike make turns of the board that are alike.
+use Rattle.std.proofs.Common.{◌≡◌, ◌∙◌, sym, ap, refl, ℕ, ◌==◌, List, [], ◌∷◌, ◌++◌, map, filter, length, Bool, true, false, cond, not, Option, Some, None, Result, Ok, Err}
+use Rattle.std.specs.Prelude.{◌&&◌, nat_le}
+use Rattle.std.specs.List.{list_any}
+use Rattle.relay_outside.specs.declared.address.Addr.{Addr}
+use Rattle.relay_outside.specs.declared.settings.Config.{Config}
+use Rattle.ng_command.specs.Said as said
+use Rattle.ng_command.specs.Said.{Said}
+use Rattle.ng_reply.specs.declared.code.ErrorCode.{ErrorCode}
+use Rattle.ng_reply.specs.declared.code.ErrorCode.TheVariants.{E9, E10, E13, E14}
+use Rattle.histories.specs.Words.{has}
+use Rattle.port_pool.specs.declared.holder.Holder.{Holder}
+use Rattle.offer_answer.specs.Rounds.{Round, OfferAsk, AnswerAsk}
+use Rattle.offer_answer.specs.Plan as plan
+use Rattle.call_cell.specs.Cells.{Prepare, Commit, End}
+use Rattle.call_board.specs.Acts as act
+use Rattle.call_board.specs.Acts.{Act, Call, Given, Control, BoardEvent, Turn, BoardEntry}
+use Rattle.call_board.specs.Calls.{live, find_call, new_call, rounds, ended_by_act}
+use Rattle.call_board.specs.Pairs.{held, free_in, is_short, closes_leg_act}
+use Rattle.call_board.specs.Kept.{kept}
+use Rattle.call_board.specs.Asked.{asked}
+use Rattle.call_board.specs.Replies.{Done}
+use Rattle.call_board.specs.Answers.{Answered, failing, leased_pairs, offer_ask, answer_ask, offer_leased, offer_unless, offer_to, answer_unless, answer_to, missing, names_side, delete_of, query_of, answering, answering_asked, answering_unless}
+use Rattle.call_board.specs.Fits.{FitsControl}
+use Rattle.call_board.proofs.Fixed.{unless_starved}
+use Rattle.call_board.proofs.Tells.{leased_case}
+use Rattle.relay_core.specs.Scripts.{Owed, opening, closing, in_cell, reading, script, script_of_act}
+use Rattle.board_laws.specs.Alike.{IsFed}
+use Rattle.replay_laws.specs.Alike.{bare_event}
+
+-- Where memory is not short, no turn says it is.
+
+abbrev starves : Act → Bool
+starves act.Starved = true
+starves _ = false
+
+leased_fed : (config : Config) (h : List BoardEntry) (g : Given) (ask : OfferAsk) (of : Call) (begins : Bool) (before : List Round) (pairs : List ℕ) (failed drew : Bool)
+    → starves (leased_case config h g ask of begins before pairs failed drew).act ≡ false
+leased_fed config h g ask of begins before pairs true drew = refl
+leased_fed config h g ask of begins before pairs false true = refl
+leased_fed config h g ask of begins before pairs false false = refl
+
+planned_fed : (config : Config) (h : List BoardEntry) (g : Given) (ask : OfferAsk) (of : Call) (begins : Bool) (before : List Round) (over short : Bool)
+    → starves (cond over (failing E14) (cond short (failing E13) (offer_leased config h g ask of begins before (leased_pairs config h (plan.demand before ask))))).act ≡ false
+planned_fed config h g ask of begins before true short = refl
+planned_fed config h g ask of begins before false true = refl
+planned_fed config h g ask of begins before false false =
+    leased_fed config h g ask of begins before (leased_pairs config h (plan.demand before ask)) (list_any not g.opens) g.draw_failed
+
+unless_fed : (config : Config) (h : List BoardEntry) (g : Given) (ask : OfferAsk) (of : Call) (begins : Bool) (before : List Round) (fault : Option ErrorCode)
+    → starves (offer_unless config h g ask of begins before fault).act ≡ false
+unless_fed config h g ask of begins before (Some code) = refl
+unless_fed config h g ask of begins before None =
+    planned_fed config h g ask of begins before (begins && nat_le config.max_sessions (length (live h))) (is_short (free_in config h) (plan.demand before ask).pairs)
+
+offer_fed : (config : Config) (h : List BoardEntry) (g : Given) (id : List ℕ) (ask : OfferAsk) (o : Option Call) → starves (offer_to config h g id ask o).act ≡ false
+offer_fed config h g id ask None = unless_fed config h g ask (new_call h id) true [] (plan.offer_fault [] ask)
+offer_fed config h g id ask (Some of) = unless_fed config h g ask of false (rounds h of.number) (plan.offer_fault (rounds h of.number) ask)
+
+replied_fed : (config : Config) (ask : AnswerAsk) (of : Call) (before : List Round) (fault : Option ErrorCode) → starves (answer_unless config ask of before fault).act ≡ false
+replied_fed config ask of before (Some code) = refl
+replied_fed config ask of before None = refl
+
+answer_fed : (config : Config) (h : List BoardEntry) (ask : AnswerAsk) (o : Option Call) → starves (answer_to config h ask o).act ≡ false
+answer_fed config h ask None = refl
+answer_fed config h ask (Some of) = replied_fed config ask of (rounds h of.number) (plan.answer_fault (rounds h of.number) ask)
+
+missing_fed : (fatal : Bool) (code : ErrorCode) → starves (missing fatal code).act ≡ false
+missing_fed true code = refl
+missing_fed false code = refl
+
+named_fed : (of : Call) (fatal named : Bool) → starves (cond named (record { reply = Done; act = act.Deleted of }) (missing fatal E10)).act ≡ false
+named_fed of fatal true = refl
+named_fed of fatal false = missing_fed fatal E10
+
+delete_fed : (h : List BoardEntry) (tag : Option (List ℕ)) (fatal : Bool) (o : Option Call) → starves (delete_of h tag fatal o).act ≡ false
+delete_fed h tag fatal None = missing_fed fatal E9
+delete_fed h tag fatal (Some of) = named_fed of fatal (names_side (rounds h of.number) tag)
+
+query_fed : (h : List BoardEntry) (g : Given) (o : Option Call) → starves (query_of h g o).act ≡ false
+query_fed h g None = refl
+query_fed h g (Some of) = refl
+
+asked_fed : (config : Config) (h : List BoardEntry) (c : Control) (r : Result Said ErrorCode) → starves (answering_asked config h c r).act ≡ false
+asked_fed config h c (Err code) = refl
+asked_fed config h c (Ok said.Ping) = refl
+asked_fed config h c (Ok (said.Offer id from_tag sdp options)) = offer_fed config h c.given id (offer_ask from_tag sdp options c.chosen) (find_call h id)
+asked_fed config h c (Ok (said.Answer id from_tag to_tag sdp options)) = answer_fed config h (answer_ask from_tag to_tag sdp options c.chosen) (find_call h id)
+asked_fed config h c (Ok (said.Delete id from_tag fatal)) = delete_fed h from_tag fatal (find_call h id)
+asked_fed config h c (Ok (said.Query id)) = query_fed h c.given (find_call h id)
+asked_fed config h c (Ok (said.Listing limit)) = refl
+
+due_fed : (config : Config) (h : List BoardEntry) (c : Control) (o : Option (List ℕ)) → IsFed c → starves (answering_unless config h c o).act ≡ false
+due_fed config h c (Some bytes) fed = refl
+due_fed config h c None fed =
+    ap (λ (b : Bool). starves (unless_starved config c.cookie b (answering config h c)).act) fed ∙ asked_fed config h c (asked config c.too_long c.pairs)
+
+never : true ≡ false → ⊥
+never e = cc
+
+pub not_starved : (config : Config) (h : List BoardEntry) (now : ℕ) (c : Control) → FitsControl config h now c → IsFed c → c.act ≡ act.Starved → ⊥
+not_starved config h now c fits fed is =
+    never (sym (ap starves is) ∙ ap (λ (a : Answered). starves a.act) fits.answers ∙ due_fed config h c (kept h c.source c.cookie now) fed)
+
+-- What turns owe that do the same, and were given the same.
+
+abbrev entry : ℕ → Control → BoardEntry
+entry moment c = record { moment = moment; event = Turn c }
+
+abbrev closes : Config → List BoardEntry → Act → Call → List Owed
+closes config h a of =
+    map (closing config) (filter (λ (leg : Holder). (leg.call == of.number) && (cond (has (map (λ (c : Call). c.number) (ended_by_act a)) leg.call) true (closes_leg_act a leg))) (held h))
+
+act_owes : (config : Config) (h : List BoardEntry) (moment : ℕ) (c d : Control) → c.given ≡ d.given → c.act ≡ d.act → (a : Act) → (a ≡ act.Starved → ⊥)
+    → script_of_act config h (entry moment c) c a ≡ script_of_act config h (entry moment d) d a
+act_owes config h moment c d given same act.Repeated fed = refl
+act_owes config h moment c d given same act.Starved fed = absurd (fed refl)
+act_owes config h moment c d given same (act.Failed code) fed = refl
+act_owes config h moment c d given same (act.Undone code leases draws) fed = refl
+act_owes config h moment c d given same (act.Offered o) fed =
+    ap (λ (a : Act). map (opening config) o.legs ++ in_cell o.of (Prepare o.of.number o.legs o.keys o.dropped) ∷ closes config h a o.of) same
+act_owes config h moment c d given same (act.Answered x) fed = ap (λ (a : Act). in_cell x.of (Commit x.signal) ∷ closes config h a x.of) same
+act_owes config h moment c d given same (act.Deleted of) fed = ap (λ (a : Act). in_cell of End ∷ closes config h a of) same
+act_owes config h moment c d given same (act.Queried of) fed = ap (λ (g : Given). reading (Some of) g.report) given
+act_owes config h moment c d given same act.Told fed = refl
+
+pub owes_one : (config : Config) (h : List BoardEntry) (moment : ℕ) (c d : Control) → c.given ≡ d.given → c.act ≡ d.act → (c.act ≡ act.Starved → ⊥)
+    → script config h (entry moment c) ≡ script config h (entry moment d)
+owes_one config h moment c d given same fed =
+    act_owes config h moment c d given same c.act fed ∙ ap (script_of_act config h (entry moment d) d) same
+
+-- A turn without what decides nothing.
+
+abbrev bared : Addr → List ℕ → List ℕ → Bool → Given → List ℕ → Act → BoardEvent
+bared source cookie body long given reply does =
+    Turn (record { source = source; cookie = cookie; body = body; too_long = long; pairs = None; chosen = []; given = given; reply = reply; act = does })
+
+pub bare_one : (c d : Control) → c.source ≡ d.source → c.cookie ≡ d.cookie → c.body ≡ d.body → c.too_long ≡ d.too_long → c.given ≡ d.given → c.reply ≡ d.reply → c.act ≡ d.act
+    → bare_event (Turn c) ≡ bare_event (Turn d)
+bare_one c d source cookie body long given reply does =
+    ap (λ (x : Addr). bared x c.cookie c.body c.too_long c.given c.reply c.act) source
+    ∙ ap (λ (x : List ℕ). bared d.source x c.body c.too_long c.given c.reply c.act) cookie
+    ∙ ap (λ (x : List ℕ). bared d.source d.cookie x c.too_long c.given c.reply c.act) body
+    ∙ ap (λ (x : Bool). bared d.source d.cookie d.body x c.given c.reply c.act) long
+    ∙ ap (λ (x : Given). bared d.source d.cookie d.body d.too_long x c.reply c.act) given
+    ∙ ap (λ (x : List ℕ). bared d.source d.cookie d.body d.too_long d.given x c.act) reply
+    ∙ ap (λ (x : Act). bared d.source d.cookie d.body d.too_long d.given d.reply x) does

@@ -1,0 +1,53 @@
+-- Two ticks after one history of the board, and of each cell, end the same calls.
+use Rattle.std.proofs.Common.{◌≡◌, ◌∙◌, sym, ap, subst, refl, ℕ, max, List, [], ◌∷◌, map, filter, length, Bool, cond}
+use Rattle.histories.specs.Words.{In, here, there, has}
+use Rattle.relay_outside.specs.declared.settings.Config.{Config}
+use Rattle.call_cell.specs.Cells.{CellEntry, since_end}
+use Rattle.call_cell.specs.CellStanding as standing
+use Rattle.call_cell.specs.Asked.{is_due}
+use Rattle.call_board.specs.Acts.{Call}
+use Rattle.call_board.specs.Calls.{live}
+use Rattle.call_board.specs.Views.{last_moment}
+use Rattle.relay_core.specs.Entries.{Entry}
+use Rattle.board_turns.specs.Between.{board_of}
+use Rattle.board_turns.specs.Ticking.{IsDueBy, tick_entry}
+use Rattle.relay_script.specs.Printing as event
+use Rattle.relay_script.specs.Printing.{Printed}
+use Rattle.replay_steps.specs.Steps.{TicksAt}
+use Rattle.replay_laws.proofs.Boards.{SameBoards}
+use Rattle.replay_laws.proofs.Lists.{told_once}
+use Rattle.replay_laws.proofs.Relays.{SameCells}
+use Rattle.replay_laws.proofs.Turned.{turn_fits}
+
+-- the call of a cell is due in both or in neither
+due_once : (config : Config) (l k : List Entry) (cell moment : ℕ) (a b : Bool) → SameCells l k → IsDueBy config l cell moment a → IsDueBy config k cell moment b → a ≡ b
+due_once config l k cell moment a b cells x y =
+    let same = told_once config x.history y.history (x.recorded ∙ cells cell x.number y.number x.at_front y.at_front ∙ sym y.recorded) x.fitting y.fitting in
+    x.due_is ∙ ap (λ (h : List CellEntry). is_due config (since_end h) (max moment (standing.last_moment h))) same ∙ sym y.due_is
+
+filtered_case : (x : Call) (p q : Bool) (rest more : List Call) → p ≡ q → rest ≡ more → cond p (x ∷ rest) rest ≡ cond q (x ∷ more) more
+filtered_case x p q rest more same equal =
+    ap (λ (b : Bool). cond b (x ∷ rest) rest) same ∙ ap (λ (cs : List Call). cond q (x ∷ cs) cs) equal
+
+filter_once : (p q : Call → Bool) (xs : List Call) → ((x : Call) → In x xs → p x ≡ q x) → filter p xs ≡ filter q xs
+filter_once p q [] same = refl
+filter_once p q (x ∷ xs) same =
+    filtered_case x (p x) (q x) (filter p xs) (filter q xs) (same x (here refl)) (filter_once p q xs (λ y i. same y (there i)))
+
+abbrev names : List Call → Call → Bool
+names calls c = has (map (λ (d : Call). d.number) calls) c.number
+
+pub tick_once : (config : Config) (clock : ℕ) (l k : List Entry) (e f : Printed) (new more : List Entry) → SameBoards config (board_of l) (board_of k) → SameCells l k
+    → (a : TicksAt config clock l e new) → (b : TicksAt config clock k f more) → (e ≡ f) × (a.calls ≡ b.calls)
+tick_once config clock l k e f new more board cells a b =
+    let m = turn_fits config l (tick_entry (board_of l) clock a.calls) new a.turns in
+    let n = turn_fits config k (tick_entry (board_of k) clock b.calls) more b.turns in
+    let same : (c : Call) → In c (live (board_of l)) → names a.calls c ≡ names b.calls c =
+    (λ c i.
+    let j : In c (live (board_of k)) = subst (λ (cs : List Call). In c cs) board.live_is i in
+    let time : max clock (last_moment (board_of k)) ≡ max clock (last_moment (board_of l)) = ap (max clock) (sym board.moment_is) in
+    due_once config l k c.cell (max clock (last_moment (board_of l))) (names a.calls c) (names b.calls c) cells (a.due c i)
+    (subst (λ (t : ℕ). IsDueBy config k c.cell t (names b.calls c)) time (b.due c j))) in
+    let calls : a.calls ≡ b.calls =
+    m ∙ filter_once (names a.calls) (names b.calls) (live (board_of l)) same ∙ ap (filter (names b.calls)) board.live_is ∙ sym n in
+    (a.printed ∙ ap (λ (cs : List Call). event.Ended (length cs)) calls ∙ sym b.printed, calls)
