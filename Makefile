@@ -24,8 +24,10 @@ all: build
 build:
 	tools/build-program
 
-# Proves everything, and runs all tests.
+# Checks what the documents have from the sources, proves everything, and runs all tests.
 check:
+	tools/crates-txt
+	tools/links
 	tools/man-page
 	rt ci
 

@@ -36,7 +36,8 @@ static struct {
     long minutes; /* of a soak */
     long window;  /* packets on their way in a flood */
     long threads; /* of this program, for packets */
-} asked = {.port = 2223, .calls = 1, .seconds = 5, .minutes = 10, .window = 32, .threads = 1};
+    long step;    /* so many calls are opened for each that has packets; the others are closed before: so its ports lie apart */
+} asked = {.port = 2223, .calls = 1, .seconds = 5, .minutes = 10, .window = 32, .threads = 1, .step = 1};
 
 static struct call *calls;
 static struct counts counts;
@@ -116,17 +117,32 @@ static void print_traffic(void) {
            delay_at(&counts, 0.99), (unsigned long long)counts.latest);
 }
 
+/* The calls between those that have packets. */
+static struct call call_between(long number) {
+    struct call call = calls[number / asked.step];
+    call.number = (unsigned)number;
+    return call;
+}
+
 static void open_calls(void) {
     calls = calloc((size_t)asked.calls + 1, sizeof *calls);
     traffic_open((unsigned)asked.threads, calls, (unsigned)asked.calls);
     for (long i = 0; i < asked.calls; i++) {
-        calls[i].number = (unsigned)i, calls[i].secure = asked.secure;
+        calls[i].number = (unsigned)(i * asked.step), calls[i].secure = asked.secure;
         if (asked.relay) {
             calls[i].port_to_a = (uint16_t)(asked.relay + 2 * i);
             calls[i].port_to_b = (uint16_t)(asked.relay + 2 * i + 1);
         } else {
             call_open(&calls[i]);
+            for (long k = 1; k < asked.step; k++) {
+                struct call between = call_between(i * asked.step + k);
+                call_open(&between);
+            }
         }
+    }
+    for (long k = 0; k < asked.calls * asked.step && !asked.relay; k++) {
+        struct call between = call_between(k);
+        if (k % asked.step) call_close(&between);
     }
     traffic_ready();
 }
@@ -178,7 +194,7 @@ static void measure_set_up(void) {
     traffic_begin((uint64_t)asked.seconds * 1000000000, 0);
     while (now < end && set_up < most) {
         struct call call = calls[0];
-        call.number = (unsigned)asked.calls + (unsigned)set_up;
+        call.number = (unsigned)(asked.calls * asked.step) + (unsigned)set_up;
         call_open(&call);
         call_close(&call);
         uint64_t began = now;
@@ -216,7 +232,8 @@ static void read_words(char **words) {
         long *number, least, most;
     } known[] = {{"port", &asked.port, 1, 65535},   {"relay", &asked.relay, 1, 65535},     {"pid", &asked.pid, 1, 1 << 30},
                  {"calls", &asked.calls, 0, 2048},  {"secure", &asked.secure, 0, 1},       {"seconds", &asked.seconds, 1, 600},
-                 {"minutes", &asked.minutes, 1, 1440}, {"window", &asked.window, 1, 1024}, {"threads", &asked.threads, 1, 8}};
+                 {"minutes", &asked.minutes, 1, 1440}, {"window", &asked.window, 1, 1024}, {"threads", &asked.threads, 1, 8},
+                 {"step", &asked.step, 1, 64}};
     for (; *words; words++) {
         size_t i = 0, length = strcspn(*words, "=");
         char *end = NULL;

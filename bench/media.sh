@@ -11,8 +11,10 @@ usage: bench/media.sh MODE [NUMBER]...
   idle [SECONDS]               no calls, and 100 without media; 10 seconds
   setup [SECONDS]              calls offered, answered and deleted one after the other, while 100 others have media; 5 seconds
   lanes [SECONDS [WINDOW]]     a flood of this program with 0, 1, 2 and 4 threads, and of a bare relay; 3 seconds, 64
+  neighbours [SECONDS [WINDOW]]
+                               the same with 2 and 4 threads, with calls side by side, and with each 17th of 272; 3 seconds, 64
   soak [MINUTES [CALLS]]       one program alone, ours, a line each minute; 10 minutes, 200 calls
-  all                          paced, flood, idle, setup and lanes: some seven minutes
+  all                          all but neighbours and soak: some seven minutes
 
 paced and flood have calls of plain RTP, and calls whose answerer speaks SRTP. Each program is started anew for each measurement: ours,
 peer, ours, peer. What the words of a line mean is told at the top of bench/media.c. Variables, with what they are where they are not set:
@@ -137,7 +139,19 @@ lanes() {
     local count words=(flood seconds="${1:-3}" window="${2:-64}" threads="$senders")
     for _ in $(seq "$rounds"); do
         measure "lanes relay" relay 1 16 "${words[@]}"
-        for count in 0 1 2 4; do measure "lanes $count" ours $count 16 "${words[@]}"; done
+        for count in 0 1 2 4; do measure "lanes $count threads" ours $count 16 "${words[@]}"; done
+    done
+}
+
+# A range of as many pairs as 16 * 17 calls have. Where each 17th of these has packets, their pairs have the same numbers modulo 4 as those of
+# the first 16, so that in both cases each thread has as many of them.
+neighbours() {
+    local count last=$((first + 4 * 16 * 17 - 1)) words=(flood seconds="${1:-3}" window="${2:-64}" threads="$senders")
+    for _ in $(seq "$rounds"); do
+        for count in 2 4; do
+            measure "lanes $count side by side" ours $count 16 "${words[@]}"
+            measure "lanes $count apart" ours $count 16 "${words[@]}" step=17
+        done
     done
 }
 
@@ -186,19 +200,19 @@ table() {
             if (name ~ /^flood/) row(name, "generator", "generator, % of one processor")
             if (name ~ /^(paced|setup)/) row(name, "latest", "generator late, at most, us")
         }
-        if (lane_count) printf "\n%-14s %10s %10s %10s %10s %10s %10s %10s\n", "lanes", "packets/s", "to relay", "us/packet", "own %", "lost", "p50, us", "p99, us"
+        if (lane_count) printf "\n%-18s %10s %10s %10s %10s %10s %10s %10s\n", "lanes", "packets/s", "to relay", "us/packet", "own %", "lost", "p50, us", "p99, us"
         for (k = 1; k <= lane_count; k++) {
             name = lanes[k]; p = name ~ /relay/ ? "relay" : "ours"
-            printf "%-14s %10.0f %10.2f %10.2f %10.0f %10.1f %10.0f %10.0f\n", p == "relay" ? p : substr(name, 7) " threads", mean(name, p, "rate"),
-                mean(name, p, "rate") / (mean("lanes relay", "relay", "rate") + 0.001), mean(name, p, "us"), mean(name, p, "own"), mean(name, p, "lost"), mean(name, p, "p50"),
-                mean(name, p, "p99")
+            to_relay = rounds["lanes relay", "relay"] ? sprintf("%.2f", mean(name, p, "rate") / mean("lanes relay", "relay", "rate")) : "-"
+            printf "%-18s %10.0f %10s %10.2f %10.0f %10.1f %10.0f %10.0f\n", p == "relay" ? p : substr(name, 7), mean(name, p, "rate"), to_relay,
+                mean(name, p, "us"), mean(name, p, "own"), mean(name, p, "lost"), mean(name, p, "p50"), mean(name, p, "p99")
         }
     }' "$room/lines"
 }
 
 mode=${1-}
 case $mode in
-paced | flood | lanes | soak) most=2 ;;
+paced | flood | lanes | neighbours | soak) most=2 ;;
 idle | setup) most=1 ;;
 all) most=0 ;;
 -h | --help | help) usage; exit ;;
@@ -216,7 +230,7 @@ if [[ $programs == *peer* ]] && [ ! -x "$peer" ]; then
     tell "there is no $peer (Debian: apt-get install rtpengine-daemon): ours is measured alone"
     programs=${programs/peer/}
 fi
-if [[ $programs == *ours* || $mode == lanes ]] && [ ! -x "$ours" ]; then
+if [[ $programs == *ours* || $mode == lanes || $mode == neighbours ]] && [ ! -x "$ours" ]; then
     tell "there is no $ours: run tools/build-program, or name the program by RTPENGINE"
     exit 3
 fi

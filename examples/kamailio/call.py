@@ -28,8 +28,9 @@ def description(host, port):
 
 
 def media_address(message):
-    """The address and port that a message's description names for its audio."""
-    return re.search(r"^c=IN IP4 (\S+)", message, re.M)[1], int(re.search(r"^m=audio (\d+)", message, re.M)[1])
+    """The address and port that a message's description names for its audio: a `c=` of the section comes before that of the session."""
+    session, section = re.search(r"(.*?)^m=audio (.*)", message, re.M | re.S).groups()
+    return re.findall(r"^c=IN IP4 (\S+)", section + "\n" + session, re.M)[0], int(section.split()[0])
 
 
 def message(first, headers, body=""):
