@@ -7,3 +7,4 @@ pub mod RoundKeys
 pub mod SBox
 pub mod StreamLemmas
 pub mod TableLemmas
+mod Numbers

@@ -1,8 +1,10 @@
 -- Exclusive or, and the keystream, byte by byte.
-use Rattle.std.proofs.Common.{◌≡◌, ℕ, zero, suc, ◌+◌, ◌-◌, ◌*◌, ◌/◌, ◌%◌, ◌<◌, ◌≤◌, List, [], ◌∷◌, length, get_or, bit_xor, refl, ap, sym, ◌∙◌, arith, min, take, drop, replicate, length-drop, inl, inr}
+use Rattle.std.proofs.Common.{◌≡◌, ℕ, zero, suc, ◌+◌, ◌-◌, ◌*◌, ◌/◌, ◌%◌, ◌<◌, ◌≤◌, List, [], ◌∷◌, length, get_or, bit_xor, refl, ap, sym, ◌∙◌, arith, min, take, drop, replicate, length-drop, take_all, inl, inr}
 use Rattle.std.proofs.lemmas.List.{ext_get_or, get_or_append_left, get_or-append_right, get_or-take, get_or-drop, length-take-le}
 use Rattle.std.proofs.lemmas.List.FromFn.{length-map-range_with_len, get_or-map-range_with_len}
 use Rattle.std.proofs.lemmas.Bool.{cases_lt}
+use Rattle.std.proofs.lemmas.Simd.{put_chunk_whole}
+use lib.Lanes.{zip2, put_chunk}
 use Rattle.std.specs.Int.Bits.{xor_assoc, xor_self, xor_zero_r}
 use borrow.Rule.Slice.PartMut.{put_mid}
 use Rattle.aes_ctr.specs.Aes.{aes, add_round_key}
@@ -118,3 +120,17 @@ pub applied_all : (key : List ℕ) (iv : ℕ) (old now : List ℕ) (n : ℕ) →
 applied_all key iv old now n long all held =
     xored_by_places old (keystream key iv (length old)) now long (omega (arith, length-keystream key iv (length old))) (λ i lt.
     held.changed i (omega arith) lt ∙ ap (λ b. bit_xor (get_or old i 0) b) (sym (get_or-keystream key iv (length old) i lt)))
+
+-- ---- 16 bytes at a time
+
+zip2-xored : (xs ys : List ℕ) → zip2 bit_xor xs ys ≡ xored xs ys
+zip2-xored [] ys = refl
+zip2-xored (x ∷ xs) [] = refl
+zip2-xored (x ∷ xs) (y ∷ ys) = ap (λ (l : List ℕ). bit_xor x y ∷ l) (zip2-xored xs ys)
+
+-- 16 bytes that are read, changed and written back
+pub put-xored : (xs ys : List ℕ) → length xs ≡ 16 → length ys ≡ 16 → put_chunk 0 xs (zip2 bit_xor (take 16 xs) ys) ≡ xored xs ys
+put-xored xs ys long wide =
+    let whole : take 16 xs ≡ xs = take_all 16 xs (omega arith) in
+    let size : length xs ≡ length (zip2 bit_xor (take 16 xs) ys) = sym (length-xored xs ys (omega arith)) ∙ ap (λ (l : List ℕ). length l) (sym (zip2-xored xs ys) ∙ ap (λ (l : List ℕ). zip2 bit_xor l ys) (sym whole)) in
+    put_chunk_whole xs _ size ∙ ap (λ (l : List ℕ). zip2 bit_xor l ys) whole ∙ zip2-xored xs ys

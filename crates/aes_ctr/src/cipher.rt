@@ -1,13 +1,15 @@
 // AES-128 with its key schedule, and its counter mode.
 
 ghost use Rattle.std.specs.Prelude.{◌≡◌, ℕ, ◌+◌, ◌*◌, ◌<◌, ◌≤◌, List, length, take};
+ghost use Rattle.std.specs.Int.{w128, to_be_bytes};
 ghost use Rattle.aes_ctr.specs.Aes.{aes, key_schedule, round_key, rounds};
 ghost use Rattle.aes_ctr.specs.Columns.{bytes_of, HoldsSchedule};
 ghost use Rattle.aes_ctr.specs.Keystream.{counter_block, keystream, xored};
 
 use crate::key_schedule::{WORDS, schedule_words};
-use crate::state::{add_round_key, columns, mixed, state, substituted};
+use crate::state::{add_round_key, columns, joined, mixed, parted, state, substituted};
 use std::marker::Model;
+use std::simd::prelude::*;
 
 /// AES-128 under one key, which contracts see as the key's 16 bytes.
 ///
@@ -53,11 +55,10 @@ impl Cipher {
         ]
     }
 
-    /// The block that AES-128 makes of an input block (FIPS 197, section 5.1).
-    pub fn block(&self, input: [u8; 16]) -> [u8; 16]
-        ensures { result ≡ aes self.now input }
+    /// The columns of the block that AES-128 makes of the block with these columns (FIPS 197, section 5.1).
+    fn enciphered(&self, start: [u32; 4]) -> [u32; 4]
+        ensures { bytes_of result ≡ aes self.now (bytes_of start) }
     {
-        let start = columns(input);
         let first = self.round_key(0);
         let mut words = add_round_key(start, first);
         'rounds: for round in 1..10 {
@@ -67,16 +68,26 @@ impl Cipher {
         }
         let ended = substituted(words);
         let last = self.round_key(10);
-        let output = add_round_key(ended, last);
+        add_round_key(ended, last)
+    }
+
+    /// The block that AES-128 makes of an input block (FIPS 197, section 5.1).
+    pub fn block(&self, input: [u8; 16]) -> [u8; 16]
+        ensures { result ≡ aes self.now input }
+    {
+        let start = columns(input);
+        let output = self.enciphered(start);
         state(output)
     }
 
-    /// The keystream's block `index`, from the counter `iv` on.
-    fn keystream_block(&self, iv: u128, index: usize) -> [u8; 16]
-        ensures { result ≡ aes self.now (counter_block iv index) }
+    /// The keystream's block `index`, from the counter `iv` on, as a number whose highest byte is the block's first.
+    fn keystream_block(&self, iv: u128, index: usize) -> u128
+        ensures { to_be_bytes w128 result ≡ aes self.now (counter_block iv index) }
     {
         let counter = iv.wrapping_add(index as u128);
-        self.block(counter.to_be_bytes())
+        let start = parted(counter);
+        let output = self.enciphered(start);
+        joined(output)
     }
 
     /// Changes `bytes` by exclusive or with the keystream that begins at the counter `iv`, which
@@ -90,31 +101,30 @@ impl Cipher {
             let stream = self.keystream_block(iv, index);
             let start = 16 * index;
             let size = (length - start).min(16);
-            xor_into(&mut bytes[start..start + size], &stream);
+            xor_into(&mut bytes[start..start + size], stream);
         }
     }
 }
 
-/// Changes `bytes` by exclusive or with the first bytes of `stream`.
-fn xor_into(bytes: &mut [u8], stream: &[u8; 16])
+/// Changes `bytes` by exclusive or with the first bytes of a block of the keystream.
+fn xor_into(bytes: &mut [u8], stream: u128)
     requires { length bytes.old ≤ 16 }
-    ensures { bytes.new ≡ xored bytes.old stream.now }
+    ensures { bytes.new ≡ xored bytes.old (to_be_bytes w128 stream) }
 {
     if bytes.len() == 16 {
         xor_block(bytes, stream);
     } else {
-        xor_rest(bytes, stream);
+        xor_rest(bytes, &stream.to_be_bytes());
     }
 }
 
-/// Changes the 16 bytes by exclusive or with `stream`: a loop of a fixed length.
-fn xor_block(bytes: &mut [u8], stream: &[u8; 16])
+/// Changes the 16 bytes by exclusive or with a block of the keystream, all at once.
+fn xor_block(bytes: &mut [u8], stream: u128)
     requires { length bytes.old ≡ 16 }
-    ensures { bytes.new ≡ xored bytes.old stream.now }
+    ensures { bytes.new ≡ xored bytes.old (to_be_bytes w128 stream) }
 {
-    'bytes: for i in 0..16 {
-        bytes[i] ^= stream[i];
-    }
+    let lanes = u8x16::from_slice(bytes) ^ u8x16::from_array(stream.to_be_bytes());
+    lanes.copy_to_slice(bytes);
 }
 
 /// Changes fewer bytes than a block by exclusive or with the first bytes of `stream`.

@@ -6,8 +6,10 @@
 
 mod cipher;
 mod key_schedule;
+mod law;
 mod state;
 mod substitution;
 mod tables;
 
 pub use cipher::Cipher;
+pub use law::power_254_is_the_inverse;

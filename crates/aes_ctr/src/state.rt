@@ -1,13 +1,17 @@
 // A state of 4 rows and 4 columns of bytes (FIPS 197, section 3.4) in four numbers, one for each column, with the first row's
 // byte the highest, and the transformations of section 5.1 on it.
 
-ghost use Rattle.std.specs.Prelude.{◌≡◌};
+ghost use Rattle.std.specs.Prelude.{◌≡◌, ◌/◌, ◌%◌, ◌^◌};
+ghost use Rattle.std.specs.Int.{w128, to_be_bytes};
 ghost use Rattle.aes_ctr.specs.Aes.{sub_byte, sub_bytes, shift_rows, mix_columns, add_round_key};
 ghost use Rattle.aes_ctr.specs.Columns.{byte_in, word_bytes, bytes_of};
 ghost use Rattle.std.specs.Prelude.{[], ◌∷◌};
 
 use crate::substitution::substitute;
 use crate::tables::mixed_column;
+
+/// The bits of one column in a number.
+const LOW: u128 = 0xffff_ffff;
 
 /// The column of four bytes, the first row's first.
 pub(crate) fn column(a: u8, b: u8, c: u8, d: u8) -> u32
@@ -42,6 +46,35 @@ pub(crate) fn state(columns: [u32; 4]) -> [u8; 16]
         c[0], c[1], c[2], c[3], //
         d[0], d[1], d[2], d[3],
     ]
+}
+
+/// The columns of the state whose bytes are those of this number, the highest first.
+pub(crate) fn parted(number: u128) -> [u32; 4]
+    ensures { bytes_of result ≡ to_be_bytes w128 number }
+{
+    [
+        (number >> 96) as u32,
+        ((number >> 64) & LOW) as u32,
+        ((number >> 32) & LOW) as u32,
+        (number & LOW) as u32,
+    ]
+}
+
+/// Two columns in one number, the first the higher.
+fn pair(first: u32, second: u32) -> u64
+    ensures high { result / 2 ^ 32 ≡ first }
+    ensures low { result % 2 ^ 32 ≡ second }
+{
+    u64::from(first) * 4_294_967_296 + u64::from(second)
+}
+
+/// The number whose bytes, the highest first, are those of the state that these columns hold.
+pub(crate) fn joined(columns: [u32; 4]) -> u128
+    ensures { to_be_bytes w128 result ≡ bytes_of columns }
+{
+    let high = pair(columns[0], columns[1]);
+    let low = pair(columns[2], columns[3]);
+    u128::from(high) * 18_446_744_073_709_551_616 + u128::from(low)
 }
 
 /// SubBytes, ShiftRows and MixColumns (sections 5.1.1 to 5.1.3).

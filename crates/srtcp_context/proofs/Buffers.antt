@@ -15,7 +15,7 @@ use Rattle.srtcp_context.proofs.PacketLemmas.{length-tag_of, length-trailer, len
 middle : (buf : List ℕ) (start end : ℕ) → take (end - start) (drop start buf) ≡ drop start (take end buf)
 middle buf start end = between_is buf start end
 
--- a payload that was changed in place leaves the changed packet at the buffer's front, and what stood behind it
+-- a payload that was changed in place leaves the changed packet at the buffer's front, and the bytes after it
 pub ciphered_in_place : (master : List ℕ) (ssrc : ℕ) (index : ℕ) (buf payload : List ℕ) (end : ℕ)
     → 8 ≤ end → end ≤ length buf
     → payload ≡ xored (take (end - 8) (drop 8 buf))
@@ -44,7 +44,7 @@ is_authentic-is master bytes code made =
     ap (λ l. bytes_eq l (take 10 code)) (between_to_end bytes (length bytes - 10) (length bytes) (omega arith))
     ∙ ap (λ l. bytes_eq (drop (length bytes - 10) bytes) (take 10 l)) made
 
--- a mark that is written behind what stands at the buffer's front
+-- a mark that is written after what stands at the buffer's front
 pub written_behind : (sent buf between new mark : List ℕ) (len size : ℕ) → length sent ≡ len → between ≡ sent ++ drop len buf
     → new ≡ put_mid len size between mark → new ≡ (sent ++ mark) ++ drop (len + size) buf
 written_behind sent buf between new mark len size length_is before written =
@@ -56,7 +56,7 @@ written_behind sent buf between new mark len size length_is before written =
     ∙ ap (λ l. sent ++ (mark ++ l)) (drop-drop size len buf)
     ∙ sym (append_assoc sent mark (drop (len + size) buf))
 
--- protecting in place, once the packet is enciphered and the trailer stands behind it
+-- protecting in place, once the packet is enciphered and followed by the trailer
 pub protected_in_place : (master : List ℕ) (ssrc index len : ℕ) (buf between code new : List ℕ)
     → rtcp_ssrc (take len buf) ≡ Some ssrc → 8 ≤ len → len + 14 ≤ length buf
     → between ≡ (ciphered master ssrc index (take len buf) ++ trailer index) ++ drop (len + 4) buf

@@ -1,4 +1,4 @@
--- What a table of counts answers and what a count changes, for the notes that it stands for.
+-- What a table of counts returns and what a count changes, for the notes that it stands for.
 use Rattle.std.proofs.Common.{◌≡◌, ◌≢◌, ℕ, ◌+◌, ◌<◌, ◌≤◌, ◌⊎◌, inl, inr, Bool, true, false, List, [], ◌∷◌, ◌++◌, length, Option, Some, None, arith, sym, ◌∙◌, ap, refl, take, get_or, get_or-take, length-take-le, get_or-set_other, get_or-set_same}
 use Rattle.std.specs.Prelude.{◌==◌, ◌||◌, nat_lt, slice_index, slice_set, is_some, position}
 use Rattle.std.specs.List.{list_any}

@@ -22,7 +22,7 @@ pub record OutFor (master : List ℕ) (context : OutRtcp) (notes : List Note) : 
   pub session : SessionFor master context.session
   pub counts : CountsFor context.counts notes
 
--- a packet was taken: the plain packet stands at the buffer's front, what stood behind it is as before, and the context
+-- a packet was taken: the plain packet stands at the buffer's front, the bytes after it are as before, and the context
 -- has one more note
 pub record Takes (master : List ℕ) (notes : List Note) (packet : Opened) (new : InRtcp) (buf_old buf_new : List ℕ)
     (result : Result ℕ UnprotectFault) : Type 0 where
@@ -41,7 +41,7 @@ abbrev pub OpensTo : Result Opened UnprotectFault → List ℕ → List Note →
 OpensTo (Ok packet) master notes old new buf_old buf_new result = Takes master notes packet new buf_old buf_new result
 OpensTo (Err cause) master notes old new buf_old buf_new result = Refuses cause old new buf_old buf_new result
 
--- a packet was protected: its bytes stand at the buffer's front, what stood behind them is as before, and the context
+-- a packet was protected: its bytes stand at the buffer's front, the bytes after them are as before, and the context
 -- has one more note
 pub record Sends (master : List ℕ) (notes : List Note) (packet : Wrapped) (new : OutRtcp) (buf_old buf_new : List ℕ)
     (result : Result (ℕ × ℕ) ProtectFault) : Type 0 where

@@ -16,7 +16,7 @@ unfoldable pub packet_keystream : List ℕ → ℕ → ℕ → ℕ → List ℕ
 packet_keystream master ssrc index size =
     keystream (cipher_key master Rtcp) (packet_counter (session_salt master Rtcp) ssrc index) size
 
--- a packet with what stands behind its first 8 bytes enciphered or deciphered, which is the same
+-- a packet with what follows its first 8 bytes enciphered or deciphered, which is the same
 unfoldable pub ciphered : List ℕ → ℕ → ℕ → List ℕ → List ℕ
 ciphered master ssrc index packet =
     take 8 packet ++ xored (drop 8 packet) (packet_keystream master ssrc index (length packet - 8))
@@ -33,7 +33,7 @@ code_of master bytes = hmac (authentication_key master Rtcp) bytes
 abbrev pub tag_of : List ℕ → List ℕ → List ℕ
 tag_of master bytes = take 10 (code_of master bytes)
 
--- what is authenticated, with its tag behind it
+-- what is authenticated, followed by its tag
 abbrev pub tagged : List ℕ → List ℕ → List ℕ
 tagged master bytes = bytes ++ tag_of master bytes
 
@@ -74,7 +74,7 @@ pub record OpensAs (master : List ℕ) (bytes : List ℕ) (index : ℕ) (packet 
   pub carries : carried_index bytes ≡ index
   pub holds : opened master bytes ≡ packet
 
--- so many bytes were written at a buffer's front, and what stood behind them is as before
+-- these bytes, `size` of them, were written at a buffer's front, and the bytes after them are as before
 pub record Writes (bytes old new : List ℕ) (size : ℕ) : Type 0 where
   pub length_is : size ≡ length bytes
   pub buffer : new ≡ bytes ++ drop (length bytes) old

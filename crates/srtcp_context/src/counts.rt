@@ -61,7 +61,7 @@ impl Counts {
         self.count < MOST || self.place(ssrc).is_some()
     }
 
-    /// Counts a packet of a source; `next` is what that call answers.
+    /// Counts a packet of a source; `next` is what that call returns.
     pub(crate) fn advance(&mut self, ssrc: u32, next: u32)
         requires next { next < 2 ^ 31 }
         requires room { can_count self.old ssrc ≡ true }

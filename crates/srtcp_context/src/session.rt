@@ -5,7 +5,7 @@ ghost use Rattle.srtcp_context.specs.Packets.{packet_keystream, code_of, is_auth
 
 use aes_ctr::Cipher;
 use rtp_packet::Half;
-use srtp_keys::{MacKey, Session, derive};
+use srtp_keys::{MacKey, Session, derive, same_tags};
 use srtp_sources::packet_counter;
 
 /// The bytes that stay clear: the first word and the sender's SSRC.
@@ -84,7 +84,7 @@ impl RtcpSession {
     {
         let end = bytes.len() - TAG;
         let code = self.code(&bytes[..end]);
-        bytes[end..] == code[..TAG]
+        same_tags(&bytes[end..], &code[..TAG])
     }
 
     /// Enciphers in place the packet in the buffer's first `len` bytes, and writes the E bit and the index after it.

@@ -16,7 +16,7 @@ use Rattle.srtp_context.proofs.PacketLemmas.{length-tag_of, length-ciphered}
 middle : (buf : List ℕ) (start end : ℕ) → take (end - start) (drop start buf) ≡ drop start (take end buf)
 middle buf start end = between_is buf start end
 
--- a payload that was changed in place leaves the changed packet at the buffer's front, and what stood behind it
+-- a payload that was changed in place leaves the changed packet at the buffer's front, and the bytes after it
 pub ciphered_in_place : (master : List ℕ) (found : RtpHead) (index : ℕ) (buf payload : List ℕ) (end : ℕ)
     → found.head ≤ end → end ≤ length buf
     → payload ≡ xored (take (end - found.head) (drop found.head buf))
@@ -72,7 +72,7 @@ opened_in_place master suite found index len size buf new head held tag within m
       buffer = made ∙ ap (λ n. ciphered master found index packet ++ drop n buf) (sym ciphered_size);
     })
 
--- protecting in place: first the payload is enciphered, then the tag is written behind it
+-- protecting in place: first the payload is enciphered, then the tag is written after it
 pub protected_in_place : (master : List ℕ) (suite : Suite) (found : RtpHead) (index len size : ℕ) (buf between code new : List ℕ)
     → rtp_head (take len buf) ≡ Some found → found.head ≤ len → len + size ≤ length buf → size ≡ tag_size suite
     → between ≡ ciphered master found index (take len buf) ++ drop len buf

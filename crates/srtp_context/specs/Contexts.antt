@@ -22,7 +22,7 @@ pub record OutFor (master : List ℕ) (suite : Suite) (context : OutRtp) (notes 
   pub session : SessionFor master suite context.session
   pub sources : SourcesFor Rtp context.sources notes
 
--- a packet was taken: the plain packet stands at the buffer's front, what stood behind it is as before, and the context
+-- a packet was taken: the plain packet stands at the buffer's front, the bytes after it are as before, and the context
 -- has one more note
 pub record Takes (master : List ℕ) (suite : Suite) (notes : List Note) (packet : Opened) (new : InRtp) (buf_old buf_new : List ℕ)
     (result : Result ℕ UnprotectFault) : Type 0 where
@@ -41,7 +41,7 @@ abbrev pub OpensTo : Result Opened UnprotectFault → List ℕ → Suite → Lis
 OpensTo (Ok packet) master suite notes old new buf_old buf_new result = Takes master suite notes packet new buf_old buf_new result
 OpensTo (Err cause) master suite notes old new buf_old buf_new result = Refuses cause old new buf_old buf_new result
 
--- a packet was protected: its bytes stand at the buffer's front, what stood behind them is as before, and the context
+-- a packet was protected: its bytes stand at the buffer's front, the bytes after them are as before, and the context
 -- has one more note
 pub record Sends (master : List ℕ) (suite : Suite) (notes : List Note) (packet : Wrapped) (new : OutRtp) (buf_old buf_new : List ℕ)
     (result : Result (ℕ × ℕ) ProtectFault) : Type 0 where

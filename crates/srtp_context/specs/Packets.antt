@@ -24,7 +24,7 @@ unfoldable pub packet_keystream : List ℕ → ℕ → ℕ → ℕ → List ℕ
 packet_keystream master ssrc index size =
     keystream (cipher_key master Rtp) (packet_counter (session_salt master Rtp) ssrc index) size
 
--- a packet with what stands behind its head enciphered or deciphered, which is the same
+-- a packet with what follows its head enciphered or deciphered, which is the same
 unfoldable pub ciphered : List ℕ → RtpHead → ℕ → List ℕ → List ℕ
 ciphered master found index packet =
     take found.head packet
@@ -38,11 +38,11 @@ code_of master packet index = hmac (authentication_key master Rtp) (packet ++ to
 abbrev pub tag_of : List ℕ → Suite → List ℕ → ℕ → List ℕ
 tag_of master suite packet index = take (tag_size suite) (code_of master packet index)
 
--- a packet with its authentication tag behind it
+-- a packet followed by its authentication tag
 abbrev pub tagged : List ℕ → Suite → List ℕ → ℕ → List ℕ
 tagged master suite packet index = packet ++ tag_of master suite packet index
 
--- the protected packet: enciphered behind its head, with its tag (what is no RTP packet has none)
+-- the protected packet: enciphered after its head, with its tag (what is no RTP packet has none)
 unfoldable pub protect : List ℕ → Suite → List ℕ → ℕ → List ℕ
 protect master suite packet index =
     option_map_or (λ found. tagged master suite (ciphered master found index packet) index) (rtp_head packet) []
@@ -56,7 +56,7 @@ unfoldable pub is_authentic : List ℕ → Suite → List ℕ → ℕ → Bool
 is_authentic master suite bytes index =
     bytes_eq (drop (length bytes - tag_size suite) bytes) (tag_of master suite (body suite bytes) index)
 
--- the packet that the bytes hold: deciphered behind its head, without the tag
+-- the packet that the bytes hold: deciphered after its head, without the tag
 unfoldable pub opened : List ℕ → Suite → List ℕ → ℕ → List ℕ
 opened master suite bytes index =
     option_map_or (λ found. ciphered master found index (body suite bytes)) (rtp_head bytes) []
@@ -66,7 +66,7 @@ pub record OpensAs (master : List ℕ) (suite : Suite) (bytes : List ℕ) (index
   pub authentic : is_authentic master suite bytes index ≡ true
   pub holds : opened master suite bytes index ≡ packet
 
--- so many bytes were written at a buffer's front, and what stood behind them is as before
+-- these bytes, `size` of them, were written at a buffer's front, and the bytes after them are as before
 pub record Writes (bytes old new : List ℕ) (size : ℕ) : Type 0 where
   pub length_is : size ≡ length bytes
   pub buffer : new ≡ bytes ++ drop (length bytes) old

@@ -7,7 +7,7 @@ ghost use Rattle.rtp_packet.specs.Head.{rtp_head};
 use aes_ctr::Cipher;
 use rtp_packet::{Half, RtpHead};
 use sdes_lines::Suite;
-use srtp_keys::{MacKey, Session, derive};
+use srtp_keys::{MacKey, Session, derive, same_tags};
 use srtp_sources::packet_counter;
 
 /// How many bytes a suite's authentication tag has (RFC 3711 section 4.2, RFC 4568 section 6.2).
@@ -78,7 +78,7 @@ impl RtpSession {
         let size = tag_size(self.suite);
         let end = bytes.len() - size;
         let code = self.code(&bytes[..end], index);
-        bytes[end..] == code[..size]
+        same_tags(&bytes[end..], &code[..size])
     }
 
     /// Protects in place the packet with this head in the buffer's first `len` bytes, and returns its new length.

@@ -1,4 +1,4 @@
--- The states of SHA-1 behind an authentication code.
+-- The states of SHA-1 under an authentication code.
 use Rattle.std.proofs.Common.{◌≡◌, ℕ, ◌-◌, ◌<◌, ◌≤◌, List, ◌++◌, length, get_or, drop, replicate, bit_xor, ap, sym, ◌∙◌, arith}
 use Rattle.std.proofs.lemmas.List.{ext_get_or, length-map, get_or-map, drop-replicate}
 use Rattle.sha1.specs.Sha1.{Holds, sha1}

@@ -1,2 +1,3 @@
 pub mod Authenticating
 pub mod Deriving
+pub mod Comparing

@@ -1,5 +1,5 @@
 -- The session keys of SRTP and SRTCP (RFC 3711, section 4.3) at a key derivation rate of 0, from a
--- master key of 16 bytes with a master salt of 14 bytes behind it.
+-- master key of 16 bytes followed by a master salt of 14 bytes.
 use Rattle.std.specs.Prelude.{ℕ, List, [], ◌∷◌, ◌++◌, take, drop, slice_index, slice_set, bit_xor}
 use Rattle.std.specs.Int.{w128, from_be_bytes}
 use Rattle.aes_ctr.specs.Keystream.{keystream}

@@ -6,7 +6,7 @@ use Rattle.sha1.specs.Sha1.{sha1}
 abbrev pub short_key : List ℕ → List ℕ
 short_key key = if nat_lt 64 (length key) then sha1 key else key
 
--- that, with zeros behind it up to a block
+-- that, padded with zeros to a block
 abbrev pub key_block : List ℕ → List ℕ
 key_block key = short_key key ++ replicate (64 - length (short_key key)) 0
 

@@ -1,6 +1,7 @@
 // HMAC-SHA1 (RFC 2104).
 
 ghost use Rattle.std.specs.Prelude.{◌≡◌, ℕ, ◌+◌, ◌^◌, ◌<◌, ◌≤◌, ◌++◌, ◌-◌, length, List, replicate, drop};
+ghost use Rattle.std.specs.Str.{bytes_eq};
 ghost use Rattle.sha1.specs.Sha1.{Holds, sha1};
 ghost use Rattle.srtp_keys.specs.Hmac.{hmac, key_block, padded_by};
 
@@ -81,6 +82,18 @@ fn finished(mut inner: Sha1, mut outer: Sha1, text: &[u8], tail: &[u8]) -> [u8; 
     inner.update(tail);
     outer.update(&inner.finalize());
     outer.finalize()
+}
+
+/// Whether two tags of one length are the same. Every byte of both is read, wherever they differ.
+pub fn same_tags(one: &[u8], other: &[u8]) -> bool
+    requires { length one.now ≡ length other.now }
+    ensures { result ≡ bytes_eq one.now other.now }
+{
+    let mut difference = 0;
+    'bytes: for i in 0..one.len() {
+        difference |= one[i] ^ other[i];
+    }
+    difference == 0
 }
 
 /// A key of HMAC-SHA1 with what depends on the key alone done once, which contracts see as its 20

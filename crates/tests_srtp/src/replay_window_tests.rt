@@ -86,3 +86,8 @@ fn fresh_indices(rt: HostRuntime) {
     window.note(1_000_000);
     assert!(rt; window.fresh(1010) == Fresh::TooOld && window.fresh(999_999) == Fresh::Yes);
 }
+
+#[test]
+fn memory_of_a_window(rt: HostRuntime) {
+    assert!(rt; std::mem::size_of::<Window>() <= 32);
+}

@@ -15,7 +15,7 @@ fn outbound() -> OutRtcp {
     OutRtcp::new(key)
 }
 
-/// Whether a packet of this many bytes is protected so; not where the call's conditions don't hold.
+/// Whether a packet of this many bytes is protected with this result; not where the call's conditions don't hold.
 fn is_protected(
     context: &mut OutRtcp,
     buf: &mut [u8; 64],
@@ -210,6 +210,6 @@ fn memory_of_contexts(rt: HostRuntime) -> std::io::Result<()> {
     let inbound = std::mem::size_of::<InRtcp>();
     let outbound = std::mem::size_of::<OutRtcp>();
     println!(rt; "a context of 32 sources takes {inbound} bytes inbound and {outbound} outbound")?;
-    assert!(rt; inbound <= 34_500 && outbound <= 1_024);
+    assert!(rt; inbound <= 2_048 && outbound <= 1_024);
     Ok(())
 }

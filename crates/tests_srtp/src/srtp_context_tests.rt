@@ -13,7 +13,7 @@ fn outbound(suite: Suite) -> OutRtp {
     OutRtp::new(key, suite)
 }
 
-/// Whether a packet of this many bytes is protected so; not where the call's conditions don't hold.
+/// Whether a packet of this many bytes is protected with this result; not where the call's conditions don't hold.
 fn is_protected(
     context: &mut OutRtp,
     buf: &mut [u8; 64],
@@ -130,7 +130,7 @@ fn the_rollover_counter_is_authenticated(rt: HostRuntime) {
     assert!(rt; buf == buffer(wanted));
 }
 
-/// Numbers that are sent in turn, and what each is answered.
+/// Numbers that are sent in turn, and the result of each.
 const WRAPPING: &[(u16, Result<(usize, u64), ProtectFault>)] = &[
     (65_534, Ok((16, 65_534))),
     (65_535, Ok((16, 65_535))),
@@ -238,7 +238,7 @@ fn thirty_two_sources_and_one_more(rt: HostRuntime) {
 fn memory_of_a_context(rt: HostRuntime) -> std::io::Result<()> {
     let size = std::mem::size_of::<InRtp>();
     println!(rt; "a context of 32 sources takes {size} bytes")?;
-    assert!(rt; size <= 34_500);
+    assert!(rt; size <= 2_048);
     Ok(())
 }
 

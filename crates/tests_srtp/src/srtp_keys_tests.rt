@@ -2,7 +2,7 @@
 
 use crate::cases::none_failed;
 use rtp_packet::Half;
-use srtp_keys::{DrawnKey, MacKey, Session, derive, hmac};
+use srtp_keys::{DrawnKey, MacKey, Session, derive, hmac, same_tags};
 
 /// Master key and master salt of RFC 3711, appendix B.3.
 const MASTER: [u8; 30] =
@@ -84,6 +84,12 @@ fn a_ready_key_gives_the_same_codes(rt: HostRuntime) {
 }
 
 /// Whether these are a session's key of codes, its salt, and its cipher's block of zeros.
+#[test]
+fn tags_are_compared_in_each_byte(rt: HostRuntime) {
+    assert!(rt; same_tags(b"0123456789", b"0123456789"));
+    assert!(rt; !same_tags(b"0123456789", b"1123456789") && !same_tags(b"0123", b"0124"));
+}
+
 fn is_session(session: &Session, auth: &[u8; 20], salt: &[u8; 14], block: &[u8; 16]) -> bool {
     session.auth == *auth && session.salt == *salt && session.cipher.block([0; 16]) == *block
 }

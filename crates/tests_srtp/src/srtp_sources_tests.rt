@@ -52,11 +52,10 @@ fn sources_come_in_and_none_goes(rt: HostRuntime) {
     );
 }
 
-// Windows as lists: about 1 KB a source, 33 KB in all.
 #[test]
 fn memory_of_a_table(rt: HostRuntime) -> std::io::Result<()> {
     let size = std::mem::size_of::<Sources>();
     println!(rt; "a table of 32 sources takes {size} bytes")?;
-    assert!(rt; size <= 34_000);
+    assert!(rt; size <= 1_200);
     Ok(())
 }

@@ -1,6 +1,7 @@
-use Rattle.std.proofs.Common.{arith}
-use Rattle.aes_ctr.proofs.StreamLemmas.{xored_by_places}
+use Rattle.std.proofs.Common.{length, List, ℕ, ap}
+use Rattle.aes_ctr.proofs.StreamLemmas.{put-xored}
 use Rattle.aes_ctr.proofs.cipher.xor_block.Goals as goal
 
 pub returns : goal.returns
-returns c = xored_by_places c.args.bytes.now c.args.stream.now c.bytes.bytes (omega arith) (omega arith) (λ i h. c.bytes.invariant.done i (omega arith))
+returns c =
+    rw (← c.to_be_bytes.ensures) (put-xored c.args.bytes.now c.to_be_bytes.result c.requires (ap (λ (l : List ℕ). length l) c.to_be_bytes.ensures))

@@ -5,6 +5,6 @@ use Rattle.srtp_context.proofs.session.RtpSession.is_authentic.Goals as goal
 
 pub returns : goal.returns
 returns c master suite for =
-    c.eq.ensures
+    c.same_tags.ensures
     ∙ is_authentic-is master suite c.args.bytes.now c.code-code.result c.args.index c.tag_size-size.result
     (c.tag_size-size.ensures ∙ ap tag_size for.is_of) (c.code-code.ensures master suite for)
