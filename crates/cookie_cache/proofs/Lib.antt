@@ -2,3 +2,9 @@ pub mod Recent
 pub mod Finding
 pub mod Matching
 pub mod Latest
+pub mod InOrder
+pub mod Ages
+pub mod Keys
+pub mod Kept
+pub mod Shown
+pub mod Keeping

@@ -9,15 +9,15 @@ use Rattle.cookie_cache.specs.Keepings.{Keeping, answers}
 use Rattle.cookie_cache.specs.Latest.{Matches}
 use Rattle.cookie_cache.proofs.Finding.{IsDecidedBy}
 
-first_true : (a b : Bool) → a && b ≡ true → a ≡ true
+pub first_true : (a b : Bool) → a && b ≡ true → a ≡ true
 first_true true b h = refl
 first_true false b h = cc
 
-second_true : (a b : Bool) → a && b ≡ true → b ≡ true
+pub second_true : (a b : Bool) → a && b ≡ true → b ≡ true
 second_true true b h = h
 second_true false b h = cc
 
-both_true : (a b : Bool) → a ≡ true → b ≡ true → a && b ≡ true
+pub both_true : (a b : Bool) → a ≡ true → b ≡ true → a && b ≡ true
 both_true a b p q = rw (p, q) refl
 
 ip_from_test : (a b : Ip) → same_ip a b ≡ true → a ≡ b
@@ -30,13 +30,13 @@ ip_test : (a : Ip) → same_ip a a ≡ true
 ip_test (ip.V4 a) = (bytes_decides a a).1 refl
 ip_test (ip.V6 a) = (bytes_decides a a).1 refl
 
-addr_from_test : (a b : Addr) → same_addr a b ≡ true → a ≡ b
+pub addr_from_test : (a b : Addr) → same_addr a b ≡ true → a ≡ b
 addr_from_test a b h =
     let hosts : a.ip ≡ b.ip = ip_from_test a.ip b.ip (first_true _ _ h) in
     let ports : a.port ≡ b.port = eqb-true a.port b.port (second_true _ _ h) in
     λ i. record { ip = hosts i; port = ports i }
 
-addr_test : (a : Addr) → same_addr a a ≡ true
+pub addr_test : (a : Addr) → same_addr a a ≡ true
 addr_test a = both_true _ _ (ip_test a.ip) (eq-eqb a.port a.port refl)
 
 matches_from_test : (source : Addr) (cookie : List ℕ) (at : ℕ) (keeping : Keeping) → answers source cookie at keeping ≡ true → Matches source cookie at keeping

@@ -1,4 +1,4 @@
--- Replies that were kept, as a plain list, the latest first; and which of them answers a command.
+-- Replies that were kept, as a plain list, the latest first; and which of them is the reply to a command.
 use Rattle.std.specs.Cmp.Lexicographic.{pointwise}
 use Rattle.std.specs.Prelude.{nat_eq, nat_lt, ℕ, ◌-◌, ◌<◌, ◌≤◌, ◌&&◌, Bool, List, [], ◌∷◌, Option, find, length, max, take}
 use Rattle.std.specs.Option.{option_map}
@@ -26,7 +26,7 @@ abbrev pub answers : Addr → List ℕ → ℕ → Keeping → Bool
 answers source cookie at keeping =
     same_addr keeping.source source && pointwise nat_eq keeping.cookie cookie && nat_lt (at - keeping.moment) 60000
 
--- the reply that is kept for this source and cookie at this moment: of the last 4,096 keepings the latest that answers
+-- the reply that is kept for this source and cookie at this moment: of the last 4,096 keepings the latest that matches
 unfoldable pub kept : List Keeping → Addr → List ℕ → ℕ → Option (List ℕ)
 kept keepings source cookie at = option_map (λ keeping. keeping.reply) (find (answers source cookie at) (recent keepings))
 

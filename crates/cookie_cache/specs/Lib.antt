@@ -1,3 +1,5 @@
 pub mod Keepings
+pub mod Entries
+pub mod Oldest
 pub mod Caches
 pub mod Latest

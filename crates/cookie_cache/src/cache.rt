@@ -2,13 +2,15 @@ ghost use Rattle.std.specs.Prelude.{◌≡◌, List, [], ◌∷◌, Some, None, 
 ghost use Rattle.cookie_cache.specs.Keepings.{Keeping, IsCookie};
 
 use crate::kept_reply::KeptReply;
+use crate::key::{KeyBytes, LONGEST_KEY};
+use indexmap::IndexMap;
 use ng_bencode::Text;
 use relay_outside::{Addr, OutOfMemory};
 use std::alloc::Global;
-use std::collections::VecDeque;
+use std::mem;
 
-/// How many replies are kept.
-const MOST: usize = 4096;
+/// Of how many replies the latest for a source and a cookie is found.
+const MOST: u64 = 4096;
 
 /// For how many replies a new cache has room.
 const FIRST_ROOM: usize = 64;
@@ -16,52 +18,44 @@ const FIRST_ROOM: usize = 64;
 /// The replies that are kept, each for the source and the cookie of its command.
 ///
 /// Contracts see it as a list of all replies that it was ever given, the latest first: it stands for that list, and
-/// what it answers follows from it.
+/// what its calls return follows from it.
 #[derive(Drop)]
 pub struct CookieCache {
-    /// The last 4,096 replies, the latest in front.
-    replies: VecDeque<KeptReply>,
+    /// The latest reply for each source and cookie of the last 4,096, in the order in which they were kept.
+    entries: IndexMap<Vec<u8>, KeptReply>,
+    /// No bytes, with room for those of the next key.
+    next_key: Vec<u8>,
+    /// How many replies were kept, modulo 2^64.
+    count: u64,
+    /// When the last reply was kept, in milliseconds; at first 0.
+    last_moment: u64,
 }
 
 impl CookieCache {
-    ghost use Rattle.std.specs.Prelude.{max, find};
-    ghost use Rattle.std.specs.Option.{option_copied};
-    ghost use Rattle.cookie_cache.specs.Keepings.{answers, kept, last_moment, moment_used};
+    ghost use Rattle.std.specs.Prelude.{drop, if◌then◌else◌};
+    ghost use Rattle.cookie_cache.specs.Keepings.{kept, moment_used};
+    ghost use Rattle.cookie_cache.specs.Entries.{all_shown, entries};
+    ghost use Rattle.cookie_cache.specs.Oldest.{without_gone};
     ghost use Rattle.cookie_cache.specs.Caches.{StandsFor, HasSparePlace};
 
-    /// A cache that was given no reply, with room for the first few.
+    /// An empty cache with capacity for the first few replies.
     pub fn new(alloc: Global) -> Result<CookieCache, OutOfMemory>
         ensures { IfOk result (λ cache. StandsFor cache []) }
     {
-        match VecDeque::with_capacity(alloc, FIRST_ROOM) {
-            Ok(replies) => Ok(CookieCache { replies }),
+        match IndexMap::with_capacity(alloc, FIRST_ROOM) {
+            Ok(entries) => Ok(CookieCache {
+                entries,
+                next_key: Vec::new(alloc),
+                count: 0,
+                last_moment: 0,
+            }),
             Err(_) => Err(OutOfMemory),
         }
-    }
-
-    // The greater of a moment and that of the last reply.
-    fn moment_used(&self, now: u64) -> u64
-        ensures { result ≡ max now (last_moment self.now.replies.items) }
-    {
-        match self.replies.front() {
-            Some(last) => now.max(last.moment()),
-            None => now,
-        }
-    }
-
-    // The latest reply that answers a command with this cookie from this source at this moment.
-    fn latest(&self, source: Addr, cookie: &[u8], at: u64) -> Option<&KeptReply>
-        ensures { option_copied result ≡ find (answers source cookie.now at) self.now.replies.items }
-    {
-        self.replies
-            .iter()
-            .find(|kept| kept.answers(source, cookie, at))
     }
 
     /// The bytes of the reply that is kept for a command from this source with this cookie, which has 1 to 255 bytes: of
     /// the last 4,096 replies the latest for both that was kept less than 60,000 milliseconds ago. It is asked for at the
     /// moment `now`, in milliseconds, or at the moment of the last `keep`, where that is greater.
-    #[tactic(auto, unfolding(crate::specs::Keepings::kept))]
     pub fn find(&self, source: Addr, cookie: &[u8], now: u64) -> Option<&[u8]>
         requires { IsCookie cookie.now }
         ensures { (keepings : List Keeping) → StandsFor self.now keepings →
@@ -69,40 +63,86 @@ impl CookieCache {
             (kept keepings source cookie.now (moment_used keepings now) ≡ None)
             (λ reply. kept keepings source cookie.now (moment_used keepings now) ≡ Some reply.now) }
     {
-        let at = self.moment_used(now);
-        match self.latest(source, cookie, at) {
-            Some(latest) => Some(latest.reply()),
-            None => None,
+        let key = KeyBytes::new(source, cookie);
+        let kept = self.entries.get(key.as_slice())?;
+        if kept.answers_at(now.max(self.last_moment)) {
+            Some(kept.reply.as_slice())
+        } else {
+            None
         }
     }
 
-    /// Makes the one spare place that `keep` needs. What is kept stays, whatever the answer.
+    /// Makes the room that `keep` needs for one more reply. What is kept stays, also when it fails.
     pub fn reserve(&mut self) -> Result<(), OutOfMemory>
         ensures kept { (keepings : List Keeping) → StandsFor self.old keepings → StandsFor self.new keepings }
         ensures place { OnOk result (HasSparePlace self.new) }
         ensures place_stays { HasSparePlace self.old → HasSparePlace self.new }
     {
-        if self.replies.len() >= MOST {
-            return Ok(());
-        }
-        match self.replies.reserve(1) {
+        let Ok(()) = self.next_key.reserve(LONGEST_KEY) else {
+            return Err(OutOfMemory);
+        };
+        match self.entries.reserve(1) {
             Ok(()) => Ok(()),
             Err(_) => Err(OutOfMemory),
         }
     }
 
     /// Keeps the reply to a command from this source with this cookie, which has 1 to 255 bytes, in the spare place. It is
-    /// kept at the moment `now`, in milliseconds, or at the moment of the last `keep`, where that is greater. The oldest of
-    /// 4,096 replies goes.
+    /// kept at the moment `now`, in milliseconds, or at the moment of the last `keep`, where that is greater. An earlier reply for
+    /// both goes, and one that is not of the last 4,096 any more.
     pub fn keep(&mut self, source: Addr, cookie: Text, reply: Text, now: u64)
         requires cookie { IsCookie cookie.list }
         requires place { HasSparePlace self.old }
         ensures { (keepings : List Keeping) → StandsFor self.old keepings →
             StandsFor self.new (record { source = source; cookie = cookie.list; reply = reply.list; moment = moment_used keepings now } ∷ keepings) }
     {
-        let moment = self.moment_used(now);
-        self.replies.truncate(MOST - 1);
-        self.replies
-            .push_front_reserved(KeptReply::new(source, cookie, reply, moment));
+        let moment = now.max(self.last_moment);
+        let alloc = *self.entries.allocator();
+        let bytes = KeyBytes::new(source, cookie.as_slice());
+        let mut key = mem::replace(&mut self.next_key, Vec::new(alloc));
+        let _ = key.extend_from_slice(bytes.as_slice());
+        let _ = self.entries.shift_remove(bytes.as_slice());
+        let number = self.count;
+        let _ = self.entries.insert(
+            key,
+            KeptReply {
+                number,
+                reply,
+                moment,
+            },
+        );
+        self.count = number.wrapping_add(1);
+        self.last_moment = moment;
+        self.drop_oldest();
+    }
+
+    // Drops the first entry, where its reply isn't of the last 4,096 any more.
+    fn drop_oldest(&mut self)
+        ensures entries { all_shown self.new.entries.entries ≡ without_gone self.old.count (all_shown self.old.entries.entries) }
+        ensures next_key { self.new.next_key ≡ self.old.next_key }
+        ensures count { self.new.count ≡ self.old.count }
+        ensures last_moment { self.new.last_moment ≡ self.old.last_moment }
+    {
+        if self.oldest_is_gone() {
+            let _ = self.entries.shift_remove_index(0);
+        }
+    }
+
+    fn oldest_is_gone(&self) -> bool
+        ensures { without_gone self.now.count (all_shown self.now.entries.entries) ≡ (if result then drop 1 (all_shown self.now.entries.entries) else all_shown self.now.entries.entries) }
+    {
+        match self.entries.first() {
+            Some((_, kept)) => self.count.wrapping_sub(kept.number) > MOST,
+            None => false,
+        }
+    }
+
+    /// The entries: the keys of the last 4,096 replies, each once, in the order of the latest reply under it and with what was
+    /// kept of that one. A key is a byte for the family of the source's address, 4 or 6, the address, the port in network
+    /// order, and the cookie.
+    pub fn entries(&self) -> &IndexMap<Vec<u8>, KeptReply>
+        ensures { (keepings : List Keeping) → StandsFor self.now keepings → all_shown result.now.entries ≡ entries keepings }
+    {
+        &self.entries
     }
 }

@@ -1,0 +1,74 @@
+//! The key of a kept reply, built in an array.
+ghost use Rattle.std.specs.Prelude.{◌≡◌, ◌+◌, ◌≤◌, ◌++◌, ℕ, List, [], length, take};
+ghost use Rattle.cookie_cache.specs.Caches.{IsSource};
+ghost use Rattle.cookie_cache.specs.Entries.{key_of};
+
+use relay_outside::{Addr, Ip};
+use std::marker::Model;
+
+/// How many bytes the longest key has: the family, an address of version 6, the port and a cookie of 255 bytes.
+pub(crate) const LONGEST_KEY: usize = 274;
+
+/// What an address of version 4 begins with in a key.
+const FAMILY_V4: u8 = 4;
+
+/// The same of version 6.
+const FAMILY_V6: u8 = 6;
+
+/// The bytes of a key: the family of the address that a command came from, the address, the port and the cookie.
+#[derive(Drop)]
+pub(crate) struct KeyBytes {
+    bytes: [u8; LONGEST_KEY],
+    len: usize,
+}
+
+impl Model for KeyBytes {
+    ghost Value = { List ℕ };
+
+    ghost view = { λ key. take key.len key.bytes };
+
+    ghost invariant = { λ key. key.len ≤ 274 };
+}
+
+impl KeyBytes {
+    /// The key of a reply to a command with this cookie from this source.
+    pub(crate) fn new(source: Addr, cookie: &[u8]) -> KeyBytes
+        requires { length cookie.now ≤ 255 }
+        ensures bytes { result ≡ key_of source cookie.now }
+        ensures source { IsSource source }
+    {
+        let mut key = KeyBytes {
+            bytes: [0; LONGEST_KEY],
+            len: 0,
+        };
+        match source.ip {
+            Ip::V4(octets) => {
+                key.put(&[FAMILY_V4]);
+                key.put(&octets);
+            }
+            Ip::V6(octets) => {
+                key.put(&[FAMILY_V6]);
+                key.put(&octets);
+            }
+        }
+        key.put(&source.port.to_be_bytes());
+        key.put(cookie);
+        key
+    }
+
+    fn put(&mut self, bytes: &[u8])
+        requires { length self.old + length bytes.now ≤ 274 }
+        ensures { self.new ≡ self.old ++ bytes.now }
+    {
+        let end = self.len + bytes.len();
+        self.bytes[self.len..end].copy_from_slice(bytes);
+        self.len = end;
+    }
+
+    pub(crate) fn as_slice(&self) -> &[u8]
+        ensures bytes { result.now ≡ self.now }
+        ensures short { length result.now ≤ 274 }
+    {
+        &self.bytes[..self.len]
+    }
+}
