@@ -1,3 +1,4 @@
 pub mod Numbers
 pub mod Spelled
 pub mod Pushed
+pub mod Jsons

@@ -8,7 +8,7 @@ use Rattle.ng_reply.specs.Texts.{code_text}
 use Rattle.ng_reply.specs.declared.code.ErrorCode.{ErrorCode}
 use Rattle.ng_reply.proofs.Numbers.{two, three, five, six, twelve}
 
--- a text behind its length
+-- a text after its length
 spelled : (text rest : List ℕ) → string text ++ rest ≡ decimal (length text) ++ 58 ∷ (text ++ rest)
 spelled text rest = append_assoc (decimal (length text)) (58 ∷ text) rest
 

@@ -2,6 +2,7 @@
 use Rattle.std.specs.Prelude.{ℕ, List, ◌∷◌, ◌++◌, codes}
 use Rattle.ng_bencode.specs.Tree.{Tree, Bytes, Dict, Entries, no_entries, entry}
 use Rattle.ng_bencode.specs.Spells.{spelling}
+use Rattle.ng_json.specs.Written.{json_text}
 use Rattle.ng_reply.specs.Texts.{code_text}
 use Rattle.ng_reply.specs.declared.code.ErrorCode.{ErrorCode}
 
@@ -9,7 +10,7 @@ use Rattle.ng_reply.specs.declared.code.ErrorCode.{ErrorCode}
 abbrev pub text_entry : List ℕ → List ℕ → Entries → Entries
 text_entry key text rest = entry key (Bytes text) rest
 
--- the pairs with one more behind them
+-- the pairs with one more appended
 abbrev pub with_text : Entries → List ℕ → List ℕ → Entries
 with_text no_entries key text = text_entry key text no_entries
 with_text (entry name tree rest) key text = entry name tree (with_text rest key text)
@@ -37,3 +38,7 @@ error_reply code = Dict (text_entry (codes "error-reason") (code_text code) (tex
 -- a failure as a datagram: the cookie, a space, the reply
 abbrev pub error_datagram : List ℕ → ErrorCode → List ℕ
 error_datagram cookie code = cookie ++ 32 ∷ spelling (error_reply code)
+
+-- the same in JSON
+abbrev pub json_error_datagram : List ℕ → ErrorCode → List ℕ
+json_error_datagram cookie code = cookie ++ 32 ∷ json_text (error_reply code)

@@ -26,7 +26,7 @@ pub fn fixed_error(cookie: &[u8], code: ErrorCode, out: &mut [u8; 512]) -> usize
 }
 
 /// Writes bytes at a place, and returns the place after them.
-fn put(out: &mut [u8; 512], at: usize, bytes: &[u8]) -> usize
+pub(crate) fn put(out: &mut [u8; 512], at: usize, bytes: &[u8]) -> usize
     requires { at + length bytes.now ≤ 512 }
     ensures place { result ≡ at + length bytes.now }
     ensures front { take result out.new ≡ take at out.old ++ bytes.now }

@@ -1,4 +1,4 @@
-//! Tests of the formats: bencode, frames, commands, replies, kept replies, crypto lines, descriptions and their editing.
+//! Tests of the formats: bencode, JSON, frames, commands, replies, kept replies, crypto lines, descriptions and their editing.
 //! Nothing stands on this crate: the libraries that it tests are proved once, without their tests.
 #![tactic(auto)]
 
@@ -12,6 +12,8 @@ mod ng_bencode_tests;
 mod ng_command_tests;
 #[cfg(test)]
 mod ng_frame_tests;
+#[cfg(test)]
+mod ng_json_tests;
 #[cfg(test)]
 mod ng_reply_tests;
 #[cfg(test)]

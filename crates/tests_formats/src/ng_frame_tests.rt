@@ -9,7 +9,7 @@ const FRAMES: &[(&[u8], &[u8], &[u8])] = &[
     (b"a ", b"a", b""),
 ];
 
-/// Whether the datagram is taken apart so, and put together again.
+/// Whether the datagram is split like this and joined again.
 fn is_frame(alloc: Global, datagram: &[u8], cookie: &[u8], body: &[u8]) -> bool {
     let Some((front, rest)) = split(datagram) else {
         return false;

@@ -5,18 +5,19 @@ use crate::cases::none_failed;
 use ng_bencode::{Text, Value, encode};
 use ng_command::KeyName;
 use ng_reply::{
-    ErrorCode, SdpPart, done, fixed_error, pong, sdp_reply_into, sdp_reply_len, warned,
+    ErrorCode, SdpPart, done, fixed_error, fixed_json_error, pong, sdp_json_into, sdp_json_len,
+    sdp_reply_into, sdp_reply_len, warned,
 };
 use std::alloc::Global;
 
-/// Whether the error is answered so to the cookie `5323_1`.
+/// Whether this is the reply with the error to the cookie `5323_1`.
 fn is_told(code: ErrorCode, reply: &[u8]) -> bool {
     let mut out = [0; 512];
     let len = fixed_error(b"5323_1", code, &mut out);
     &out[..len] == reply
 }
 
-/// Errors, and the answer to each.
+/// Errors, and the reply with each.
 const ERRORS: &[(ErrorCode, &[u8])] = &[
     (
         ErrorCode::E1,
@@ -163,4 +164,22 @@ fn a_description_is_written_behind_what_stands_there(rt: HostRuntime) {
     };
     sdp_reply_into(sdp, &mut out);
     assert!(rt; out.as_slice() == b"7 d6:result2:ok3:sdp8:v=0\r\no=xe".as_slice());
+}
+
+#[test]
+fn replies_in_json_are_written_without_memory(rt: HostRuntime) {
+    let mut out = Text::new(rt.alloc());
+    let sdp = b"v=0\r\no=\"";
+    let len = sdp_json_len(sdp.len());
+    assert!(rt; len == 112);
+    let Ok(()) = out.reserve(len) else {
+        panic!(rt; "no memory");
+    };
+    sdp_json_into(sdp, &mut out);
+    let want = b"{\"result\":\"ok\",\"sdp\":\"v=0\\r\\no=\\\"\"}";
+    assert!(rt; out.as_slice() == want.as_slice());
+    let mut datagram = [0; 512];
+    let len = fixed_json_error(b"6", ErrorCode::E6(12), &mut datagram);
+    let want = b"6 {\"error-reason\":\"malformed SDP: line 12\",\"result\":\"error\"}";
+    assert!(rt; &datagram[..len] == want.as_slice());
 }

@@ -179,7 +179,7 @@ const WRITTEN: &[(CryptoLine, &[u8])] = &[
     ),
 ];
 
-/// Whether the line is written so, nothing after it, and read again.
+/// Whether the line is written like this, with nothing after it, and is read back.
 fn is_written(line: &CryptoLine, text: &[u8]) -> bool {
     let mut out = [b'#'; 96];
     if line.tag > 999_999_999 {

@@ -1,0 +1,9 @@
+pub mod Texts
+pub mod Places
+pub mod Trees
+pub mod Back
+pub mod Commuting
+pub mod Gathering
+pub mod Sorting
+pub mod Reading
+pub mod Simple

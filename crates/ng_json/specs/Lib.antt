@@ -1,0 +1,4 @@
+pub mod Strings
+pub mod Twins
+pub mod Written
+pub mod Members

@@ -1,0 +1,16 @@
+//! JSON, the other notation of the ng control protocol: a JSON text is read as the bencoded value that says the same, its twin, and a
+//! bencoded value is written as JSON. `specs/Strings.antt` says which bytes a JSON string stands for, `specs/Twins.antt` what the
+//! twin of a text is, and `specs/Written.antt` the text of a value.
+#![tactic(auto)]
+
+mod decode;
+mod encode;
+mod errors;
+mod law;
+mod strings;
+
+pub use decode::read;
+pub use encode::write;
+pub use errors::JsonFault;
+pub use law::written_is_read;
+pub use strings::put_bytes;
