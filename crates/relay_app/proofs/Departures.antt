@@ -277,7 +277,7 @@ module _ (config : Config) (l : List Entry) (h : List BoardEntry) (legal : Legal
       ∙ ap (λ (s : Option Sending). sent_of w.half x.sent_ok s) sending
       ∙ sent_itself w.half w.half w.pair w.to w.bytes x.sent_ok refl
 
-  -- the cell has the leg behind it, and the call is one of its sends
+  -- the cell has the leg after it, and the call is one of its sends
   begins : (other leg : Holder) → found b x.packet ≡ Some leg → opposite_of b (Some leg) ≡ Some other → In other (legs b) → More cell_entry l e.place e.number
       → Has config l o e.place other w.half call (since_end (cell_history l e.place (suc e.number)))
   begins other leg is_found is_opposite is_leg (same q none) =

@@ -102,7 +102,7 @@ module _ (config : Config) (at : Addr) where
   called_at : (call : PortCall) → IsOfPair config call → address_in call ≡ at → IsPort config at
   called_at call of_pair is = (of_pair.pair, of_pair.half, of_pair.within, sym is ∙ of_pair.at)
 
-  -- an address that is open behind calls at ports is one, or was open before
+  -- an address that is open after calls at ports is one, or was open before
   was_open : (more old : List PortCall) → All (IsOfPair config) more → IsOpen (old ++ more) at → IsPort config at ⊎ IsOpen old at
   was_open [] old of_pairs is_open = inr (subst (λ (calls : List PortCall). IsOpen calls at) (append-nil old) is_open)
   was_open (call ∷ more) old of_pairs is_open =
@@ -139,7 +139,7 @@ module _ (config : Config) (at : Addr) where
   same_case calls old shut is_open (inl is) = absurd (no_port calls shut is_open is)
   same_case calls old shut is_open (inr is) = is
 
--- no port was open before these calls, and none is behind them: so every address is open where it was
+-- no port was open before these calls, and none is after them: so every address is open where it was
 pub opens_same : (config : Config) (before now : Option (List PortCall)) → Gained before now (λ calls. All (IsOfPair config) calls) → TellsHeld config before [] → TellsHeld config now []
     → OpensSame before now
 opens_same config before None calls old new = tt

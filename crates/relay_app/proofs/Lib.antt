@@ -3,12 +3,11 @@ mod Departures
 mod Ends
 mod Loops
 pub mod MediaThreads
-mod Options
 mod Orders
+mod Refusals
 mod Rounds
 mod Runs
 mod Sends
 mod Shut
 mod Tied
-mod Values
 pub mod Wholes

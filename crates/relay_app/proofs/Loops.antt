@@ -172,7 +172,7 @@ module _ {M I O : Type 0} {g : _} where
     abbrev made : Option Hearing
     made = turned.made
 
-    -- the history behind the turn
+    -- the history after the turn
     abbrev h2 : List BoardEntry
     h2 = with_entry h (entry_due config h now made)
 

@@ -129,7 +129,7 @@ module _ {I O : Type 0} {gi : _} {go : _} {gm : _} (config : Config) (turns : Tu
         | inr j ↦ all_of_lane (n + 1) xs done.1 row j
       ]
 
-  -- the main hand's rows with theirs behind are sound
+  -- the main hand's rows followed by theirs are sound
   pub all_sound : (n : ℕ) (xs : List (MediaThread I O gi go gm)) → AreDone n xs → (rows : List Row) → IsSound config rows
       → IsSound config (rows ++ all_of (map (λ (x : MediaThread I O gi go gm). rows_of x) xs))
   all_sound n [] done rows sound = subst (λ (all : List Row). IsSound config all) (sym (append-nil rows)) sound

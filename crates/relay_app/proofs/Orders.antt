@@ -50,7 +50,7 @@ no_nested_in_order l none e f i j x y p k = absurd (let never = none e i in cc)
 nothing_in_order : InOrder []
 nothing_in_order = no_nested_in_order [] (λ e i. elim i [ ])
 
--- entries behind the list of which none is nested
+-- entries after the list of which none is nested
 behind_in_order : (l ls : List Entry) → HasNoNested ls → InOrder l → InOrder (l ++ ls)
 behind_in_order l ls none first =
     both_in_order l ls first (no_nested_in_order ls none) (λ e i x. absurd (let never = none e i in cc))

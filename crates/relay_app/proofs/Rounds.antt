@@ -73,7 +73,7 @@ counted_case (Some x) first r = refl
 counted_case None (Some x) r = refl
 counted_case None None r = refl
 
--- behind a round: from its own where a tick is in it, and else as before
+-- after a round: from its own where a tick is in it, and else as before
 pub counted_next : (r : Round) (rounds : List Round) (ticks : Bool) → is_some r.ticked ≡ ticks
     → counted_from (r ∷ rounds) ≡ Some (cond ticks r.handed (unwrap_or (counted_from rounds) r.handed))
 counted_next r rounds true is =
@@ -132,7 +132,7 @@ module _ {M I O : Type 0} {g : _} where
       subst (λ (n : ℕ). AddsSweep config n range (entries old) (entries new)) (sym none)
       (record { rows = _; are = s.list_is; alone = record { visits = s.visits; rows_are = refl; is_sweep = record { passed = s.passed; own_once = s.own_once } } })
 
-  -- what a turn heard, by how it ended
+  -- what is recorded of a turn, by how it ended
   pub turn_heard : (config : Config) (old new : Hand M (Part I O) Made (Unit {0}) g) (now : ℕ) (answer : ControlTurn) (made : Option Hearing) → Follows config old new now answer made
       → HasHeard answer made
   turn_heard config old new now answer None follows = follows.0
@@ -163,8 +163,8 @@ module _ {M I O : Type 0} {g : _} where
   follows_totals config turns old new now answer (Some x) totals before follows counts =
       turn_totals config old new (entry_at config (board_of (made_by old)) (moment_at (board_of (made_by old)) now) x) totals before.orderly follows.1 counts
 
-  -- The last sweep, the stop, the join of the threads' hands, and the close of the table: first is the hand behind the rounds, swept that behind
-  -- the sweep, last that behind the stop, all that behind the join.
+  -- The last sweep, the stop, the join of the threads' hands, and the close of the table: first is the hand after the rounds, swept that after
+  -- the sweep, last that after the stop, all that after the join.
   module _ (config : Config) (threads : ℕ) (range : Option (ℕ × ℕ)) (rounds : List Round) (totals : Totals) (turns : Turns M (Part I O) Made (Unit {0}))
       (first swept last all : Hand M (Part I O) Made (Unit {0}) g) (beside : List (List Row))
       (are : AreRounds config threads range rounds (entries first)) (history_is : board_of (made_by first) ≡ history_after config rounds)

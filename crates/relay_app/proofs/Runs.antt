@@ -12,7 +12,7 @@ use Rattle.relay_outside.proofs.Telling.{gained_none, gained_one, gained_both}
 use Rattle.media_lane.specs.declared.answers.Totals.{Totals}
 use Rattle.relay_app.specs.declared.status.Status.{Status}
 use Rattle.relay_app.specs.declared.status.Status.TheVariants as status
-use Rattle.relay_app.specs.declared.words.Settings.{Settings}
+use Rattle.command_line.specs.declared.settings.Settings.{Settings}
 use Rattle.relay_app.specs.declared.totals.Counts.{Counts}
 use Rattle.relay_app.specs.Served.{Outside, Gave, AreCalls, DidServe, totals_line, counts_in, Counted}
 use Rattle.relay_app.specs.Turned.{IsLoopEnd}
@@ -39,7 +39,7 @@ serves_as settings found range outside wrote wrote_now answer is serves = subst 
 uncalled : {C : Type 0} (before after : Option (List C)) → before ≡ after → Gave before after []
 uncalled {C} before after same = subst (λ (t : Option (List C)). Gave before t []) same (gained_none before (λ more. more ≡ []) refl)
 
--- memory was refused before the bind
+-- memory ran out before the bind
 pub not_begun : (settings : Settings) (range : Option (ℕ × ℕ)) (outside : Outside) (wrote : Option (List WriteCall)) → outside.link ≡ outside.link_now
     → outside.timer ≡ outside.timer_now → outside.opened ≡ outside.opened_now → outside.drew ≡ outside.drew_now
     → Serves (Some settings) range outside wrote wrote status.OutOfMemory

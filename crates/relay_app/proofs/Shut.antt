@@ -36,7 +36,7 @@ stopped_case config h a fits (inl still) =
     absurd (let k : true ≡ false = sym (stop_closes config h a fits still.0) ∙ still.1 in cc)
 stopped_case config h a fits (inr new) = elim new [ ]
 
--- so none is held behind it
+-- so none is held after it
 none_held : (config : Config) (h : List BoardEntry) (a : Holder) → IsFitting config h → In a (held (stop_entry h ∷ h)) → ⊥
 none_held config h a fits i = stopped_case config h a fits (held_split h (stop_entry h) a i)
 

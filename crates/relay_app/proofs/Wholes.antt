@@ -26,7 +26,7 @@ use Rattle.main_sweeps.specs.Totals.{HasTotals}
 use Rattle.ng_server.specs.Servers.{OpensJust}
 use Rattle.relay_app.specs.declared.status.Status.{Status}
 use Rattle.relay_app.specs.declared.totals.Counts.{Counts}
-use Rattle.relay_app.specs.declared.words.Settings.{Settings}
+use Rattle.command_line.specs.declared.settings.Settings.{Settings}
 use Rattle.relay_app.specs.Rounds.{history_after, IsWhole}
 use Rattle.relay_app.specs.Run.{OpensNone, TellsNone}
 use Rattle.relay_app.specs.Served.{Outside, HaveCauses, DidServe}

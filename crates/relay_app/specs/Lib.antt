@@ -1,10 +1,7 @@
 pub mod Ends
-pub mod Given
 pub mod Numbered
-pub mod Numbers
 pub mod Rounds
 pub mod Run
 pub mod Served
 pub mod Threads
 pub mod Turned
-pub mod Words

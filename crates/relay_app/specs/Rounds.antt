@@ -1,5 +1,5 @@
 -- The steps of a run. Those of the main hand, in the order in which they were made: rounds, each a control turn, and the stop. Where no thread
--- relays media, a sweep of media stands behind each control turn and before the stop; else each thread made sweeps beside them. At the end of a
+-- relays media, a sweep of media follows each control turn and precedes the stop; else each thread made sweeps meanwhile. At the end of a
 -- round stands a tick, about once a second.
 use Rattle.std.specs.Prelude.{◌≡◌, ◌+◌, ◌<◌, ℕ, zero, suc, Bool, true, false, nat_le, List, [], ◌∷◌, ◌++◌, Option, None, Some, is_some, map, filter, length}
 use Rattle.std.specs.Option.{option_map}
@@ -26,7 +26,7 @@ use Rattle.relay_app.specs.declared.status.Status.{Status}
 use Rattle.relay_app.specs.declared.status.Status.TheVariants as status
 
 -- A control turn after which the run goes on: the moment that the timer gave for its take, how it ended, and of a datagram with a frame what
--- was heard of it, with what the ports and the keys gave; and the calls that the tick behind it ended, where a tick was made
+-- is recorded of it, with what the ports and the keys gave; and the calls that the tick after it ended, where a tick was made
 pub record Round : Type 0 where
   pub handed : ℕ
   pub answer : ControlTurn
@@ -42,7 +42,7 @@ status_after turn.Nothing = None
 status_after turn.End = Some status.Ok
 status_after turn.ReadFault = Some status.ControlFault
 
--- the entry that the board's history demands of what was heard: at the moment that was handed, or at the board's last one, where that is later
+-- the entry that the board's history demands of what is recorded: at the moment that was handed, or at the board's last one, where that is later
 abbrev pub entry_due : Config → List BoardEntry → ℕ → Option Hearing → Option BoardEntry
 entry_due config history now heard = option_map (entry_at config history (moment_at history now)) heard
 
@@ -50,7 +50,7 @@ abbrev pub with_entry : List BoardEntry → Option BoardEntry → List BoardEntr
 with_entry history None = history
 with_entry history (Some entry) = entry ∷ history
 
--- a history after what a control turn heard
+-- a history after what is recorded of a control turn
 abbrev pub with_heard : Config → List BoardEntry → Round → List BoardEntry
 with_heard config history r = with_entry history (entry_due config history r.handed r.heard)
 
@@ -104,7 +104,7 @@ is_second_later (Some then) now = nat_le (then + 1000) now
 abbrev pub is_tick_due : List Round → ℕ → Bool
 is_tick_due rounds now = is_second_later (counted_from rounds) now
 
--- A turn of the board behind these rows: the nested entries that its entry owes, in their order, and then the entry
+-- A turn of the board after these rows: the nested entries that its entry owes, in their order, and then the entry
 pub record IsBoardTurn (config : Config) (before : List Row) (e : BoardEntry) (rows : List Row) : Type 0 where
   pub nested : List Row
   pub last : Row
@@ -117,7 +117,7 @@ abbrev pub MakesEntry : Config → List Row → Option BoardEntry → List Row �
 MakesEntry config before None rows = rows ≡ []
 MakesEntry config before (Some e) rows = IsBoardTurn config before e rows
 
--- The rows of one sweep by the hand of a lane: one take of each half of each of its own pairs, in any order. Directly behind a take that gave
+-- The rows of one sweep by the hand of a lane: one take of each half of each of its own pairs, in any order. Right after a take that gave
 -- a datagram stands the one relay of it, which was handed a moment of the clock's range
 pub record HasSwept (config : Config) (index lanes : ℕ) (range : Option (ℕ × ℕ)) (rows : List Row) : Type 0 where
   pub visits : List Visit
@@ -129,7 +129,7 @@ abbrev pub SweepsAlone : Config → (threads : ℕ) → Option (ℕ × ℕ) → 
 SweepsAlone config zero range rows = HasSwept config 0 1 range rows
 SweepsAlone config (suc more) range rows = rows ≡ []
 
--- a control turn that sent a reply, or failed to send it, heard a datagram with a frame, and no other did
+-- a control turn that sent a reply, or failed to send it, took a datagram with a frame, and no other did
 abbrev pub HasHeard : ControlTurn → Option Hearing → Type 0
 HasHeard answer None = is_answered answer ≡ false
 HasHeard answer (Some x) = is_answered answer ≡ true
@@ -147,7 +147,7 @@ AreRounds config threads range (r ∷ rounds) rows =
     × SweepsAlone config threads range sweep
     × MakesEntry config ((before ++ turn) ++ sweep) (tick_of (with_heard config (history_after config rounds) r) r) tick
 
--- The rows of one thread of media: those of one sweep or of more, one behind the other, of the pairs whose number is the thread's modulo
+-- The rows of one thread of media: those of one sweep or of more, one after the other, of the pairs whose number is the thread's modulo
 -- the number of threads
 pub record IsThread (config : Config) (index threads : ℕ) (range : Option (ℕ × ℕ)) (rows : List Row) : Type 0 where
   pub sweeps : List (List Visit)
@@ -165,7 +165,7 @@ all_of [] = []
 all_of (rows ∷ more) = rows ++ all_of more
 
 -- All steps of a run: those of its rounds, of one more sweep where no thread relays media, and of the stop, and those of each thread, each step
--- at the moment that its event makes of the one that it was handed. With what each relay noted, protected and sent told beside its outcome they
+-- at the moment that its event makes of the one that it was handed. With what each relay noted, protected and sent added to its outcome they
 -- are a list that is legal, and so safe; the board's entries in it are the history and the stop, and these are the counts of its takes and relays
 pub record IsWhole (config : Config) (threads : ℕ) (range : Option (ℕ × ℕ)) (rounds : List Round) (totals : Totals) : Type 0 where
   pub in_rounds : List Row
@@ -177,7 +177,7 @@ pub record IsWhole (config : Config) (threads : ℕ) (range : Option (ℕ × ℕ
   pub is_stop : IsBoardTurn config (in_rounds ++ last_sweep) (stop_entry (history_after config rounds)) stop
   pub as_many : length beside ≡ threads
   pub are_threads : AreThreads config 0 threads range beside
-  -- all of them, those of the threads behind those of the main hand
+  -- all of them, those of the threads after those of the main hand
   pub rows : List Row
   pub rows_are : rows ≡ ((in_rounds ++ last_sweep) ++ stop) ++ all_of beside
   pub timed : AreTimed rows

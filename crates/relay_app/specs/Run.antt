@@ -7,8 +7,8 @@ use Rattle.relay_outside.specs.declared.lines.WriteCall.{WriteCall}
 use Rattle.relay_outside.specs.declared.lines.WriteCall.TheVariants as put
 use Rattle.relay_app.specs.declared.status.Status.{Status}
 use Rattle.relay_app.specs.declared.status.Status.TheVariants as status
-use Rattle.relay_app.specs.declared.words.Settings.{Settings}
-use Rattle.relay_app.specs.declared.words.ReplaySettings.{ReplaySettings}
+use Rattle.command_line.specs.declared.settings.Settings.{Settings}
+use Rattle.command_line.specs.declared.settings.ReplaySettings.{ReplaySettings}
 use Rattle.relay_outside.specs.declared.lines.LineCall.{LineCall}
 use Rattle.replay_steps.specs.declared.ended.Ended.{Ended}
 use Rattle.replay_steps.specs.declared.ended.Ended.TheVariants as ended
@@ -31,10 +31,16 @@ is_printed status.ScriptFault = true
 is_printed status.TurnsSpent = true
 is_printed status.ScriptRead = true
 
--- the usage text
+-- a line was written with this answer, or with success, and then, with this answer, a text
+abbrev pub TellsLine : (line : List ℕ) → Bool → List WriteCall → Type 0
+TellsLine line answer writes =
+    (writes ≡ put.Write line answer ∷ [])
+    ⊎ ((text : List ℕ) × (writes ≡ put.Write line true ∷ put.Write text answer ∷ []))
+
+-- the usage: a line, and then, where the reader of options refused the words, its text; nothing where memory was refused
 abbrev pub PrintsUsage : Status → List WriteCall → Type 0
-PrintsUsage answer writes =
-    (text : List ℕ) × (writes ≡ put.Write text (is_printed answer) ∷ []) × (starts_with nat_eq text (codes "usage: rtpengine") ≡ true)
+PrintsUsage status.OutOfMemory writes = writes ≡ []
+PrintsUsage answer writes = (line : List ℕ) × TellsLine line (is_printed answer) writes × (starts_with nat_eq line (codes "usage: rtpengine") ≡ true)
 
 -- of the devices the link alone was called, so
 pub record IsCalled (outside : Outside) (calls : List LinkCall) : Type 0 where
@@ -43,7 +49,7 @@ pub record IsCalled (outside : Outside) (calls : List LinkCall) : Type 0 where
   pub no_port : Gave outside.opened outside.opened_now []
   pub no_draw : Gave outside.drew outside.drew_now []
 
--- The link was bound to its address, the control turns were made, with as many threads of media beside them as the words say, and one line was
+-- The link was bound to its address, the control turns were made, while as many threads of media ran as the words say, and one line was
 -- printed, of totals. This is the status at their end,
 -- unless a fault of the sink took its place
 pub record DidRun (settings : Settings) (range : Option (ℕ × ℕ)) (outside : Outside) (wrote wrote_now : Option (List WriteCall)) (answer : Status) : Type 0 where
@@ -54,7 +60,7 @@ pub record DidRun (settings : Settings) (range : Option (ℕ × ℕ)) (outside :
   pub answer_is : (answer ≡ ended) ⊎ (answer ≡ status.PrintFault)
   pub line : Gave wrote wrote_now (put.Write (totals_line counts totals) (is_printed answer) ∷ [])
 
--- With words of `serve`: memory was refused before any call, or the bind failed, or the run is as `DidRun` says; before it nothing is printed
+-- With words of `serve`: memory ran out before any call, or the bind failed, or the run is as `DidRun` says; before it nothing is printed
 abbrev pub Serves : Option Settings → (range : Option (ℕ × ℕ)) → Outside → (wrote wrote_now : Option (List WriteCall)) → Status → Type 0
 Serves None range outside wrote wrote_now answer = Unit {0}
 Serves (Some settings) range outside wrote wrote_now answer =
@@ -84,9 +90,9 @@ IsReplayed status.ControlFault = ⊥
 IsReplayed status.TurnsSpent = ⊥
 IsReplayed status.Usage = ⊥
 
--- the status is one of the command that the words are of; it is Usage, or PrintFault in its place, exactly where they are of none
+-- the status is one of the command that the words are of; it is Usage, or PrintFault in its place, only where they are of none
 abbrev pub StatusByWords : Option Settings → Option ReplaySettings → Status → Type 0
-StatusByWords None None answer = (answer ≡ status.Usage) ⊎ (answer ≡ status.PrintFault)
+StatusByWords None None answer = (answer ≡ status.Usage) ⊎ (answer ≡ status.PrintFault) ⊎ (answer ≡ status.OutOfMemory)
 StatusByWords None (Some replay) answer = IsReplayed answer
 StatusByWords (Some settings) replay answer = IsServed answer
 

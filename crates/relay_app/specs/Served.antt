@@ -43,7 +43,7 @@ pub record Outside : Type 0 where
 abbrev pub Gave : {C : Type 0} → Option (List C) → Option (List C) → List C → Type 0
 Gave before after more = Gained before after (λ added. added ≡ more)
 
--- What the outside gave.
+-- What the devices returned.
 
 abbrev pub given_in : BoardEvent → Option Given
 given_in (Turn c) = Some c.given
@@ -54,12 +54,12 @@ abbrev pub openings_in : Option Given → List Bool
 openings_in None = []
 openings_in (Some given) = given.opens
 
--- the answers of the openings of a history, in order
+-- the results of the openings of a history, in order
 abbrev pub openings : List BoardEntry → List Bool
 openings [] = []
 openings (entry ∷ history) = openings history ++ openings_in (given_in entry.event)
 
--- the openings that go with what an entry behind this history tells: of the ports of the pairs that are free then, from the front, pair by
+-- the openings that go with what an entry after this history tells: of the ports of the pairs that are free then, from the front, pair by
 -- pair and that for RTP before that for RTCP
 abbrev pub opening_calls_in : Config → List BoardEntry → Option Given → List PortCall
 opening_calls_in config history None = []
@@ -70,7 +70,7 @@ abbrev pub opening_calls_of : Config → List BoardEntry → List PortCall
 opening_calls_of config [] = []
 opening_calls_of config (entry ∷ history) = opening_calls_of config history ++ opening_calls_in config history (given_in entry.event)
 
--- the openings among these calls are those of the history, and none of its answers is left out
+-- the openings among these calls are those of the history, and none of its results is left out
 pub record OpensBy (config : Config) (history : List BoardEntry) (calls : List PortCall) : Type 0 where
   pub answered : OpensWith (openings history) calls
   pub in_order : OpensThese (opening_calls_of config history) calls
@@ -89,7 +89,7 @@ pub record IsCaused (outside : Outside) (given : Given) : Type 0 where
   pub port_fault : In false given.opens → Rose outside.port_faults outside.port_faults_now
   pub key_fault : given.draw_failed ≡ true → Rose outside.key_faults outside.key_faults_now
 
--- for each entry what the outside gave has its cause
+-- for each entry what the devices returned has its cause
 abbrev pub HaveCauses : Outside → List BoardEntry → Type 0
 HaveCauses outside history = (entry : BoardEntry) (given : Given) → In entry history → given_in entry.event ≡ Some given → IsCaused outside given
 
@@ -125,13 +125,13 @@ is_turn (call.Take room given.Failed) = false
 is_turn (call.Send to bytes done) = false
 
 -- The calls of the link have these counts: of the takes that gave a datagram or nothing, of the datagrams that were taken, and of the sends
--- that were answered Ok
+-- that returned Ok
 pub record Counted (counts : Counts) (calls : List LinkCall) : Type 0 where
   pub turns_are : count_by is_turn calls ≡ counts.turns
   pub datagrams_are : length (datagrams calls) ≡ counts.datagrams
   pub replies_are : length (sent calls) ≡ counts.replies
 
--- The calls of the link in these rounds, in order: one take in each, and directly behind one that gave a datagram with a frame the send of the
+-- The calls of the link in these rounds, in order: one take in each, and right after one that gave a datagram with a frame the send of the
 -- reply that the board's history demands, to its source
 abbrev pub AreExchanges : Config → List Round → List LinkCall → Type 0
 AreExchanges config [] calls = calls ≡ []
@@ -141,7 +141,7 @@ AreExchanges config (r ∷ rounds) calls =
 
 -- How the control turns end.
 
--- the take behind the last round that ended them, where one did
+-- the take after the last round that ended them, where one did
 abbrev pub last_take : Status → List LinkCall
 last_take status.Ok = call.Take 16385 given.End ∷ []
 last_take status.ControlFault = call.Take 16385 given.Failed ∷ []

@@ -28,7 +28,7 @@ module _ {I O : Type 0} {gi : _} {go : _} {gm : _} where
   AddsEach [] old new = new ≡ old
   AddsEach (thread ∷ more) old new = (mid : Totals) × AddsTotals old thread.totals mid × AddsEach more mid new
 
-  -- the thread with this number, of so many threads, which has a part of the table's hands and did nothing yet
+  -- the thread with this index, of `threads` threads, which has a part of the table's hands and did nothing yet
   pub record IsFresh (config : Config) (turns : Turns (Relay I O) (Part I O) Made (Unit {0})) (threads index : ℕ) (thread : MediaThread I O gi go gm) : Type 0 where
     pub of_table : IsHandOf turns (hand_of thread.lane)
     pub one_part : parts (hand_of thread.lane) ≡ 1

@@ -1,4 +1,4 @@
--- A run between two rounds, and behind its last one.
+-- A run between two rounds, and after its last one.
 use Rattle.std.specs.Prelude.{◌≡◌, ◌<◌, ◌≤◌, ◌^◌, ◌++◌, ℕ, List, [], length, Option, Some, None, is_some}
 use Rattle.relay_outside.specs.declared.settings.Config.{Config}
 use Rattle.relay_outside.specs.declared.ports.PortCall.{PortCall}
@@ -20,7 +20,7 @@ use Rattle.relay_app.specs.declared.status.Status.{Status}
 use Rattle.relay_app.specs.declared.status.Status.TheVariants as status
 use Rattle.relay_app.specs.declared.totals.Counts.{Counts}
 use Rattle.relay_app.specs.declared.serve.Looped.{Looped}
-use Rattle.relay_app.specs.declared.words.Settings.{Settings}
+use Rattle.command_line.specs.declared.settings.Settings.{Settings}
 use Rattle.relay_app.specs.Rounds.{Round, history_after, moments, counted_from, is_second_later, AreRounds, SweepsAlone}
 use Rattle.relay_app.specs.Served.{Outside, Gave, OpensBy, draws, HaveCauses, counts_in, AreExchanges, last_take, HasEnded, AreTold}
 
@@ -50,7 +50,7 @@ pub record DidTurns (limit : ℕ) (config : Config) (threads : ℕ) (range : Opt
   pub told : AreTold config [] rounds last ended outside
   pub tied : Gained outside.opened outside.opened_now (AreTied config rows)
 
--- what stands behind a turn after which the run goes on, and behind the last one: a sweep, where no thread relays media
+-- what follows a turn after which the run goes on, and the last one: a sweep, where no thread relays media
 pub record AddsSweep (config : Config) (threads : ℕ) (range : Option (ℕ × ℕ)) (before after : List Row) : Type 0 where
   pub rows : List Row
   pub are : after ≡ before ++ rows

@@ -1,15 +1,16 @@
 ghost use Rattle.std.specs.Prelude.{◌≡◌, ◌≤◌, ◌<◌, ◌^◌, [], vec_capacity, None, Some, IfOk, map};
 ghost use Rattle.relay_outside.specs.Told.{Gained, Rose};
 ghost use Rattle.media_ports.specs.Held.{TellsHeld};
-ghost use Rattle.relay_app.specs.Words.{settings, replay_settings};
+ghost use Rattle.command_line.specs.Words.{settings, replay_settings};
 ghost use Rattle.relay_app.specs.Run.{Serves, PrintsUsage, IsServed, StatusByWords, ReplayedBy, AreOfReplay, TellsNone};
 
-use crate::replaying::replay_else;
+use crate::replaying::replay_script;
 use crate::serve::{close_table, serve_turns};
 use crate::status::Status;
 use crate::threads::MediaThread;
 use crate::totals::put_totals;
-use crate::words::{Settings, read_settings};
+use crate::usage::print_usage;
+use command_line::{Refusal, Settings, Task, read_words};
 use ng_bencode::Text;
 use ng_server::{Desk, Server};
 use relay_outside::{
@@ -128,10 +129,10 @@ where
 ///
 /// `serve --interface=ADDRESS [--listen-ng=ADDRESS:PORT] [--port-min=PORT] [--port-max=PORT] [--max-sessions=NUMBER] [--timeout=SECONDS]
 /// [--offer-timeout=SECONDS] [--turns=NUMBER] [--num-threads=NUMBER]`
-/// binds the control link and answers the datagrams that it takes until the link gives no more, a take
+/// binds the control link and replies to the datagrams that it takes until the link gives no more, a take
 /// fails, or `--turns` takes gave a datagram or nothing. Calls begin, are answered and end as the datagrams ask: their ports are
 /// opened and closed by the port maker, their keys drawn from the key source. Once a second of the timer, calls end whose last activity is
-/// `--timeout` ago, or whose first offer is `--offer-timeout` ago and was not answered. Beside that `--num-threads` threads relay media, each the
+/// `--timeout` ago, or whose first offer is `--offer-timeout` ago and was not answered. Meanwhile `--num-threads` threads relay media, each the
 /// packets of its own pairs of ports, handed moments of the clock; with 0, at most one packet of each port is relayed after each take.
 /// At the end the threads end, then all calls, and a line of totals is printed. The timer, in milliseconds, is asked once for each take
 /// of the link. Where no thread can be started, each thread's work is done after the last take.
@@ -140,7 +141,8 @@ where
 /// [--offer-timeout=SECONDS]` reads the script, makes its steps over devices in memory, and prints a line for each event. It leaves the control link, the ports, the keys, the timer, the
 /// clock and the gate alone.
 ///
-/// Any other words return `Usage`. It may wait for the turns of its own table.
+/// `--NAME VALUE` may stand for `--NAME=VALUE`. Any other words return `Usage`, after a line that begins `usage: rtpengine` and what `clap`
+/// says of words that it refuses. It may wait for the turns of its own table.
 pub fn run<R, N, P, K, T, C, G, S, O>(
     rt: &R,
     alloc: Global,
@@ -195,10 +197,12 @@ where
     ensures unasked { settings (map (λ word. word.now) words.now) ≡ None → (control.new ≡ control.old) × (timer.new ≡ timer.old) × (ports.new ≡ ports.old) × (keys.new ≡ keys.old) }
     ensures unused { (AreOfReplay (settings (map (λ word. word.now) words.now)) (replay_settings (map (λ word. word.now) words.now)) → ⊥) → script.new ≡ script.old }
 {
-    match read_settings(words) {
-        Some(settings) => serve(
+    match read_words(alloc, words) {
+        Ok(Task::Serve(settings)) => serve(
             rt, alloc, &settings, control, ports, keys, timer, clock, gate, out,
         ),
-        None => replay_else(rt, alloc, words, script, out),
+        Ok(Task::Replay(settings)) => replay_script(rt, alloc, &settings, script, out),
+        Err(Refusal::Usage(usage)) => print_usage(&usage, out),
+        Err(Refusal::OutOfMemory) => Status::OutOfMemory,
     }
 }

@@ -137,7 +137,7 @@ where
     );
 }
 
-/// Makes all control turns, beside as many threads as these; without one, in this thread alone.
+/// Makes all control turns while these threads run; without one, in this thread alone.
 pub(crate) fn run_beside<R, V, S, C, G, N, P, K, T, M, L>(
     rt: &R,
     server: &V,

@@ -5,15 +5,12 @@
 
 mod app;
 mod beside;
-mod numbers;
 mod replaying;
 mod serve;
 mod status;
 mod threads;
 mod totals;
 mod usage;
-mod words;
 
 pub use app::run;
 pub use status::Status;
-pub use words::{Media, read_media};

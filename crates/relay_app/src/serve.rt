@@ -26,7 +26,7 @@ use crate::beside::{ControlWork, run_beside};
 use crate::status::Status;
 use crate::threads::{MediaThread, join_threads, make_threads};
 use crate::totals::{Counts, no_totals};
-use crate::words::Settings;
+use command_line::Settings;
 use main_sweeps::sweep_between;
 use media_lane::Totals;
 use ng_server::{ControlTurn, Desk, Server};
@@ -124,8 +124,8 @@ fn is_second_later(since: Option<u64>, now: u64) -> bool
     }
 }
 
-/// Makes a tick at this moment, where one is due: a second after the last one, or after the first control turn, where there was none yet.
-/// From which moment the next second counts is answered.
+/// Makes a tick at this moment if one is due: a second after the last one, or after the first control turn, where there was none yet.
+/// Returns the moment from which the next second counts.
 fn tick_when_due<P: PortMaker, R: Wait>(
     rt: &R,
     server: &Server<P>,
@@ -326,7 +326,7 @@ where
     drop(server.close(hand));
 }
 
-/// Serves with a server that answered nothing yet: its control turns, with as many threads of media beside them as the settings say, then the
+/// Serves with a server that has taken no turn yet: its control turns, with as many threads of media beside them as the settings say, then the
 /// stop, which ends all calls, and the close of its table. Where no thread relays media, a sweep stands after each control turn and before
 /// the stop. The list of threads is empty, and has room for them.
 pub(crate) fn serve_turns<N, P, K, T, C, G, R>(

@@ -1,22 +1,29 @@
-ghost use Rattle.std.specs.Prelude.{◌≡◌, ◌≤◌, None};
+ghost use Rattle.std.specs.Prelude.{◌≡◌, ◌≢◌, ◌≤◌, None, true};
 ghost use Rattle.relay_outside.specs.Told.{Gained, Rose};
+ghost use Rattle.command_line.specs.Refusals.{begins_usage};
 ghost use Rattle.relay_app.specs.Run.{PrintsUsage, StatusByWords};
 
 use crate::status::Status;
+use command_line::Usage;
 use relay_outside::LineSink;
 
-/// The usage text.
-const USAGE: &[u8] =
-    b"usage: rtpengine serve --interface=ADDRESS [--listen-ng=ADDRESS:PORT] [--port-min=PORT] [--port-max=PORT] [--max-sessions=NUMBER] [--timeout=SECONDS] [--offer-timeout=SECONDS] [--turns=NUMBER] [--num-threads=NUMBER] | replay [--interface=ADDRESS] [--seed=NUMBER] [--port-min=PORT] [--port-max=PORT] [--max-sessions=NUMBER] [--timeout=SECONDS] [--offer-timeout=SECONDS]\n";
-
-/// Prints the usage text.
-pub(crate) fn print_usage<O: LineSink>(out: &mut O) -> Status
+/// Prints how words are written: a line, and then what the reader of the options says of them.
+pub(crate) fn print_usage<O: LineSink>(usage: &Usage, out: &mut O) -> Status
+    requires begins { begins_usage usage.now.line.bytes.items ≡ true }
     ensures status { StatusByWords None None result }
+    ensures told { result ≢ Status.OutOfMemory }
     ensures printed { Gained (O.told out.old) (O.told out.new) (PrintsUsage result) }
     ensures later { O.faults out.old ≤ O.faults out.new }
     ensures print_fault { result ≡ Status.PrintFault → Rose (O.faults out.old) (O.faults out.new) }
+    ensures script_read { result ≢ Status.ScriptRead }
 {
-    match out.write(USAGE) {
+    let Ok(()) = out.write(usage.line.as_bytes()) else {
+        return Status::PrintFault;
+    };
+    let Some(text) = &usage.text else {
+        return Status::Usage;
+    };
+    match out.write(text.as_bytes()) {
         Ok(()) => Status::Usage,
         Err(_) => Status::PrintFault,
     }

@@ -1,5 +1,5 @@
 //! The media proxy as a program: it makes the real devices, hands them with its words to `relay_app::run`,
-//! and ends with the number of the status that this answers. What the devices of `outside_real` take and
+//! and ends with the number of the status that this returns. What the devices of `outside_real` take and
 //! pass on is trusted; all that is proved is over these devices.
 #![tactic(auto)]
 
@@ -8,11 +8,12 @@ mod words;
 
 use crate::endings::Ending;
 use crate::words::{Words, read_words};
+use command_line::{Media, read_media};
 use outside_real::{
     ChaChaKeys, Readiness, StdLines, StdSink, StopPipe, SystemClock, SystemTimer, UdpLink,
     UdpMaker, read_seed,
 };
-use relay_app::{Media, read_media, run};
+use relay_app::run;
 use relay_outside::OpenGate;
 use std::alloc::{AllocError, Global};
 use std::io::{self, BufReader};
@@ -46,9 +47,9 @@ fn texts_of(alloc: Global, words: &Vec<String>) -> Result<Vec<&str>, AllocError>
     Ok(texts)
 }
 
-/// What the words say of media; without words of `serve`, for which no socket is opened, no threads.
-fn media_of(words: &[&str]) -> Media {
-    match read_media(words) {
+/// What the words say of media; without words of `serve`, or out of memory, no threads: then no socket is opened.
+fn media_of<'a>(alloc: Global, words: &'a [&'a str]) -> Media {
+    match read_media(alloc, words) {
         Some(media) => media,
         None => Media {
             threads: 0,
@@ -83,7 +84,7 @@ where
     let Ok(input) = BufReader::new(alloc, rt.reader()) else {
         return Ending::NoMemory;
     };
-    let media = media_of(texts.as_slice());
+    let media = media_of(alloc, texts.as_slice());
     let readiness = Readiness::new(alloc, media.threads, media.first_port);
     let mut control = link(rt, &readiness, media.threads);
     let status = run(

@@ -1,4 +1,4 @@
-//! A server over devices of tables, from its start to its close. What it answers to other datagrams is shown by scripts, which
+//! A server over devices of tables, from its start to its close. Its replies to other datagrams are shown by scripts, which
 //! `check_scripts` plays.
 
 use crate::relay_app_runs::OFFER;
@@ -64,7 +64,7 @@ const OPENED: &[TablePort] = &[
     },
 ];
 
-/// How a server answers its first turn, how many ports were opened and closed then, and how many calls its stop ends.
+/// The result of a server's first turn, how many ports were opened and closed then, and how many calls its stop ends.
 fn served<R: Wait + Abort>(
     rt: &R,
     alloc: Global,

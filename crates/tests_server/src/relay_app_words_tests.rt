@@ -72,6 +72,17 @@ const SERVED: &[(&[&str], [u8; 4], u16)] = &[
     (&["serve", INTERFACE, "--num-threads=0"], LOCAL, 2223),
     (&["serve", INTERFACE, "--num-threads=1"], LOCAL, 2223),
     (&["serve", INTERFACE, "--num-threads=16"], LOCAL, 2223),
+    // a value as a word of its own
+    (&["serve", "--interface", "203.0.113.1"], LOCAL, 2223),
+    (&["serve", "--turns", "9", INTERFACE], LOCAL, 2223),
+    // a leading zero, a plus
+    (&["serve", INTERFACE, "--num-threads=00"], LOCAL, 2223),
+    (&["serve", INTERFACE, "--num-threads=01"], LOCAL, 2223),
+    (&["serve", INTERFACE, "--turns=01"], LOCAL, 2223),
+    (&["serve", INTERFACE, "--port-min=01024"], LOCAL, 2223),
+    (&["serve", INTERFACE, "--port-max=040000"], LOCAL, 2223),
+    (&["serve", INTERFACE, "--max-sessions=01"], LOCAL, 2223),
+    (&["serve", INTERFACE, "--port-min=+1024"], LOCAL, 2223),
 ];
 
 /// Words of `replay` that are accepted.
@@ -91,9 +102,14 @@ const REPLAYED: &[&[&str]] = &[
     &["replay", "--seed=10"],
     &["replay", "--seed=4294967296"],
     &["replay", "--seed=18446744073709551615"],
+    &["replay", "--seed", "7"],
+    &["replay", "--seed=01"],
+    &["replay", "--seed=00", "--port-min=30000"],
+    &["replay", "--seed=01", "--port-min=30000"],
+    &["replay", "--seed=+1", "--port-min=30000"],
 ];
 
-/// Words that are refused.
+/// Words that are refused: no command, no address, or a range of ports without a pair.
 const OTHERS: &[&[&str]] = &[
     // no command, or another
     &[],
@@ -103,13 +119,7 @@ const OTHERS: &[&[&str]] = &[
     &["replays"],
     &["repla"],
     &[INTERFACE, "serve"],
-    &["serve", INTERFACE, "serve"],
-    &["replay", "replay", "--seed=1"],
-    &["replay", "", "--seed=1"],
     // no interface, or none of version 4
-    &["serve"],
-    &["serve", "--port-min=1024"],
-    &["serve", "--interface"],
     &["serve", "--interface=203.0.113"],
     &["serve", "--interface=203.0.113.256"],
     &["serve", "--interface=203.0.113.1.1"],
@@ -118,6 +128,30 @@ const OTHERS: &[&[&str]] = &[
     // no address to listen at
     &["serve", INTERFACE, "--listen-ng=127.0.0.1"],
     &["serve", INTERFACE, "--listen-ng=127.0.0.1:65536"],
+    // a range without an even port and the next one
+    &["serve", INTERFACE, "--port-min=1025", "--port-max=1026"],
+    &["serve", INTERFACE, "--port-min=30001", "--port-max=30001"],
+    &["serve", INTERFACE, "--port-min=30002", "--port-max=30002"],
+    &["serve", INTERFACE, "--port-min=65535", "--port-max=65535"],
+    &["serve", INTERFACE, "--port-min=39999"],
+    &["serve", INTERFACE, "--port-max=30000"],
+    &["replay", "--port-min=39999", "--seed=1"],
+    // the least above the greatest
+    &["serve", INTERFACE, "--port-min=40000", "--port-max=30000"],
+    &["serve", INTERFACE, "--port-min=30002", "--port-max=30001"],
+    &["serve", INTERFACE, "--port-min=40001"],
+];
+
+/// Words that are refused as no options of their command.
+const OPTIONS: &[&[&str]] = &[
+    // no command, or another
+    &["serve", INTERFACE, "serve"],
+    &["replay", "replay", "--seed=1"],
+    &["replay", "", "--seed=1"],
+    // no interface, or none of version 4
+    &["serve"],
+    &["serve", "--port-min=1024"],
+    &["serve", "--interface"],
     // options of the other command
     &["serve", INTERFACE, "--seed=1"],
     &["replay", "--turns=1"],
@@ -126,8 +160,6 @@ const OTHERS: &[&[&str]] = &[
     // out of limits
     &["serve", INTERFACE, "--num-threads"],
     &["serve", INTERFACE, "--num-threads="],
-    &["serve", INTERFACE, "--num-threads=00"],
-    &["serve", INTERFACE, "--num-threads=01"],
     &["serve", INTERFACE, "--num-threads=17"],
     &["serve", INTERFACE, "--num-threads=-1"],
     &["serve", INTERFACE, "--num-threads=0", "--num-threads=0"],
@@ -153,22 +185,13 @@ const OTHERS: &[&[&str]] = &[
         "--port-min=30000",
     ],
     // a leading zero, a sign, no digits
-    &["serve", INTERFACE, "--turns=01"],
-    &["serve", INTERFACE, "--port-min=01024"],
-    &["serve", INTERFACE, "--port-max=040000"],
-    &["serve", INTERFACE, "--max-sessions=01"],
-    &["serve", INTERFACE, "--port-min=+1024"],
     &["serve", INTERFACE, "--port-max=40000 "],
     &["serve", INTERFACE, "--max-sessions=0x10"],
     &["serve", INTERFACE, "--port-min="],
     &["serve", INTERFACE, "--port-max="],
     &["serve", INTERFACE, "--max-sessions="],
     &["serve", INTERFACE, "--max-sessions"],
-    &["replay", "--seed=01"],
-    &["replay", "--seed=00", "--port-min=30000"],
-    &["replay", "--seed=01", "--port-min=30000"],
     &["replay", "--seed=-1", "--port-min=30000"],
-    &["replay", "--seed=+1", "--port-min=30000"],
     &["replay", "--seed=1 ", "--port-min=30000"],
     &["replay", "--seed=0x1", "--port-min=30000"],
     &["replay", "--seed=", "--port-min=30000"],
@@ -185,18 +208,6 @@ const OTHERS: &[&[&str]] = &[
     ],
     &["replay", INTERFACE, INTERFACE],
     &["replay", "--seed=1", "--seed=1"],
-    // a range without an even port and the next one
-    &["serve", INTERFACE, "--port-min=1025", "--port-max=1026"],
-    &["serve", INTERFACE, "--port-min=30001", "--port-max=30001"],
-    &["serve", INTERFACE, "--port-min=30002", "--port-max=30002"],
-    &["serve", INTERFACE, "--port-min=65535", "--port-max=65535"],
-    &["serve", INTERFACE, "--port-min=39999"],
-    &["serve", INTERFACE, "--port-max=30000"],
-    &["replay", "--port-min=39999", "--seed=1"],
-    // the least above the greatest
-    &["serve", INTERFACE, "--port-min=40000", "--port-max=30000"],
-    &["serve", INTERFACE, "--port-min=30002", "--port-max=30001"],
-    &["serve", INTERFACE, "--port-min=40001"],
 ];
 
 #[test]
@@ -231,6 +242,18 @@ fn other_words_print_the_usage(rt: HostRuntime) {
     for (place, words) in OTHERS.iter().enumerate() {
         let case = Case {
             words: *words,
+            ..REFUSED
+        };
+        check_case(&rt, rt.alloc(), place, &case);
+    }
+}
+
+#[test]
+fn other_options_print_the_usage_and_what_is_wrong(rt: HostRuntime) {
+    for (place, words) in OPTIONS.iter().enumerate() {
+        let case = Case {
+            words: *words,
+            lines: &[b"usage: rtpengine", b"error: "],
             ..REFUSED
         };
         check_case(&rt, rt.alloc(), place, &case);

@@ -1,0 +1,12 @@
+mod Allowed
+mod Begins
+mod Chains
+mod Defaults
+mod Laws
+mod NumberReads
+mod Numerals
+mod Refused
+pub mod ReplayLaw
+pub mod ServeLaw
+mod Simple
+mod Tasks

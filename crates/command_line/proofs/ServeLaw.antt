@@ -1,0 +1,86 @@
+-- The words that are allowed after `serve` in the form `--name=value` are refused for nothing, and say what their values do.
+use Rattle.std.proofs.Common.{◌≡◌, ◌∙◌, ap, sym, true, false, List, [], Option, Some, None, refl, arith, codes}
+use Rattle.std.specs.Prelude.{find, fold, option_and_then}
+use Rattle.std.specs.List.{list_all, list_any}
+use Rattle.std.specs.Str.{bytes_eq}
+use Rattle.clap.specs.Walk.{Row, Text, nothing_held, with_default}
+use Rattle.clap.specs.Simple.{App, Shape, built}
+use Rattle.clap.specs.Takes.{is_given}
+use Rattle.clap.specs.Faults.{check_fault}
+use Rattle.clap.specs.Words.{fault_of, first_of, matches_of}
+use Rattle.clap.proofs.FaultLemmas.{leaf_fault}
+use Rattle.command_line.specs.Commands.{app_of_rules, serve_app, serve_rules}
+use Rattle.command_line.specs.Grammar.{allowed_serve, default_listen, is_option, media_port, second_count, serve_names, session_count, thread_count, turn_count, values_of}
+use Rattle.command_line.specs.Values.{ipv4, listen_address}
+use Rattle.command_line.specs.Words.{config_of, number_of, serve_settings, settings_of, taken}
+use Rattle.command_line.specs.declared.settings.Settings.{Settings}
+use Rattle.command_line.proofs.Allowed.{IsOneValued, IsReady, merged, walk_over}
+use Rattle.command_line.proofs.Defaults.{find_default, no_fault, or_default, rows_are}
+use Rattle.command_line.proofs.Laws.{allowed, among_each, facts_of, ready, says_config, says_given, says_number, says_settings, says_text, same_config, same_settings, taken_by}
+use Rattle.command_line.proofs.Numerals.{read_alike}
+
+abbrev app : App
+app = app_of_rules (codes "rtpengine serve") serve_rules
+
+abbrev top : Shape
+top = (built app).top
+
+facts : (name : Text) → list_any (bytes_eq name) serve_names ≡ true → IsOneValued top.rules name
+facts = facts_of top.rules serve_names refl
+
+pub serve_law : (words : List Text) (s : Settings) → allowed_serve words ≡ Some s → serve_settings words ≡ Some s
+unfolding taken serve_app
+serve_law words s is =
+    let may = allowed (list_all (is_option serve_names) words) _ s is in
+    let parts = says_settings _ _ _ _ s may.1 in
+    let config = says_config _ _ _ _ _ _ parts.0 parts.4 in
+    let readies : (name : Text) → list_any (bytes_eq name) serve_names ≡ true → IsReady top refl serve_names facts name [] words =
+    λ name among. among_each (λ (n : Text). IsReady top refl serve_names facts n [] words) serve_names name (
+      ready top refl serve_names facts words (codes "interface") ipv4 None config.i config.i_is (λ value h. refl),
+      (
+        ready top refl serve_names facts words (codes "listen-ng") listen_address (Some default_listen) parts.1 parts.5 (λ value h. refl),
+        (
+          ready top refl serve_names facts words (codes "turns") turn_count (Some 1000000000000000) parts.2 parts.6 (λ value h. (read_alike 1 1000000000000000 parts.2 value (omega arith) h).0),
+          (
+            ready top refl serve_names facts words (codes "num-threads") thread_count (Some 4) parts.3 parts.7 (λ value h. (read_alike 0 16 parts.3 value (omega arith) h).0),
+            (
+              ready top refl serve_names facts words (codes "port-min") media_port (Some 30000) config.p config.p_is (λ value h. (read_alike 1024 65535 config.p value (omega arith) h).0),
+              (
+                ready top refl serve_names facts words (codes "port-max") media_port (Some 40000) config.q config.q_is (λ value h. (read_alike 1024 65535 config.q value (omega arith) h).0),
+                (
+                  ready top refl serve_names facts words (codes "max-sessions") session_count (Some 2048) config.m config.m_is (λ value h. (read_alike 1 2048 config.m value (omega arith) h).0),
+                  (
+                    ready top refl serve_names facts words (codes "timeout") second_count (Some 60) config.t config.t_is (λ value h. (read_alike 1 86400 config.t value (omega arith) h).0),
+                    (
+                      ready top refl serve_names facts words (codes "offer-timeout") second_count (Some 3600) config.o config.o_is (λ value h. (read_alike 1 86400 config.o value (omega arith) h).0),
+                      tt,
+                    ),
+                  ),
+                ),
+              ),
+            ),
+          ),
+        ),
+      ),
+    ) among in
+    let walk = walk_over top refl serve_names facts words [] may.0 readies in
+    let rows : List Row = fold with_default walk.last top.rules in
+    let found : (name : Text) → list_any (bytes_eq name) serve_names ≡ true → find (λ r. bytes_eq r.id name) rows ≡ or_default name (merged top refl serve_names facts name None (values_of name words)) top.rules =
+    λ name among. find_default name top.rules walk.last ∙ ap (λ (o : Option Row). or_default name o top.rules) (walk.has name among) in
+    let given : is_given (codes "interface") rows ≡ true = says_given top refl serve_names facts words rows (codes "interface") refl (found (codes "interface") refl) ipv4 config.i config.i_is in
+    let checked : check_fault top rows false ≡ [] = rw given refl in
+    let faultless : fault_of app words ≡ [] = leaf_fault (built app) nothing_held words refl ∙ no_fault top refl serve_names facts words walk refl checked in
+    let rows_is : matches_of app words ≡ rows = rows_are top refl serve_names facts words walk in
+    let interface : option_and_then ipv4 (first_of (codes "interface") rows) ≡ Some config.i = says_text top refl serve_names facts words rows (codes "interface") refl (found (codes "interface") refl) ipv4 None config.i config.i_is refl in
+    let port_min : number_of 1024 65535 (codes "port-min") rows ≡ Some config.p = says_number top refl serve_names facts words rows (codes "port-min") refl (found (codes "port-min") refl) 1024 65535 30000 config.p (omega arith) config.p_is refl refl in
+    let port_max : number_of 1024 65535 (codes "port-max") rows ≡ Some config.q = says_number top refl serve_names facts words rows (codes "port-max") refl (found (codes "port-max") refl) 1024 65535 40000 config.q (omega arith) config.q_is refl refl in
+    let max_sessions : number_of 1 2048 (codes "max-sessions") rows ≡ Some config.m = says_number top refl serve_names facts words rows (codes "max-sessions") refl (found (codes "max-sessions") refl) 1 2048 2048 config.m (omega arith) config.m_is refl refl in
+    let timeout : number_of 1 86400 (codes "timeout") rows ≡ Some config.t = says_number top refl serve_names facts words rows (codes "timeout") refl (found (codes "timeout") refl) 1 86400 60 config.t (omega arith) config.t_is refl refl in
+    let offer_timeout : number_of 1 86400 (codes "offer-timeout") rows ≡ Some config.o = says_number top refl serve_names facts words rows (codes "offer-timeout") refl (found (codes "offer-timeout") refl) 1 86400 3600 config.o (omega arith) config.o_is refl refl in
+    let turns : number_of 1 1000000000000000 (codes "turns") rows ≡ Some parts.2 = says_number top refl serve_names facts words rows (codes "turns") refl (found (codes "turns") refl) 1 1000000000000000 1000000000000000 parts.2 (omega arith) parts.6 refl refl in
+    let num_threads : number_of 0 16 (codes "num-threads") rows ≡ Some parts.3 = says_number top refl serve_names facts words rows (codes "num-threads") refl (found (codes "num-threads") refl) 0 16 4 parts.3 (omega arith) parts.7 refl refl in
+    let listen : option_and_then listen_address (first_of (codes "listen-ng") rows) ≡ Some parts.1 = says_text top refl serve_names facts words rows (codes "listen-ng") refl (found (codes "listen-ng") refl) listen_address (Some default_listen) parts.1 parts.5 refl in
+    let config_is : config_of rows ≡ Some parts.0 = same_config _ _ _ _ _ _ _ _ _ _ _ _ _ (interface ∙ sym config.i_is) (port_min ∙ sym config.p_is) (port_max ∙ sym config.q_is)
+    (max_sessions ∙ sym config.m_is) (timeout ∙ sym config.t_is) (offer_timeout ∙ sym config.o_is) parts.4 in
+    let all : settings_of rows ≡ Some s = same_settings _ _ _ _ _ _ _ _ _ (config_is ∙ sym parts.4) (listen ∙ sym parts.5) (turns ∙ sym parts.6) (num_threads ∙ sym parts.7) may.1 in
+    ap (option_and_then settings_of) (taken_by _ _ rows faultless rows_is) ∙ all

@@ -1,0 +1,93 @@
+-- What the values of the options say: addresses, and the configuration of a relay.
+use Rattle.std.specs.Prelude.{◌≡◌, ℕ, ◌+◌, ◌*◌, ◌%◌, ◌≤◌, ◌<◌, ◌==◌, List, take, drop, position, Bool, Option, Some, None, nat_lt, if◌then◌else◌}
+use Rattle.std.specs.Option.{option_map}
+use Rattle.relay_outside.specs.declared.address.Addr.{Addr}
+use Rattle.relay_outside.specs.declared.address.Ip.{Ip}
+use Rattle.relay_outside.specs.declared.address.Ip.TheVariants.{V4, V6}
+use Rattle.relay_outside.specs.declared.settings.Config.{Config}
+use Rattle.port_pool.specs.Ports.{first_port, pair_count}
+use Rattle.sdp_text.specs.Hosts.{ipv4_bytes}
+use Rattle.command_line.specs.Numbers.{whole_number}
+use Rattle.command_line.specs.declared.settings.Media.{Media}
+use Rattle.command_line.specs.declared.settings.ReplaySettings.{ReplaySettings}
+use Rattle.command_line.specs.declared.settings.Settings.{Settings}
+
+-- an IPv4 address
+abbrev pub ipv4 : List ℕ → Option Ip
+ipv4 text = option_map V4 (ipv4_bytes text)
+
+-- the address with a port, where both are there
+abbrev pub with_port : Option Ip → Option ℕ → Option Addr
+with_port None port = None
+with_port (Some ip) None = None
+with_port (Some ip) (Some port) = Some (record { ip = ip; port = port })
+
+-- an IPv4 address and a port, with a colon at this place between them
+abbrev pub address_and_port : List ℕ → Option ℕ → Option Addr
+address_and_port text None = None
+address_and_port text (Some at) = with_port (ipv4 (take at text)) (whole_number 65535 (drop (at + 1) text))
+
+-- an IPv4 address, a colon, a port
+abbrev pub listen_address : List ℕ → Option Addr
+listen_address text = address_and_port text (position (λ byte. byte == 58) text)
+
+-- the configuration of a relay of this interface, these ports and this many calls at most: a call without packets ends after `timeout` seconds,
+-- and an offer without an answer after `offer_timeout`
+abbrev pub config_with : Ip → (port_min port_max max_sessions timeout offer_timeout : ℕ) → Config
+config_with interface port_min port_max max_sessions timeout offer_timeout = record {
+  interface = interface;
+  interface6 = None;
+  port_min = port_min;
+  port_max = port_max;
+  timeout_ms = 1000 * timeout;
+  offer_timeout_ms = 1000 * offer_timeout;
+  max_sessions = max_sessions;
+}
+
+-- this port and the next one are a pair of the range of ports: the first is even
+abbrev pub IsPair : Config → ℕ → Type 0
+IsPair config port = (port % 2 ≡ 0) × (config.port_min ≤ port) × (port + 1 ≤ config.port_max)
+
+-- whether the range of ports holds a pair
+abbrev pub has_pair : Config → Bool
+has_pair config = nat_lt 0 (pair_count config)
+
+-- the configuration, where its range of ports holds a pair
+abbrev pub with_pair : Config → Option Config
+with_pair config = if has_pair config then Some config else None
+
+-- the configuration that the options say, where each says something and the range of ports holds a pair
+abbrev pub config_from : Option Ip → (port_min port_max max_sessions timeout offer_timeout : Option ℕ) → Option Config
+config_from (Some interface) (Some port_min) (Some port_max) (Some max_sessions) (Some timeout) (Some offer_timeout) =
+    with_pair (config_with interface port_min port_max max_sessions timeout offer_timeout)
+config_from interface port_min port_max max_sessions timeout offer_timeout = None
+
+-- an address of version 4
+abbrev pub IsV4 : Ip → Type 0
+IsV4 (V4 bytes) = Unit {0}
+IsV4 (V6 bytes) = ⊥
+
+-- what holds of each configuration that words say
+pub record IsInLimits (config : Config) : Type 0 where
+  pub interface : IsV4 config.interface
+  pub interface6 : config.interface6 ≡ None
+  pub port_min : 1024 ≤ config.port_min
+  pub port_max : config.port_max ≤ 65535
+  pub pairs : 0 < pair_count config
+  pub least_sessions : 1 ≤ config.max_sessions
+  pub most_sessions : config.max_sessions ≤ 2048
+
+-- what the options of `serve` say, where each says something
+abbrev pub settings_from : Option Config → Option Addr → Option ℕ → Option ℕ → Option Settings
+settings_from (Some config) (Some listen) (Some turns) (Some threads) = Some (record { config = config; listen = listen; turns = turns; threads = threads })
+settings_from config listen turns threads = None
+
+-- what the options of `replay` say, where each says something
+abbrev pub replay_from : Option Config → Option ℕ → Option ReplaySettings
+replay_from (Some config) (Some seed) = Some (record { config = config; seed = seed })
+replay_from config seed = None
+
+-- how a run with these settings relays media: by how many threads, and where its first pair of ports begins
+abbrev pub media : Option Settings → Option Media
+media None = None
+media (Some settings) = Some (record { threads = settings.threads; first_port = first_port settings.config })

@@ -1,0 +1,220 @@
+//! What the values of the options say.
+ghost use Rattle.std.specs.Prelude.{◌≡◌, ◌≤◌, ◌<◌, ◌==◌, ◌↔◌, IfSome, IsTrue, MatchOption, None, Some, ℕ, Option, codes, length, position, option_and_then};
+ghost use Rattle.clap.specs.Words.{first_of, found_of, rows_of};
+ghost use Rattle.command_line.specs.Numbers.{whole_number};
+ghost use Rattle.command_line.specs.Values.{ipv4, listen_address, has_pair, IsV4, IsPair, IsInLimits};
+ghost use Rattle.command_line.specs.Words.{number_of, config_of, settings_of, replay_of};
+
+use crate::numbers::{Limits, read_whole_number};
+use crate::settings::{ReplaySettings, Settings};
+use clap::ArgMatches;
+use relay_outside::{Addr, Config, Ip};
+use sdp_text::{Host, read_ipv4};
+
+/// The greatest number of turns, and the default.
+const MOST_TURNS: u64 = 1_000_000_000_000_000;
+
+/// An IPv4 address.
+pub(crate) fn read_ip(text: &[u8]) -> Option<Ip>
+    ensures value { result ≡ ipv4 text.now }
+    ensures version { IfSome result IsV4 }
+{
+    match read_ipv4(text) {
+        Some(Host::V4(bytes)) => Some(Ip::V4(bytes)),
+        _ => None,
+    }
+}
+
+fn find_colon(text: &[u8]) -> Option<usize>
+    ensures place { result ≡ position (λ byte. byte == 58) text.now }
+    ensures within { IfSome result (λ at. at < length text.now) }
+{
+    text.iter().position(|byte| *byte == b':')
+}
+
+/// A number of at most 65,535.
+fn read_port(text: &[u8]) -> Option<u16>
+    ensures { result ≡ whole_number 65535 text.now }
+{
+    match read_whole_number(text, 65_535) {
+        Some(port) => Some(port as u16),
+        None => None,
+    }
+}
+
+/// An IPv4 address, a colon, a port.
+pub(crate) fn read_listen(text: &[u8]) -> Option<Addr>
+    ensures { result ≡ listen_address text.now }
+{
+    let at = find_colon(text)?;
+    let ip = read_ip(&text[..at])?;
+    let port = read_port(&text[at + 1..])?;
+    Some(Addr { ip, port })
+}
+
+/// The text that an option has.
+fn find_text<'a>(matches: &ArgMatches<'a>, name: &str) -> Option<&'a str>
+    ensures { MatchOption result (first_of name.now (rows_of (found_of matches.now)) ≡ None) (λ text. first_of name.now (rows_of (found_of matches.now)) ≡ Some text.now) }
+{
+    matches.get_str(name)
+}
+
+/// The address of the interface.
+fn find_interface(matches: &ArgMatches<'_>) -> Option<Ip>
+    ensures value { result ≡ option_and_then ipv4 (first_of (codes "interface") (rows_of (found_of matches.now))) }
+    ensures version { IfSome result IsV4 }
+{
+    match find_text(matches, "interface") {
+        Some(text) => read_ip(text.as_bytes()),
+        None => None,
+    }
+}
+
+/// Where the control link is bound.
+fn find_listen(matches: &ArgMatches<'_>) -> Option<Addr>
+    ensures { result ≡ option_and_then listen_address (first_of (codes "listen-ng") (rows_of (found_of matches.now))) }
+{
+    match find_text(matches, "listen-ng") {
+        Some(text) => read_listen(text.as_bytes()),
+        None => None,
+    }
+}
+
+/// The number that an option has, within the limits.
+fn find_number(matches: &ArgMatches<'_>, name: &str, limits: Limits) -> Option<u64>
+    ensures value { result ≡ number_of limits.least limits.most name.now (rows_of (found_of matches.now)) }
+    ensures within { IfSome result (λ number. (limits.least ≤ number) × (number ≤ limits.most)) }
+{
+    let number = matches.get_one::<u64>(name)?;
+    if limits.least <= number && number <= limits.most {
+        Some(number)
+    } else {
+        None
+    }
+}
+
+/// The port for media, 1,024 or above, that an option has.
+fn find_port(matches: &ArgMatches<'_>, name: &str) -> Option<u16>
+    ensures value { result ≡ number_of 1024 65535 name.now (rows_of (found_of matches.now)) }
+    ensures within { IfSome result (λ port. 1024 ≤ port) }
+{
+    let limits = Limits {
+        least: 1_024,
+        most: 65_535,
+    };
+    match find_number(matches, name, limits) {
+        Some(port) => Some(port as u16),
+        None => None,
+    }
+}
+
+/// How many calls may be live at a time: 1 to 2,048.
+fn find_sessions(matches: &ArgMatches<'_>) -> Option<u32>
+    ensures value { result ≡ number_of 1 2048 (codes "max-sessions") (rows_of (found_of matches.now)) }
+    ensures within { IfSome result (λ sessions. (1 ≤ sessions) × (sessions ≤ 2048)) }
+{
+    let limits = Limits {
+        least: 1,
+        most: 2_048,
+    };
+    match find_number(matches, "max-sessions", limits) {
+        Some(sessions) => Some(sessions as u32),
+        None => None,
+    }
+}
+
+/// The time in seconds, from one to a day, that an option has.
+fn find_seconds(matches: &ArgMatches<'_>, name: &str) -> Option<u64>
+    ensures value { result ≡ number_of 1 86400 name.now (rows_of (found_of matches.now)) }
+    ensures within { IfSome result (λ seconds. (1 ≤ seconds) × (seconds ≤ 86400)) }
+{
+    let limits = Limits {
+        least: 1,
+        most: 86_400,
+    };
+    find_number(matches, name, limits)
+}
+
+/// How many threads relay media beside the one that answers commands: 0 to 16.
+fn find_threads(matches: &ArgMatches<'_>) -> Option<u32>
+    ensures value { result ≡ number_of 0 16 (codes "num-threads") (rows_of (found_of matches.now)) }
+    ensures within { IfSome result (λ threads. threads ≤ 16) }
+{
+    let limits = Limits { least: 0, most: 16 };
+    match find_number(matches, "num-threads", limits) {
+        Some(threads) => Some(threads as u32),
+        None => None,
+    }
+}
+
+/// Whether the range of ports holds a pair: an even port and the next one.
+fn has_pair(config: &Config) -> bool
+    ensures value { result ≡ has_pair config.now }
+    ensures pair { IsTrue result ↔ ((port : ℕ) × IsPair config.now port) }
+{
+    let port_min = u32::from(config.port_min);
+    let first_port = port_min + port_min % 2;
+    first_port < u32::from(config.port_max)
+}
+
+/// What the relay is run with, where the range of ports holds a pair.
+fn find_config(matches: &ArgMatches<'_>) -> Option<Config>
+    ensures value { result ≡ config_of (rows_of (found_of matches.now)) }
+    ensures limits { IfSome result IsInLimits }
+{
+    let interface = find_interface(matches)?;
+    let port_min = find_port(matches, "port-min")?;
+    let port_max = find_port(matches, "port-max")?;
+    let max_sessions = find_sessions(matches)?;
+    let timeout = find_seconds(matches, "timeout")?;
+    let offer_timeout = find_seconds(matches, "offer-timeout")?;
+    let config = Config {
+        interface,
+        interface6: None,
+        port_min,
+        port_max,
+        timeout_ms: 1_000 * timeout,
+        offer_timeout_ms: 1_000 * offer_timeout,
+        max_sessions,
+    };
+    if has_pair(&config) {
+        Some(config)
+    } else {
+        None
+    }
+}
+
+/// What the options of `serve` say, where their addresses are ones and the range of ports holds a pair.
+pub(crate) fn find_settings(matches: &ArgMatches<'_>) -> Option<Settings>
+    ensures value { result ≡ settings_of (rows_of (found_of matches.now)) }
+    ensures limits { IfSome result (λ settings. IsInLimits settings.config × (settings.turns ≤ MOST_TURNS) × (settings.threads ≤ 16)) }
+{
+    let config = find_config(matches)?;
+    let listen = find_listen(matches)?;
+    let limits = Limits {
+        least: 1,
+        most: MOST_TURNS,
+    };
+    let turns = find_number(matches, "turns", limits)?;
+    let threads = find_threads(matches)?;
+    Some(Settings {
+        config,
+        listen,
+        turns,
+        threads,
+    })
+}
+
+/// What the options of `replay` say, where the address is one and the range of ports holds a pair.
+pub(crate) fn find_replay(matches: &ArgMatches<'_>) -> Option<ReplaySettings>
+    ensures value { result ≡ replay_of (rows_of (found_of matches.now)) }
+    ensures limits { IfSome result (λ settings. IsInLimits settings.config) }
+{
+    let config = find_config(matches)?;
+    let limits = Limits {
+        least: 0,
+        most: u64::MAX,
+    };
+    let seed = find_number(matches, "seed", limits)?;
+    Some(ReplaySettings { config, seed })
+}
