@@ -22,66 +22,66 @@ use Rattle.call_board.specs.Asked.{asked}
 use Rattle.call_board.specs.Replies.{Done}
 use Rattle.call_board.specs.Answers.{Answered, failing, leased_pairs, offer_ask, answer_ask, offer_leased, offer_unless, offer_to, answer_unless, answer_to, missing, names_side, delete_of, query_of, answering, answering_asked, answering_unless}
 use Rattle.call_board.specs.Fits.{FitsControl}
-use Rattle.call_board.proofs.Fixed.{unless_starved}
+use Rattle.call_board.proofs.Fixed.{unless_out_of_memory}
 use Rattle.call_board.proofs.Tells.{leased_case}
 use Rattle.relay_core.specs.Scripts.{Owed, opening, closing, in_cell, reading, script, script_of_act}
-use Rattle.board_laws.specs.Alike.{IsFed}
+use Rattle.board_laws.specs.Alike.{HasMemory}
 use Rattle.replay_laws.specs.Alike.{bare_event}
 
--- Where memory is not short, no turn says it is.
+-- Where memory doesn't run out, no turn says that it did.
 
-abbrev starves : Act → Bool
-starves act.Starved = true
-starves _ = false
+abbrev runs_out : Act → Bool
+runs_out act.OutOfMemory = true
+runs_out _ = false
 
 leased_fed : (config : Config) (h : List BoardEntry) (g : Given) (ask : OfferAsk) (of : Call) (begins : Bool) (before : List Round) (pairs : List ℕ) (failed drew : Bool)
-    → starves (leased_case config h g ask of begins before pairs failed drew).act ≡ false
+    → runs_out (leased_case config h g ask of begins before pairs failed drew).act ≡ false
 leased_fed config h g ask of begins before pairs true drew = refl
 leased_fed config h g ask of begins before pairs false true = refl
 leased_fed config h g ask of begins before pairs false false = refl
 
 planned_fed : (config : Config) (h : List BoardEntry) (g : Given) (ask : OfferAsk) (of : Call) (begins : Bool) (before : List Round) (over short : Bool)
-    → starves (cond over (failing E14) (cond short (failing E13) (offer_leased config h g ask of begins before (leased_pairs config h (plan.demand before ask))))).act ≡ false
+    → runs_out (cond over (failing E14) (cond short (failing E13) (offer_leased config h g ask of begins before (leased_pairs config h (plan.demand before ask))))).act ≡ false
 planned_fed config h g ask of begins before true short = refl
 planned_fed config h g ask of begins before false true = refl
 planned_fed config h g ask of begins before false false =
     leased_fed config h g ask of begins before (leased_pairs config h (plan.demand before ask)) (list_any not g.opens) g.draw_failed
 
 unless_fed : (config : Config) (h : List BoardEntry) (g : Given) (ask : OfferAsk) (of : Call) (begins : Bool) (before : List Round) (fault : Option ErrorCode)
-    → starves (offer_unless config h g ask of begins before fault).act ≡ false
+    → runs_out (offer_unless config h g ask of begins before fault).act ≡ false
 unless_fed config h g ask of begins before (Some code) = refl
 unless_fed config h g ask of begins before None =
     planned_fed config h g ask of begins before (begins && nat_le config.max_sessions (length (live h))) (is_short (free_in config h) (plan.demand before ask).pairs)
 
-offer_fed : (config : Config) (h : List BoardEntry) (g : Given) (id : List ℕ) (ask : OfferAsk) (o : Option Call) → starves (offer_to config h g id ask o).act ≡ false
+offer_fed : (config : Config) (h : List BoardEntry) (g : Given) (id : List ℕ) (ask : OfferAsk) (o : Option Call) → runs_out (offer_to config h g id ask o).act ≡ false
 offer_fed config h g id ask None = unless_fed config h g ask (new_call h id) true [] (plan.offer_fault [] ask)
 offer_fed config h g id ask (Some of) = unless_fed config h g ask of false (rounds h of.number) (plan.offer_fault (rounds h of.number) ask)
 
-replied_fed : (config : Config) (ask : AnswerAsk) (of : Call) (before : List Round) (fault : Option ErrorCode) → starves (answer_unless config ask of before fault).act ≡ false
+replied_fed : (config : Config) (ask : AnswerAsk) (of : Call) (before : List Round) (fault : Option ErrorCode) → runs_out (answer_unless config ask of before fault).act ≡ false
 replied_fed config ask of before (Some code) = refl
 replied_fed config ask of before None = refl
 
-answer_fed : (config : Config) (h : List BoardEntry) (ask : AnswerAsk) (o : Option Call) → starves (answer_to config h ask o).act ≡ false
+answer_fed : (config : Config) (h : List BoardEntry) (ask : AnswerAsk) (o : Option Call) → runs_out (answer_to config h ask o).act ≡ false
 answer_fed config h ask None = refl
 answer_fed config h ask (Some of) = replied_fed config ask of (rounds h of.number) (plan.answer_fault (rounds h of.number) ask)
 
-missing_fed : (fatal : Bool) (code : ErrorCode) → starves (missing fatal code).act ≡ false
+missing_fed : (fatal : Bool) (code : ErrorCode) → runs_out (missing fatal code).act ≡ false
 missing_fed true code = refl
 missing_fed false code = refl
 
-named_fed : (of : Call) (fatal named : Bool) → starves (cond named (record { reply = Done; act = act.Deleted of }) (missing fatal E10)).act ≡ false
+named_fed : (of : Call) (fatal named : Bool) → runs_out (cond named (record { reply = Done; act = act.Deleted of }) (missing fatal E10)).act ≡ false
 named_fed of fatal true = refl
 named_fed of fatal false = missing_fed fatal E10
 
-delete_fed : (h : List BoardEntry) (tag : Option (List ℕ)) (fatal : Bool) (o : Option Call) → starves (delete_of h tag fatal o).act ≡ false
+delete_fed : (h : List BoardEntry) (tag : Option (List ℕ)) (fatal : Bool) (o : Option Call) → runs_out (delete_of h tag fatal o).act ≡ false
 delete_fed h tag fatal None = missing_fed fatal E9
 delete_fed h tag fatal (Some of) = named_fed of fatal (names_side (rounds h of.number) tag)
 
-query_fed : (h : List BoardEntry) (g : Given) (o : Option Call) → starves (query_of h g o).act ≡ false
+query_fed : (h : List BoardEntry) (g : Given) (o : Option Call) → runs_out (query_of h g o).act ≡ false
 query_fed h g None = refl
 query_fed h g (Some of) = refl
 
-asked_fed : (config : Config) (h : List BoardEntry) (c : Control) (r : Result Said ErrorCode) → starves (answering_asked config h c r).act ≡ false
+asked_fed : (config : Config) (h : List BoardEntry) (c : Control) (r : Result Said ErrorCode) → runs_out (answering_asked config h c r).act ≡ false
 asked_fed config h c (Err code) = refl
 asked_fed config h c (Ok said.Ping) = refl
 asked_fed config h c (Ok (said.Offer id from_tag sdp options)) = offer_fed config h c.given id (offer_ask from_tag sdp options c.chosen) (find_call h id)
@@ -90,17 +90,17 @@ asked_fed config h c (Ok (said.Delete id from_tag fatal)) = delete_fed h from_ta
 asked_fed config h c (Ok (said.Query id)) = query_fed h c.given (find_call h id)
 asked_fed config h c (Ok (said.Listing limit)) = refl
 
-due_fed : (config : Config) (h : List BoardEntry) (c : Control) (o : Option (List ℕ)) → IsFed c → starves (answering_unless config h c o).act ≡ false
+due_fed : (config : Config) (h : List BoardEntry) (c : Control) (o : Option (List ℕ)) → HasMemory c → runs_out (answering_unless config h c o).act ≡ false
 due_fed config h c (Some bytes) fed = refl
 due_fed config h c None fed =
-    ap (λ (b : Bool). starves (unless_starved config c.cookie b (answering config h c)).act) fed ∙ asked_fed config h c (asked config c.too_long c.pairs)
+    ap (λ (b : Bool). runs_out (unless_out_of_memory config c.cookie b (answering config h c)).act) fed ∙ asked_fed config h c (asked config c.too_long c.pairs)
 
 never : true ≡ false → ⊥
 never e = cc
 
-pub not_starved : (config : Config) (h : List BoardEntry) (now : ℕ) (c : Control) → FitsControl config h now c → IsFed c → c.act ≡ act.Starved → ⊥
-not_starved config h now c fits fed is =
-    never (sym (ap starves is) ∙ ap (λ (a : Answered). starves a.act) fits.answers ∙ due_fed config h c (kept h c.source c.cookie now) fed)
+pub not_out_of_memory : (config : Config) (h : List BoardEntry) (now : ℕ) (c : Control) → FitsControl config h now c → HasMemory c → c.act ≡ act.OutOfMemory → ⊥
+not_out_of_memory config h now c fits fed is =
+    never (sym (ap runs_out is) ∙ ap (λ (a : Answered). runs_out a.act) fits.answers ∙ due_fed config h c (kept h c.source c.cookie now) fed)
 
 -- What turns owe that do the same, and were given the same.
 
@@ -111,10 +111,10 @@ abbrev closes : Config → List BoardEntry → Act → Call → List Owed
 closes config h a of =
     map (closing config) (filter (λ (leg : Holder). (leg.call == of.number) && (cond (has (map (λ (c : Call). c.number) (ended_by_act a)) leg.call) true (closes_leg_act a leg))) (held h))
 
-act_owes : (config : Config) (h : List BoardEntry) (moment : ℕ) (c d : Control) → c.given ≡ d.given → c.act ≡ d.act → (a : Act) → (a ≡ act.Starved → ⊥)
+act_owes : (config : Config) (h : List BoardEntry) (moment : ℕ) (c d : Control) → c.given ≡ d.given → c.act ≡ d.act → (a : Act) → (a ≡ act.OutOfMemory → ⊥)
     → script_of_act config h (entry moment c) c a ≡ script_of_act config h (entry moment d) d a
 act_owes config h moment c d given same act.Repeated fed = refl
-act_owes config h moment c d given same act.Starved fed = absurd (fed refl)
+act_owes config h moment c d given same act.OutOfMemory fed = absurd (fed refl)
 act_owes config h moment c d given same (act.Failed code) fed = refl
 act_owes config h moment c d given same (act.Undone code leases draws) fed = refl
 act_owes config h moment c d given same (act.Offered o) fed =
@@ -124,7 +124,7 @@ act_owes config h moment c d given same (act.Deleted of) fed = ap (λ (a : Act).
 act_owes config h moment c d given same (act.Queried of) fed = ap (λ (g : Given). reading (Some of) g.report) given
 act_owes config h moment c d given same act.Told fed = refl
 
-pub owes_one : (config : Config) (h : List BoardEntry) (moment : ℕ) (c d : Control) → c.given ≡ d.given → c.act ≡ d.act → (c.act ≡ act.Starved → ⊥)
+pub owes_one : (config : Config) (h : List BoardEntry) (moment : ℕ) (c d : Control) → c.given ≡ d.given → c.act ≡ d.act → (c.act ≡ act.OutOfMemory → ⊥)
     → script config h (entry moment c) ≡ script config h (entry moment d)
 owes_one config h moment c d given same fed =
     act_owes config h moment c d given same c.act fed ∙ ap (script_of_act config h (entry moment d) d) same

@@ -27,11 +27,11 @@ use Rattle.replay_model.specs.Devices.{Happening}
 use Rattle.relay_script.specs.Printing as event
 use Rattle.relay_script.specs.Printing.{Printed}
 use Rattle.replay_steps.specs.Steps.{TurnsBoard, IsHeard, Replying, Answers, Controls, OpensAsked, DrawsAsked, filled}
-use Rattle.board_laws.specs.Alike.{AreOfOne, IsFed, GiveAlike, AreOne}
+use Rattle.board_laws.specs.Alike.{AreOfOne, HasMemory, GiveAlike, AreOne}
 use Rattle.board_laws.proofs.Answered.{one_turn}
-use Rattle.replay_laws.specs.Alike.{bare_event, AlikeLists, NeverStarved, TellsReports, IsReport}
+use Rattle.replay_laws.specs.Alike.{bare_event, AlikeLists, NeverOutOfMemory, TellsReports, IsReport}
 use Rattle.replay_laws.proofs.Boards.{SameBoards, same_boards}
-use Rattle.replay_laws.proofs.Answering.{owes_one, not_starved, bare_one}
+use Rattle.replay_laws.proofs.Answering.{owes_one, not_out_of_memory, bare_one}
 use Rattle.replay_laws.proofs.Fitting.{fits_same, time_same, turn_same, script_same}
 use Rattle.replay_laws.proofs.Turns.{TurnAlike}
 use Rattle.replay_laws.proofs.Lists.{told_once, same_history, not_cell}
@@ -50,13 +50,13 @@ record Reported (config : Config) (l : List Entry) (cell : ℕ) (told : List Leg
   fitting : FittingCell config history_is
   told_is : told ≡ reports config (since_end history_is)
 
--- the datagram, as it was answered after that history
+-- the datagram with its reply after that history
 abbrev turn_of : Config → List BoardEntry → (clock : ℕ) → Hearing → Control
 turn_of config h clock x = control_of config h (moment_at h clock) x
 
 record Turned (config : Config) (h : List BoardEntry) (clock : ℕ) (l : List Entry) (x : Hearing) : Type 0 where
   fits : FitsControl config h (moment_at h clock) (turn_of config h clock x)
-  fed : IsFed (turn_of config h clock x)
+  fed : HasMemory (turn_of config h clock x)
   told : (of : Call) (some : List LegReport) → (turn_of config h clock x).act ≡ act.Queried of → x.given.report ≡ Some some → Reported config l of.cell some
 
 record One (w : Owed) (ns : List Entry) : Type 0 where
@@ -104,7 +104,7 @@ reported config l e new c of some t is tells owes =
     }
 
 turned : (config : Config) (clock : ℕ) (l : List Entry) (x : Hearing) (new : List Entry) → TurnsBoard config l (entry_at config (board_of l) (moment_at (board_of l) clock) x) new
-    → NeverStarved new → TellsReports config new → Turned config (board_of l) clock l x
+    → NeverOutOfMemory new → TellsReports config new → Turned config (board_of l) clock l x
 turned config clock l x new t fed tells =
     let h : List BoardEntry = board_of l in
     let e : BoardEntry = entry_at config h (moment_at h clock) x in
@@ -197,7 +197,7 @@ replied_once config seed h clock l k old source bytes failing e f p q cells a b 
     )
 
 replied : (config : Config) (seed clock : ℕ) (l : List Entry) (old : List Happening) (source : Addr) (bytes : List ℕ) (failing : Bool) (opened : List PortCall) (drawn : List KeyCall)
-    (e : Printed) (new : List Entry) (between past : List Happening) → Answers config clock l source bytes failing opened drawn e new → NeverStarved new → TellsReports config new
+    (e : Printed) (new : List Entry) (between past : List Happening) → Answers config clock l source bytes failing opened drawn e new → NeverOutOfMemory new → TellsReports config new
     → OpensAsked config opened old between → DrawsAsked seed drawn between past → Replied config seed (board_of l) clock l old source bytes failing e past
 replied config seed clock l old source bytes failing opened drawn e new between past a fed tells opens draws = record {
   heard = a.heard;
@@ -240,7 +240,7 @@ framed_not bytes x p q = let e = sym p ∙ q in cc
 
 pub control_once : (config : Config) (seed clock : ℕ) (l k : List Entry) (old : List Happening) (source : Addr) (bytes : List ℕ) (read_fails reply_fails : Bool)
     (opened opens_too : List PortCall) (drawn draws_too : List KeyCall) (e f : Printed) (new more : List Entry) (between mid past now : List Happening)
-    → AlikeLists config l k → NeverStarved new → NeverStarved more → TellsReports config new → TellsReports config more
+    → AlikeLists config l k → NeverOutOfMemory new → NeverOutOfMemory more → TellsReports config new → TellsReports config more
     → Controls config clock l source bytes read_fails reply_fails opened drawn e new → Controls config clock k source bytes read_fails reply_fails opens_too draws_too f more
     → OpensAsked config opened old between → OpensAsked config opens_too old mid → DrawsAsked seed drawn between past → DrawsAsked seed draws_too mid now
     → (e ≡ f) × (past ≡ now)
@@ -269,7 +269,7 @@ abbrev moment_with : ℕ → BoardEvent → BoardEntry
 moment_with moment v = record { moment = moment; event = v }
 
 answers_alike : (config : Config) (seed clock : ℕ) (l k : List Entry) (old : List Happening) (source : Addr) (bytes : List ℕ) (failing : Bool) (opened opens_too : List PortCall) (drawn draws_too : List KeyCall)
-    (e f : Printed) (new more : List Entry) (between mid past now : List Happening) → AlikeLists config l k → NeverStarved new → NeverStarved more → TellsReports config new → TellsReports config more
+    (e f : Printed) (new more : List Entry) (between mid past now : List Happening) → AlikeLists config l k → NeverOutOfMemory new → NeverOutOfMemory more → TellsReports config new → TellsReports config more
     → Answers config clock l source bytes failing opened drawn e new → Answers config clock k source bytes failing opens_too draws_too f more
     → OpensAsked config opened old between → OpensAsked config opens_too old mid → DrawsAsked seed drawn between past → DrawsAsked seed draws_too mid now → TurnAlike config l k new more
 unfolding replied replied_too
@@ -294,7 +294,7 @@ answers_alike config seed clock l k old source bytes failing opened opens_too dr
       bare_is = ap (λ (m : ℕ). moment_with m (bare_event (Turn c))) time
           ∙ ap (moment_with (moment_at g clock)) (bare_one c x of.source of.cookie of.body (a.is_heard.length_is ∙ sym b.is_heard.length_is) one.given one.reply one.act
           ∙ ap (λ (z : Control). bare_event (Turn z)) there);
-      owe_one = owes_one config h (moment_at h clock) c x one.given one.act (not_starved config h (moment_at h clock) c left.turned_so.fits left.turned_so.fed)
+      owe_one = owes_one config h (moment_at h clock) c x one.given one.act (not_out_of_memory config h (moment_at h clock) c left.turned_so.fits left.turned_so.fed)
           ∙ ap (λ (m : ℕ). script config h (moment_with m (Turn x))) time ∙ ap (λ (z : Control). script config h (moment_with (moment_at g clock) (Turn z))) there
           ∙ script_same config h g same (entry_at config g (moment_at g clock) b.heard);
     }
@@ -302,7 +302,7 @@ answers_alike config seed clock l k old source bytes failing opened opens_too dr
 -- nothing was made in either, or turns that are alike
 pub control_alike : (config : Config) (seed clock : ℕ) (l k : List Entry) (old : List Happening) (source : Addr) (bytes : List ℕ) (read_fails reply_fails : Bool)
     (opened opens_too : List PortCall) (drawn draws_too : List KeyCall) (e f : Printed) (new more : List Entry) (between mid past now : List Happening)
-    → AlikeLists config l k → NeverStarved new → NeverStarved more → TellsReports config new → TellsReports config more
+    → AlikeLists config l k → NeverOutOfMemory new → NeverOutOfMemory more → TellsReports config new → TellsReports config more
     → Controls config clock l source bytes read_fails reply_fails opened drawn e new → Controls config clock k source bytes read_fails reply_fails opens_too draws_too f more
     → OpensAsked config opened old between → OpensAsked config opens_too old mid → DrawsAsked seed drawn between past → DrawsAsked seed draws_too mid now
     → ((new ≡ l) × (more ≡ k)) ⊎ TurnAlike config l k new more

@@ -26,9 +26,9 @@ use Rattle.call_board.specs.Asked.{asked}
 use Rattle.call_board.specs.Replies.{Done, Fault, Reported, Listed}
 use Rattle.call_board.specs.Answers.{Answering, failing, telling, leased_pairs, undoing, offering, offer_ask, answer_ask, offer_leased, offer_planned, offer_unless, offer_to, answer_unless, answer_to, names_side, missing, delete_of, legs_told, query_of, answering_asked, answering_unless}
 use Rattle.call_board.specs.Fits.{FitsControl, GivesFor, Hears, HearsAnswer, demanded_by, asks_after}
-use Rattle.call_board.proofs.Fixed.{unless_starved}
+use Rattle.call_board.proofs.Fixed.{unless_out_of_memory}
 use Rattle.call_board.proofs.Tells.{leased_case}
-use Rattle.relay_core.specs.Scripts.{Owed, opening, closing, in_cell, reading, reading_starved, script_of_act, script_of, script}
+use Rattle.relay_core.specs.Scripts.{Owed, opening, closing, in_cell, reading, reading_out_of_memory, script_of_act, script_of, script}
 use Rattle.control_entries.specs.Controls.{Hearing, unanswered, with_answer, control_of, moment_at}
 use Rattle.replay_laws.proofs.Boards.{SameBoards}
 
@@ -157,7 +157,7 @@ module _ (config : Config) (h k : List BoardEntry) (same : SameBoards config h k
 
   unkept_same : (c : Control) (o : Option (List ℕ)) → answering_unless config h c o ≡ answering_unless config k c o
   unkept_same c (Some bytes) = refl
-  unkept_same c None = ap (unless_starved config c.cookie c.given.starved) (asked_same c (asked config c.too_long c.pairs))
+  unkept_same c None = ap (unless_out_of_memory config c.cookie c.given.out_of_memory) (asked_same c (asked config c.too_long c.pairs))
 
   kept_same : (source : Addr) (cookie : List ℕ) (now : ℕ) → kept h source cookie now ≡ kept k source cookie now
   kept_same source cookie now = ap (λ (ks : List Keeping). cache.kept ks source cookie now) same.keepings_are
@@ -205,7 +205,7 @@ module _ (config : Config) (h k : List BoardEntry) (same : SameBoards config h k
     reads = fits.reads;
     hears = λ heard. hears_same c (asked config c.too_long c.pairs) (fits.hears heard);
     gives = subst (λ (d : Demand). GivesFor d c.given c.act) (demand_same c (asked config c.too_long c.pairs)) fits.gives;
-    reports = λ starved none. fits.reports starved (after_same (asked config c.too_long c.pairs) ∙ none);
+    reports = λ out_of_memory none. fits.reports out_of_memory (after_same (asked config c.too_long c.pairs) ∙ none);
     answers = fits.answers ∙ due_same c now;
   }
 
@@ -221,18 +221,18 @@ module _ (config : Config) (h k : List BoardEntry) (same : SameBoards config h k
   abbrev closing_as : (e : BoardEntry) → Call → List Holder → List Owed
   closing_as e of ls = map (closing config) (filter (λ (leg : Holder). (leg.call == of.number) && closes_leg e leg) ls)
 
-  starved_same : (c : Control) (r : Result Said ErrorCode) → reading_starved h c r ≡ reading_starved k c r
-  starved_same c (Err code) = refl
-  starved_same c (Ok said.Ping) = refl
-  starved_same c (Ok (said.Offer id from_tag sdp options)) = refl
-  starved_same c (Ok (said.Answer id from_tag to_tag sdp options)) = refl
-  starved_same c (Ok (said.Delete id from_tag fatal)) = refl
-  starved_same c (Ok (said.Query id)) = ap (λ (o : Option Call). reading o c.given.report) (find_same id)
-  starved_same c (Ok (said.Listing limit)) = refl
+  out_of_memory_same : (c : Control) (r : Result Said ErrorCode) → reading_out_of_memory h c r ≡ reading_out_of_memory k c r
+  out_of_memory_same c (Err code) = refl
+  out_of_memory_same c (Ok said.Ping) = refl
+  out_of_memory_same c (Ok (said.Offer id from_tag sdp options)) = refl
+  out_of_memory_same c (Ok (said.Answer id from_tag to_tag sdp options)) = refl
+  out_of_memory_same c (Ok (said.Delete id from_tag fatal)) = refl
+  out_of_memory_same c (Ok (said.Query id)) = ap (λ (o : Option Call). reading o c.given.report) (find_same id)
+  out_of_memory_same c (Ok (said.Listing limit)) = refl
 
   act_same : (e : BoardEntry) (c : Control) (a : Act) → script_of_act config h e c a ≡ script_of_act config k e c a
   act_same e c act.Repeated = refl
-  act_same e c act.Starved = starved_same c (asked config c.too_long c.pairs)
+  act_same e c act.OutOfMemory = out_of_memory_same c (asked config c.too_long c.pairs)
   act_same e c (act.Failed code) = refl
   act_same e c (act.Undone code leases draws) = refl
   act_same e c (act.Offered o) =

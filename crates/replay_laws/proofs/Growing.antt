@@ -128,7 +128,7 @@ beyond : (l : List Entry) (place m n : ℕ) → IsAbove l place m → m ≤ n �
 beyond l place m zero above low = ap (λ (k : ℕ). history l place k) (let z : zero ≡ m = omega (arith, low) in z)
 beyond l place m (suc k) above low = beyond_by l place m k above (beyond l place m k above) (lt_or_eq m (suc k) (omega (arith, low)))
 
--- behind an entry that is above all of its place stands what was before it
+-- after an entry that is above all of its place stands what was before it
 last_is : (l : List Entry) (e : Entry) (n : ℕ) → IsAbove l e.place e.number → e.number < n → history (l ++ e ∷ []) e.place n ≡ e ∷ history l e.place e.number
 last_is l e n above low =
     let all : List Entry = l ++ e ∷ [] in

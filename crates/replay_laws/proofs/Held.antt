@@ -46,7 +46,7 @@ left_once n p q (z ∷ before) after (y ∷ behind) more once is =
     let rest = left_once n p q before after behind more once.1 (tails z y (before ++ (n, p) ∷ after) (behind ++ (n, q) ∷ more) is) in
     record { packet = rest.packet; left = ap (λ (x : Numbered). x ∷ (before ++ after)) first ∙ ap (λ (xs : List Numbered). y ∷ xs) rest.left }
 
--- one more is held, behind
+-- one more is held, at the end
 abbrev untaken : ℕ → ℕ → Half → Addr → List ℕ → Holder → Numbered
 untaken n pair half source bytes holder = (n, (pair, record { take = 0; half = half; source = source; bytes = bytes; holder = holder }))
 

@@ -15,7 +15,7 @@ use Rattle.relay_script.specs.Printing.{Printed}
 use Rattle.replay_model.specs.Steps as model
 use Rattle.replay_model.specs.Devices.{Happening, fails}
 use Rattle.replay_steps.specs.Steps.{Course, Packet, at_moment, with_entries, with_past, holding, left_with, replied, IsQuiet, TakesPacket, Misses, Holds, HoldsNone, Passes, RelaysHeld, Commands, EndsDueCalls, Makes}
-use Rattle.replay_laws.specs.Alike.{AlikeLists, Alike, NeverStarved, TellsReports, GoesAlike, but_for_take}
+use Rattle.replay_laws.specs.Alike.{AlikeLists, Alike, NeverOutOfMemory, TellsReports, GoesAlike, but_for_take}
 use Rattle.board_turns.specs.Between.{board_of}
 use Rattle.replay_laws.proofs.Boards.{same_boards}
 use Rattle.replay_laws.proofs.Lists.{not_cell}
@@ -147,13 +147,13 @@ module _ (config : Config) (seed : ℕ) (l k : List Entry) (held : List (ℕ × 
   -- Turns of the board.
 
   commanding : (source : Addr) (bytes : List ℕ) (p q : List Printed) (x y : Course) (e f : Printed) → p ≡ e ∷ [] → q ≡ f ∷ []
-      → NeverStarved x.entries → NeverStarved y.entries → TellsReports config x.entries → TellsReports config y.entries
+      → NeverOutOfMemory x.entries → NeverOutOfMemory y.entries → TellsReports config x.entries → TellsReports config y.entries
       → Commands config seed one source bytes e x → Commands config seed other source bytes f y → GoesAlike p q x y
   commanding source bytes p q x y e f is too fed fed_too tells tells_too a b =
       let u : x.entries ≡ a.entries = ap (λ (c : Course). c.entries) a.new_is in
       let v : y.entries ≡ b.entries = ap (λ (c : Course). c.entries) b.new_is in
       let did = control_once config seed clock l k past source bytes (fails model.Reading past) (fails model.Replying past) a.opened b.opened a.drawn b.drawn e f a.entries b.entries
-      a.between b.between a.past b.past alike (subst NeverStarved u fed) (subst NeverStarved v fed_too) (subst (TellsReports config) u tells) (subst (TellsReports config) v tells_too)
+      a.between b.between a.past b.past alike (subst NeverOutOfMemory u fed) (subst NeverOutOfMemory v fed_too) (subst (TellsReports config) u tells) (subst (TellsReports config) v tells_too)
       a.controls b.controls a.opens b.opens a.draws b.draws in
       goes p q x y (with_past (replied e a.past) (with_entries a.entries one)) (with_past (replied f b.past) (with_entries b.entries other)) a.new_is b.new_is
       (record {
@@ -177,7 +177,7 @@ module _ (config : Config) (seed : ℕ) (l k : List Entry) (held : List (ℕ × 
 
   -- Any step.
 
-  makes_once : Once (map (λ (h : ℕ × Packet). h.0) held) → (s : Step) (p q : List Printed) (x y : Course) → NeverStarved x.entries → NeverStarved y.entries
+  makes_once : Once (map (λ (h : ℕ × Packet). h.0) held) → (s : Step) (p q : List Printed) (x y : Course) → NeverOutOfMemory x.entries → NeverOutOfMemory y.entries
       → TellsReports config x.entries → TellsReports config y.entries → Makes config seed one s p x → Makes config seed other s q y → GoesAlike p q x y
   makes_once once step.Skip p q x y fed fed_too tells tells_too a b = quiet p q x y a b
   makes_once once (step.At moment) p q x y fed fed_too tells tells_too a b = set_moment moment p q x y a b
@@ -203,7 +203,7 @@ same_course config r s alike =
     ∙ ap (λ (h : List Happening). course s.entries s.held s.received s.clock h) alike.past)
 
 pub step_once : (config : Config) (seed : ℕ) (r s : Course) (it : Step) (p q : List Printed) (x y : Course) → Alike config r s
-    → Makes config seed r it p x → Makes config seed s it q y → NeverStarved x.entries → NeverStarved y.entries → TellsReports config x.entries → TellsReports config y.entries
+    → Makes config seed r it p x → Makes config seed s it q y → NeverOutOfMemory x.entries → NeverOutOfMemory y.entries → TellsReports config x.entries → TellsReports config y.entries
     → GoesAlike p q x y
 step_once config seed r s it p q x y alike a b fed fed_too tells tells_too =
     makes_once config seed r.entries s.entries r.held r.received r.clock r.past alike.lists alike.once it p q x y fed fed_too tells tells_too a

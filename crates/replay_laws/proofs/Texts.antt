@@ -16,7 +16,7 @@ use Rattle.replay_steps.specs.declared.ended.Ended.{Ended}
 use Rattle.replay_steps.specs.declared.ended.Ended.TheVariants as ended
 use Rattle.replay_steps.specs.Steps.{Course, Packet, at_first, after, is_under, Makes, IsFaulty, Plays, Stops}
 use Rattle.replay_steps.specs.Written.{written, Played, StopsAt, PlayedAnd}
-use Rattle.replay_laws.specs.Alike.{NeverStarved, WritesOut, IsWrittenOut, SaysTheSame}
+use Rattle.replay_laws.specs.Alike.{NeverOutOfMemory, WritesOut, IsWrittenOut, SaysTheSame}
 use Rattle.replay_laws.proofs.Beginnings.{Begins}
 use Rattle.replay_laws.proofs.Turns.{begins_less}
 use Rattle.replay_laws.proofs.Gaining.{play_gained}
@@ -89,17 +89,17 @@ in_order (s ∷ before) behind (t ∷ first) more one other is =
     order_there s t before first one other (step_heads s t (before ++ one ∷ behind) (first ++ other ∷ more) is)
     (in_order before behind first more one other (step_tails s t (before ++ one ∷ behind) (first ++ other ∷ more) is))
 
--- a replay up to here, behind which comes a stop
+-- a replay up to here, after which comes a stop
 record Ran (config : Config) (seed : ℕ) (steps : List Step) (p : List Printed) (x : Course) : Type 0 where
   plays : Plays config seed steps at_first p x
   begins : Begins config x.entries
-  fed : NeverStarved x.entries
+  fed : NeverOutOfMemory x.entries
 
-ran : (config : Config) (seed : ℕ) (steps : List Step) (p : List Printed) (x : Course) (l : List Entry) → Plays config seed steps at_first p x → x.entries ≡ l → Stops config l → NeverStarved l → Ran config seed steps p x
+ran : (config : Config) (seed : ℕ) (steps : List Step) (p : List Printed) (x : Course) (l : List Entry) → Plays config seed steps at_first p x → x.entries ≡ l → Stops config l → NeverOutOfMemory l → Ran config seed steps p x
 ran config seed steps p x l plays is stops fed = record {
   plays = plays;
   begins = stop_begins config x.entries (play_gained config seed steps at_first p x (nothing_is_orderly config) plays).orderly (subst (Stops config) (sym is) stops);
-  fed = subst NeverStarved (sym is) fed;
+  fed = subst NeverOutOfMemory (sym is) fed;
 }
 
 both_went : (config : Config) (seed : ℕ) (steps : List Step) (p q : List Printed) (x y : Course) → Ran config seed steps p x → Ran config seed steps q y → Went config p q x y
@@ -121,19 +121,19 @@ never_made config seed before it rest p q x y a faulty b =
 -- What is written.
 
 played_once : (config : Config) (seed : ℕ) (steps : List Step) (l k : List Entry) (v w : List WriteCall) → Played config seed steps l v → Played config seed steps k w
-    → Stops config l → Stops config k → NeverStarved l → NeverStarved k → v ≡ w
+    → Stops config l → Stops config k → NeverOutOfMemory l → NeverOutOfMemory k → v ≡ w
 played_once config seed steps l k v w a b s t fed fed_too =
     a.writes_are ∙ ap (map written) (both_went config seed steps a.prints b.prints a.course b.course
     (ran config seed steps a.prints a.course l a.plays a.entries_are s fed) (ran config seed steps b.prints b.course k b.plays b.entries_are t fed_too)).prints ∙ sym b.writes_are
 
 stop_or_all : (config : Config) (seed : ℕ) (steps : List Step) (l k : List Entry) (v w : List WriteCall) → StopsAt config seed steps l v → Played config seed steps k w
-    → Stops config l → Stops config k → NeverStarved l → NeverStarved k → ⊥
+    → Stops config l → Stops config k → NeverOutOfMemory l → NeverOutOfMemory k → ⊥
 stop_or_all config seed steps l k v w a b s t fed fed_too =
     never_made config seed a.before a.step a.after a.prints b.prints a.course b.course (ran config seed a.before a.prints a.course l a.plays a.entries_are s fed) a.faulty
     (ran config seed (a.before ++ a.step ∷ a.after) b.prints b.course k (subst (λ (x : List Step). Plays config seed x at_first b.prints b.course) a.steps_are b.plays) b.entries_are t fed_too)
 
 stops_once : (config : Config) (seed : ℕ) (steps : List Step) (l k : List Entry) (v w : List WriteCall) → StopsAt config seed steps l v → StopsAt config seed steps k w
-    → Stops config l → Stops config k → NeverStarved l → NeverStarved k → v ≡ w
+    → Stops config l → Stops config k → NeverOutOfMemory l → NeverOutOfMemory k → v ≡ w
 stops_once config seed steps l k v w a b s t fed fed_too = by_case (in_order a.before a.after b.before b.after a.step b.step (sym a.steps_are ∙ b.steps_are))
   where
     left : Ran config seed a.before a.prints a.course

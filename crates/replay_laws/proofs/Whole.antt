@@ -30,7 +30,7 @@ use Rattle.replay_model.specs.Devices.{Happening, Made, fails}
 use Rattle.replay_devices.specs.Watch.{step_of}
 use Rattle.replay_steps.specs.Arrivals.{End}
 use Rattle.replay_steps.specs.Steps.{Course, Packet, at_first, at_moment, with_entries, with_past, holding, left_with, TakesPacket, Misses, PrintsTaken, FailsSo, RelaysPacket, TicksAt, Holds, HoldsNone, Passes, RelaysHeld, Commands, EndsDueCalls, Makes, Plays, Stops, is_under, IsFaulty, after}
-use Rattle.replay_laws.specs.Alike.{bare, AlikeLists, Alike, NeverStarved, TellsReports}
+use Rattle.replay_laws.specs.Alike.{bare, AlikeLists, Alike, NeverOutOfMemory, TellsReports}
 use Rattle.replay_laws.proofs.Boards.{same_boards}
 use Rattle.replay_laws.proofs.Fitting.{script_same}
 use Rattle.replay_laws.proofs.Lists.{told_once, end_once}
@@ -329,7 +329,7 @@ module _ (config : Config) (seed : ℕ) (l k : List Entry) (held : List (ℕ × 
         right = held_less a.before a.after number received a.packet its;
       })
 
-  commanding_leaves : (source : Addr) (bytes : List ℕ) (e f : Printed) (x y : Course) → Begins config x.entries → Begins config y.entries → NeverStarved x.entries → NeverStarved y.entries
+  commanding_leaves : (source : Addr) (bytes : List ℕ) (e f : Printed) (x y : Course) → Begins config x.entries → Begins config y.entries → NeverOutOfMemory x.entries → NeverOutOfMemory y.entries
       → TellsReports config x.entries → TellsReports config y.entries → Commands config seed one source bytes e x → Commands config seed other source bytes f y → Leaves x y
   commanding_leaves source bytes e f x y b c fed fed_too tells tells_too a z =
       leaves x y _ _ a.new_is z.new_is (record { lists = grown; held = refl; right = right })
@@ -346,7 +346,7 @@ module _ (config : Config) (seed : ℕ) (l k : List Entry) (held : List (ℕ × 
 
       grown : SameLists a.entries z.entries
       grown = by_case (control_alike config seed clock l k past source bytes (fails model.Reading past) (fails model.Replying past) a.opened z.opened a.drawn z.drawn e f a.entries z.entries
-          a.between z.between a.past z.past alike (subst NeverStarved u fed) (subst NeverStarved v fed_too) (subst (TellsReports config) u tells) (subst (TellsReports config) v tells_too)
+          a.between z.between a.past z.past alike (subst NeverOutOfMemory u fed) (subst NeverOutOfMemory v fed_too) (subst (TellsReports config) u tells) (subst (TellsReports config) v tells_too)
           a.controls z.controls a.opens z.opens a.draws z.draws)
 
   ticking_leaves : (e f : Printed) (x y : Course) → Begins config x.entries → Begins config y.entries → EndsDueCalls config one e x → EndsDueCalls config other f y → Leaves x y
@@ -362,7 +362,7 @@ module _ (config : Config) (seed : ℕ) (l k : List Entry) (held : List (ℕ × 
   quiet_leaves : (x y : Course) → x ≡ one → y ≡ other → Leaves x y
   quiet_leaves x y is too = leaves x y one other is too (record { lists = same; held = refl; right = right })
 
-  makes_leaves : (s : Step) (p q : List Printed) (x y : Course) → Begins config x.entries → Begins config y.entries → NeverStarved x.entries → NeverStarved y.entries
+  makes_leaves : (s : Step) (p q : List Printed) (x y : Course) → Begins config x.entries → Begins config y.entries → NeverOutOfMemory x.entries → NeverOutOfMemory y.entries
       → TellsReports config x.entries → TellsReports config y.entries → p ≡ q → Makes config seed one s p x → Makes config seed other s q y → Leaves x y
   makes_leaves step.Skip p q x y b c fed fed_too tells tells_too prints m n = quiet_leaves x y m.1 n.1
   makes_leaves (step.At moment) p q x y b c fed fed_too tells tells_too prints m n =
@@ -397,7 +397,7 @@ tells_of : (config : Config) (l : List Entry) → Begins config l → TellsRepor
 tells_of config l b e told i is = report_is config l b e i told is
 
 went : (config : Config) (seed : ℕ) (r s : Course) (it : Step) (p q : List Printed) (x y : Course) → Both config r s → Makes config seed r it p x → Makes config seed s it q y
-    → Begins config x.entries → Begins config y.entries → NeverStarved x.entries → NeverStarved y.entries → Went config p q x y
+    → Begins config x.entries → Begins config y.entries → NeverOutOfMemory x.entries → NeverOutOfMemory y.entries → Went config p q x y
 went config seed r s it p q x y both m n b c fed fed_too =
     let tells = tells_of config x.entries b in
     let tells_too = tells_of config y.entries c in
@@ -430,12 +430,12 @@ noted config s x y both = record {
   past = ap (λ (h : List Happening). Made (step_of s) ∷ h) both.past;
 }
 
-pub fed_before : (l new : List Entry) (es : List Entry) → new ≡ l ++ es → NeverStarved new → NeverStarved l
+pub fed_before : (l new : List Entry) (es : List Entry) → new ≡ l ++ es → NeverOutOfMemory new → NeverOutOfMemory l
 fed_before l new es is fed e c i event = fed e c (subst (In e) (sym is) (in_left l es i)) event
 
 -- several steps, too
 pub plays_once : (config : Config) (seed : ℕ) (steps : List Step) (r s : Course) (p q : List Printed) (x y : Course) → Both config r s → Plays config seed steps r p x → Plays config seed steps s q y
-    → Begins config x.entries → Begins config y.entries → NeverStarved x.entries → NeverStarved y.entries → Went config p q x y
+    → Begins config x.entries → Begins config y.entries → NeverOutOfMemory x.entries → NeverOutOfMemory y.entries → Went config p q x y
 plays_once config seed [] r s p q x y both a z b c fed fed_too =
     record { prints = a.0 ∙ sym z.0; both = subst (λ (v : Course). Both config x v) (sym z.1) (subst (λ (u : Course). Both config u s) (sym a.1) both) }
 plays_once config seed (it ∷ steps) r s p q x y both a z b c fed fed_too =
@@ -476,14 +476,14 @@ first_both config = record {
     none_there place m n = ap (map blank_entry) (empty_history place m ∙ sym (empty_history place n))
 
 pub replays_went : (config : Config) (seed : ℕ) (steps : List Step) (p q : List Printed) (x y : Course) → Plays config seed steps at_first p x → Plays config seed steps at_first q y
-    → Stops config x.entries → Stops config y.entries → NeverStarved x.entries → NeverStarved y.entries → Went config p q x y
+    → Stops config x.entries → Stops config y.entries → NeverOutOfMemory x.entries → NeverOutOfMemory y.entries → Went config p q x y
 replays_went config seed steps p q x y a z s t fed fed_too =
     let o = play_gained config seed steps at_first p x (nothing_is_orderly config) a in
     let u = play_gained config seed steps at_first q y (nothing_is_orderly config) z in
     plays_once config seed steps at_first at_first p q x y (first_both config) a z (stop_begins config x.entries o.orderly s) (stop_begins config y.entries u.orderly t) fed fed_too
 
 pub replays_once : (config : Config) (seed : ℕ) (steps : List Step) (p q : List Printed) (x y : Course) → Plays config seed steps at_first p x → Plays config seed steps at_first q y
-    → Stops config x.entries → Stops config y.entries → NeverStarved x.entries → NeverStarved y.entries → p ≡ q
+    → Stops config x.entries → Stops config y.entries → NeverOutOfMemory x.entries → NeverOutOfMemory y.entries → p ≡ q
 replays_once config seed steps p q x y a z s t fed fed_too = (replays_went config seed steps p q x y a z s t fed fed_too).prints
 
 -- A step that can't be made in the one can't be made in the other.
@@ -501,6 +501,6 @@ faulty_too config x y (step.Packet port source bytes) both faulty = faulty
 faulty_too config x y step.Tick both faulty = faulty
 
 pub replays_faulty : (config : Config) (seed : ℕ) (steps : List Step) (p q : List Printed) (x y : Course) (it : Step) → Plays config seed steps at_first p x → Plays config seed steps at_first q y
-    → Stops config x.entries → Stops config y.entries → NeverStarved x.entries → NeverStarved y.entries → IsFaulty x it → IsFaulty y it
+    → Stops config x.entries → Stops config y.entries → NeverOutOfMemory x.entries → NeverOutOfMemory y.entries → IsFaulty x it → IsFaulty y it
 replays_faulty config seed steps p q x y it a z s t fed fed_too faulty =
     faulty_too config x y it (replays_went config seed steps p q x y a z s t fed fed_too).both faulty

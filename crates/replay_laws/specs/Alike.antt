@@ -21,7 +21,7 @@ use Rattle.replay_steps.specs.declared.ended.Ended.{Ended}
 use Rattle.replay_steps.specs.declared.ended.Ended.TheVariants as ended
 use Rattle.replay_steps.specs.Steps.{Course, Packet, Stops}
 use Rattle.replay_steps.specs.Written.{DidWrite}
-use Rattle.board_laws.specs.Alike.{IsFed}
+use Rattle.board_laws.specs.Alike.{HasMemory}
 
 -- a datagram's turn without what is recorded of its body and of crypto lines: where nobody read the one, or chose the others, that is
 -- anything, and decides nothing
@@ -51,9 +51,9 @@ pub record Alike (config : Config) (r s : Course) : Type 0 where
   pub clock : r.clock ≡ s.clock
   pub past : r.past ≡ s.past
 
--- in no turn of the list memory was short
-abbrev pub NeverStarved : List Entry → Type 0
-NeverStarved l = (e : Entry) (c : Control) → In e l → e.event ≡ Board (Turn c) → IsFed c
+-- no turn of the list ran out of memory
+abbrev pub NeverOutOfMemory : List Entry → Type 0
+NeverOutOfMemory l = (e : Entry) (c : Control) → In e l → e.event ≡ Board (Turn c) → HasMemory c
 
 -- what is told of a cell's call is what the whole history of the cell demands. Of the relays in it the list records the outcomes
 pub record IsReport (config : Config) (l : List Entry) (e : Entry) (told : List LegReport) : Type 0 where
@@ -89,13 +89,13 @@ IsWrittenOut ended.ScriptFault = Unit {0}
 IsWrittenOut ended.PrintFault = ⊥
 IsWrittenOut ended.OutOfMemory = ⊥
 
--- This is written by a replay of these steps, whose reading ended so, and which ended so itself, as the contract of a replay says it; and in
--- no turn memory was short
+-- This is written by a replay of these steps, with this ending of the reading and this end of its own, as the contract of a replay says it;
+-- and no turn ran out of memory
 pub record WritesOut (config : Config) (seed : ℕ) (steps : List Step) (how : Ending) (end : Ended) (writes : List WriteCall) : Type 0 where
   pub entries : List Entry
   pub wrote : DidWrite config seed steps how end entries writes
   pub stopped : Stops config entries
-  pub fed : NeverStarved entries
+  pub fed : NeverOutOfMemory entries
 
 -- both ended the same way, and wrote the same
 pub record SaysTheSame (one other : Ended) (first second : List WriteCall) : Type 0 where

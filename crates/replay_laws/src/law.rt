@@ -6,11 +6,11 @@ ghost use Rattle.replay_steps.specs.Steps.{Course, at_first, Makes, IsFaulty, Pl
 ghost use Rattle.relay_outside.specs.declared.lines.WriteCall.{WriteCall};
 ghost use Rattle.replay_lines.specs.declared.script.Ending.{Ending};
 ghost use Rattle.replay_steps.specs.declared.ended.Ended.{Ended};
-ghost use Rattle.replay_laws.specs.Alike.{Alike, NeverStarved, TellsReports, GoesAlike, IsWrittenOut, WritesOut, SaysTheSame};
+ghost use Rattle.replay_laws.specs.Alike.{Alike, NeverOutOfMemory, TellsReports, GoesAlike, IsWrittenOut, WritesOut, SaysTheSame};
 
-/// A law, and no work: two replays of the same steps, in one configuration and with one seed, print one list, event by event, whatever else
-/// goes on. Behind the steps of each comes a stop, as the program makes it, so that its entries begin a legal list; and memory was never short in
-/// a control turn. So each reply, byte for byte, what becomes of each packet with the bytes that are sent, and how many calls a tick ends
+/// Theorem (no run-time code): two replays of the same steps, in one configuration and with one seed, print the same list, event by event,
+/// whatever else goes on. After the steps of each comes a stop, as the program makes it, so that its entries begin a legal list; and no control
+/// turn ran out of memory. So each reply, byte for byte, what becomes of each packet with the bytes that are sent, and how many calls a tick ends
 /// follow from the script, the configuration and the seed alone. And where a further step can't be made in the one, as a packet is not held, or
 /// too many are, it can't be made in the other.
 ///
@@ -19,23 +19,23 @@ ghost use Rattle.replay_laws.specs.Alike.{Alike, NeverStarved, TellsReports, Goe
 pub fn replays_print_one_list()
     ensures prints { (config : Config) (seed : ℕ) (steps : List Step) (first second : List Printed) (left right : Course) →
         Plays config seed steps at_first first left → Plays config seed steps at_first second right → Stops config left.entries → Stops config right.entries →
-        NeverStarved left.entries → NeverStarved right.entries → first ≡ second }
+        NeverOutOfMemory left.entries → NeverOutOfMemory right.entries → first ≡ second }
     ensures texts { (config : Config) (seed : ℕ) (steps : List Step) (how : Ending) (end other : Ended) (first second : List WriteCall) → IsWrittenOut end → IsWrittenOut other →
         WritesOut config seed steps how end first → WritesOut config seed steps how other second → SaysTheSame end other first second }
     ensures faults { (config : Config) (seed : ℕ) (steps : List Step) (first second : List Printed) (left right : Course) (step : Step) →
         Plays config seed steps at_first first left → Plays config seed steps at_first second right → Stops config left.entries → Stops config right.entries →
-        NeverStarved left.entries → NeverStarved right.entries → IsFaulty left step → IsFaulty right step }
+        NeverOutOfMemory left.entries → NeverOutOfMemory right.entries → IsFaulty left step → IsFaulty right step }
 {}
 
-/// A law, and no work: two replays that are alike print the same of one more step, any step, made at both, and come to the same moment, the
-/// same happenings and the same packets held. So what a step prints follows from the board's history, the histories of the cells, who holds
+/// Theorem (no run-time code): two replays that are alike print the same for one more step, any step, made at both, and reach the same moment,
+/// the same happenings and the same packets held. So what a step prints follows from the board's history, the histories of the cells, who holds
 /// which box, the packets that are held, the clock, and what happened before.
 ///
-/// It is said of one step, whatever came before, and whatever numbers the entries have. Memory is not short in either, and what either's list
+/// It holds for one step, whatever came before, and whatever numbers the entries have. Neither runs out of memory, and what either's list
 /// tells of a call's report is what its cell's history demands.
 pub fn steps_print_alike()
     ensures { (config : Config) (seed : ℕ) (r s : Course) (step : Step) (first second : List Printed) (left right : Course) → Alike config r s →
         Makes config seed r step first left → Makes config seed s step second right →
-        NeverStarved left.entries → NeverStarved right.entries → TellsReports config left.entries → TellsReports config right.entries →
+        NeverOutOfMemory left.entries → NeverOutOfMemory right.entries → TellsReports config left.entries → TellsReports config right.entries →
         GoesAlike first second left right }
 {}

@@ -64,7 +64,7 @@ module _ (config : Config) (seed : ℕ) (l new : List Entry) (clock : ℕ) (sour
         answers found.0 found.2,
       )
 
-  pub commanded : (o : Option coded.Printed) (did : Stepped) → MatchOption o (did ≡ stepped.Starved) (λ (e : coded.Printed). did ≡ stepped.Prints e)
+  pub commanded : (o : Option coded.Printed) (did : Stepped) → MatchOption o (did ≡ stepped.OutOfMemory) (λ (e : coded.Printed). did ≡ stepped.Prints e)
       → Controlled config clock l source bytes read_fails reply_fails ports ports_now keys keys_now o new
       → ((e : coded.Printed) → o ≡ Some e → (past : List Happening) → StandsFor config seed past mid → StandsFor config seed (replied (event_of e) past) now)
       → StepsSo config seed did old now (λ past past_now. OfStep config seed (course_of l held clock past) (step.Ng source bytes) did (course_of new held clock past_now))

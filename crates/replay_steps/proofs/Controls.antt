@@ -89,7 +89,7 @@ module _ (config : Config) {M I O T : Type 0} {g : _} where
     is = makes.is;
   }
 
-  -- a turn that was not answered left the hand as it was
+  -- a turn without a reply left the hand as it was
   unanswered : (old new : Hand M (Part I O) Made T g) (now : ℕ) (answer : ControlTurn) (made : Option Hearing) → is_answered answer ≡ false → Follows config old new now answer made
       → made_by new ≡ made_by old
   unanswered old new now answer None unsent follows = ap (λ (h : Hand M (Part I O) Made T g). made_by h) follows.1
@@ -152,7 +152,7 @@ module _ (config : Config) {M I O T : Type 0} {g : _} where
     answered from datagram calls sends tells of None is did = absurd (let k : Some x ≡ None = did.1 in cc)
     answered from datagram calls sends tells of (Some parts) is did = exchanged from datagram calls sends parts tells of is did
 
-    -- a turn that was answered took a datagram
+    -- a turn with a reply took a datagram
     taken : is_answered answer ≡ true → (calls sends : List LinkCall) (gave : LinkGiven)
         → TellsTaken (Some (calls ++ call.Take 16385 gave ∷ sends)) source bytes
         → IsOfTurn answer reply_fails (Some (calls ++ call.Take 16385 gave ∷ sends)) e

@@ -135,7 +135,7 @@ one_event e P p = record { event = e; prints_are = refl; holds = p }
 
 -- an event that was printed, where there was memory for it
 pub of_event : (config : Config) (seed : ℕ) (r : Course) (s : Step) (new : Course) (o : Option coded.Printed) (did : Stepped)
-    → MatchOption o (did ≡ stepped.Starved) (λ (e : coded.Printed). did ≡ stepped.Prints e) → ((e : coded.Printed) → o ≡ Some e → Makes config seed r s (event_of e ∷ []) new) → OfStep config seed r s did new
+    → MatchOption o (did ≡ stepped.OutOfMemory) (λ (e : coded.Printed). did ≡ stepped.Prints e) → ((e : coded.Printed) → o ≡ Some e → Makes config seed r s (event_of e ∷ []) new) → OfStep config seed r s did new
 of_event config seed r s new None did is makes = subst (λ (d : Stepped). OfStep config seed r s d new) (sym is) tt
 of_event config seed r s new (Some e) did is makes = subst (λ (d : Stepped). OfStep config seed r s d new) (sym is) (makes e refl)
 
@@ -191,7 +191,7 @@ module _ (config : Config) (seed : ℕ) (l : List Entry) (was : ReceiptList) (cl
 
 module _ (config : Config) (seed : ℕ) (l : List Entry) (was : ReceiptList) (clock : ℕ) (old now : WatchState) where
   pub passed : (port : ℕ) (source : Addr) (bytes : List ℕ) (r : Receipt) (mid new : List Entry) (o : Option coded.Printed) (did : Stepped) (failing : Bool)
-      → MatchOption o (did ≡ stepped.Starved) (λ (e : coded.Printed). did ≡ stepped.Prints e)
+      → MatchOption o (did ≡ stepped.OutOfMemory) (λ (e : coded.Printed). did ≡ stepped.Prints e)
       → ((past : List Happening) → StandsFor config seed past old → failing ≡ fails model.Taking past)
       → (failing ≡ false) × TakesPacket config l port source bytes (taken_by r) mid → RelaysSo config seed clock mid (taken_by r) o old now new
       → StepsSo config seed did old now (λ past past_now. OfStep config seed (course_of l was clock past) (step.Packet port source bytes) did (course_of new was clock past_now))
@@ -205,7 +205,7 @@ module _ (config : Config) (seed : ℕ) (l : List Entry) (was : ReceiptList) (cl
       (f.0, passes_packet config seed l was clock past port source bytes r (event_of e) mid new f.0 (sym (asked past s) ∙ takes.0) takes.1 f.1, f.2))
 
   pub relayed : (number : ℕ) (r : Receipt) (new : List Entry) (is : ReceiptList) (o : Option coded.Printed) (did : Stepped)
-      → MatchOption o (did ≡ stepped.Starved) (λ (e : coded.Printed). did ≡ stepped.Prints e) → (out : TakesOut number r was is) → RelaysSo config seed clock l (taken_by r) o old now new
+      → MatchOption o (did ≡ stepped.OutOfMemory) (λ (e : coded.Printed). did ≡ stepped.Prints e) → (out : TakesOut number r was is) → RelaysSo config seed clock l (taken_by r) o old now new
       → StepsSo config seed did old now (λ past past_now. OfStep config seed (course_of l was clock past) (step.Relay number) did (course_of new is clock past_now))
   relayed number r new later None did tells out relays =
       subst (λ (d : Stepped). StepsSo config seed d old now (λ past past_now. OfStep config seed (course_of l was clock past) (step.Relay number) d (course_of new later clock past_now))) (sym tells) tt
@@ -221,7 +221,7 @@ plays_more config seed [] r prints mid s more new (none, same) makes =
 plays_more config seed (x ∷ steps) r prints mid s more new (between, first, rest, is, made, plays) makes =
     (between, first, rest ++ more, ap (λ (xs : List Printed). xs ++ more) is ∙ append_assoc first rest more, made, plays_more config seed steps (after x between) rest mid s more new plays makes)
 
--- a stop behind it all
+-- a stop after it all
 pub stops : (config : Config) {M I O T : Type 0} {g : _} (old new : Hand M (Part I O) Made T g) → MakesTurn config old new (stop_entry (board_of (made_by old)))
     → (l : List Entry) × (map told l ≡ made_by new) × Legal config l × Safe config l → Stops config (made_by old)
 stops config old new makes (all, is, legal, safe) = record {

@@ -57,7 +57,7 @@ module _ (config : Config) where
   apart_pushed r [] h apart last = (last, tt)
   apart_pushed r (x ∷ list) h apart last = (apart.0, apart_pushed r list h apart.1 last)
 
-  -- one more behind
+  -- one more at the end
   pub receipts_pushed : (l : List Entry) (list : List Numbered) (h : Numbered) → AreReceipts config l list → IsIn config l (taken_by h.1) → IsApart h.1 list
       → AreReceipts config l (list ++ h ∷ [])
   receipts_pushed l [] h are is apart = (is, tt, tt)

@@ -46,7 +46,7 @@ pub record PlayedTo (config : Config) (seed : ℕ) (steps : List Step) (r : Cour
 pub none_played : (config : Config) (seed : ℕ) (r : Course) → r ≡ at_first → PlayedTo config seed [] r []
 none_played config seed r is = record { prints = []; plays = (refl, is); writes_are = refl }
 
--- lines behind lines
+-- lines after lines
 both_written : (xs ys : List WriteCall) (prints more : List Printed) → xs ≡ map written prints → ys ≡ map written more → xs ++ ys ≡ map written (prints ++ more)
 both_written xs ys prints more p q = ap (λ (zs : List WriteCall). zs ++ ys) p ∙ ap (λ (zs : List WriteCall). map written prints ++ zs) q ∙ sym (map-append written prints more)
 
@@ -57,7 +57,7 @@ last_failed : (xs ys : List WriteCall) (prints : List Printed) (event : Printed)
 last_failed xs ys prints event p q = ap (λ (zs : List WriteCall). zs ++ ys) p ∙ ap (λ (zs : List WriteCall). map written prints ++ zs) q
 
 module _ (config : Config) (seed : ℕ) (before : List Step) (r : Course) (s : Step) (new : Course) (line : ℕ) where
-  -- a step, behind which the replay goes on
+  -- a step, after which the replay goes on
   pub went_on : (did : Stepped) → OfStep config seed r s did new → (xs ys : List WriteCall) → PlayedTo config seed before r xs → DidStep did line None ys
       → PlayedTo config seed (before ++ s ∷ []) (after s new) (xs ++ ys)
   went_on stepped.Quiet makes xs ys x y = record {
@@ -71,12 +71,12 @@ module _ (config : Config) (seed : ℕ) (before : List Step) (r : Course) (s : S
     writes_are = both_written xs ys x.prints (event_of e ∷ []) x.writes_are y;
   }
   went_on stepped.Faulty makes xs ys x y = absurd y
-  went_on stepped.Starved makes xs ys x y = absurd (let k : None ≡ Some ended.OutOfMemory = y.0 in cc)
+  went_on stepped.OutOfMemory makes xs ys x y = absurd (let k : None ≡ Some ended.OutOfMemory = y.0 in cc)
 
   -- a step by which the replay ends
   module _ (steps behind : List Step) (steps_are : steps ≡ before ++ s ∷ behind) (l : List Entry) (line_is : line ≡ length before + 1) (entries_are : new.entries ≡ l) where
-    starved : (xs ys : List WriteCall) → PlayedTo config seed before r xs → ys ≡ [] → PlayedSome config seed steps (xs ++ ys)
-    starved xs ys x none = record {
+    out_of_memory : (xs ys : List WriteCall) → PlayedTo config seed before r xs → ys ≡ [] → PlayedSome config seed steps (xs ++ ys)
+    out_of_memory xs ys x none = record {
       before = before;
       after = s ∷ behind;
       steps_are = steps_are;
@@ -108,7 +108,7 @@ module _ (config : Config) (seed : ℕ) (before : List Step) (r : Course) (s : S
     printed event ended.ScriptFault xs ys x makes y = absurd y
     printed event ended.ScriptRead xs ys x makes y = absurd y
     printed event ended.PrintFault xs ys x makes y = failed event xs ys x y (inl makes)
-    printed event ended.OutOfMemory xs ys x makes y = starved xs ys x y
+    printed event ended.OutOfMemory xs ys x makes y = out_of_memory xs ys x y
 
     told_faulty : (end : Ended) (xs ys : List WriteCall) → PlayedTo config seed before r xs → IsFaulty r s → new ≡ r → DidTell line end ys → DidSteps config seed steps l (Some end) (xs ++ ys)
     told_faulty ended.Finished xs ys x faulty same y = absurd y
@@ -127,14 +127,14 @@ module _ (config : Config) (seed : ℕ) (before : List Step) (r : Course) (s : S
     told_faulty ended.ScriptRead xs ys x faulty same y = absurd y
     told_faulty ended.PrintFault xs ys x faulty same y =
         failed (ScriptFault (length before + 1)) xs ys x (y ∙ ap (λ (n : ℕ). unwritten (ScriptFault n) ∷ []) line_is) (inr (faulty, refl, same))
-    told_faulty ended.OutOfMemory xs ys x faulty same y = starved xs ys x y
+    told_faulty ended.OutOfMemory xs ys x faulty same y = out_of_memory xs ys x y
 
     pub ended_in : (did : Stepped) (end : Ended) → OfStep config seed r s did new → (xs ys : List WriteCall) → PlayedTo config seed before r xs → DidStep did line (Some end) ys
         → DidSteps config seed steps l (Some end) (xs ++ ys)
     ended_in stepped.Quiet end makes xs ys x y = absurd (let k : Some end ≡ None = y.0 in cc)
     ended_in (stepped.Prints e) end makes xs ys x y = printed (event_of e) end xs ys x makes y
     ended_in stepped.Faulty end makes xs ys x y = told_faulty end xs ys x makes.0 makes.1 y
-    ended_in stepped.Starved end makes xs ys x y = subst (λ (o : Option Ended). DidSteps config seed steps l o (xs ++ ys)) (sym y.0) (starved xs ys x y.1)
+    ended_in stepped.OutOfMemory end makes xs ys x y = subst (λ (o : Option Ended). DidSteps config seed steps l o (xs ++ ys)) (sym y.0) (out_of_memory xs ys x y.1)
 
 -- some of the steps were made
 pub some_played : (config : Config) (seed : ℕ) (steps before behind : List Step) (r : Course) → steps ≡ before ++ behind → (xs : List WriteCall) → PlayedTo config seed before r xs → PlayedSome config seed steps xs
@@ -162,7 +162,7 @@ all_played config seed steps before r l is entries xs x = record {
   writes_are = x.writes_are;
 }
 
--- The end of the script, behind all steps.
+-- The end of the script, after all steps.
 
 module _ (config : Config) (seed : ℕ) (steps : List Step) (l : List Entry) where
   no_more : (xs ys : List WriteCall) → ys ≡ [] → Played config seed steps l xs → Played config seed steps l (xs ++ ys)
@@ -220,7 +220,7 @@ module _ (config : Config) (seed : ℕ) (steps : List Step) (l : List Entry) whe
       → DidSteps config seed steps l ran xs → DidFinish ran how line end ys → DidPlay config seed steps how end (xs ++ ys)
   after_stop line ran how end at stops xs ys x y = and_stopped how end stops (xs ++ ys) (after_all line ran how end at xs ys x y)
 
--- what was read beside it
+-- what was read with it
 pub replays : (config : Config) (seed : ℕ) (steps : List Step) (how : Ending) (end : Ended) (read read_now : Option (List LineCall)) → Gained read read_now (Reads steps how)
     → (writes : List WriteCall) → DidPlay config seed steps how end writes → Replays config seed end read read_now writes
 replays config seed steps how ended.Finished read read_now reads writes did = record { steps = steps; how = how; reads_are = reads; did = did }

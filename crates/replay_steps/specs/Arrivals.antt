@@ -23,7 +23,7 @@ abbrev pub IsV4 : Ip → Type 0
 IsV4 (ip.V4 bytes) = Unit {0}
 IsV4 (ip.V6 bytes) = ⊥
 
--- The end has this port, in the family of the address beside it
+-- The end has this port, in the family of this address
 pub record IsEndAt (config : Config) (port : ℕ) (source : Ip) (e : End) : Type 0 where
   pub in_range : e.0 < pair_count config
   pub port_is : half_port config e.0 e.1 ≡ port

@@ -2,6 +2,8 @@ pub mod Holding
 pub mod Arrivals
 pub mod Steps
 pub mod Watching
+pub mod Board
 pub mod Ready
+pub mod Moves
 pub mod Controlling
 pub mod Written

@@ -108,7 +108,7 @@ pub record TurnsBoard (config : Config) (l : List Entry) (e : BoardEntry) (new :
 abbrev pub filled : List ℕ → List ℕ
 filled bytes = take 16385 bytes
 
--- what was heard is the cookie and the body of a datagram from that source
+-- what is recorded is the cookie and the body of a datagram from that source
 pub record IsHeard (x : Hearing) (source : Addr) (bytes : List ℕ) : Type 0 where
   pub source_is : x.source ≡ source
   pub framed : frame bytes ≡ Some (x.cookie, x.body)
@@ -119,8 +119,8 @@ abbrev pub Replying : (failing : Bool) → Addr → (reply : List ℕ) → Print
 Replying true source reply e = e ≡ event.ReplyFault
 Replying false source reply e = e ≡ event.Reply source reply
 
--- The datagram is answered in one turn of the board, whose entry and reply are those that the board's history demands at that
--- moment for what was heard. The port maker's openings in the turn are those that the entry tells, with their answers: of the ports of the
+-- The datagram is replied to in one turn of the board, whose entry and reply are those that the board's history demands at that
+-- moment for what is recorded. The port maker's openings in the turn are those that the entry tells, with their results: of the ports of the
 -- pairs that were free before it, from the front, pair by pair, that for RTP first. The draws of the key source are those that the entry tells
 pub record Answers (config : Config) (clock : ℕ) (l : List Entry) (source : Addr) (bytes : List ℕ) (failing : Bool) (opened : List PortCall) (drawn : List KeyCall) (e : Printed) (new : List Entry) : Type 0 where
   pub heard : Hearing
@@ -135,7 +135,7 @@ abbrev pub IsIdle : List PortCall → List KeyCall → List Entry → List Entry
 IsIdle opened drawn l new = (opened ≡ []) × (drawn ≡ []) × (new ≡ l)
 
 -- what a control turn does, whose take and whose send have to fail or not: the take failed; or the datagram has no frame; or it
--- was answered
+-- was replied to
 abbrev pub Controls : Config → (clock : ℕ) → List Entry → Addr → List ℕ → (read_fails reply_fails : Bool) → List PortCall → List KeyCall → Printed → List Entry → Type 0
 Controls config clock l source bytes true reply_fails opened drawn e new = (e ≡ event.ReadFault) × IsIdle opened drawn l new
 Controls config clock l source bytes false reply_fails opened drawn e new =
@@ -165,7 +165,7 @@ replied _ past = past
 
 -- Packets.
 
--- the packet of a line was taken, once, at the end of its port, behind all that the list has of the pair's box, for the leg that
+-- the packet of a line was taken, once, at the end of its port, after all that the list has of the pair's box, for the leg that
 -- holds the box
 pub record TakesPacket (config : Config) (l : List Entry) (port : ℕ) (source : Addr) (bytes : List ℕ) (p : Packet) (new : List Entry) : Type 0 where
   pub at : IsEndAt config port source.ip (p.0, p.1.half)
@@ -328,12 +328,12 @@ IsFaulty r (step.Take port source bytes) = 64 ≤ length r.held
 IsFaulty r (step.Relay number) = list_any (is_under number) r.held ≡ false
 IsFaulty r _ = ⊥
 
--- what a step did: it was made, and printed this; or it can't be made, and nothing was done. Of want of memory nothing is said
+-- what a step did: it was made, and printed this; or it can't be made, and nothing was done. If memory ran out, nothing is said
 abbrev pub OfStep : Config → (seed : ℕ) → Course → Step → Stepped → Course → Type 0
 OfStep config seed r s stepped.Quiet new = Makes config seed r s [] new
 OfStep config seed r s (stepped.Prints e) new = Makes config seed r s (event_of e ∷ []) new
 OfStep config seed r s stepped.Faulty new = IsFaulty r s × (new ≡ r)
-OfStep config seed r s stepped.Starved new = Unit {0}
+OfStep config seed r s stepped.OutOfMemory new = Unit {0}
 
 -- Plays config seed steps r prints new: with these steps, each made where the ones before it came to, a replay comes from r to new, and
 -- this is printed

@@ -20,7 +20,7 @@ use Rattle.replay_steps.specs.Steps.{Packet, OpensAsked, DrawsAsked, RelaysPacke
 abbrev pub Watches : Config → (seed : ℕ) → WatchState → WatchState → (List Happening → List Happening → Type 0) → Type 0
 Watches config seed old new P = (past : List Happening) → StandsFor config seed past old → (now : List Happening) × P past now × StandsFor config seed now new
 
--- the calls of both are told, and each of those behind the first so many failed just where it had to, and gave the key that was due
+-- the calls of both are told, and each after the first `opened` and the first `drawn` failed just where it had to, and gave the key that was due
 pub record WatchesTurn (config : Config) (seed : ℕ) (ports : Option (List PortCall)) (opened : ℕ) (keys : Option (List KeyCall)) (drawn : ℕ) (old new : WatchState) : Type 0 where
   pub openings : List PortCall
   pub draws : List KeyCall
@@ -30,19 +30,19 @@ pub record WatchesTurn (config : Config) (seed : ℕ) (ports : Option (List Port
       Watches config seed old new
       (λ past now. (between : List Happening) × OpensAsked config (drop opened openings) past between × DrawsAsked seed (drop drawn draws) between now)
 
--- the same of a step that did this; where it was starved, nothing is said
+-- the same of a step that did this; if it ran out of memory, nothing is said
 abbrev pub StepsSo : Config → (seed : ℕ) → Stepped → WatchState → WatchState → (List Happening → List Happening → Type 0) → Type 0
 StepsSo config seed stepped.Quiet old new P = Watches config seed old new P
 StepsSo config seed (stepped.Prints e) old new P = Watches config seed old new P
 StepsSo config seed stepped.Faulty old new P = Watches config seed old new P
-StepsSo config seed stepped.Starved old new P = Unit {0}
+StepsSo config seed stepped.OutOfMemory old new P = Unit {0}
 
 -- the same of what is printed of a relay; without memory for it, or where its send failed otherwise, nothing is said
 abbrev pub RelaysSo : Config → (seed clock : ℕ) → List Entry → Packet → Option coded.Printed → WatchState → WatchState → List Entry → Type 0
 RelaysSo config seed clock l p None old now new = Unit {0}
 RelaysSo config seed clock l p (Some e) old now new = Watches config seed old now (λ past past_now. RelaysPacket config clock l past p.1 (event_of e) new past_now)
 
--- By which port a relay with this outcome sent, and whether its send was answered Ok
+-- By which port a relay with this outcome sent, and whether its send returned Ok
 
 abbrev pub failed_send_of : Lost → Option (ℕ × Bool)
 failed_send_of (lost.SendFault port) = Some (port, false)

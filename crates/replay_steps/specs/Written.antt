@@ -42,7 +42,7 @@ DidTell line ended.OutOfMemory writes = writes ≡ []
 DidTell line ended.Finished writes = ⊥
 DidTell line ended.ScriptRead writes = ⊥
 
--- what is written of an event, behind which the replay goes on or ends
+-- what is written of an event, after which the replay goes on or ends
 abbrev pub DidPrint : Printed → Option Ended → List WriteCall → Type 0
 DidPrint event None writes = writes ≡ written event ∷ []
 DidPrint event (Some ended.PrintFault) writes = writes ≡ unwritten event ∷ []
@@ -57,7 +57,7 @@ DidStep stepped.Quiet line end writes = (end ≡ None) × (writes ≡ [])
 DidStep (stepped.Prints event) line end writes = DidPrint (event_of event) end writes
 DidStep stepped.Faulty line None writes = ⊥
 DidStep stepped.Faulty line (Some end) writes = DidTell line end writes
-DidStep stepped.Starved line end writes = (end ≡ Some ended.OutOfMemory) × (writes ≡ [])
+DidStep stepped.OutOfMemory line end writes = (end ≡ Some ended.OutOfMemory) × (writes ≡ [])
 
 -- Several steps, from the first on.
 
@@ -133,13 +133,13 @@ abbrev pub DidFinish : Option Ended → Ending → (line : ℕ) → Ended → Li
 DidFinish None how line end writes = DidEnd how line end writes
 DidFinish (Some already) how line end writes = (end ≡ already) × (writes ≡ [])
 
--- all steps were made, and this is written behind what they print
+-- all steps were made, and this is written after what they print
 pub record PlayedAnd (config : Config) (seed : ℕ) (steps : List Step) (l : List Entry) (more : List WriteCall) (writes : List WriteCall) : Type 0 where
   pub front : List WriteCall
   pub played : Played config seed steps l front
   pub writes_are : writes ≡ front ++ more
 
--- a step can't be made, or all were made, the line behind them is outside the grammar, and its number is told so
+-- a step can't be made; or all were made, the line after them is outside the grammar, and its number is told in the same way
 abbrev pub AtFault : Config → (seed : ℕ) → List Step → Ending → List Entry → (List Step → List Entry → List WriteCall → Type 0) → WriteCall → List WriteCall → Type 0
 AtFault config seed steps how l At last writes = At steps l writes ⊎ ((how ≡ ending.Outside) × PlayedAnd config seed steps l (last ∷ []) writes)
 
@@ -151,7 +151,7 @@ DidWrite config seed steps how ended.ScriptFault l writes = AtFault config seed 
 DidWrite config seed steps how ended.PrintFault l writes = AtFault config seed steps how l (FailsAt config seed) (unwritten (ScriptFault (length steps + 1))) writes
 DidWrite config seed steps how ended.OutOfMemory l writes = PlayedSome config seed steps writes
 
--- the same of some entries, behind which all calls were stopped
+-- the same of some entries, after which all calls were stopped
 abbrev pub DidPlay : Config → (seed : ℕ) → List Step → Ending → Ended → List WriteCall → Type 0
 DidPlay config seed steps how ended.OutOfMemory writes = PlayedSome config seed steps writes
 DidPlay config seed steps how end writes = (l : List Entry) × DidWrite config seed steps how end l writes × Stops config l
@@ -163,7 +163,7 @@ pub record DidReplay (config : Config) (seed : ℕ) (end : Ended) (read read_now
   pub reads_are : Gained read read_now (Reads steps how)
   pub did : DidPlay config seed steps how end writes
 
--- with want of memory perhaps the script was not read to its end; then nothing was written
+-- if memory ran out, the script was perhaps not read to its end; then nothing was written
 abbrev pub Replays : Config → (seed : ℕ) → Ended → Option (List LineCall) → Option (List LineCall) → List WriteCall → Type 0
 Replays config seed ended.OutOfMemory read read_now writes = (writes ≡ []) ⊎ DidReplay config seed ended.OutOfMemory read read_now writes
 Replays config seed end read read_now writes = DidReplay config seed end read read_now writes

@@ -3,7 +3,7 @@ ghost use Rattle.std.specs.Prelude.{◌≡◌, ℕ, List, Some, IsTrue};
 ghost use Rattle.relay_outside.specs.Ports.{IsOpen};
 ghost use Rattle.relay_outside.specs.declared.settings.Config.{Config};
 ghost use Rattle.rtp_packet.specs.declared.head.Half.{Half};
-ghost use Rattle.turn_table.specs.Hands.{IsSameHand, parts};
+ghost use Rattle.turn_table.specs.Hands.{parts};
 ghost use Rattle.relay_core.specs.Entries.{Entry};
 ghost use Rattle.relay_core.specs.Turning.{made_by};
 ghost use Rattle.media_lane.specs.Taking.{HasReceipt};
@@ -11,6 +11,7 @@ ghost use Rattle.board_turns.specs.Between.{board_of, IsBetween};
 ghost use Rattle.main_sweeps.specs.Steps.{IsIn, IsNew, Took, KeepsReceipts, KeepsOthers};
 ghost use Rattle.replay_steps.specs.Arrivals.{IsEndAt, IsGood};
 ghost use Rattle.replay_steps.specs.Holding.{taken_by};
+ghost use Rattle.replay_steps.specs.Board.{LeavesBoard};
 ghost use Rattle.ng_server.specs.Servers.{OpensJust};
 ghost use Rattle.call_cell.specs.Cells.{CellEntry};
 ghost use Rattle.call_cell.specs.Cells as cells;
@@ -32,6 +33,17 @@ use std::alloc::Global;
 use std::sync::Wait;
 use turn_table::{Hand, Turns};
 
+/// The packet of a line.
+#[derive(Clone, Copy)]
+pub(crate) struct LinePacket<'p> {
+    /// The port at which it arrives.
+    pub(crate) port: u16,
+    /// Where it comes from.
+    pub(crate) source: Addr,
+    /// Its bytes.
+    pub(crate) bytes: &'p [u8],
+}
+
 /// What came of the packet of a line.
 #[derive(Drop)]
 pub(crate) enum Arrived {
@@ -49,18 +61,17 @@ const MOST: usize = 2_000;
 /// What came of a take at the port of this address, of which these calls tell whether it is open; the take had to fail or not.
 fn tell_arrival(
     received: Received,
-    source: Addr,
-    bytes: &[u8],
+    packet: LinePacket<'_>,
     failing: bool,
     told: &[PortCall],
     at: Addr,
 ) -> Arrived
     ensures good { (config : Config) (l new : List Entry) → HasReceipt config new received → IsNew config l received → IsGood config l result new }
-    ensures arrives { (config : Config) (l new : List Entry) (port pair : ℕ) (half : Half) → IsEndAt config port source.ip (pair, half) → Took config l pair half received new → IsShutUnless config l pair (IsOpen told.now at) → Arrives config l port source bytes.now failing result new }
+    ensures arrives { (config : Config) (l new : List Entry) (port pair : ℕ) (half : Half) → IsEndAt config port packet.entry.source.ip (pair, half) → Took config l pair half received new → IsShutUnless config l pair (IsOpen told.now at) → Arrives config l port packet.entry.source packet.entry.bytes.now failing result new }
 {
     match received {
         Received::Got(receipt) => {
-            if !failing && receipt.source() == source && receipt.bytes() == bytes {
+            if !failing && receipt.source() == packet.source && receipt.bytes() == packet.bytes {
                 Arrived::Packet(receipt)
             } else {
                 Arrived::Other
@@ -74,7 +85,7 @@ fn tell_arrival(
             }
         }
         Received::TooLong => {
-            if !failing && bytes.len() > MOST {
+            if !failing && packet.bytes.len() > MOST {
                 Arrived::Printed(Printed::TooLong)
             } else {
                 Arrived::Other
@@ -98,32 +109,25 @@ pub(crate) fn arrive<I: InEnd, O: OutEnd, R: Wait>(
     turns: &Turns<Relay<I, O>>,
     hand: Hand<Relay<I, O>>,
     config: &Config,
-    port: u16,
-    source: Addr,
-    bytes: &[u8],
+    packet: LinePacket<'_>,
     failing: bool,
     told: &[PortCall],
 ) -> (Arrived, Hand<Relay<I, O>>)
     requires between { IsBetween config.now turns.now hand }
     requires opens { OpensJust config.now (board_of (made_by hand)) (Some told.now) }
-    ensures same { IsSameHand hand result.1 }
-    ensures between { IsBetween config.now turns.now result.1 }
-    ensures board { board_of (made_by result.1) ≡ board_of (made_by hand) }
+    ensures board { LeavesBoard config.now turns.now hand result.1 }
     ensures receipts { KeepsReceipts config.now (made_by hand) (made_by result.1) }
     ensures packet { IsGood config.now (made_by hand) result.0 (made_by result.1) }
-    ensures arrives { Arrives config.now (made_by hand) port source bytes.now failing result.0 (made_by result.1) }
+    ensures arrives { Arrives config.now (made_by hand) packet.entry.port packet.entry.source packet.entry.bytes.now failing result.0 (made_by result.1) }
 {
-    match find_end(config, port, source.ip) {
+    match find_end(config, packet.port, packet.source.ip) {
         Some((pair, half)) => {
             let (received, hand) = receive_between(rt, turns, hand, config, pair, half);
             let at = Addr {
                 ip: config.interface,
-                port,
+                port: packet.port,
             };
-            (
-                tell_arrival(received, source, bytes, failing, told, at),
-                hand,
-            )
+            (tell_arrival(received, packet, failing, told, at), hand)
         }
         None => (Arrived::Printed(Printed::Nothing), hand),
     }
@@ -182,9 +186,7 @@ pub(crate) fn pass<I: InEnd, O: OutEnd, R: Wait>(
     requires between { IsBetween config.now turns.now hand }
     requires receipt { IsIn config.now (made_by hand) (taken_by receipt) }
     requires all { parts hand ≡ 1024 }
-    ensures same { IsSameHand hand result.1 }
-    ensures between { IsBetween config.now turns.now result.1 }
-    ensures board { board_of (made_by result.1) ≡ board_of (made_by hand) }
+    ensures board { LeavesBoard config.now turns.now hand result.1 }
     ensures receipts { KeepsOthers config.now (made_by hand) (taken_by receipt) (made_by result.1) }
     ensures relays { (seed : ℕ) → RelaysSo config.now seed now (made_by hand) (taken_by receipt) result.0 watch.old watch.new (made_by result.1) }
 {

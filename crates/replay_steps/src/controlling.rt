@@ -10,15 +10,29 @@ ghost use Rattle.ng_server.specs.Servers.{OpensJust, history_of};
 ghost use Rattle.relay_script.specs.Printing.{event_of};
 ghost use Rattle.replay_steps.specs.Controlling.{IsReply, TellsTaken, TellsEvent, Controlled};
 
+use crate::devices::Devices;
 use ng_bencode::Text;
 use ng_server::{ControlTurn, Desk, Server};
 use relay_core::Relay;
-use relay_outside::{Addr, KeySource, PortMaker};
+use relay_outside::Addr;
 use relay_script::Printed;
-use replay_devices::ReplayLink;
+use replay_devices::{ReplayIn, ReplayLink, ReplayOut, ReplayPorts};
 use std::alloc::Global;
 use std::sync::Wait;
 use turn_table::Hand;
+
+/// The datagram of a line `ng`, and which calls of its control turn have to fail.
+#[derive(Clone, Copy)]
+pub(crate) struct LineDatagram<'p> {
+    /// Where it comes from.
+    pub(crate) source: Addr,
+    /// Its bytes.
+    pub(crate) bytes: &'p [u8],
+    /// Whether the take of the link has to fail.
+    pub(crate) read_fails: bool,
+    /// Whether the send of a reply has to fail.
+    pub(crate) reply_fails: bool,
+}
 
 /// How many bytes of a datagram the link's room takes.
 const ROOM: usize = 16_385;
@@ -51,40 +65,36 @@ fn reply_event(alloc: Global, link: &ReplayLink<'_>) -> Option<Printed>
     Some(Printed::Reply(to, text))
 }
 
-/// What is printed of a control turn whose take and whose send have to fail or not. `None`: there was no memory for it, or the link
-/// does not tell it.
+/// What is printed of the control turn of a line. `None`: there was no memory for it, or the link does not tell it.
 fn turn_event(
     alloc: Global,
     turn: ControlTurn,
     link: &ReplayLink<'_>,
-    source: Addr,
-    bytes: &[u8],
-    read_fails: bool,
-    reply_fails: bool,
+    line: LineDatagram<'_>,
 ) -> Option<Printed>
-    ensures { TellsEvent turn read_fails reply_fails link.now.told source bytes.now result }
+    ensures { TellsEvent turn line.entry.read_fails line.entry.reply_fails link.now.told line.entry.source line.entry.bytes.now result }
 {
     if turn == ControlTurn::ReadFault {
-        return if read_fails {
+        return if line.read_fails {
             Some(Printed::ReadFault)
         } else {
             None
         };
     }
-    if read_fails || !gave_line(link, source, bytes) {
+    if line.read_fails || !gave_line(link, line.source, line.bytes) {
         return None;
     }
     match turn {
         ControlTurn::Silent => Some(Printed::Silent),
         ControlTurn::ReplyFault => {
-            if reply_fails {
+            if line.reply_fails {
                 Some(Printed::ReplyFault)
             } else {
                 None
             }
         }
         ControlTurn::Replied => {
-            if reply_fails {
+            if line.reply_fails {
                 None
             } else {
                 reply_event(alloc, link)
@@ -94,32 +104,27 @@ fn turn_event(
     }
 }
 
-/// Makes the control turn of the present line, whose datagram is this, handed a moment in milliseconds, and says what is printed. The
-/// take of the link and the send of a reply have to fail or not.
+/// Makes the control turn of the present line, handed a moment in milliseconds, and says what is printed.
 /// `None`: there was no memory for it, or the link tells nothing any more.
-pub(crate) fn make_turn<P: PortMaker, K: KeySource, R: Wait>(
+pub(crate) fn make_turn<'a, R: Wait>(
     rt: &R,
     alloc: Global,
-    server: &Server<P>,
-    hand: &mut Hand<Relay<P::In, P::Out>>,
-    desk: &mut Desk<P::Out>,
-    link: &mut ReplayLink<'_>,
-    ports: &mut P,
-    keys: &mut K,
-    source: Addr,
-    bytes: &[u8],
-    read_fails: bool,
-    reply_fails: bool,
+    server: &Server<ReplayPorts<'a>>,
+    hand: &mut Hand<Relay<ReplayIn<'a>, ReplayOut<'a>>>,
+    desk: &mut Desk<ReplayOut<'a>>,
+    devices: &mut Devices<'a>,
+    line: LineDatagram<'_>,
     now: u64,
 ) -> Option<Printed>
     requires between { IsBetween server.now.config server.now.turns hand.old }
-    requires open { OpensJust server.now.config (history_of hand.old) (P.told ports.old) }
+    requires open { OpensJust server.now.config (history_of hand.old) devices.old.ports.told }
     ensures same { IsSameHand hand.old hand.new }
     ensures between { IsBetween server.now.config server.now.turns hand.new }
-    ensures open { OpensJust server.now.config (history_of hand.new) (P.told ports.new) }
+    ensures open { OpensJust server.now.config (history_of hand.new) devices.new.ports.told }
     ensures receipts { KeepsReceipts server.now.config (made_by hand.old) (made_by hand.new) }
-    ensures controls { Controlled server.now.config now (made_by hand.old) source bytes.now read_fails reply_fails (P.told ports.old) (P.told ports.new) (K.told keys.old) (K.told keys.new) result (made_by hand.new) }
+    ensures controls { Controlled server.now.config now (made_by hand.old) line.entry.source line.entry.bytes.now line.entry.read_fails line.entry.reply_fails devices.old.ports.told devices.new.ports.told devices.old.keys.told devices.new.keys.told result (made_by hand.new) }
 {
+    let Devices { link, ports, keys } = devices;
     let turn = server.control_turn(rt, alloc, hand, desk, link, ports, keys, now);
-    turn_event(alloc, turn, link, source, bytes, read_fails, reply_fails)
+    turn_event(alloc, turn, link, line)
 }

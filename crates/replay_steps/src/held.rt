@@ -45,7 +45,7 @@ impl Receipts {
         self.list.len() >= MOST
     }
 
-    /// Holds a receipt under the next number, which is answered.
+    /// Holds a receipt under the next number, and returns that number.
     pub(crate) fn keep(&mut self, receipt: Receipt) -> u32
         requires room { length self.old.list < self.old.room }
         requires number { self.old.received + 1 < 2 ^ 32 }

@@ -3,7 +3,7 @@
 //!
 //! Module `replaying` reads the script and plays it, `playing` makes its steps in order, `stepping` one step, `controlling` that of a
 //! line `ng`, `arriving` those of packets with their sends, `watching` notes the calls of a control turn; `held` has the receipts that are
-//! held, `devices` the devices, `ends` which end has a port, `opened` which ports are open.
+//! held, `devices` the devices, `state` all that is kept between two steps, `ends` which end has a port, `opened` which ports are open.
 //!
 //! `specs/Ready.antt` says what holds between two steps, `specs/Holding.antt` which receipts are held, `specs/Arrivals.antt` at which
 //! end a packet arrives, `specs/Steps.antt` what each step does and prints, `specs/Written.antt` what a replay writes.
@@ -18,6 +18,7 @@ mod held;
 mod opened;
 mod playing;
 mod replaying;
+mod state;
 mod stepping;
 mod watching;
 

@@ -9,15 +9,14 @@ ghost use Rattle.replay_steps.specs.Ready.{IsReady};
 ghost use Rattle.replay_steps.specs.Steps.{at_first, course_of};
 ghost use Rattle.replay_steps.specs.Written.{EndsFor, DidTell, DidStep, DidSteps};
 
-use crate::devices::Devices;
 use crate::ended::Ended;
-use crate::held::Receipts;
+use crate::state::ReplayState;
 use crate::stepping::{Stepped, make_step};
-use ng_server::{Desk, Server};
+use ng_server::Server;
 use relay_core::Relay;
-use relay_outside::{Config, LineSink};
+use relay_outside::LineSink;
 use relay_script::{Printed, Step};
-use replay_devices::{ReplayIn, ReplayOut, ReplayPorts, Watch};
+use replay_devices::{ReplayIn, ReplayOut, ReplayPorts};
 use replay_lines::{WriteFault, write_event};
 use std::alloc::Global;
 use std::sync::Wait;
@@ -52,7 +51,7 @@ fn write_step<O: LineSink>(alloc: Global, out: &mut O, stepped: Stepped, line: u
     ensures fault { result ≡ Some Ended.PrintFault → Rose (O.faults out.old) (O.faults out.new) }
     ensures later { O.faults out.old ≤ O.faults out.new }
     ensures end { result ≢ Some Ended.ScriptRead }
-    ensures starved { result ≡ None → stepped ≢ Stepped.Starved }
+    ensures out_of_memory { result ≡ None → stepped ≢ Stepped.OutOfMemory }
 {
     match stepped {
         Stepped::Quiet => None,
@@ -61,32 +60,27 @@ fn write_step<O: LineSink>(alloc: Global, out: &mut O, stepped: Stepped, line: u
             Err(fault) => Some(write_ended(fault)),
         },
         Stepped::Faulty => Some(tell_fault(alloc, out, line)),
-        Stepped::Starved => Some(Ended::OutOfMemory),
+        Stepped::OutOfMemory => Some(Ended::OutOfMemory),
     }
 }
 
 /// Makes the steps of a script, each after the ones before it, and writes what each prints, up to the first that is faulty. `None`:
-/// all were made. With it the number of the last line is answered whose step was due.
+/// all were made. Returns with it the number of the last line whose step was due.
 pub(crate) fn play_steps<'a, O: LineSink, R: Wait>(
     rt: &R,
     alloc: Global,
     server: &Server<ReplayPorts<'a>>,
     hand: Hand<Relay<ReplayIn<'a>, ReplayOut<'a>>>,
-    config: &Config,
-    desk: &mut Desk<ReplayOut<'a>>,
-    devices: &mut Devices<'a>,
-    watch: &mut Watch,
-    receipts: &mut Receipts,
+    state: &mut ReplayState<'a>,
     steps: &'a [Step],
     out: &mut O,
 ) -> (Option<Ended>, u32, Hand<Relay<ReplayIn<'a>, ReplayOut<'a>>>)
-    requires config { server.now.config ≡ config.now }
-    requires ready { IsReady server.now.config server.now.turns hand devices.old.ports.told receipts.old }
-    requires none { course_of (made_by hand) receipts.old 0 [] ≡ at_first }
+    requires ready { IsReady server.now.config server.now.turns hand state.old }
+    requires none { course_of (made_by hand) state.old.receipts state.old.clock [] ≡ at_first }
     requires most { length steps.now ≤ 50000 }
     ensures same { IsSameHand hand.entry result.2 }
-    ensures ready { IsReady server.now.config server.now.turns result.2 devices.new.ports.told receipts.new }
-    ensures told { (seed : ℕ) → StandsFor config.now seed [] watch.old → Gained (O.told out.old) (O.told out.new) (DidSteps config.now seed (map meaning steps.now) (made_by result.2) result.0) }
+    ensures ready { IsReady server.now.config server.now.turns result.2 state.new }
+    ensures told { (seed : ℕ) → StandsFor server.now.config seed [] state.old.watch → Gained (O.told out.old) (O.told out.new) (DidSteps server.now.config seed (map meaning steps.now) (made_by result.2) result.0) }
     ensures all { result.0 ≡ None → result.1 ≡ length steps.now }
     ensures few { result.1 ≤ 50000 }
     ensures fault { result.0 ≡ Some Ended.PrintFault → Rose (O.faults out.old) (O.faults out.new) }
@@ -94,17 +88,14 @@ pub(crate) fn play_steps<'a, O: LineSink, R: Wait>(
     ensures end { result.0 ≢ Some Ended.ScriptRead }
 {
     let mut hand = hand;
-    let mut clock = 0;
     let mut made = 0;
     let mut line = 0;
     'steps: while made < steps.len() {
-        devices.begin(made);
+        state.devices.begin(made);
         let step = &steps[made];
-        let (stepped, next) = make_step(
-            rt, alloc, server, hand, config, desk, devices, watch, receipts, &mut clock, step,
-        );
+        let (stepped, next) = make_step(rt, alloc, server, hand, state, step);
         hand = next;
-        let Ok(()) = watch.made(step) else {
+        let Ok(()) = state.watch.made(step) else {
             return (Some(Ended::OutOfMemory), line, hand);
         };
         made += 1;
@@ -113,7 +104,7 @@ pub(crate) fn play_steps<'a, O: LineSink, R: Wait>(
             Some(ended) => return (Some(ended), line, hand),
             None => {}
         }
-        if !devices.tell() {
+        if !state.devices.tell() {
             return (Some(Ended::OutOfMemory), line, hand);
         }
     }

@@ -6,12 +6,12 @@ ghost use Rattle.replay_steps.specs.Written.{DidEnd, DidFinish, DidPlay, Replays
 
 use crate::devices::Devices;
 use crate::ended::Ended;
-use crate::held::Receipts;
 use crate::playing::{play_steps, tell_fault};
-use ng_server::{Desk, Server};
+use crate::state::ReplayState;
+use ng_server::Server;
 use relay_outside::{Config, LineSink, LineSource};
 use relay_script::Step;
-use replay_devices::{Timetable, Watch};
+use replay_devices::Timetable;
 use replay_lines::{Ending, read_script};
 use std::alloc::Global;
 use std::sync::Wait;
@@ -30,7 +30,7 @@ fn end_script<O: LineSink>(alloc: Global, out: &mut O, ending: Ending, line: u32
     }
 }
 
-/// How a replay ends whose steps ended so, where they were not all made.
+/// How a replay ends whose steps ended in this way, where not all of them were made.
 fn end_replay<O: LineSink>(
     alloc: Global,
     out: &mut O,
@@ -51,13 +51,13 @@ fn end_replay<O: LineSink>(
 }
 
 /// Plays a script that was read, with devices by this timetable.
-fn play<O: LineSink, R: Wait>(
+fn play<'a, O: LineSink, R: Wait>(
     rt: &R,
     alloc: Global,
     config: &Config,
     seed: u64,
-    steps: &[Step],
-    timetable: &Timetable<'_>,
+    steps: &'a [Step],
+    timetable: &'a Timetable<'a>,
     ending: Ending,
     out: &mut O,
 ) -> Ended
@@ -67,37 +67,22 @@ fn play<O: LineSink, R: Wait>(
     ensures later { O.faults out.old ≤ O.faults out.new }
     ensures read { result ≡ Ended.ScriptRead → ending ≡ Ending.Fault }
 {
-    let Ok(mut devices) = Devices::new(alloc, steps, timetable, seed) else {
-        return Ended::OutOfMemory;
-    };
-    let Ok(mut watch) = Watch::new(alloc, seed) else {
-        return Ended::OutOfMemory;
-    };
-    let Ok(mut receipts) = Receipts::new(alloc) else {
-        return Ended::OutOfMemory;
-    };
-    let Ok(mut desk) = Desk::new(alloc) else {
+    let Ok(mut state) = ReplayState::new(alloc, config, steps, timetable, seed) else {
         return Ended::OutOfMemory;
     };
     let Ok((server, hand)) = Server::start(alloc, *config) else {
         return Ended::OutOfMemory;
     };
-    let (ended, line, hand) = play_steps(
-        rt,
-        alloc,
-        &server,
-        hand,
-        config,
-        &mut desk,
-        &mut devices,
-        &mut watch,
-        &mut receipts,
-        steps,
-        out,
-    );
+    let (ended, line, hand) = play_steps(rt, alloc, &server, hand, &mut state, steps, out);
     let ended = end_replay(alloc, out, ended, ending, line + 1);
     let mut hand = hand;
-    server.stop(rt, &mut hand, &mut desk, &mut devices.ports);
+    let ReplayState {
+        mut desk,
+        devices,
+        ..
+    } = state;
+    let Devices { mut ports, .. } = devices;
+    server.stop(rt, &mut hand, &mut desk, &mut ports);
     drop(server.close(hand));
     ended
 }

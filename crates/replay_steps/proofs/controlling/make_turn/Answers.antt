@@ -10,5 +10,5 @@ returns-clause-receipts g c =
 
 pub returns-clause-controls : goal.returns-clause-controls
 returns-clause-controls g c =
-    controls c.args.server.now.config c.args.hand.now c.control_turn-turn.new.hand c.args.now c.control_turn-turn.result _ _ _ _ _ _ _ _ _ _ c.args.source c.args.bytes.now c.args.read_fails c.args.reply_fails c.turn_event.result
-    c.control_turn-turn.ensures.turned c.turn_event.ensures
+    controls c.args.server.now.config c.args.hand.now c.control_turn-turn.new.hand c.args.now c.control_turn-turn.result _ _ _ _ _ _ _ _ _ _ c.args.line.source c.args.line.bytes.now c.args.line.read_fails
+    c.args.line.reply_fails c.turn_event.result c.control_turn-turn.ensures.turned c.turn_event.ensures

@@ -8,6 +8,7 @@ use Rattle.replay_devices.specs.Watch.{step_of}
 use Rattle.replay_steps.specs.Steps.{Course, course_of, after}
 use Rattle.replay_steps.specs.Written.{DidStep, Played, PlayedSome, DidSteps}
 use Rattle.replay_steps.proofs.Fronts.{upto, step_at, upto_next, upto_count, upto_all}
+use Rattle.replay_steps.proofs.Steps.{ready_still}
 use Rattle.replay_steps.proofs.Watchings.{some_step, one_step}
 use Rattle.replay_steps.proofs.Writings.{PlayedTo, none_played, went_on, ended_in, some_played, all_played}
 use Rattle.replay_steps.proofs.playing.play_steps.Goals as goal
@@ -19,21 +20,21 @@ steps-init g c = record {
   received = let none = ap (λ (r : Course). r.received) c.requires.none in omega (arith, none);
   below = omega arith;
   numbered = refl;
-  told = λ seed begins. ([], begins, gained_none (g.O.LineSink.told c.args.out.now) _ (none_played c.args.config.now seed _ c.requires.none));
+  told = λ seed begins. ([], begins, gained_none (g.O.LineSink.told c.args.out.now) _ (none_played c.args.server.now.config seed _ c.requires.none));
   later = omega arith;
 }
 
 pub returns-in-Some-clause-told : goal.returns-in-Some-clause-told
 returns-in-Some-clause-told g c seed begins =
-    let config = c.args.config.now in
+    let config = c.args.server.now.config in
     let steps = c.args.steps.now in
     let made = c.steps.made in
     let x = c.index-steps-made.result in
     let did = c.make_step-stepped.result.0 in
     let told = c.steps.invariant.told seed begins in
-    let from : List Happening → Course = λ past. course_of (made_by c.steps.hand) c.steps.receipts c.steps.clock past in
-    let to : List Happening → Course = λ past. course_of (made_by c.make_step-stepped.result.1) c.make_step-stepped.new.receipts c.make_step-stepped.new.clock past in
-    let step = some_step config seed from (meaning x) did to c.steps.watch c.make_step-stepped.new.watch (c.make_step-stepped.ensures.step seed) told.0 told.1 in
+    let from : List Happening → Course = λ past. course_of (made_by c.steps.hand) c.steps.state.receipts c.steps.state.clock past in
+    let to : List Happening → Course = λ past. course_of (made_by c.make_step-stepped.result.1) c.make_step-stepped.new.state.receipts c.make_step-stepped.new.state.clock past in
+    let step = some_step config seed from (meaning x) did to c.steps.state.watch c.make_step-stepped.new.state.watch (c.make_step-stepped.ensures.steps seed) told.0 told.1 in
     let less = c.steps-test.true in
     let count = upto_count steps made x less c.index-steps-made.is in
     let numbered = c.steps.invariant.numbered in
@@ -45,26 +46,26 @@ returns-in-Some-clause-told g c seed begins =
 
 pub returns-in_default-clause-told : goal.returns-in_default-clause-told
 returns-in_default-clause-told g c seed begins =
-    let config = c.args.config.now in
+    let config = c.args.server.now.config in
     let steps = c.args.steps.now in
     let made = c.steps.made in
     let x = c.index-steps-made.result in
     let told = c.steps.invariant.told seed begins in
-    let at = course_of (made_by c.steps.hand) c.steps.receipts c.steps.clock told.0 in
+    let at = course_of (made_by c.steps.hand) c.steps.state.receipts c.steps.state.clock told.0 in
     gained_less (g.O.LineSink.told c.args.out.now) (g.O.LineSink.told c.steps.out) (PlayedTo config seed (upto made steps) at) (PlayedSome config seed (map meaning steps))
     (some_played config seed (map meaning steps) (upto made steps) (meaning x ∷ map meaning (drop (suc made) steps)) at (step_at steps made x c.steps-test.true c.index-steps-made.is)) told.2
 
 pub returns-then-not-tell-clause-told : goal.returns-then-not-tell-clause-told
 returns-then-not-tell-clause-told g c seed begins =
-    let config = c.args.config.now in
+    let config = c.args.server.now.config in
     let steps = c.args.steps.now in
     let made = c.steps.made in
     let x = c.index-steps-made.result in
     let did = c.make_step-stepped.result.0 in
     let told = c.steps.invariant.told seed begins in
-    let from : List Happening → Course = λ past. course_of (made_by c.steps.hand) c.steps.receipts c.steps.clock past in
-    let to : List Happening → Course = λ past. course_of (made_by c.make_step-stepped.result.1) c.make_step-stepped.new.receipts c.make_step-stepped.new.clock past in
-    let step = one_step config seed from (meaning x) did to c.steps.watch c.make_step-stepped.new.watch (c.make_step-stepped.ensures.step seed) told.0 told.1 (c.write_step.ensures.starved c.in-None.is) in
+    let from : List Happening → Course = λ past. course_of (made_by c.steps.hand) c.steps.state.receipts c.steps.state.clock past in
+    let to : List Happening → Course = λ past. course_of (made_by c.make_step-stepped.result.1) c.make_step-stepped.new.state.receipts c.make_step-stepped.new.state.clock past in
+    let step = one_step config seed from (meaning x) did to c.steps.state.watch c.make_step-stepped.new.state.watch (c.make_step-stepped.ensures.steps seed) told.0 told.1 (c.write_step.ensures.out_of_memory c.in-None.is) in
     let less = c.steps-test.true in
     let behind = map meaning (drop (suc made) steps) in
     gained_both (g.O.LineSink.told c.args.out.now) (g.O.LineSink.told c.steps.out) (g.O.LineSink.told c.write_step.new.out) (PlayedTo config seed (upto made steps) (from told.0))
@@ -76,25 +77,25 @@ returns-then-not-tell-clause-told g c seed begins =
 
 pub returns-clause-told : goal.returns-clause-told
 returns-clause-told g c seed begins =
-    let config = c.args.config.now in
+    let config = c.args.server.now.config in
     let steps = c.args.steps.now in
     let made = c.steps.made in
     let told = c.steps.invariant.told seed begins in
     let most = c.steps.invariant.below in
     let least = c.steps-test.false in
-    let at = course_of (made_by c.steps.hand) c.steps.receipts c.steps.clock told.0 in
+    let at = course_of (made_by c.steps.hand) c.steps.state.receipts c.steps.state.clock told.0 in
     gained_less (g.O.LineSink.told c.args.out.now) (g.O.LineSink.told c.steps.out) (PlayedTo config seed (upto made steps) at) (Played config seed (map meaning steps) (made_by c.steps.hand))
     (all_played config seed (map meaning steps) (upto made steps) at (made_by c.steps.hand) (upto_all steps made (omega (arith, most, least))) refl) told.2
 
 pub steps-preserved : goal.steps-preserved
 steps-preserved g c =
-    let config = c.args.config.now in
+    let config = c.args.server.now.config in
     let steps = c.args.steps.now in
     let made = c.steps.made in
     let x = c.index-steps-made.result in
     let did = c.make_step-stepped.result.0 in
-    let from : List Happening → Course = λ past. course_of (made_by c.steps.hand) c.steps.receipts c.steps.clock past in
-    let to : List Happening → Course = λ past. course_of (made_by c.make_step-stepped.result.1) c.make_step-stepped.new.receipts c.make_step-stepped.new.clock past in
+    let from : List Happening → Course = λ past. course_of (made_by c.steps.hand) c.steps.state.receipts c.steps.state.clock past in
+    let to : List Happening → Course = λ past. course_of (made_by c.make_step-stepped.result.1) c.make_step-stepped.new.state.receipts c.make_step-stepped.new.state.clock past in
     let numbered = c.steps.invariant.numbered in
     let test = c.steps-test.true in
     let was = c.steps.invariant.same in
@@ -105,13 +106,13 @@ steps-preserved g c =
     let late = c.write_step.ensures.later in
     record {
       same = (is.0 ∙ was.0, is.1 ∙ was.1, is.2 ∙ was.2, is.3 ∙ was.3);
-      ready = c.make_step-stepped.ensures.ready;
+      ready = ready_still c.args.server.now.config c.args.server.now.turns c.make_step-stepped.result.1 c.make_step-stepped.new.state _ c.make_step-stepped.ensures.ready refl refl refl;
       received = omega (arith, before, more);
       below = omega (arith, test);
       numbered = omega (arith, numbered);
       told = λ seed begins.
           let told = c.steps.invariant.told seed begins in
-          let step = one_step config seed from (meaning x) did to c.steps.watch c.make_step-stepped.new.watch (c.make_step-stepped.ensures.step seed) told.0 told.1 (c.write_step.ensures.starved c.in-None.is) in (
+          let step = one_step config seed from (meaning x) did to c.steps.state.watch c.make_step-stepped.new.state.watch (c.make_step-stepped.ensures.steps seed) told.0 told.1 (c.write_step.ensures.out_of_memory c.in-None.is) in (
             Made (step_of (meaning x)) ∷ step.0,
             c.in-Ok.ensures config seed step.0 step.2,
             gained_both (g.O.LineSink.told c.args.out.now) (g.O.LineSink.told c.steps.out) (g.O.LineSink.told c.write_step.new.out) (PlayedTo config seed (upto made steps) (from told.0))
@@ -122,3 +123,19 @@ steps-preserved g c =
           );
       later = omega (arith, early, late);
     }
+
+pub make_step-stepped-requires-clause-ready : goal.make_step-stepped-requires-clause-ready
+make_step-stepped-requires-clause-ready g c =
+    ready_still c.args.server.now.config c.args.server.now.turns c.steps.hand c.steps.state _ c.steps.invariant.ready refl c.begin.ensures.ports refl
+
+pub returns-in-Some-clause-ready : goal.returns-in-Some-clause-ready
+returns-in-Some-clause-ready g c =
+    ready_still c.args.server.now.config c.args.server.now.turns c.make_step-stepped.result.1 c.make_step-stepped.new.state _ c.make_step-stepped.ensures.ready refl refl refl
+
+pub returns-in_default-clause-ready : goal.returns-in_default-clause-ready
+returns-in_default-clause-ready g c =
+    ready_still c.args.server.now.config c.args.server.now.turns c.make_step-stepped.result.1 c.make_step-stepped.new.state _ c.make_step-stepped.ensures.ready refl refl refl
+
+pub returns-then-not-tell-clause-ready : goal.returns-then-not-tell-clause-ready
+returns-then-not-tell-clause-ready g c =
+    ready_still c.args.server.now.config c.args.server.now.turns c.make_step-stepped.result.1 c.make_step-stepped.new.state _ c.make_step-stepped.ensures.ready refl refl refl

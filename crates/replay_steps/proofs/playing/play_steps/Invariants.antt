@@ -13,12 +13,12 @@ use Rattle.replay_steps.proofs.playing.play_steps.Given as goal
 abbrev pub invariant-steps : goal.invariant-steps
 invariant-steps g l = record {
   same : IsSameHand l.fn.hand l.hand;
-  ready : IsReady l.server.config l.server.turns l.hand l.devices.ports.told l.receipts;
-  received : l.receipts.received ≤ l.made;
+  ready : IsReady l.server.config l.server.turns l.hand l.state;
+  received : l.state.receipts.received ≤ l.made;
   below : l.made ≤ length l.steps;
   numbered : l.line ≡ l.made;
-  told : (seed : ℕ) → StandsFor l.config seed [] l.fn.watch → (past : List Happening) × StandsFor l.config seed past l.watch
-      × Gained (g.O.LineSink.told l.fn.out) (g.O.LineSink.told l.out) (PlayedTo l.config seed (upto l.made l.steps) (course_of (made_by l.hand) l.receipts l.clock past));
+  told : (seed : ℕ) → StandsFor l.server.config seed [] l.fn.state.watch → (past : List Happening) × StandsFor l.server.config seed past l.state.watch
+      × Gained (g.O.LineSink.told l.fn.out) (g.O.LineSink.told l.out) (PlayedTo l.server.config seed (upto l.made l.steps) (course_of (made_by l.hand) l.state.receipts l.state.clock past));
   later : g.O.LineSink.faults l.fn.out ≤ g.O.LineSink.faults l.out;
 }
 

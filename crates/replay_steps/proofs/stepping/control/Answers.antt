@@ -1,17 +1,35 @@
-use Rattle.std.proofs.Common.{subst}
+use Rattle.std.proofs.Common.{refl, subst, arith}
 use Rattle.relay_outside.specs.declared.settings.Config.{Config}
 use Rattle.relay_core.specs.Turning.{made_by}
-use Rattle.replay_steps.specs.Controlling.{Controlled}
+use Rattle.replay_steps.specs.Watching.{WatchesTurn}
 use Rattle.replay_steps.proofs.Commands.{commanded}
+use Rattle.replay_steps.proofs.Steps.{ready_after}
 use Rattle.replay_steps.proofs.stepping.control.Goals as goal
 
-pub returns-clause-step : goal.returns-clause-step
-returns-clause-step g c seed held =
-    commanded c.args.config.now seed (made_by c.args.hand.now) (made_by c.make_turn-event.new.hand) c.args.now c.args.source c.args.bytes.now held c.fails-read_fails.result c.fails-reply_fails.result
-    c.args.watch.now c.note_calls.new.watch c.note_reply.new.watch c.args.devices.now.ports.told c.make_turn-event.new.ports.told c.args.devices.now.keys.told c.make_turn-event.new.keys.told
-    c.count_openings-opened.result c.count_draws-drawn.result (c.fails-read_fails.ensures c.args.config.now seed) (c.fails-reply_fails.ensures c.args.config.now seed) c.count_openings-opened.ensures c.count_draws-drawn.ensures
-    (c.note_calls.ensures c.if-not-note_calls.false seed) c.make_turn-event.result c.tell_event.result c.tell_event.ensures
-    (subst (λ (k : Config). Controlled k c.args.now (made_by c.args.hand.now) c.args.source c.args.bytes.now c.fails-read_fails.result c.fails-reply_fails.result c.args.devices.now.ports.told
-    c.make_turn-event.new.ports.told c.args.devices.now.keys.told c.make_turn-event.new.keys.told c.make_turn-event.result (made_by c.make_turn-event.new.hand)) c.requires.config
-    c.make_turn-event.ensures.controls)
-    (λ e is. c.note_reply.ensures e is c.args.config.now seed)
+pub returns-then-not-note_calls : goal.returns-then-not-note_calls
+returns-then-not-note_calls g c =
+    let turn = c.make_turn-event.ensures in
+    record {
+      same = turn.same;
+      ready = ready_after c.args.server.now.config c.args.server.now.turns c.args.hand.now c.make_turn-event.new.hand c.args.state.now _ c.requires.ready turn.same turn.between turn.open turn.receipts refl refl;
+      received = omega arith;
+      steps = λ seed. tt;
+    }
+
+pub returns : goal.returns
+returns g c =
+    let config = c.args.server.now.config in
+    let turn = c.make_turn-event.ensures in
+    let state = c.args.state.now in
+    record {
+      same = turn.same;
+      ready = ready_after config c.args.server.now.turns c.args.hand.now c.make_turn-event.new.hand state _ c.requires.ready turn.same turn.between turn.open turn.receipts refl refl;
+      received = omega arith;
+      steps = λ seed.
+          commanded config seed (made_by c.args.hand.now) (made_by c.make_turn-event.new.hand) state.clock c.args.source c.args.bytes.now state.receipts c.fails-read_fails.result c.fails-reply_fails.result
+          state.watch c.note_calls.new.watch c.note_reply.new.watch state.devices.ports.told c.make_turn-event.new.devices.ports.told state.devices.keys.told c.make_turn-event.new.devices.keys.told
+          c.count_openings-opened.result c.count_draws-drawn.result (c.fails-read_fails.ensures config seed) (c.fails-reply_fails.ensures config seed) c.count_openings-opened.ensures c.count_draws-drawn.ensures
+          (subst (λ (k : Config). WatchesTurn k seed c.make_turn-event.new.devices.ports.told c.count_openings-opened.result c.make_turn-event.new.devices.keys.told c.count_draws-drawn.result state.watch c.note_calls.new.watch)
+          c.requires.ready.config_is (c.note_calls.ensures c.if-not-note_calls.false seed))
+          c.make_turn-event.result c.tell_event.result c.tell_event.ensures turn.controls (λ e is. c.note_reply.ensures e is config seed);
+    }

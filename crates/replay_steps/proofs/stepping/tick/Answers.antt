@@ -1,35 +1,48 @@
-use Rattle.std.proofs.Common.{refl, ap}
+use Rattle.std.proofs.Common.{refl, ap, arith}
 use Rattle.relay_core.specs.Turning.{made_by}
 use Rattle.board_turns.specs.Between.{board_of}
 use Rattle.board_turns.specs.Ticking.{tick_entry}
+use Rattle.relay_script.specs.declared.event.Printed.TheVariants as printed
 use Rattle.relay_script.specs.Printing as event
+use Rattle.relay_script.specs.Steps as line
+use Rattle.replay_steps.specs.declared.stepping.Stepped.TheVariants as stepped
+use Rattle.replay_steps.specs.Steps.{course_of, OfStep}
 use Rattle.replay_steps.proofs.Controls.{turns_board}
+use Rattle.replay_steps.proofs.Steps.{ready_after}
 use Rattle.replay_steps.proofs.Turned.{makes_keeps}
+use Rattle.replay_steps.proofs.Watchings.{steps_unwatched}
 use Rattle.replay_steps.proofs.stepping.tick.Goals as goal
 
-pub returns-clause-receipts : goal.returns-clause-receipts
-returns-clause-receipts g c =
-    let old = c.args.hand.now in
-    let ticks = c.timer_turn-ended.ensures.ticks in
-    makes_keeps c.args.server.now.config c.args.server.now.turns old c.timer_turn-ended.new.hand (tick_entry (board_of (made_by old)) c.args.now ticks.calls) c.requires.between ticks.makes
-
-pub returns-clause-step : goal.returns-clause-step
-returns-clause-step g c seed held past =
+pub returns : goal.returns
+returns g c =
     let config = c.args.server.now.config in
+    let turns = c.args.server.now.turns in
     let old = c.args.hand.now in
     let new = c.timer_turn-ended.new.hand in
-    let ticks = c.timer_turn-ended.ensures.ticks in
+    let state = c.args.state.now in
+    let turn = c.timer_turn-ended.ensures in
+    let ticks = turn.ticks in
+    let entry = tick_entry (board_of (made_by old)) state.clock ticks.calls in
+    let did = stepped.Prints (printed.Ended c.timer_turn-ended.result) in
     record {
-      event = event.Ended c.timer_turn-ended.result;
-      prints_are = refl;
-      holds = record {
-        entries = made_by new;
-        ticks = record {
-          calls = ticks.calls;
-          turns = turns_board config old new (tick_entry (board_of (made_by old)) c.args.now ticks.calls) ticks.makes;
-          due = ticks.due c.requires.all;
-          printed = ap event.Ended ticks.count_is;
-        };
-        new_is = refl;
-      };
+      same = turn.same;
+      ready = ready_after config turns old new state _ c.requires.ready turn.same turn.between turn.open (makes_keeps config turns old new entry c.requires.ready.between ticks.makes) refl refl;
+      received = omega arith;
+      steps = λ seed.
+          steps_unwatched config seed did state.watch
+          (λ past past_now. OfStep config seed (course_of (made_by old) state.receipts state.clock past) line.Tick did (course_of (made_by new) state.receipts state.clock past_now))
+          (λ past s. record {
+            event = event.Ended c.timer_turn-ended.result;
+            prints_are = refl;
+            holds = record {
+              entries = made_by new;
+              ticks = record {
+                calls = ticks.calls;
+                turns = turns_board config old new entry ticks.makes;
+                due = ticks.due c.requires.ready.all;
+                printed = ap event.Ended ticks.count_is;
+              };
+              new_is = refl;
+            };
+          });
     }
