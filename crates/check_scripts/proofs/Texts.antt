@@ -1,4 +1,4 @@
--- What is left of a text behind the lines that were compared.
+-- What is left of a text after the lines that were compared.
 use Rattle.std.proofs.Common.{◌≡◌, ◌≢◌, ◌+◌, ◌<◌, ◌↔◌, ℕ, List, ◌++◌, length, drop, get_or, sym, ap, ◌∙◌}
 use Rattle.std.proofs.lemmas.List.{at_drop_more, append_cancel_left}
 use Rattle.relay_outside.specs.declared.lines.WriteCall.{WriteCall}
@@ -8,7 +8,7 @@ use Rattle.check_scripts.specs.Printed.{line_of, text_of}
 text_from : (calls : List WriteCall) (i : ℕ) (call : WriteCall) (line : List ℕ) → i < length calls → call ≡ get_or calls i call → line ≡ line_of call → text_of (drop i calls) ≡ line ++ text_of (drop (i + 1) calls)
 text_from calls i call line within is said = at_drop_more text_of calls i call within ∙ ap (λ c. line_of c ++ text_of (drop (i + 1) calls)) (sym is) ∙ ap (λ l. l ++ text_of (drop (i + 1) calls)) (sym said)
 
--- where what is left of the other text begins with that line, what is left behind it is the same question
+-- where what is left of the other text begins with that line, what is left after it is the same question
 pub left_behind : {A : Type 0} → (calls : List WriteCall) (i : ℕ) (call : WriteCall) (line rest more : List ℕ) → i < length calls → call ≡ get_or calls i call → line ≡ line_of call → rest ≡ line ++ more → A ↔ (text_of (drop i calls) ≡ rest) → A ↔ (text_of (drop (i + 1) calls) ≡ more)
 left_behind calls i call line rest more within is said begins same =
     let from = text_from calls i call line within is said in (

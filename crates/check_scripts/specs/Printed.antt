@@ -7,7 +7,7 @@ use Rattle.relay_outside.specs.declared.lines.WriteCall.TheVariants.{Write}
 abbrev pub line_of : WriteCall → List ℕ
 line_of (Write line done) = line
 
--- the text of all these lines, one behind the other
+-- the text of all these lines, one after the other
 abbrev pub text_of : List WriteCall → List ℕ
 text_of [] = []
 text_of (call ∷ calls) = line_of call ++ text_of calls

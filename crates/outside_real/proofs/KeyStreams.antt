@@ -20,7 +20,7 @@ range_more f i (suc k) =
     ∙ sym (append_assoc (f i) (flat_map f (range_with_len (i + 1) k)) (f (i + 1 + k)))
     ∙ ap (λ (n : ℕ). (f i ++ flat_map f (range_with_len (i + 1) k)) ++ f n) e
 
--- the words of a generator in stream 0, as far as its stream does not begin anew
+-- the words of a generator in stream 0, as far as its stream does not wrap around
 words_of : (key : List ℕ) (i k : ℕ) → i + k < 2 ^ 68
     → word_bytes (to_le_bytes w32) (next_word 10) k (record { key = key; stream = 0; word_pos = i })
     ≡ (stream_bytes key i k, record { key = key; stream = 0; word_pos = i + k })

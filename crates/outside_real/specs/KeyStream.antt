@@ -17,7 +17,7 @@ pub record KeyStream : Type 0 where
 abbrev pub stream_word : List ℕ → ℕ → ℕ
 stream_word seed_words i = word_at 10 seed_words 0 i
 
--- the bytes of so many words from word i on, each word with its lowest byte first
+-- the bytes of `count` words from word i on, each word with its lowest byte first
 abbrev pub stream_bytes : List ℕ → ℕ → ℕ → List ℕ
 stream_bytes seed_words i count =
     flat_map (λ j. to_le_bytes w32 (stream_word seed_words j)) (range_with_len i count)
@@ -26,7 +26,7 @@ stream_bytes seed_words i count =
 unfoldable pub drawn_key : List ℕ → ℕ → List ℕ
 drawn_key seed_words n = take 30 (stream_bytes seed_words (8 * n) 8)
 
--- the first so many draws
+-- the first `count` draws
 abbrev pub draws : List ℕ → ℕ → List KeyCall
 draws seed_words count = map (λ n. Drawn (drawn_key seed_words n)) (range_with_len 0 count)
 

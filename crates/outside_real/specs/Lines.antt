@@ -24,7 +24,7 @@ abbrev pub line_of : List ℕ → List ℕ
 line_of bytes = take_while (λ byte. not (byte == 10)) bytes
 
 -- where these bytes are left, a read gives their first line, cut at the room of the buffer, and leaves what stands
--- behind its line feed; where no byte is left it gives the end
+-- after its line feed; where no byte is left it gives the end
 abbrev pub GivesLine : List ℕ → Option (List ℕ) → LineRead → List ℕ → Type 0
 GivesLine bytes left read.End buf = (bytes ≡ []) × (left ≡ Some [])
 GivesLine bytes left (read.Text len) buf =
@@ -48,7 +48,7 @@ Lost before after bytes stop.LineFeed = Consumes before after (bytes ++ 10 ∷ [
 Lost before after bytes stop.End = Consumes before after bytes × IsAtEnd after
 Lost before after bytes stop.Full = Consumes before after bytes
 
--- how much of its room a buffer is filled where the reading of a line stopped: all of it where it stopped for want of room
+-- how much of its room a buffer is filled where the reading of a line stopped: all of it where it stopped since there was no more room
 abbrev pub IsFull : ℕ → ℕ → Stop → Type 0
 IsFull len room stop.LineFeed = len ≤ room
 IsFull len room stop.End = len ≤ room

@@ -27,7 +27,7 @@ impl Faults {
         Faults { count: 0 }
     }
 
-    /// Counts a fault, and gives the answer to it.
+    /// Counts a fault, and returns the error for it.
     pub(crate) fn count(&mut self) -> Failed
         ensures counted { self.new ≡ next_count self.old }
         ensures rose { Rose self.old self.new }

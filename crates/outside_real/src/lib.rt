@@ -8,6 +8,7 @@
 
 mod address;
 mod clocks;
+mod errors;
 mod faults;
 mod keys;
 mod lines;
@@ -20,6 +21,7 @@ mod stop;
 
 pub use address::{addr_of, socket_addr};
 pub use clocks::{SystemClock, SystemTimer};
+pub use errors::passes_by_itself;
 pub use keys::ChaChaKeys;
 pub use lines::StdLines;
 pub use link::{LinkFault, UdpLink};

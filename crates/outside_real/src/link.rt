@@ -1,11 +1,12 @@
 ghost use Rattle.std.specs.Prelude.{◌≡◌};
 
 use crate::address::{addr_of, socket_addr};
+use crate::errors::passes_by_itself;
 use crate::faults::Faults;
 use crate::readiness::Readiness;
 use crate::stop::StopPipe;
 use relay_outside::{Addr, ControlLink, Failed, LinkCall, Taken};
-use std::io::{self, ErrorKind};
+use std::io;
 use std::net::{Net, UdpSocket};
 use std::time::Duration;
 
@@ -49,9 +50,8 @@ pub enum LinkFault {
 /// A UDP socket as the control link. It tells nothing.
 ///
 /// A take of a bound link returns `End` once its pipe has ended, as `StopPipe` says it, and from then on always. It looks there
-/// first: a datagram that stands at the socket then is not taken. In no other case does a take answer `End`.
-/// A take that finds no datagram returns `Nothing`. So does one that ends in an error which passes by itself: that a
-/// signal came, or that an earlier datagram of this socket reached nobody or found no way (ICMP). Any other error of
+/// first: a datagram that stands at the socket then is not taken. In no other case does a take return `End`.
+/// A take that finds no datagram returns `Nothing`. So does one that ends in an error which passes by itself (`passes_by_itself`). Any other error of
 /// the system is a fault: it says that the socket can't be read from at all.
 /// A send makes a fault of each error; where the link is watched it doesn't wait for room either.
 /// A bind that succeeds writes a line to standard error: at which address the link listens.
@@ -60,7 +60,7 @@ pub struct UdpLink<'a, R: Net> {
     net: &'a R,
     waits: Waits<'a>,
     stop: StopPipe,
-    /// Whether a take answered that the pipe has ended.
+    /// Whether a take found that the pipe has ended.
     ended: bool,
     socket: Option<UdpSocket>,
     fault: Option<LinkFault>,
@@ -85,7 +85,7 @@ impl<'a, R: Net> UdpLink<'a, R> {
         UdpLink::that(net, stop, Waits::InSweep { readiness })
     }
 
-    /// A link that waits so, and is not bound yet.
+    /// A link that waits in this way and is not bound yet.
     fn that(net: &'a R, stop: StopPipe, waits: Waits<'a>) -> UdpLink<'a, R>
         ensures { result.faults ≡ 0 }
     {
@@ -127,16 +127,6 @@ fn announce(err: &impl Eprint, socket: &UdpSocket, at: Addr) {
     let _ = eprintln!(err; "rtpengine: listening on {at}");
 }
 
-/// Whether an error of a read passes by itself, so that the next read may give a datagram.
-fn passes(error: ErrorKind) -> bool {
-    match error {
-        ErrorKind::WouldBlock | ErrorKind::TimedOut | ErrorKind::Interrupted => true,
-        ErrorKind::ConnectionRefused | ErrorKind::ConnectionReset => true,
-        ErrorKind::HostUnreachable | ErrorKind::NetworkUnreachable | ErrorKind::NetworkDown => true,
-        _ => false,
-    }
-}
-
 impl<'a, R: Net + Eprint> ControlLink for UdpLink<'a, R> {
     ghost use Rattle.std.specs.Prelude.{None};
 
@@ -172,7 +162,7 @@ impl<'a, R: Net + Eprint> ControlLink for UdpLink<'a, R> {
                 from: addr_of(from),
                 len,
             }),
-            Err(error) if passes(error.kind()) => Ok(Taken::Nothing),
+            Err(error) if passes_by_itself(&error) => Ok(Taken::Nothing),
             Err(error) => {
                 self.fault = Some(LinkFault::Take { error });
                 Err(self.faults.count())

@@ -1,16 +1,17 @@
 ghost use Rattle.std.specs.Prelude.{◌≡◌, IfOk};
 
 use crate::address::{addr_of, socket_addr};
+use crate::errors::passes_by_itself;
 use crate::faults::Faults;
 use crate::readiness::Readiness;
 use relay_outside::{Addr, Failed, InCall, InEnd, OutCall, OutEnd, PortCall, PortMaker};
-use std::io::{self, ErrorKind};
+use std::io;
 use std::net::{Net, UdpSocket};
 
 /// The receiving end of a UDP port. It tells the address that it was opened for, and nothing of its calls.
 ///
-/// A take never waits. Each error of the system is a fault, but for those that say that nothing is there or
-/// that a signal came; that an earlier datagram reached nobody (ICMP) is not told to a socket without a fixed peer.
+/// A take never waits. An error of the system that passes by itself (`passes_by_itself`) counts as nothing, and any other is a fault, of
+/// this port alone.
 #[derive(Drop)]
 pub struct UdpIn {
     at: Addr,
@@ -28,10 +29,8 @@ impl InEnd for UdpIn {
     fn take(&mut self, buf: &mut [u8]) -> Result<Option<(Addr, usize)>, Failed> {
         match self.socket.recv_from(buf) {
             Ok((len, from)) => Ok(Some((addr_of(from), len))),
-            Err(error) => match error.kind() {
-                ErrorKind::WouldBlock | ErrorKind::Interrupted => Ok(None),
-                _ => Err(self.faults.count()),
-            },
+            Err(error) if passes_by_itself(&error) => Ok(None),
+            Err(_) => Err(self.faults.count()),
         }
     }
 }
@@ -63,8 +62,8 @@ impl OutEnd for UdpOut {
 
 /// Opens UDP ports, of both families, each as two ends of one socket. It tells nothing.
 ///
-/// An address that is in use, or is none of this host's, is a fault, and so is want of descriptors. That the
-/// system doesn't watch a socket is none.
+/// An address that is in use or isn't this host's is a fault, and so is running out of descriptors. That the
+/// system doesn't watch a socket isn't one.
 #[derive(Drop)]
 pub struct UdpMaker<'a, R: Net> {
     net: &'a R,

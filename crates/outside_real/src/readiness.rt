@@ -50,8 +50,8 @@ impl EventSet {
         })
     }
 
-    /// Adds a socket or another descriptor under this number, and the events of which it is told beside its end and its
-    /// errors. Where the system refuses it, the set isn't complete from then on.
+    /// Adds a socket or another descriptor under this number, with the events to watch for besides its end and its
+    /// errors. If the system refuses it, the set isn't complete from then on.
     fn add(&self, descriptor: i32, events: u32, number: u16) {
         let added = os::epoll_ctl(
             self.descriptor,
@@ -152,7 +152,7 @@ impl Readiness {
         }
     }
 
-    /// Watches the control socket in the set of lane 0, and the pipe's end beside it. Both stand for port 0 there.
+    /// Watches the control socket and the pipe's end in the set of lane 0. Both stand for port 0 there.
     pub(crate) fn watch_control(&self, socket: &UdpSocket, stop: StopPipe) {
         let Some(set) = self.set_of(0) else {
             return;

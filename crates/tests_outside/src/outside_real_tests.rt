@@ -2,7 +2,7 @@ ghost use Rattle.std.specs.Prelude.{◌≡◌};
 
 use outside_real::{
     ChaChaKeys, LinkFault, Readiness, StdLines, StdSink, StopPipe, SystemClock, SystemTimer, UdpIn,
-    UdpLink, UdpMaker, UdpOut, addr_of, socket_addr,
+    UdpLink, UdpMaker, UdpOut, addr_of, passes_by_itself, socket_addr,
 };
 use relay_outside::{
     Addr, Clock, ControlLink, InEnd, Ip, KeySource, LineRead, LineSink, LineSource, OutEnd,
@@ -322,20 +322,64 @@ fn addresses_of_both_families_stay_the_same(rt: HostRuntime) {
     assert!(rt; addr_of(socket_addr(six)) == six);
 }
 
-/// How often a clock is looked at until it has gone forward.
-const MOST_LOOKS: u32 = 1_000_000_000;
+/// How long the clocks are looked at, in milliseconds, and how long that may take on a busy machine.
+const LOOKED: u32 = 300;
+
+/// Whether so many milliseconds of a clock may have gone by in that time.
+fn went_by(from: u64, to: u64) -> bool {
+    (u64::from(LOOKED)..60_000).contains(&to.saturating_sub(from))
+}
 
 #[test]
-fn the_clocks_go_forward(rt: HostRuntime) {
+fn the_clocks_go_forward_in_milliseconds(rt: HostRuntime) {
     let mut timer = SystemTimer::new(&rt);
     let readiness = hints(rt.alloc());
     let clock = SystemClock::new(&rt, &readiness);
-    let first = timer.now();
-    assert!(rt; first < 60_000);
-    assert!(rt; (0..MOST_LOOKS).any(|_| timer.now() > first));
-    let first = clock.now();
-    assert!(rt; first < 60_000);
-    assert!(rt; (0..MOST_LOOKS).any(|_| clock.now() > first));
+    let mut link = UdpLink::waiting(&rt, StopPipe::none(), LOOKED);
+    assert!(rt; link.bind(local(95)).is_ok());
+    let (first, clock_first) = (timer.now(), clock.now());
+    assert!(rt; first < 60_000 && clock_first < 60_000);
+    assert!(rt; link.take(&mut [0; 1]) == Ok(Taken::Nothing));
+    assert!(rt; link.take(&mut [0; 1]) == Ok(Taken::Nothing));
+    assert!(rt; went_by(first, timer.now()) && went_by(clock_first, clock.now()));
+}
+
+/// Linux's errors of reads, by their numbers, and whether each passes by itself.
+const ERRORS: &[(i32, bool)] = &[
+    // EINTR, EAGAIN, ENOMEM, ENOBUFS
+    (4, true),
+    (11, true),
+    (12, true),
+    (105, true),
+    // ENETDOWN, ENETUNREACH, ECONNRESET, ETIMEDOUT, ECONNREFUSED, EHOSTDOWN, EHOSTUNREACH
+    (100, true),
+    (101, true),
+    (104, true),
+    (110, true),
+    (111, true),
+    (112, true),
+    (113, true),
+    // ENONET, EMSGSIZE, ENOPROTOOPT, EOPNOTSUPP
+    (64, true),
+    (90, true),
+    (92, true),
+    (95, true),
+    // EIO, EBADF, EACCES, EFAULT, EINVAL, ENOTSOCK, ENOTCONN
+    (5, false),
+    (9, false),
+    (13, false),
+    (14, false),
+    (22, false),
+    (88, false),
+    (107, false),
+];
+
+#[test]
+fn some_errors_of_reads_pass_by_themselves(rt: HostRuntime) {
+    for (number, passes) in ERRORS {
+        assert!(rt; passes_by_itself(&io::Error::from_raw_os_error(*number)) == *passes);
+    }
+    assert!(rt; !passes_by_itself(&io::Error::from(ErrorKind::InvalidData)));
 }
 
 /// A stream that takes nothing.

@@ -68,6 +68,7 @@ fn the_last_moment_stays(rt: HostRuntime) {
     assert!(rt; timer.now() == 3);
     assert!(rt; timer.now() == 7);
     assert!(rt; timer.now() == 7);
+    assert!(rt; timer.tells());
 }
 
 #[test]
@@ -85,6 +86,7 @@ fn keys_are_numbered(rt: HostRuntime) {
     second[0] = 1;
     assert!(rt; keys.draw() == Ok([0; 30]));
     assert!(rt; keys.draw() == Ok(second));
+    assert!(rt; keys.tells());
 }
 
 /// One line.
@@ -100,6 +102,7 @@ fn a_line_is_cut_at_the_buffer(rt: HostRuntime) {
     assert!(rt; source.line(&mut buf) == Ok(LineRead::Text { len: 3 }));
     assert!(rt; buf == *b"at ");
     assert!(rt; source.line(&mut buf) == Ok(LineRead::End));
+    assert!(rt; source.tells());
 }
 
 fn packet(rt: &impl Abort, alloc: Global) -> Packet {
@@ -130,6 +133,7 @@ fn what_an_end_has_not_given_goes_back(rt: HostRuntime) {
     };
     assert!(rt; receiving.take(&mut buf) == Ok(Some((HERE, 6))));
     maker.close(HERE, receiving, sending);
+    assert!(rt; maker.tells());
 }
 
 #[test]
