@@ -1,4 +1,4 @@
--- A datagram that asks for an answer, and what is heard in its description.
+-- A datagram that asks for an answer, and the crypto lines that are chosen in its description.
 use Rattle.std.proofs.Common.{◌≡◌, ◌∙◌, refl, sym, ap, subst, ℕ, Bool, false, List, Option, Some, None, Result, Ok}
 use Rattle.relay_outside.specs.declared.settings.Config.{Config}
 use Rattle.ng_bencode.specs.Tree.{Entries}
@@ -16,7 +16,7 @@ use Rattle.call_board.specs.Fits.{Hears, HearsAnswer}
 use Rattle.call_board.proofs.Done.{Asks}
 use Rattle.call_board.proofs.Dues.{AsksOf}
 use Rattle.control_entries.specs.declared.request.Request.{Request}
-use Rattle.control_entries.specs.declared.gave.Gave.{Gave}
+use Rattle.control_entries.specs.declared.device_answers.DeviceAnswers.{DeviceAnswers}
 use Rattle.control_entries.specs.Controls.{unanswered}
 use Rattle.control_entries.specs.Telling.{IsAnew, IsAsking}
 use Rattle.control_entries.specs.Giving.{given_by}
@@ -30,16 +30,16 @@ pub is_asked : (config : Config) (h : List BoardEntry) (moment : ℕ) (request :
 is_asked config h moment request pairs input c =
     ap (λ (long : Bool). asked config long pairs) c.asking.short ∙ asks_so config false pairs (says_of input) c.asking.command c.fine
 
-pub asks_answer : (config : Config) (h : List BoardEntry) (moment : ℕ) (request : Request) (pairs : Option Entries) (input : AnswerIn) (chosen : List (Option CryptoLine)) (gave : Gave)
-    → AsksFor config h moment request pairs input → (given_by gave).starved ≡ false → Asks config h moment (unanswered (hearing_as request pairs chosen gave)) (Ok (says_of input))
-asks_answer config h moment request pairs input chosen gave c fed =
-    record { nothing_kept = c.anew.not_kept; not_starved = fed; is_asked = is_asked config h moment request pairs input c }
+pub asks_answer : (config : Config) (h : List BoardEntry) (moment : ℕ) (request : Request) (pairs : Option Entries) (input : AnswerIn) (chosen : List (Option CryptoLine)) (device_answers : DeviceAnswers)
+    → AsksFor config h moment request pairs input → (given_by device_answers).out_of_memory ≡ false → Asks config h moment (unanswered (hearing_as request pairs chosen device_answers)) (Ok (says_of input))
+asks_answer config h moment request pairs input chosen device_answers c fed =
+    record { nothing_kept = c.anew.not_kept; not_out_of_memory = fed; is_asked = is_asked config h moment request pairs input c }
 
-pub hears_answer : (config : Config) (h : List BoardEntry) (moment : ℕ) (request : Request) (pairs : Option Entries) (input : AnswerIn) (chosen : List (Option CryptoLine)) (gave : Gave)
+pub hears_answer : (config : Config) (h : List BoardEntry) (moment : ℕ) (request : Request) (pairs : Option Entries) (input : AnswerIn) (chosen : List (Option CryptoLine)) (device_answers : DeviceAnswers)
     → AsksFor config h moment request pairs input → HearsAnswer h (ask_of input chosen) (find_call h input.call_id.list)
-    → Hears h (unanswered (hearing_as request pairs chosen gave)) (asked config request.too_long pairs)
-hears_answer config h moment request pairs input chosen gave c heard =
-    subst (λ (r : Result Said ErrorCode). Hears h (unanswered (hearing_as request pairs chosen gave)) r) (sym (is_asked config h moment request pairs input c)) heard
+    → Hears h (unanswered (hearing_as request pairs chosen device_answers)) (asked config request.too_long pairs)
+hears_answer config h moment request pairs input chosen device_answers c heard =
+    subst (λ (r : Result Said ErrorCode). Hears h (unanswered (hearing_as request pairs chosen device_answers)) r) (sym (is_asked config h moment request pairs input c)) heard
 
 -- what is asked of the call that has the call-id
 pub asks_of : (h : List BoardEntry) (input : AnswerIn) (lines : List (List ℕ)) (chosen : List (Option CryptoLine)) (o : Option Call) → lines_of input.sdp.list ≡ lines
@@ -48,7 +48,7 @@ asks_of h input lines chosen None lines_are heard = tt
 asks_of h input lines chosen (Some of) lines_are heard =
     record { from_tag_is = refl; to_tag_is = refl; options_are = refl; hears = record { lines_are = lines_are; heard = heard } }
 
--- what is heard by the board
+-- which lines the board chooses
 pub heard_by : (h : List BoardEntry) (ask : AnswerAsk) (o : Option Call) → ((of : Call) → o ≡ Some of → AnswerHeard (rounds h of.number) ask) → HearsAnswer h ask o
 heard_by h ask None hears = tt
 heard_by h ask (Some of) hears = hears of refl

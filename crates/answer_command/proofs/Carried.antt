@@ -30,14 +30,14 @@ use Rattle.relay_core.specs.declared.part.Part.{Part}
 use Rattle.relay_core.specs.Entries.{board_history}
 use Rattle.relay_core.specs.Made.{Made}
 use Rattle.relay_core.specs.Turning.{made_by}
-use Rattle.nested_steps.specs.declared.nest.Nest.{Nest}
+use Rattle.nested_steps.specs.declared.board_turn.BoardEntryId.{BoardEntryId}
 use Rattle.board_turns.specs.Acting.{InTurn, DoesAct}
 use Rattle.control_reading.specs.Bodies.{IsErrorOf}
 use Rattle.control_reading.specs.declared.description.DescriptionFault.{DescriptionFault}
 use Rattle.control_reading.specs.declared.description.DescriptionFault.TheVariants as faults
 use Rattle.control_entries.specs.declared.request.Request.{Request}
-use Rattle.control_entries.specs.declared.gave.Gave.TheVariants.{Nothing}
-use Rattle.control_entries.specs.declared.done.Done.{Done}
+use Rattle.control_entries.specs.declared.device_answers.DeviceAnswers.TheVariants.{Nothing}
+use Rattle.control_entries.specs.declared.command_outcome.CommandOutcome.{CommandOutcome}
 use Rattle.control_entries.specs.Controls.{unanswered, with_answer, entry_with}
 use Rattle.control_entries.specs.Carrying.{hearing_as, hearing_by, Carries}
 use Rattle.control_entries.specs.Telling.{IsAnew, IsAsking, Refuses, Tells, error_in}
@@ -96,75 +96,75 @@ planned_answer config h moment request pairs input lines chosen p c planned =
 
 module _ {M I O T : Type 0} {g : _} where
   -- it is accepted
-  pub answered_carries : (config : Config) (old new : Hand M (Part I O) Made T g) (nest : Nest) (request : Request) (pairs : Option Entries) (input : AnswerIn) (lines : List (List ℕ))
+  pub answered_carries : (config : Config) (old new : Hand M (Part I O) Made T g) (entry_id : BoardEntryId) (request : Request) (pairs : Option Entries) (input : AnswerIn) (lines : List (List ℕ))
       (chosen : List (Option CryptoLine)) (p : BoardPlan) (text : Room ℕ) (board : Board) (told : Option (List PortCall))
-      → AsksFor config (board_history (made_by old) nest.number) nest.moment request pairs input
-      → (planned : IsPlanned config (board_history (made_by old) nest.number) input lines chosen p)
-      → DoesAct config old new nest
-      (entry_with nest.moment (hearing_as request pairs chosen Nothing)
-      (due_of config (board_history (made_by old) nest.number) request pairs input lines chosen p
-      (is_due config (board_history (made_by old) nest.number) input lines chosen p planned))) board told
+      → AsksFor config (board_history (made_by old) entry_id.number) entry_id.moment request pairs input
+      → (planned : IsPlanned config (board_history (made_by old) entry_id.number) input lines chosen p)
+      → DoesAct config old new entry_id
+      (entry_with entry_id.moment (hearing_as request pairs chosen Nothing)
+      (due_of config (board_history (made_by old) entry_id.number) request pairs input lines chosen p
+      (is_due config (board_history (made_by old) entry_id.number) input lines chosen p planned))) board told
       → text.list ≡ reply_datagram config request.cookie.now
-      (Described (plan.answer_text config (rounds (board_history (made_by old) nest.number) (is_due config (board_history (made_by old) nest.number) input lines chosen p planned).of.number)
+      (Described (plan.answer_text config (rounds (board_history (made_by old) entry_id.number) (is_due config (board_history (made_by old) entry_id.number) input lines chosen p planned).of.number)
       (ask_of input chosen)))
-      → Carries config old new nest (hearing_as request pairs chosen Nothing) (Some text) board told
-  answered_carries config old new nest request pairs input lines chosen p text board told c planned does bytes =
-      let h = board_history (made_by old) nest.number in
-      let both = planned_fits config h nest.moment request pairs input lines chosen p c planned in
-      carries_due config old new nest (hearing_as request pairs chosen Nothing) (due_of config h request pairs input lines chosen p (is_due config h input lines chosen p planned))
+      → Carries config old new entry_id (hearing_as request pairs chosen Nothing) (Some text) board told
+  answered_carries config old new entry_id request pairs input lines chosen p text board told c planned does bytes =
+      let h = board_history (made_by old) entry_id.number in
+      let both = planned_fits config h entry_id.moment request pairs input lines chosen p c planned in
+      carries_due config old new entry_id (hearing_as request pairs chosen Nothing) (due_of config h request pairs input lines chosen p (is_due config h input lines chosen p planned))
       (Some text) board told both.0 both.1 does (refl, bytes)
 
-  -- the board refuses it, or memory is short
-  refuses_case : (config : Config) (turns : Turns M (Part I O) Made T) (hand : Hand M (Part I O) Made T g) (nest : Nest) (request : Request) (pairs : Option Entries) (input : AnswerIn)
-      (lines : List (List ℕ)) (chosen : List (Option CryptoLine)) (fault : BoardFault) (code : Option ErrorCode) (done : Done) (board : Board) (told : Option (List PortCall))
-      → InTurn config turns hand nest board told → AsksFor config (board_history (made_by hand) nest.number) nest.moment request pairs input → lines_of input.sdp.list ≡ lines
-      → HearsAnswer (board_history (made_by hand) nest.number) (ask_of input chosen) (find_call (board_history (made_by hand) nest.number) input.call_id.list)
-      → PlansAnswer config input lines (call_of_id (view_of config (board_history (made_by hand) nest.number)) input.call_id.list) (Err fault)
+  -- the board refuses it, or memory ran out
+  refuses_case : (config : Config) (turns : Turns M (Part I O) Made T) (hand : Hand M (Part I O) Made T g) (entry_id : BoardEntryId) (request : Request) (pairs : Option Entries) (input : AnswerIn)
+      (lines : List (List ℕ)) (chosen : List (Option CryptoLine)) (fault : BoardFault) (code : Option ErrorCode) (done : CommandOutcome) (board : Board) (told : Option (List PortCall))
+      → InTurn config turns hand entry_id board told → AsksFor config (board_history (made_by hand) entry_id.number) entry_id.moment request pairs input → lines_of input.sdp.list ≡ lines
+      → HearsAnswer (board_history (made_by hand) entry_id.number) (ask_of input chosen) (find_call (board_history (made_by hand) entry_id.number) input.call_id.list)
+      → PlansAnswer config input lines (call_of_id (view_of config (board_history (made_by hand) entry_id.number)) input.call_id.list) (Err fault)
       → code_of fault ≡ code → Refuses request.cookie.now chosen code done
-      → Carries config hand hand nest (hearing_by request pairs done) done.reply board told
-  refuses_case config turns hand nest request pairs input lines chosen fault None done board told turn c lines_are heard planned is refuses =
-      is_short_carries config turns hand nest request pairs done board told turn c.anew refuses
-  refuses_case config turns hand nest request pairs input lines chosen fault (Some code) done board told turn c lines_are heard planned is refuses =
-      let h = board_history (made_by hand) nest.number in
+      → Carries config hand hand entry_id (hearing_by request pairs done) done.reply board told
+  refuses_case config turns hand entry_id request pairs input lines chosen fault None done board told turn c lines_are heard planned is refuses =
+      is_short_carries config turns hand entry_id request pairs done board told turn c.anew refuses
+  refuses_case config turns hand entry_id request pairs input lines chosen fault (Some code) done board told turn c lines_are heard planned is refuses =
+      let h = board_history (made_by hand) entry_id.number in
       let id = input.call_id.list in
       let ask = ask_of input chosen in
       let control = unanswered (hearing_as request pairs chosen Nothing) in
-      tells_carries config turns hand nest request pairs chosen (with_reply config control (Fault code) (act.Failed code)) done board told turn c.anew (λ short. c.asking.reads)
-      (due_of_answer config h nest.moment control id ask (failing code) (asks_answer config h nest.moment request pairs input chosen Nothing c refl) refl
+      tells_carries config turns hand entry_id request pairs chosen (with_reply config control (Fault code) (act.Failed code)) done board told turn c.anew (λ short. c.asking.reads)
+      (due_of_answer config h entry_id.moment control id ask (failing code) (asks_answer config h entry_id.moment request pairs input chosen Nothing c refl) refl
       (answer_fails config h input lines id ask fault code planned (asks_of h input lines chosen (find_call h id) lines_are heard) is)) refl refl
-      (λ late. hears_answer config h nest.moment request pairs input chosen Nothing c heard) (refuses config)
+      (λ late. hears_answer config h entry_id.moment request pairs input chosen Nothing c heard) (refuses config)
 
-  pub refuses_carries : (config : Config) (turns : Turns M (Part I O) Made T) (hand : Hand M (Part I O) Made T g) (nest : Nest) (request : Request) (pairs : Option Entries) (input : AnswerIn)
-      (lines : List (List ℕ)) (chosen : List (Option CryptoLine)) (fault : BoardFault) (done : Done) (board : Board) (told : Option (List PortCall))
-      → InTurn config turns hand nest board told → AsksFor config (board_history (made_by hand) nest.number) nest.moment request pairs input → lines_of input.sdp.list ≡ lines
-      → HearsAnswer (board_history (made_by hand) nest.number) (ask_of input chosen) (find_call (board_history (made_by hand) nest.number) input.call_id.list)
-      → PlansAnswer config input lines (call_of_id (view_of config (board_history (made_by hand) nest.number)) input.call_id.list) (Err fault)
+  pub refuses_carries : (config : Config) (turns : Turns M (Part I O) Made T) (hand : Hand M (Part I O) Made T g) (entry_id : BoardEntryId) (request : Request) (pairs : Option Entries) (input : AnswerIn)
+      (lines : List (List ℕ)) (chosen : List (Option CryptoLine)) (fault : BoardFault) (done : CommandOutcome) (board : Board) (told : Option (List PortCall))
+      → InTurn config turns hand entry_id board told → AsksFor config (board_history (made_by hand) entry_id.number) entry_id.moment request pairs input → lines_of input.sdp.list ≡ lines
+      → HearsAnswer (board_history (made_by hand) entry_id.number) (ask_of input chosen) (find_call (board_history (made_by hand) entry_id.number) input.call_id.list)
+      → PlansAnswer config input lines (call_of_id (view_of config (board_history (made_by hand) entry_id.number)) input.call_id.list) (Err fault)
       → Refuses request.cookie.now chosen (code_of fault) done
-      → Carries config hand hand nest (hearing_by request pairs done) done.reply board told
-  refuses_carries config turns hand nest request pairs input lines chosen fault done board told turn c lines_are heard planned refuses =
-      refuses_case config turns hand nest request pairs input lines chosen fault (code_of fault) done board told turn c lines_are heard planned refl refuses
+      → Carries config hand hand entry_id (hearing_by request pairs done) done.reply board told
+  refuses_carries config turns hand entry_id request pairs input lines chosen fault done board told turn c lines_are heard planned refuses =
+      refuses_case config turns hand entry_id request pairs input lines chosen fault (code_of fault) done board told turn c lines_are heard planned refl refuses
 
   -- its description has an error
-  error_carries : (config : Config) (turns : Turns M (Part I O) Made T) (hand : Hand M (Part I O) Made T g) (nest : Nest) (request : Request) (pairs : Option Entries) (input : AnswerIn)
-      (chosen : List (Option CryptoLine)) (code : ErrorCode) (done : Done) (board : Board) (told : Option (List PortCall))
-      → InTurn config turns hand nest board told → IsAnew (board_history (made_by hand) nest.number) nest.moment request → IsAsking request pairs (says_of input)
+  error_carries : (config : Config) (turns : Turns M (Part I O) Made T) (hand : Hand M (Part I O) Made T g) (entry_id : BoardEntryId) (request : Request) (pairs : Option Entries) (input : AnswerIn)
+      (chosen : List (Option CryptoLine)) (code : ErrorCode) (done : CommandOutcome) (board : Board) (told : Option (List PortCall))
+      → InTurn config turns hand entry_id board told → IsAnew (board_history (made_by hand) entry_id.number) entry_id.moment request → IsAsking request pairs (says_of input)
       → sdp_error config input.sdp.list ≡ Some code → Tells chosen (reply_datagram config request.cookie.now (Fault code)) done
-      → Carries config hand hand nest (hearing_by request pairs done) done.reply board told
-  error_carries config turns hand nest request pairs input chosen code done board told turn anew asking faulty tells =
-      let h = board_history (made_by hand) nest.number in
+      → Carries config hand hand entry_id (hearing_by request pairs done) done.reply board told
+  error_carries config turns hand entry_id request pairs input chosen code done board told turn anew asking faulty tells =
+      let h = board_history (made_by hand) entry_id.number in
       let control = unanswered (hearing_as request pairs chosen Nothing) in
       let is : asked config request.too_long pairs ≡ Err code =
       ap (λ (long : Bool). asked config long pairs) asking.short ∙ asks_misdescribed config false pairs (says_of input) code asking.command faulty in
-      tells_carries config turns hand nest request pairs chosen (with_reply config control (Fault code) (act.Failed code)) done board told turn anew (λ short. asking.reads)
-      (failed_due config h nest.moment control code (record { nothing_kept = anew.not_kept; not_starved = refl; is_asked = is })) refl refl
+      tells_carries config turns hand entry_id request pairs chosen (with_reply config control (Fault code) (act.Failed code)) done board told turn anew (λ short. asking.reads)
+      (failed_due config h entry_id.moment control code (record { nothing_kept = anew.not_kept; not_out_of_memory = refl; is_asked = is })) refl refl
       (λ late. subst (λ (r : Result Said ErrorCode). Hears h control r) (sym is) tt) tells
 
-  pub misdescribed_carries : (config : Config) (turns : Turns M (Part I O) Made T) (hand : Hand M (Part I O) Made T g) (nest : Nest) (request : Request) (pairs : Option Entries) (input : AnswerIn)
-      (fault : DescriptionFault) (done : Done) (board : Board) (told : Option (List PortCall))
-      → InTurn config turns hand nest board told → IsAnew (board_history (made_by hand) nest.number) nest.moment request → IsAsking request pairs (says_of input)
+  pub misdescribed_carries : (config : Config) (turns : Turns M (Part I O) Made T) (hand : Hand M (Part I O) Made T g) (entry_id : BoardEntryId) (request : Request) (pairs : Option Entries) (input : AnswerIn)
+      (fault : DescriptionFault) (done : CommandOutcome) (board : Board) (told : Option (List PortCall))
+      → InTurn config turns hand entry_id board told → IsAnew (board_history (made_by hand) entry_id.number) entry_id.moment request → IsAsking request pairs (says_of input)
       → IsErrorOf (sdp_error config input.sdp.list) fault → Refuses request.cookie.now [] (error_in fault) done
-      → Carries config hand hand nest (hearing_by request pairs done) done.reply board told
-  misdescribed_carries config turns hand nest request pairs input (faults.Error code) done board told turn anew asking faulty refuses =
-      error_carries config turns hand nest request pairs input [] code done board told turn anew asking faulty (refuses config)
-  misdescribed_carries config turns hand nest request pairs input faults.OutOfMemory done board told turn anew asking faulty refuses =
-      is_short_carries config turns hand nest request pairs done board told turn anew refuses
+      → Carries config hand hand entry_id (hearing_by request pairs done) done.reply board told
+  misdescribed_carries config turns hand entry_id request pairs input (faults.Error code) done board told turn anew asking faulty refuses =
+      error_carries config turns hand entry_id request pairs input [] code done board told turn anew asking faulty (refuses config)
+  misdescribed_carries config turns hand entry_id request pairs input faults.OutOfMemory done board told turn anew asking faulty refuses =
+      is_short_carries config turns hand entry_id request pairs done board told turn anew refuses

@@ -19,7 +19,7 @@ use crate::room::{AnswerRoom, answer_room};
 use answer_turns::{PlannedAnswer, answer_act};
 use call_board::Board;
 use call_cell::Gone;
-use control_entries::{Done, Gave, Request, misdescribed, short, unplanned};
+use control_entries::{CommandOutcome, DeviceAnswers, Request, misdescribed, short, unplanned};
 use control_reading::read_description;
 use control_replies::write_described;
 use nested_steps::BoardTurn;
@@ -42,31 +42,31 @@ pub fn answer<P: PortMaker, R: Wait>(
     gone: &mut Gone<P::Out>,
     request: &Request,
     input: &AnswerIn,
-) -> Done
-    requires turn { InTurn turn.now.config.now turn.now.turns.now hand.old turn.now.nest board.old (P.told ports.old) }
-    requires anew { IsAnew (board_history (made_by hand.old) turn.now.nest.number) turn.now.nest.moment request.now }
+) -> CommandOutcome
+    requires turn { InTurn turn.now.config.now turn.now.turns.now hand.old turn.now.entry_id board.old (P.told ports.old) }
+    requires anew { IsAnew (board_history (made_by hand.old) turn.now.entry_id.number) turn.now.entry_id.moment request.now }
     requires empty { gone.old ≡ [] }
     requires small { length input.now.sdp.list < 2 ^ 31 }
     requires asked { (pairs : Option Entries) × IsAsking request.now pairs (Answer input.now.call_id.list input.now.from_tag.list input.now.to_tag.list input.now.sdp.list input.now.options) }
     ensures same { IsSameHand hand.old hand.new × SameTurns hand.old hand.new }
     ensures may { MayNest turn.now.config.now turn.now.turns.now hand.new }
     ensures carries { (pairs : Option Entries) → IsAsking request.now pairs (Answer input.now.call_id.list input.now.from_tag.list input.now.to_tag.list input.now.sdp.list input.now.options) →
-        Carries turn.now.config.now hand.old hand.new turn.now.nest (hearing_by request.now pairs result) result.reply board.new (P.told ports.new) }
+        Carries turn.now.config.now hand.old hand.new turn.now.entry_id (hearing_by request.now pairs result) result.reply board.new (P.told ports.new) }
     ensures replies { KeepsReplies board.old board.new }
     ensures empty { gone.new ≡ [] }
     ensures ties { Ties turn.now.config.now (P.told ports.old) (P.told ports.new) (entries hand.old) (entries hand.new) }
     ensures later { P.faults ports.old ≤ P.faults ports.new }
     ensures closes { Gained (P.told ports.old) (P.told ports.new) OpensNone }
-    ensures unasked { IsUnasked result.gave }
+    ensures unasked { IsUnasked result.device_answers }
 {
     let sdp = match read_description(alloc, turn.config, input.sdp.as_slice()) {
         Ok(sdp) => sdp,
         Err(fault) => return misdescribed(alloc, request.cookie, fault),
     };
-    let heard = board.hear_answer(input.call_id.as_slice(), &sdp);
+    let chosen_lines = board.hear_answer(input.call_id.as_slice(), &sdp);
     let plan = match board.plan_answer(alloc, input, &sdp) {
         Ok(plan) => plan,
-        Err(fault) => return unplanned(alloc, request.cookie, fault, heard),
+        Err(fault) => return unplanned(alloc, request.cookie, fault, chosen_lines),
     };
     let Ok(room) = answer_room(alloc, request.cookie, plan.planned().reply_len()) else {
         return short();
@@ -83,9 +83,9 @@ pub fn answer<P: PortMaker, R: Wait>(
     };
     answer_act(rt, turn, hand, board, ports, gone, answer, &mut text);
     write_described(request.cookie, text.as_slice(), &mut reply);
-    Done {
-        heard,
-        gave: Gave::Nothing,
+    CommandOutcome {
+        chosen_lines,
+        device_answers: DeviceAnswers::Nothing,
         reply: Some(reply),
     }
 }

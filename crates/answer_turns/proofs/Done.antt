@@ -25,7 +25,7 @@ use Rattle.relay_core.specs.Turning.{IsAbove, GainsNested, made_by}
 use Rattle.relay_core.proofs.Histories.{good_history}
 use Rattle.relay_core.proofs.LegsHeld.{answer_closes}
 use Rattle.media_ports.specs.Held.{TellsHeld}
-use Rattle.nested_steps.specs.declared.nest.Nest.{Nest}
+use Rattle.nested_steps.specs.declared.board_turn.BoardEntryId.{BoardEntryId}
 use Rattle.nested_steps.specs.InCells.{in_cell_of}
 use Rattle.nested_steps.specs.Leaving.{AreLeasesOf, RejectedWent}
 use Rattle.nested_steps.proofs.Nesting.{gains_more}
@@ -53,31 +53,31 @@ went_closed {O} config l n moment e of ask lines p cell k signal gone o above_bo
 
 module _ {M I O T : Type 0} {g : _} where
   -- commit, apply and closes make what the entry owes
-  pub does_answer : (config : Config) (old mid new : Hand M (Part I O) Made T g) (nest : Nest) (board : Board) (told : Option (List PortCall)) (e : BoardEntry) (of : Call) (ask : AnswerAsk)
+  pub does_answer : (config : Config) (old mid new : Hand M (Part I O) Made T g) (entry_id : BoardEntryId) (board : Board) (told : Option (List PortCall)) (e : BoardEntry) (of : Call) (ask : AnswerAsk)
       (lines : List (List ℕ)) (p : BoardPlan) (cell : ℕ) (signal : List SectionSignal) (gone : List (Lease × O × O)) → Orderly config (made_by old)
-      → IsAnswerOf config (board_history (made_by old) nest.number) nest.moment e of ask lines p → cell ≡ of.cell
-      → signal ≡ (answer_of (board_history (made_by old) nest.number) of ask).signal
-      → AreLeasesOf config gone (closed_of (board_history (made_by old) nest.number) e of)
-      → GainsNested nest.number nest.moment (in_cell_of cell (Commit signal) ∷ []) old mid → GainsNested nest.number nest.moment (closings_of config gone) mid new
-      → Shows config board (with_returned (with_more of (round.Answered ask) nest.moment (at_moment (view_of config (board_history (made_by old) nest.number)) nest.moment)) (pairs_in (leases_of gone)))
-      → TellsHeld config told (pairs_left (pairs_in (leases_of gone)) (leg_pairs (held (board_history (made_by old) nest.number))))
-      → DoesAct config old new nest e board told
-  does_answer config old mid new nest board told e of ask lines p cell signal gone o d at said are commits closes shows opens =
-      let h = board_history (made_by old) nest.number in
+      → IsAnswerOf config (board_history (made_by old) entry_id.number) entry_id.moment e of ask lines p → cell ≡ of.cell
+      → signal ≡ (answer_of (board_history (made_by old) entry_id.number) of ask).signal
+      → AreLeasesOf config gone (closed_of (board_history (made_by old) entry_id.number) e of)
+      → GainsNested entry_id.number entry_id.moment (in_cell_of cell (Commit signal) ∷ []) old mid → GainsNested entry_id.number entry_id.moment (closings_of config gone) mid new
+      → Shows config board (with_returned (with_more of (round.Answered ask) entry_id.moment (at_moment (view_of config (board_history (made_by old) entry_id.number)) entry_id.moment)) (pairs_in (leases_of gone)))
+      → TellsHeld config told (pairs_left (pairs_in (leases_of gone)) (leg_pairs (held (board_history (made_by old) entry_id.number))))
+      → DoesAct config old new entry_id e board told
+  does_answer config old mid new entry_id board told e of ask lines p cell signal gone o d at said are commits closes shows opens =
+      let h = board_history (made_by old) entry_id.number in
       let a = answer_of h of ask in
-      let v = at_moment (view_of config h) nest.moment in
+      let v = at_moment (view_of config h) entry_id.moment in
       let legs = closed_of h e of in
-      let fits = good_history config (made_by old) o nest.number in
+      let fits = good_history config (made_by old) o entry_id.number in
       let pairs = pairs_are config gone legs are in
       let owed : in_cell_of cell (Commit signal) ∷ closings_of config gone ≡ in_cell of (Commit a.signal) ∷ map (closing config) legs
       = ap (λ (c : ℕ). in_cell_of c (Commit signal) ∷ closings_of config gone) at
       ∙ ap (λ (s : List SectionSignal). in_cell of (Commit s) ∷ closings_of config gone) said
       ∙ ap (λ (ws : List Owed). in_cell of (Commit a.signal) ∷ ws) (closings_are config gone legs are) in
       record {
-        gained = subst (λ (ws : List Owed). GainsNested nest.number nest.moment ws old new) (owed ∙ sym (answered_owes config h e a d.acts))
-            (gains_more nest.number nest.moment (in_cell_of cell (Commit signal) ∷ []) (closings_of config gone) old mid new commits closes);
+        gained = subst (λ (ws : List Owed). GainsNested entry_id.number entry_id.moment ws old new) (owed ∙ sym (answered_owes config h e a d.acts))
+            (gains_more entry_id.number entry_id.moment (in_cell_of cell (Commit signal) ∷ []) (closings_of config gone) old mid new commits closes);
         shows = subst (λ (w : View). Shows config board w)
-            (ap (λ (ps : List ℕ). with_returned (with_more of (round.Answered ask) nest.moment v) ps) pairs
+            (ap (λ (ps : List ℕ). with_returned (with_more of (round.Answered ask) entry_id.moment v) ps) pairs
             ∙ ap (λ (now : ℕ). with_closed h e of (with_more of (round.Answered ask) now v)) (sym d.at)
             ∙ sym (answered_acts h e a v d.acts)) shows;
         opens = told_alike config told (pairs_left (leg_pairs legs) (leg_pairs (held h))) (leg_pairs (held (e ∷ h))) (answered_held config h e a fits d.acts)

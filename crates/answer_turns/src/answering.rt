@@ -52,19 +52,19 @@ pub fn answer_act<P: PortMaker, R: Wait>(
     answer: PlannedAnswer,
     out: &mut Bytes,
 )
-    requires turn { InTurn turn.now.config.now turn.now.turns.now hand.old turn.now.nest board.old (P.told ports.old) }
-    requires due { (e : BoardEntry) × (of : Call) × (ask : AnswerAsk) × IsAnswerOf turn.now.config.now (board_history (made_by hand.old) turn.now.nest.number) turn.now.nest.moment e of ask answer.sdp.now answer.plan }
+    requires turn { InTurn turn.now.config.now turn.now.turns.now hand.old turn.now.entry_id board.old (P.told ports.old) }
+    requires due { (e : BoardEntry) × (of : Call) × (ask : AnswerAsk) × IsAnswerOf turn.now.config.now (board_history (made_by hand.old) turn.now.entry_id.number) turn.now.entry_id.moment e of ask answer.sdp.now answer.plan }
     requires writes { WritesFrom answer.plan.plan answer.sdp.now }
     requires room { (out.old.list ≡ []) × (answer.plan.plan.reply_len ≤ out.old.spare) }
     requires contexts { 16 ≤ answer.contexts }
     requires empty { gone.old ≡ [] }
     ensures same { IsSameHand hand.old hand.new × SameTurns hand.old hand.new }
     ensures may { MayNest turn.now.config.now turn.now.turns.now hand.new }
-    ensures text { (e : BoardEntry) (of : Call) (ask : AnswerAsk) → IsAnswerOf turn.now.config.now (board_history (made_by hand.old) turn.now.nest.number) turn.now.nest.moment e of ask answer.entry.sdp.now answer.entry.plan →
-        out.new.list ≡ answer_text turn.now.config.now (rounds (board_history (made_by hand.old) turn.now.nest.number) of.number) ask }
+    ensures text { (e : BoardEntry) (of : Call) (ask : AnswerAsk) → IsAnswerOf turn.now.config.now (board_history (made_by hand.old) turn.now.entry_id.number) turn.now.entry_id.moment e of ask answer.entry.sdp.now answer.entry.plan →
+        out.new.list ≡ answer_text turn.now.config.now (rounds (board_history (made_by hand.old) turn.now.entry_id.number) of.number) ask }
     ensures within { length out.new.list ≤ answer.entry.plan.plan.reply_len }
-    ensures does { (e : BoardEntry) (of : Call) (ask : AnswerAsk) → IsAnswerOf turn.now.config.now (board_history (made_by hand.old) turn.now.nest.number) turn.now.nest.moment e of ask answer.entry.sdp.now answer.entry.plan →
-        DoesAct turn.now.config.now hand.old hand.new turn.now.nest e board.new (P.told ports.new) }
+    ensures does { (e : BoardEntry) (of : Call) (ask : AnswerAsk) → IsAnswerOf turn.now.config.now (board_history (made_by hand.old) turn.now.entry_id.number) turn.now.entry_id.moment e of ask answer.entry.sdp.now answer.entry.plan →
+        DoesAct turn.now.config.now hand.old hand.new turn.now.entry_id e board.new (P.told ports.new) }
     ensures replies { KeepsReplies board.old board.new }
     ensures closes { Gained (P.told ports.old) (P.told ports.new) OpensNone }
     ensures ties { Ties turn.now.config.now (P.told ports.old) (P.told ports.new) (entries hand.old) (entries hand.new) }
@@ -87,6 +87,6 @@ pub fn answer_act<P: PortMaker, R: Wait>(
         contexts,
         gone,
     );
-    board.apply(plan, turn.nest.moment);
+    board.apply(plan, turn.entry_id.moment);
     close_legs(rt, turn, hand, board, ports, gone);
 }

@@ -11,10 +11,10 @@ use Rattle.call_board.specs.Kept.{kept}
 use Rattle.call_board.specs.Asked.{Reads, asked}
 use Rattle.call_board.specs.Answers.{Answered, answering, answering_asked, answering_unless, spelled}
 use Rattle.call_board.specs.Fits.{FitsControl, GivesFor, Hears, answer_of, demanded, demanded_by, is_repeat, is_heard}
-use Rattle.call_board.proofs.Fixed.{unless_starved}
+use Rattle.call_board.proofs.Fixed.{unless_out_of_memory}
 use Rattle.call_board.proofs.Told.{IsRepeat}
 use Rattle.call_board.proofs.Tells.{tells_of}
-use Rattle.board_laws.specs.Alike.{AreOfOne, IsFed, GiveAlike, AreOne}
+use Rattle.board_laws.specs.Alike.{AreOfOne, HasMemory, GiveAlike, AreOne}
 use Rattle.board_laws.proofs.Spelled.{read_once}
 use Rattle.board_laws.proofs.Given.{Fed, nothing_same}
 use Rattle.board_laws.proofs.Commands.{ToldAlike, asked_same}
@@ -41,12 +41,12 @@ repeats_not : (a : Act) → (a ≡ act.Repeated → ⊥) → is_repeat a ≡ fal
 repeats_not act.Repeated other = absurd (other refl)
 repeats_not a other = refl
 
-read_by : (repeat long starved told : Bool) → repeat ≡ false → long ≡ false → starved ≡ false → (not repeat && not long && (not starved || told)) ≡ true
-read_by repeat long starved told p q r = rw (p, q, r) refl
+read_by : (repeat long out_of_memory told : Bool) → repeat ≡ false → long ≡ false → out_of_memory ≡ false → (not repeat && not long && (not out_of_memory || told)) ≡ true
+read_by repeat long out_of_memory told p q r = rw (p, q, r) refl
 
-read : (config : Config) (h : List BoardEntry) (now : ℕ) (c : Control) → FitsControl config h now c → kept h c.source c.cookie now ≡ None → IsFed c → c.too_long ≡ false → Reads c.body c.pairs
+read : (config : Config) (h : List BoardEntry) (now : ℕ) (c : Control) → FitsControl config h now c → kept h c.source c.cookie now ≡ None → HasMemory c → c.too_long ≡ false → Reads c.body c.pairs
 read config h now c fits none fed short =
-    fits.reads (read_by (is_repeat c.act) c.too_long c.given.starved (is_some c.given.report) (repeats_not c.act (no_repeat config h now c fits none)) short fed)
+    fits.reads (read_by (is_repeat c.act) c.too_long c.given.out_of_memory (is_some c.given.report) (repeats_not c.act (no_repeat config h now c fits none)) short fed)
 
 few : (cookie body : List ℕ) → nat_lt 16384 (length (cookie ++ 32 ∷ body)) ≡ false → length body < 2 ^ 64
 few cookie body is =
@@ -70,7 +70,7 @@ same_length config h now c d f g one =
     f.length_is ∙ ap (λ (k : List ℕ). nat_lt 16384 (length (k ++ 32 ∷ c.body))) one.cookie
     ∙ ap (λ (b : List ℕ). nat_lt 16384 (length (d.cookie ++ 32 ∷ b))) one.body ∙ sym g.length_is
 
-same_asked : (config : Config) (h : List BoardEntry) (now : ℕ) (c d : Control) → FitsControl config h now c → FitsControl config h now d → AreOfOne c d → IsFed c → IsFed d
+same_asked : (config : Config) (h : List BoardEntry) (now : ℕ) (c d : Control) → FitsControl config h now c → FitsControl config h now d → AreOfOne c d → HasMemory c → HasMemory d
     → kept h c.source c.cookie now ≡ None → kept h d.source d.cookie now ≡ None → asked config c.too_long c.pairs ≡ asked config d.too_long d.pairs
 same_asked config h now c d f g one fed_c fed_d none_c none_d =
     let long = same_length config h now c d f g one in
@@ -85,11 +85,11 @@ pub record Answers (config : Config) (h : List BoardEntry) (c : Control) (r : Re
   pub hears : is_heard (answering_asked config h c r).act ≡ true → Hears h c r
   pub gives : GivesFor (demanded_by h c r) c.given (answering_asked config h c r).act
 
-answers : (config : Config) (h : List BoardEntry) (now : ℕ) (c : Control) (r : Result Said ErrorCode) → FitsControl config h now c → IsFed c
+answers : (config : Config) (h : List BoardEntry) (now : ℕ) (c : Control) (r : Result Said ErrorCode) → FitsControl config h now c → HasMemory c
     → kept h c.source c.cookie now ≡ None → asked config c.too_long c.pairs ≡ r → Answers config h c r
 answers config h now c r fits fed none is =
     let due : answer_of c ≡ spelled config c.cookie (answering config h c) =
-    fits.answers ∙ ap (answering_unless config h c) none ∙ ap (λ (b : Bool). unless_starved config c.cookie b (answering config h c)) fed in
+    fits.answers ∙ ap (answering_unless config h c) none ∙ ap (λ (b : Bool). unless_out_of_memory config c.cookie b (answering config h c)) fed in
     let answer : answer_of c ≡ spelled config c.cookie (answering_asked config h c r) =
     due ∙ ap (λ (s : Result Said ErrorCode). spelled config c.cookie (answering_asked config h c s)) is in
     record {
@@ -124,7 +124,7 @@ one_kept config h now c d f g one fed told None is_c is_d =
     (answers config h now c (asked config c.too_long c.pairs) f fed.left is_c refl)
     (answers config h now d (asked config c.too_long c.pairs) g fed.right is_d (sym (same_asked config h now c d f g one fed.left fed.right is_c is_d)))
 
-pub one_turn : (config : Config) (h : List BoardEntry) (now : ℕ) (c d : Control) → FitsControl config h now c → FitsControl config h now d → AreOfOne c d → IsFed c → IsFed d
+pub one_turn : (config : Config) (h : List BoardEntry) (now : ℕ) (c d : Control) → FitsControl config h now c → FitsControl config h now d → AreOfOne c d → HasMemory c → HasMemory d
     → GiveAlike c d → AreOne c d
 one_turn config h now c d f g one fed_c fed_d alike =
     one_kept config h now c d f g one (record { left = fed_c; right = fed_d; opens = alike.opens; draws = alike.draws }) alike.reports (kept h c.source c.cookie now) refl

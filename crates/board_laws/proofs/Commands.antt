@@ -1,4 +1,4 @@
--- Two turns of one command, which the outside answered alike, are answered alike and do the same.
+-- Two turns of one command in which the devices returned the same have the same reply and do the same.
 use Rattle.std.proofs.Common.{◌≡◌, ◌∙◌, sym, ap, subst, refl, ℕ, ◌⊎◌, inl, inr, List, [], length, Bool, true, false, cond, not, Option, Some, None, Result, Ok, Err}
 use Rattle.std.specs.Prelude.{nat_le, ◌&&◌}
 use Rattle.std.specs.List.{list_any}
@@ -23,7 +23,7 @@ use Rattle.board_laws.proofs.Spelled.{offer_once, answer_once}
 use Rattle.board_laws.proofs.Faults.{Chosen, offer_split, answer_split}
 use Rattle.board_laws.proofs.Given.{Fed, nothing_same, report_same, leased_once}
 
--- the outside gave the same, and the answers are one
+-- the devices returned the same, and the results are one
 pub record Same (a b : Given) (x y : Answering) : Type 0 where
   pub given : a ≡ b
   pub answer : x ≡ y

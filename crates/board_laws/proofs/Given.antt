@@ -1,4 +1,4 @@
--- What the outside gave is the same in two turns of one plan, which it answered alike.
+-- What the devices returned is the same in two turns of one plan, if it is as far as both called them.
 use Rattle.std.proofs.Common.{◌≡◌, ◌∙◌, sym, ap, subst, refl, ℕ, zero, suc, ◌+◌, ◌*◌, ◌<◌, List, [], ◌∷◌, ◌++◌, map, length, replicate, Bool, true, false, cond, not, Option, Some, None, IsSome, arith}
 use Rattle.std.specs.List.{list_any}
 use Rattle.relay_outside.specs.declared.keys.KeyCall.{KeyCall}
@@ -15,18 +15,18 @@ use Rattle.board_laws.specs.Alike.{Agree, GiveAlike, Follows, GivenBy}
 -- Part by part.
 
 abbrev made : Bool → List Bool → List (List ℕ) → Bool → Option (List LegReport) → Given
-made starved opens draws failed report = record { starved = starved; opens = opens; draws = draws; draw_failed = failed; report = report }
+made out_of_memory opens draws failed report = record { out_of_memory = out_of_memory; opens = opens; draws = draws; draw_failed = failed; report = report }
 
-pub same_given : (a b : Given) → a.starved ≡ b.starved → a.opens ≡ b.opens → a.draws ≡ b.draws → a.draw_failed ≡ b.draw_failed → a.report ≡ b.report → a ≡ b
-same_given a b starved opens draws failed report =
-    ap (λ (x : Bool). made x a.opens a.draws a.draw_failed a.report) starved
-    ∙ ap (λ (x : List Bool). made b.starved x a.draws a.draw_failed a.report) opens
-    ∙ ap (λ (x : List (List ℕ)). made b.starved b.opens x a.draw_failed a.report) draws
-    ∙ ap (λ (x : Bool). made b.starved b.opens b.draws x a.report) failed
-    ∙ ap (λ (x : Option (List LegReport)). made b.starved b.opens b.draws b.draw_failed x) report
+pub same_given : (a b : Given) → a.out_of_memory ≡ b.out_of_memory → a.opens ≡ b.opens → a.draws ≡ b.draws → a.draw_failed ≡ b.draw_failed → a.report ≡ b.report → a ≡ b
+same_given a b out_of_memory opens draws failed report =
+    ap (λ (x : Bool). made x a.opens a.draws a.draw_failed a.report) out_of_memory
+    ∙ ap (λ (x : List Bool). made b.out_of_memory x a.draws a.draw_failed a.report) opens
+    ∙ ap (λ (x : List (List ℕ)). made b.out_of_memory b.opens x a.draw_failed a.report) draws
+    ∙ ap (λ (x : Bool). made b.out_of_memory b.opens b.draws x a.report) failed
+    ∙ ap (λ (x : Option (List LegReport)). made b.out_of_memory b.opens b.draws b.draw_failed x) report
 
 -- nothing was asked but perhaps a report
-pub nothing_same : (a b : Given) → a.starved ≡ false → b.starved ≡ false → GivesNothing a → GivesNothing b → a.report ≡ b.report → a ≡ b
+pub nothing_same : (a b : Given) → a.out_of_memory ≡ false → b.out_of_memory ≡ false → GivesNothing a → GivesNothing b → a.report ≡ b.report → a ≡ b
 nothing_same a b fed_a fed_b m n report =
     same_given a b (fed_a ∙ sym fed_b) (m.no_opens ∙ sym n.no_opens) (m.no_draws ∙ sym n.no_draws) (m.none_failed ∙ sym n.none_failed) report
 
@@ -35,7 +35,7 @@ report_same (Some x) (Some y) m n same = ap Some (same x y refl refl)
 report_same None q m n same = cc (m)
 report_same (Some x) None m n same = cc (n)
 
--- Answers that agree.
+-- Results that agree.
 
 pub agree_back : {A : Type 0} (xs ys : List A) → Agree xs ys → Agree ys xs
 agree_back [] [] g = tt
@@ -48,7 +48,7 @@ follow_agree rule n [] ys f g = tt
 follow_agree rule n (x ∷ xs) [] f g = tt
 follow_agree rule n (x ∷ xs) (y ∷ ys) f g = (f.0 ∙ sym g.0, follow_agree rule (n + 1) xs ys f.1 g.1)
 
--- answers by one rule agree
+-- results by one rule agree
 pub ruled_alike : (opening : ℕ → Bool) (drawing : ℕ → KeyCall) (report : List LegReport) (c d : Control) → GivenBy opening drawing report c.given → GivenBy opening drawing report d.given → GiveAlike c d
 ruled_alike opening drawing report c d f g = record {
   opens = follow_agree opening 0 c.given.opens d.given.opens f.opens g.opens;
@@ -56,10 +56,10 @@ ruled_alike opening drawing report c d f g = record {
   reports = λ of x y is_c is_d p q. f.reports x p ∙ sym (g.reports y q);
 }
 
--- of two turns of one plan: memory was not short, and as far as both asked, they were answered alike
+-- of two turns of one plan: neither ran out of memory, and as far as both called, the devices returned the same
 pub record Fed (a b : Given) : Type 0 where
-  pub left : a.starved ≡ false
-  pub right : b.starved ≡ false
+  pub left : a.out_of_memory ≡ false
+  pub right : b.out_of_memory ≡ false
   pub opens : Agree a.opens b.opens
   pub draws : a.opens ≡ b.opens → Agree (draws_of a) (draws_of b)
 

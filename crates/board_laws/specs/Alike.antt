@@ -1,4 +1,4 @@
--- Two turns of the board of one datagram, which the outside answered alike.
+-- Two turns of the board of one datagram, in which the devices returned the same.
 use Rattle.std.specs.Prelude.{◌≡◌, ℕ, ◌+◌, Bool, false, List, [], ◌∷◌, Some}
 use Rattle.relay_outside.specs.declared.keys.KeyCall.{KeyCall}
 use Rattle.port_pool.specs.declared.reports.LegReport.{LegReport}
@@ -11,9 +11,9 @@ pub record AreOfOne (c d : Control) : Type 0 where
   pub cookie : c.cookie ≡ d.cookie
   pub body : c.body ≡ d.body
 
--- memory was not short
-abbrev pub IsFed : Control → Type 0
-IsFed c = c.given.starved ≡ false
+-- memory did not run out
+abbrev pub HasMemory : Control → Type 0
+HasMemory c = c.given.out_of_memory ≡ false
 
 -- as far as both lists go, they are the same: one begins with the other
 abbrev pub Agree : {A : Type 0} → List A → List A → Type 0
@@ -21,8 +21,8 @@ Agree [] ys = Unit {0}
 Agree (x ∷ xs) [] = Unit {0}
 Agree (x ∷ xs) (y ∷ ys) = (x ≡ y) × Agree xs ys
 
--- The outside answered two turns alike: as far as both opened ports, the answers were the same; where these are the same, so were those of the
--- draws, each a key or a failure, as far as both drew; and where both asked after one call, its report was the same
+-- The devices returned the same in two turns: as far as both opened ports, the results were the same; if these are the same, so were those of the
+-- draws, each a key or a failure, as far as both drew; and if both asked after one call, its report was the same
 pub record GiveAlike (c d : Control) : Type 0 where
   pub opens : Agree c.given.opens d.given.opens
   pub draws : c.given.opens ≡ d.given.opens → Agree (draws_of c.given) (draws_of d.given)
@@ -33,13 +33,13 @@ abbrev pub Follows : {A : Type 0} → (ℕ → A) → ℕ → List A → Type 0
 Follows rule n [] = Unit {0}
 Follows rule n (x ∷ xs) = (x ≡ rule n) × Follows rule (n + 1) xs
 
--- the answers of openings and of draws are those of two rules, and a report is this one
+-- the results of openings and of draws follow two rules, and a report is this one
 pub record GivenBy (opening : ℕ → Bool) (drawing : ℕ → KeyCall) (report : List LegReport) (given : Given) : Type 0 where
   pub opens : Follows opening 0 given.opens
   pub draws : Follows drawing 0 (draws_of given)
   pub reports : (x : List LegReport) → given.report ≡ Some x → x ≡ report
 
--- the outside gave the same, the reply is the same, and the same was done
+-- the devices returned the same, the reply is the same, and the same was done
 pub record AreOne (c d : Control) : Type 0 where
   pub given : c.given ≡ d.given
   pub reply : c.reply ≡ d.reply

@@ -1,7 +1,7 @@
-//! Laws of the board's turns: what a datagram is answered and does is determined by the board's history before it, by its bytes, and by
-//! what the outside answered.
+//! Laws of the board's turns: the reply to a datagram and what it does are determined by the board's history before it, by its bytes, and
+//! by what the devices returned.
 //!
-//! Module `law` states it. `specs/Alike.antt` says when two turns were answered alike by the outside, and when they are one. There is nothing
+//! Module `law` states it. `specs/Alike.antt` says when the devices returned the same to two turns, and when these are the same. There is nothing
 //! to run here, and nothing stands on this crate.
 #![tactic(auto)]
 

@@ -1,4 +1,4 @@
--- Live calls with what their cells answered: which were asked, and which of them are due.
+-- Live calls with what their cells returned: which were asked, and which of them are due.
 use Rattle.std.proofs.Common.{◌≡◌, ◌∙◌, refl, sym, ap, subst, ℕ, suc, ◌+◌, Bool, true, false, not, cond, List, [], ◌∷◌, ◌++◌, map, filter, length, arith}
 use Rattle.std.proofs.lemmas.List.{map-append}
 use Rattle.std.specs.List.{flat_map}
@@ -66,7 +66,7 @@ named_case answers a once i false true d n =
 pub named : (answers : List (Call × Bool)) (a : Call × Bool) → Once (numbers_of (asked_of answers)) → In a answers → has (numbers_of (due_of answers)) a.0.number ≡ a.1
 named answers a once i = named_case answers a once i a.1 (has (numbers_of (due_of answers)) a.0.number) refl refl
 
--- Sieves and lists over the calls that were asked, by their answers.
+-- Sieves and lists over the calls that were asked, by what their cells returned.
 
 sieve_case : (a : Call × Bool) (kept : List Call) (answers : List (Call × Bool)) → kept ≡ due_of answers → (b : Bool) → b ≡ a.1
     → cond b (a.0 ∷ kept) kept ≡ map (λ (x : Call × Bool). x.0) (cond b (a ∷ filter (λ (x : Call × Bool). x.1) answers) (filter (λ (x : Call × Bool). x.1) answers))

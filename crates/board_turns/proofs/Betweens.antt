@@ -41,7 +41,7 @@ use Rattle.relay_core.proofs.Given.{given_board}
 use Rattle.relay_core.proofs.Gains.{turn_made}
 use Rattle.relay_core.proofs.Known.{IsKnown, known_sound, known_turn}
 use Rattle.media_ports.specs.Held.{TellsHeld}
-use Rattle.nested_steps.specs.declared.nest.Nest.{Nest}
+use Rattle.nested_steps.specs.declared.board_turn.BoardEntryId.{BoardEntryId}
 use Rattle.nested_steps.specs.Nesting.{MayNest}
 use Rattle.nested_steps.proofs.Nesting.{parts_count, above_rows, same_again}
 use Rattle.board_turns.specs.Acting.{InTurn}
@@ -189,27 +189,27 @@ at_last config h new shows =
 
 module _ {M I O T : Type 0} {g : _} where
   -- A datagram's turn was taken and its board advanced to the moment of the turn
-  pub in_turn : (config : Config) (turns : Turns M (Part I O) Made T) (old mid : Hand M (Part I O) Made T g) (turn : Turn M (Part I O) Made T) (nest : Nest)
+  pub in_turn : (config : Config) (turns : Turns M (Part I O) Made T) (old mid : Hand M (Part I O) Made T g) (turn : Turn M (Part I O) Made T) (entry_id : BoardEntryId)
       (was now : board.Board) (handed : ℕ) (told : Option (List PortCall)) → entries mid ≡ entries old → Begins config turns mid turn
-      → nest.number ≡ front_of turn → state_of turn ≡ part.Board was
-      → ((config : Config) (v : View) → Shows config was v → Shows config now (at_moment v handed) × (nest.moment ≡ max handed v.moment))
-      → TellsHeld config told (leg_pairs (held (board_of (made_by old)))) → InTurn config turns mid nest now told
-  in_turn config turns old mid turn nest was now handed told same begins number_is state_is advanced opens =
+      → entry_id.number ≡ front_of turn → state_of turn ≡ part.Board was
+      → ((config : Config) (v : View) → Shows config was v → Shows config now (at_moment v handed) × (entry_id.moment ≡ max handed v.moment))
+      → TellsHeld config told (leg_pairs (held (board_of (made_by old)))) → InTurn config turns mid entry_id now told
+  in_turn config turns old mid turn entry_id was now handed told same begins number_is state_is advanced opens =
       let n = front_of turn in
       let h = board_history (made_by mid) n in
       let stood : BoardIs {I = I} {O = O} config (part.Board was) h = subst (λ (x : Part I O). BoardIs config x h) state_is begins.board in
       let a = advanced config (view_of config h) stood.1 in
-      let moment : nest.moment ≡ max handed (last_moment h) = a.1 in
+      let moment : entry_id.moment ≡ max handed (last_moment h) = a.1 in
       let whole = begins_whole config turns old mid turn same begins in
-      let q : n ≡ nest.number = sym number_is in
+      let q : n ≡ entry_id.number = sym number_is in
       record {
         may = begins.may;
         above = subst (λ (k : ℕ). IsAbove (made_by mid) 0 k) q begins.above;
         low = subst (λ (k : ℕ). k < 2 ^ 56) q begins.low;
         orderly = begins.orderly;
-        timely = subst (λ (k : ℕ). last_moment (board_history (made_by mid) k) ≤ nest.moment) q (omega (arith, moment));
-        shows = subst (λ (k : ℕ). Shows config now (at_moment (view_of config (board_history (made_by mid) k)) nest.moment)) q
-            (at_turn config h now handed nest.moment moment a.0);
+        timely = subst (λ (k : ℕ). last_moment (board_history (made_by mid) k) ≤ entry_id.moment) q (omega (arith, moment));
+        shows = subst (λ (k : ℕ). Shows config now (at_moment (view_of config (board_history (made_by mid) k)) entry_id.moment)) q
+            (at_turn config h now handed entry_id.moment moment a.0);
         opens = subst (λ (k : ℕ). TellsHeld config told (leg_pairs (held (board_history (made_by mid) k)))) q
             (subst (λ (l : List BoardEntry). TellsHeld config told (leg_pairs (held l))) (sym whole) opens);
       }

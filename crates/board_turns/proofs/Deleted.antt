@@ -21,7 +21,7 @@ use Rattle.relay_core.specs.Made.{Made}
 use Rattle.relay_core.specs.Scripts.{script, script_of, script_of_act, ending}
 use Rattle.relay_core.specs.Turning.{made_by}
 use Rattle.relay_core.proofs.Turns.{nothing_more}
-use Rattle.nested_steps.specs.declared.nest.Nest.{Nest}
+use Rattle.nested_steps.specs.declared.board_turn.BoardEntryId.{BoardEntryId}
 use Rattle.board_turns.specs.Closing.{pairs_left}
 use Rattle.board_turns.specs.Ending.{CanEnd, leg_pairs, with_end}
 use Rattle.board_turns.specs.Acting.{acted, InTurn}
@@ -115,13 +115,13 @@ deleted_acts h e of v is = ap (λ (a : Act). acted h e a v) is
 
 module _ {M I O T : Type 0} {g : _} where
   -- the call may be ended for any entry that ends it
-  pub may_delete : (config : Config) (turns : Turns M (Part I O) Made T) (hand : Hand M (Part I O) Made T g) (nest : Nest) (board : Board) (told : Option (List PortCall))
-      (e : BoardEntry) (of : Call) → InTurn config turns hand nest board told → In of (live (board_history (made_by hand) nest.number)) → In of (ended_by e)
-      → CanEnd config (made_by hand) board told of.number of (closed_of (board_history (made_by hand) nest.number) e of)
-  may_delete config turns hand nest board told e of turn alive ends =
+  pub may_delete : (config : Config) (turns : Turns M (Part I O) Made T) (hand : Hand M (Part I O) Made T g) (entry_id : BoardEntryId) (board : Board) (told : Option (List PortCall))
+      (e : BoardEntry) (of : Call) → InTurn config turns hand entry_id board told → In of (live (board_history (made_by hand) entry_id.number)) → In of (ended_by e)
+      → CanEnd config (made_by hand) board told of.number of (closed_of (board_history (made_by hand) entry_id.number) e of)
+  may_delete config turns hand entry_id board told e of turn alive ends =
       let l = made_by hand in
-      let h = board_history l nest.number in
+      let h = board_history l entry_id.number in
       subst (λ (k : List Entry). CanEnd config k board told of.number of (closed_of h e of)) (nothing_more l)
-      (next_can config l [] turn.orderly nest.number e [] of board told turn.above alive ends (λ i. elim i [ ]) (λ d i. elim i [ ]) refl
-      (at_moment (view_of config h) nest.moment) refl refl refl turn.shows
+      (next_can config l [] turn.orderly entry_id.number e [] of board told turn.above alive ends (λ i. elim i [ ]) (λ d i. elim i [ ]) refl
+      (at_moment (view_of config h) entry_id.moment) refl refl refl turn.shows
       (told_alike config told (leg_pairs (held h)) (pairs_left [] (leg_pairs (held h))) (left_none (leg_pairs (held h))) turn.opens))

@@ -133,7 +133,7 @@ module _ {M S T : Type 0} {g : _} where
       (still_can config (made_by old) ns board told of.number of legs can (λ x i p. ap (λ (v : Owed). lasts v.event) (is x i))
       (λ x i pair p. let place = ap (λ (v : Owed). v.place) (is x i) in omega (arith, place, cell_is, high, p))))
 
--- What the cell of a hand with all parts answers follows from its whole history.
+-- What the cell of a hand with all parts returns follows from its whole history.
 
 -- the answer for one history of a cell is that for each
 answer_same : {O : Type 0} (config : Config) (old new : cell.Cell O) (h k : List CellEntry) (now : ℕ) (due : Bool) → CellFor config old h → CellFor config old k

@@ -1,4 +1,4 @@
--- The live calls in order, of which the first so many have been asked, and those that were due have ended.
+-- The live calls in order, of which those up to a number have been asked, and those that were due have ended.
 use Rattle.std.proofs.Common.{◌≡◌, ◌∙◌, refl, sym, ap, subst, ℕ, zero, suc, ◌+◌, ◌⊎◌, inl, inr, ◌≤◌, Bool, true, false, cond, not, List, [], ◌∷◌, ◌++◌, Option, Some, filter, take, drop, length, length-append, arith}
 use Rattle.std.proofs.Math.Seq.{take-length}
 use Rattle.std.proofs.lemmas.List.{length-map, map-append, take-map, take-append-drop}
@@ -39,7 +39,7 @@ use Rattle.relay_core.proofs.Histories.{good_history}
 use Rattle.relay_core.proofs.Turns.{filter_append, nothing_more}
 use Rattle.media_ports.specs.Held.{OpensHeld, TellsHeld}
 use Rattle.media_ports.proofs.Leased.{take_next, drop_next}
-use Rattle.nested_steps.specs.declared.nest.Nest.{Nest}
+use Rattle.nested_steps.specs.declared.board_turn.BoardEntryId.{BoardEntryId}
 use Rattle.nested_steps.proofs.Nesting.{gains_more}
 use Rattle.board_turns.specs.Acting.{InTurn}
 use Rattle.board_turns.specs.Closing.{pairs_left}
@@ -110,7 +110,7 @@ asked_box config l o n gone of a leg i living out k w (here q) at =
 asked_box config l o n gone of a leg i living out k w (there j) at =
     box_case config l o n (stop_entry (board_history l n)) gone of a.0 leg i living out k w (in_ending config (board_history l n) a.0 a.1 w j) at
 
--- Answers of live calls.
+-- What the cells of live calls returned.
 
 asked_once : (config : Config) (h : List BoardEntry) (answers : List (Call × Bool)) (i : ℕ) → IsFitting config h → asked_of answers ≡ take i (live h)
     → Once (numbers_of (asked_of answers))
@@ -167,16 +167,16 @@ opens_more config h told gone of false opens = opens
 
 module _ {M I O T : Type 0} {g : _} where
   -- none has been asked
-  pub none_asked : (config : Config) (turns : Turns M (Part I O) Made T) (hand : Hand M (Part I O) Made T g) (nest : Nest) (board : Board) (told : Option (List PortCall))
-      → InTurn config turns hand nest board told
-      → Asked config (board_history (made_by hand) nest.number) nest.number nest.moment hand hand board told 0 0
-  none_asked config turns hand nest board told turn =
-      let h = board_history (made_by hand) nest.number in
+  pub none_asked : (config : Config) (turns : Turns M (Part I O) Made T) (hand : Hand M (Part I O) Made T g) (entry_id : BoardEntryId) (board : Board) (told : Option (List PortCall))
+      → InTurn config turns hand entry_id board told
+      → Asked config (board_history (made_by hand) entry_id.number) entry_id.number entry_id.moment hand hand board told 0 0
+  none_asked config turns hand entry_id board told turn =
+      let h = board_history (made_by hand) entry_id.number in
       record {
         answers = [];
         are = no_calls (live h);
         count = refl;
-        gained = gains_nothing nest.number nest.moment hand;
+        gained = gains_nothing entry_id.number entry_id.moment hand;
         shows = turn.shows;
         opens = told_alike config told (leg_pairs (held h)) (pairs_left [] (leg_pairs (held h))) (left_none (leg_pairs (held h))) turn.opens;
         due = λ all a i. elim i [ ];
@@ -268,7 +268,7 @@ module _ {M I O T : Type 0} {g : _} where
         due = λ all a k. by_place all a (in_append asked.answers ((of, due) ∷ []) k);
       }
     where
-      -- the answer of the one that was asked now
+      -- what the cell of the one that was asked now returned
       its_due : parts old ≡ 1024 → IsDueBy config (made_by old) of.cell moment due
       its_due all =
           due_before config (made_by old) (list_of asked.gained.rows) of.cell moment due (asked_elsewhere config number moment old now before told i ended of o at asked)

@@ -6,7 +6,7 @@ use Rattle.turn_table.specs.declared.hands.Turns.{Turns}
 use Rattle.turn_table.specs.declared.hands.Hand.{Hand}
 use Rattle.offer_answer.specs.Rounds as round
 use Rattle.call_board.specs.declared.board.Board.{Board}
-use Rattle.call_board.specs.Acts.{Lease, Offer, Act, Repeated, Starved, Failed, Undone, Offered, Answered, Deleted, Queried, Told, BoardEntry, act}
+use Rattle.call_board.specs.Acts.{Lease, Offer, Act, Repeated, OutOfMemory, Failed, Undone, Offered, Answered, Deleted, Queried, Told, BoardEntry, act}
 use Rattle.call_board.specs.Pairs.{held}
 use Rattle.call_board.specs.Boards.{Shows}
 use Rattle.call_board.specs.Views.{View, view_of, last_moment, at_moment, with_leases, with_returned, without_call}
@@ -18,7 +18,7 @@ use Rattle.relay_core.specs.Scripts.{script}
 use Rattle.relay_core.specs.Turning.{GainsNested, IsAbove, made_by}
 use Rattle.relay_core.specs.declared.part.Part.{Part}
 use Rattle.media_ports.specs.Held.{TellsHeld}
-use Rattle.nested_steps.specs.declared.nest.Nest.{Nest}
+use Rattle.nested_steps.specs.declared.board_turn.BoardEntryId.{BoardEntryId}
 use Rattle.nested_steps.specs.Nesting.{MayNest}
 use Rattle.board_turns.specs.Ending.{leg_pairs}
 
@@ -39,7 +39,7 @@ acted_offer h e o v =
 
 abbrev pub acted : List BoardEntry → BoardEntry → Act → View → View
 acted h e Repeated v = v
-acted h e Starved v = v
+acted h e OutOfMemory v = v
 acted h e (Failed code) v = v
 acted h e (Undone code leases draws) v = acted_undone leases draws v
 acted h e (Offered o) v = acted_offer h e o v
@@ -53,18 +53,18 @@ acted h e Told v = v
 module _ {M I O T : Type 0} {g : _} where
   -- The main hand has the board's turn of this number and has made no step in it: the board stands for the history that the hand's
   -- list has of it, at the moment of the turn, and, where the port maker tells, just the ports of the held pairs are open
-  pub record InTurn (config : Config) (turns : Turns M (Part I O) Made T) (hand : Hand M (Part I O) Made T g) (nest : Nest) (board : Board) (told : Option (List PortCall)) : Type 0 where
+  pub record InTurn (config : Config) (turns : Turns M (Part I O) Made T) (hand : Hand M (Part I O) Made T g) (entry_id : BoardEntryId) (board : Board) (told : Option (List PortCall)) : Type 0 where
     pub may : MayNest config turns hand
-    pub above : IsAbove (made_by hand) 0 nest.number
-    pub low : nest.number < 2 ^ 56
+    pub above : IsAbove (made_by hand) 0 entry_id.number
+    pub low : entry_id.number < 2 ^ 56
     pub orderly : Orderly config (made_by hand)
-    pub timely : last_moment (board_history (made_by hand) nest.number) ≤ nest.moment
-    pub shows : Shows config board (at_moment (view_of config (board_history (made_by hand) nest.number)) nest.moment)
-    pub opens : TellsHeld config told (leg_pairs (held (board_history (made_by hand) nest.number)))
+    pub timely : last_moment (board_history (made_by hand) entry_id.number) ≤ entry_id.moment
+    pub shows : Shows config board (at_moment (view_of config (board_history (made_by hand) entry_id.number)) entry_id.moment)
+    pub opens : TellsHeld config told (leg_pairs (held (board_history (made_by hand) entry_id.number)))
 
   -- The turn did what the entry owes: the hand's list gained its nested entries, the board keeps what the entry's act makes, and
   -- just the ports of the pairs that are held then are open
-  pub record DoesAct (config : Config) (old new : Hand M (Part I O) Made T g) (nest : Nest) (e : BoardEntry) (board : Board) (told : Option (List PortCall)) : Type 0 where
-    pub gained : GainsNested nest.number nest.moment (script config (board_history (made_by old) nest.number) e) old new
-    pub shows : Shows config board (acted (board_history (made_by old) nest.number) e (act e) (at_moment (view_of config (board_history (made_by old) nest.number)) nest.moment))
-    pub opens : TellsHeld config told (leg_pairs (held (e ∷ board_history (made_by old) nest.number)))
+  pub record DoesAct (config : Config) (old new : Hand M (Part I O) Made T g) (entry_id : BoardEntryId) (e : BoardEntry) (board : Board) (told : Option (List PortCall)) : Type 0 where
+    pub gained : GainsNested entry_id.number entry_id.moment (script config (board_history (made_by old) entry_id.number) e) old new
+    pub shows : Shows config board (acted (board_history (made_by old) entry_id.number) e (act e) (at_moment (view_of config (board_history (made_by old) entry_id.number)) entry_id.moment))
+    pub opens : TellsHeld config told (leg_pairs (held (e ∷ board_history (made_by old) entry_id.number)))

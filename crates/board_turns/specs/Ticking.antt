@@ -32,7 +32,7 @@ use Rattle.board_turns.specs.Ending.{CanEnd, ending_of, leg_pairs, with_end}
 abbrev pub tick_at : ℕ → List Call → BoardEntry
 tick_at moment calls = record { moment = moment; event = Tick calls }
 
--- the same after that history, where this moment is handed in: its own is none before that of the last entry
+-- the same after that history, where this moment is handed in: its own is not before that of the last entry
 abbrev pub tick_entry : List BoardEntry → ℕ → List Call → BoardEntry
 tick_entry h now calls = tick_at (max now (last_moment h)) calls
 
@@ -77,7 +77,7 @@ module _ {M I O T : Type 0} {g : _} where
       parts hand ≡ 1024 → (c : Call) → In c (live h) → IsDueBy config (made_by hand) c.cell moment (has (map (λ (d : Call). d.number) calls) c.number)
 
   -- In the board's turn of this number, which has this history before it and this moment, each live call was asked in order, and just
-  -- these, so many of them, were due and ended: the list gained what a tick owes that ends these, and just the ports of the pairs that
+  -- these, `count` of them, were due and ended: the list gained what a tick owes that ends these, and just the ports of the pairs that
   -- are held then are open
   pub record EndsDue (config : Config) (h : List BoardEntry) (number moment : ℕ) (old new : Hand M (Part I O) Made T g) (count : ℕ) (told : Option (List PortCall)) (calls : List Call) : Type 0 where
     pub named : calls ≡ named_live h calls
@@ -86,8 +86,8 @@ module _ {M I O T : Type 0} {g : _} where
     pub count_is : count ≡ length calls
     pub opens : TellsHeld config told (leg_pairs (held (tick_at moment calls ∷ h)))
 
-  -- The hand's list gained a whole turn of the board, that of a tick at the moment that was handed in, or at the board's last one, where
-  -- that is later, which ended so many calls
+  -- The hand's list gained a whole turn of the board, that of a tick at the moment that was handed in, or at the board's last one if
+  -- that is later, which ended `count` calls
   pub record Ticks (config : Config) (old new : Hand M (Part I O) Made T g) (now count : ℕ) : Type 0 where
     pub calls : List Call
     pub makes : MakesTurn config old new (tick_entry (board_of (made_by old)) now calls)

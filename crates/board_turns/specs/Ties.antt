@@ -33,7 +33,7 @@ module _ {T : Type 0} where
     pub takes : AreTakesTied config rows calls
     pub sends : AreSendsTied config rows calls
 
-  -- Rows came behind the earlier ones, and, where the port maker tells, its calls meanwhile are tied to them
+  -- Rows were appended, and, where the port maker tells, its calls meanwhile are tied to them
   pub record Ties (config : Config) (told told_now : Option (List PortCall)) (rows rows_now : List (table.Entry Made T)) : Type 0 where
     pub more : List (table.Entry Made T)
     pub rows_are : rows_now ≡ rows ++ more
@@ -46,7 +46,7 @@ module _ {T : Type 0} where
     pub calls : Gained told told_now (λ calls. All (IsOfPair config) calls × AreTakesTied config more calls)
     pub no_legs : (pair : ℕ) (half : Half) → outs_told more pair half ≡ Some []
 
-  -- rows came behind the earlier ones, by which just these legs went from a cell, and no box was shut
+  -- rows were appended by which just these legs went from a cell, and no box was shut
   pub record LegsLeave {O : Type 0} (told : O → EndTold OutCall) (gone : List (Lease × O × O)) (rows rows_now : List (table.Entry Made T)) : Type 0 where
     pub more : List (table.Entry Made T)
     pub rows_are : rows_now ≡ rows ++ more

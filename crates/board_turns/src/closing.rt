@@ -36,7 +36,7 @@ fn close_leg<P: PortMaker, R: Wait>(
     requires home { GoneHome P.Out.told turn.now.config.now (leg ∷ []) }
     ensures same { IsSameHand hand.old hand.new × SameTurns hand.old hand.new }
     ensures may { MayNest turn.now.config.now turn.now.turns.now hand.new }
-    ensures gained { GainsNested turn.now.nest.number turn.now.nest.moment (closings_of turn.now.config.now (leg ∷ [])) hand.old hand.new }
+    ensures gained { GainsNested turn.now.entry_id.number turn.now.entry_id.moment (closings_of turn.now.config.now (leg ∷ [])) hand.old hand.new }
     ensures returned { (config : Config) (v : View) → Shows config board.old v → Shows config board.new (with_returned v (leg.0.pair ∷ [])) }
     ensures calls { KeepsCalls board.old board.new }
     ensures replies { KeepsReplies board.old board.new }
@@ -74,7 +74,7 @@ pub fn close_legs<P: PortMaker, R: Wait>(
     requires home { GoneHome P.Out.told turn.now.config.now gone.old }
     ensures same { IsSameHand hand.old hand.new × SameTurns hand.old hand.new }
     ensures may { MayNest turn.now.config.now turn.now.turns.now hand.new }
-    ensures gained { GainsNested turn.now.nest.number turn.now.nest.moment (closings_of turn.now.config.now gone.old) hand.old hand.new }
+    ensures gained { GainsNested turn.now.entry_id.number turn.now.entry_id.moment (closings_of turn.now.config.now gone.old) hand.old hand.new }
     ensures returned { (config : Config) (v : View) → Shows config board.old v → Shows config board.new (with_returned v (pairs_in (leases_of gone.old))) }
     ensures calls { KeepsCalls board.old board.new }
     ensures replies { KeepsReplies board.old board.new }

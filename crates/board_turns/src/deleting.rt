@@ -33,13 +33,13 @@ pub fn delete_call<P: PortMaker, R: Wait>(
     gone: &mut Gone<P::Out>,
     call: u64,
 )
-    requires turn { InTurn turn.now.config.now turn.now.turns.now hand.old turn.now.nest board.old (P.told ports.old) }
-    requires live { (of : Call) × In of (live (board_history (made_by hand.old) turn.now.nest.number)) × (of.number ≡ call) }
+    requires turn { InTurn turn.now.config.now turn.now.turns.now hand.old turn.now.entry_id board.old (P.told ports.old) }
+    requires live { (of : Call) × In of (live (board_history (made_by hand.old) turn.now.entry_id.number)) × (of.number ≡ call) }
     requires empty { gone.old ≡ [] }
     ensures same { IsSameHand hand.old hand.new × SameTurns hand.old hand.new }
     ensures may { MayNest turn.now.config.now turn.now.turns.now hand.new }
-    ensures does { (e : BoardEntry) (of : Call) → act e ≡ Deleted of → of.number ≡ call → In of (live (board_history (made_by hand.old) turn.now.nest.number)) →
-        e.moment ≡ turn.now.nest.moment → DoesAct turn.now.config.now hand.old hand.new turn.now.nest e board.new (P.told ports.new) }
+    ensures does { (e : BoardEntry) (of : Call) → act e ≡ Deleted of → of.number ≡ call → In of (live (board_history (made_by hand.old) turn.now.entry_id.number)) →
+        e.moment ≡ turn.now.entry_id.moment → DoesAct turn.now.config.now hand.old hand.new turn.now.entry_id e board.new (P.told ports.new) }
     ensures replies { KeepsReplies board.old board.new }
     ensures closes { Gained (P.told ports.old) (P.told ports.new) OpensNone }
     ensures ties { Ties turn.now.config.now (P.told ports.old) (P.told ports.new) (entries hand.old) (entries hand.new) }

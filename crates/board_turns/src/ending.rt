@@ -41,7 +41,7 @@ pub fn end_call<P: PortMaker, R: Wait>(
     ensures same { IsSameHand hand.old hand.new × SameTurns hand.old hand.new }
     ensures may { MayNest turn.now.config.now turn.now.turns.now hand.new }
     ensures gained { (of : Call) (legs : List Holder) → CanEnd turn.now.config.now (made_by hand.old) board.old (P.told ports.old) call of legs →
-        GainsNested turn.now.nest.number turn.now.nest.moment (ending_of turn.now.config.now of legs) hand.old hand.new }
+        GainsNested turn.now.entry_id.number turn.now.entry_id.moment (ending_of turn.now.config.now of legs) hand.old hand.new }
     ensures ended { (of : Call) (legs : List Holder) → CanEnd turn.now.config.now (made_by hand.old) board.old (P.told ports.old) call of legs →
         (config : Config) (v : View) → Shows config board.old v → CellsApart v.calls → Shows config board.new (with_end v call legs) }
     ensures replies { KeepsReplies board.old board.new }

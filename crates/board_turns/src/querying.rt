@@ -33,12 +33,12 @@ pub fn query_call<I: InEnd, O: OutEnd, R: Wait>(
     call: u64,
     out: &mut LegReports,
 )
-    requires turn { (told : Option (List PortCall)) × InTurn turn.now.config.now turn.now.turns.now hand.old turn.now.nest board.now told }
-    requires live { (of : Call) × In of (live (board_history (made_by hand.old) turn.now.nest.number)) × (of.number ≡ call) }
+    requires turn { (told : Option (List PortCall)) × InTurn turn.now.config.now turn.now.turns.now hand.old turn.now.entry_id board.now told }
+    requires live { (of : Call) × In of (live (board_history (made_by hand.old) turn.now.entry_id.number)) × (of.number ≡ call) }
     ensures same { IsSameHand hand.old hand.new × SameTurns hand.old hand.new }
     ensures may { MayNest turn.now.config.now turn.now.turns.now hand.new }
-    ensures gained { (of : Call) → In of (live (board_history (made_by hand.old) turn.now.nest.number)) → of.number ≡ call →
-        GainsNested turn.now.nest.number turn.now.nest.moment (in_cell of (Read out.new) ∷ []) hand.old hand.new }
+    ensures gained { (of : Call) → In of (live (board_history (made_by hand.old) turn.now.entry_id.number)) → of.number ≡ call →
+        GainsNested turn.now.entry_id.number turn.now.entry_id.moment (in_cell of (Read out.new) ∷ []) hand.old hand.new }
     ensures counts { (report : LegReport) → In report out.new → CountsFit report }
     ensures ties { (told : Option (List PortCall)) → Ties turn.now.config.now told told (entries hand.old) (entries hand.new) }
 {

@@ -23,7 +23,7 @@ use crate::ending::end_call;
 use crate::putting::put_entry;
 use call_board::Board;
 use call_cell::Gone;
-use nested_steps::{BoardTurn, Nest};
+use nested_steps::{BoardEntryId, BoardTurn};
 use relay_core::{Part, Relay};
 use relay_outside::{Config, PortMaker};
 use std::marker::Brand;
@@ -42,19 +42,19 @@ pub fn end_live<P: PortMaker, R: Wait>(
     gone: &mut Gone<P::Out>,
 ) -> usize
     requires may { MayNest turn.now.config.now turn.now.turns.now hand.old }
-    requires above { IsAbove (made_by hand.old) 0 turn.now.nest.number }
+    requires above { IsAbove (made_by hand.old) 0 turn.now.entry_id.number }
     requires orderly { Orderly turn.now.config.now (made_by hand.old) }
-    requires board { BoardFor turn.now.config.now board.old (board_history (made_by hand.old) turn.now.nest.number) }
-    requires open { WhereTold (P.told ports.old) (λ calls. OpensHeld turn.now.config.now calls (leg_pairs (held (board_history (made_by hand.old) turn.now.nest.number)))) }
+    requires board { BoardFor turn.now.config.now board.old (board_history (made_by hand.old) turn.now.entry_id.number) }
+    requires open { WhereTold (P.told ports.old) (λ calls. OpensHeld turn.now.config.now calls (leg_pairs (held (board_history (made_by hand.old) turn.now.entry_id.number)))) }
     requires empty { gone.old ≡ [] }
     ensures same { IsSameHand hand.old hand.new × SameTurns hand.old hand.new }
     ensures may { MayNest turn.now.config.now turn.now.turns.now hand.new }
-    ensures gained { let h = board_history (made_by hand.old) turn.now.nest.number in
-        GainsNested turn.now.nest.number turn.now.nest.moment (script turn.now.config.now h (stop_entry h)) hand.old hand.new }
-    ensures board { let h = board_history (made_by hand.old) turn.now.nest.number in BoardFor turn.now.config.now board.new (stop_entry h ∷ h) }
-    ensures count { result ≡ length (live (board_history (made_by hand.old) turn.now.nest.number)) }
+    ensures gained { let h = board_history (made_by hand.old) turn.now.entry_id.number in
+        GainsNested turn.now.entry_id.number turn.now.entry_id.moment (script turn.now.config.now h (stop_entry h)) hand.old hand.new }
+    ensures board { let h = board_history (made_by hand.old) turn.now.entry_id.number in BoardFor turn.now.config.now board.new (stop_entry h ∷ h) }
+    ensures count { result ≡ length (live (board_history (made_by hand.old) turn.now.entry_id.number)) }
     ensures replies { KeepsReplies board.old board.new }
-    ensures open { let h = board_history (made_by hand.old) turn.now.nest.number in
+    ensures open { let h = board_history (made_by hand.old) turn.now.entry_id.number in
         WhereTold (P.told ports.new) (λ calls. OpensHeld turn.now.config.now calls (still_held h (stop_entry h) (live h))) }
     ensures closes { Gained (P.told ports.old) (P.told ports.new) OpensNone }
     ensures ties { Ties turn.now.config.now (P.told ports.old) (P.told ports.new) (entries hand.old) (entries hand.new) }
@@ -104,7 +104,7 @@ fn stop_part<P: PortMaker, R: Wait>(
             let turn = BoardTurn {
                 turns,
                 config,
-                nest: Nest {
+                entry_id: BoardEntryId {
                     number,
                     moment: board.advance(0),
                 },

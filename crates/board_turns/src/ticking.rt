@@ -27,15 +27,15 @@ use crate::ending::end_call;
 use crate::putting::put_entry;
 use call_board::Board;
 use call_cell::Gone;
-use nested_steps::{BoardTurn, Nest, expire_cell};
+use nested_steps::{BoardEntryId, BoardTurn, expire_cell};
 use relay_core::{Part, Relay, Says};
 use relay_outside::{Config, InEnd, OutEnd, PortMaker};
 use std::marker::Brand;
 use std::sync::Wait;
 use turn_table::{Hand, Turn, Turns};
 
-/// Asks the call at this place among the live ones, in order of their creation from 0, whether it is due, and ends it where it is.
-/// Whether it was due is answered.
+/// Asks the call at this place among the live ones, in order of their creation from 0, whether it is due, and ends it if it is.
+/// Returns whether it was due.
 fn expire_call<P: PortMaker, R: Wait>(
     rt: &R,
     turn: &BoardTurn<P::In, P::Out>,
@@ -51,14 +51,14 @@ fn expire_call<P: PortMaker, R: Wait>(
     ensures same { IsSameHand hand.old hand.new × SameTurns hand.old hand.new }
     ensures may { MayNest turn.now.config.now turn.now.turns.now hand.new }
     ensures gained { (of : Call) (legs : List Holder) → CanExpire turn.now.config.now (made_by hand.old) board.old (P.told ports.old) index of legs →
-        GainsNested turn.now.nest.number turn.now.nest.moment (asking_of turn.now.config.now of legs result) hand.old hand.new }
+        GainsNested turn.now.entry_id.number turn.now.entry_id.moment (asking_of turn.now.config.now of legs result) hand.old hand.new }
     ensures asked { (of : Call) (legs : List Holder) → CanExpire turn.now.config.now (made_by hand.old) board.old (P.told ports.old) index of legs →
         (config : Config) (v : View) → Shows config board.old v → CellsApart v.calls → Shows config board.new (with_asked v of.number legs result) }
     ensures open { (of : Call) (legs : List Holder) → CanExpire turn.now.config.now (made_by hand.old) board.old (P.told ports.old) index of legs →
         (held : List ℕ) → WhereTold (P.told ports.old) (λ calls. OpensHeld turn.now.config.now calls held) →
         WhereTold (P.told ports.new) (λ calls. OpensHeld turn.now.config.now calls (if result then pairs_left (leg_pairs legs) held else held)) }
     ensures due { (of : Call) (legs : List Holder) → CanExpire turn.now.config.now (made_by hand.old) board.old (P.told ports.old) index of legs →
-        parts hand.old ≡ 1024 → IsDueBy turn.now.config.now (made_by hand.old) of.cell turn.now.nest.moment result }
+        parts hand.old ≡ 1024 → IsDueBy turn.now.config.now (made_by hand.old) of.cell turn.now.entry_id.moment result }
     ensures replies { KeepsReplies board.old board.new }
     ensures closes { Gained (P.told ports.old) (P.told ports.new) OpensNone }
     ensures ties { Ties turn.now.config.now (P.told ports.old) (P.told ports.new) (entries hand.old) (entries hand.new) }
@@ -74,7 +74,7 @@ fn expire_call<P: PortMaker, R: Wait>(
     true
 }
 
-/// Asks each live call, in order of their creation, whether it is due at the moment of the board's turn, ends each that is, and answers
+/// Asks each live call, in order of their creation, whether it is due at the moment of the board's turn, ends each that is, and returns
 /// how many: the board then stands for its history with the tick that ended these. `gone` is empty before and after. It takes no
 /// memory, and its work is linear in the live calls, but for what ending a call costs.
 pub fn expire_live<P: PortMaker, R: Wait>(
@@ -85,12 +85,12 @@ pub fn expire_live<P: PortMaker, R: Wait>(
     ports: &mut P,
     gone: &mut Gone<P::Out>,
 ) -> usize
-    requires turn { InTurn turn.now.config.now turn.now.turns.now hand.old turn.now.nest board.old (P.told ports.old) }
+    requires turn { InTurn turn.now.config.now turn.now.turns.now hand.old turn.now.entry_id board.old (P.told ports.old) }
     requires empty { gone.old ≡ [] }
     ensures same { IsSameHand hand.old hand.new × SameTurns hand.old hand.new }
     ensures may { MayNest turn.now.config.now turn.now.turns.now hand.new }
-    ensures ends { let h = board_history (made_by hand.old) turn.now.nest.number in
-        (calls : List Call) × EndsDue turn.now.config.now h turn.now.nest.number turn.now.nest.moment hand.old hand.new result (P.told ports.new) calls × BoardFor turn.now.config.now board.new (tick_at turn.now.nest.moment calls ∷ h) }
+    ensures ends { let h = board_history (made_by hand.old) turn.now.entry_id.number in
+        (calls : List Call) × EndsDue turn.now.config.now h turn.now.entry_id.number turn.now.entry_id.moment hand.old hand.new result (P.told ports.new) calls × BoardFor turn.now.config.now board.new (tick_at turn.now.entry_id.moment calls ∷ h) }
     ensures replies { KeepsReplies board.old board.new }
     ensures closes { Gained (P.told ports.old) (P.told ports.new) OpensNone }
     ensures ties { Ties turn.now.config.now (P.told ports.old) (P.told ports.new) (entries hand.old) (entries hand.new) }
@@ -118,16 +118,16 @@ fn tick_part<P: PortMaker, R: Wait>(
     gone: &mut Gone<P::Out>,
 ) -> usize
     requires may { MayNest turn.now.config.now turn.now.turns.now hand.old }
-    requires above { IsAbove (made_by hand.old) 0 turn.now.nest.number }
-    requires low { turn.now.nest.number < 2 ^ 56 }
+    requires above { IsAbove (made_by hand.old) 0 turn.now.entry_id.number }
+    requires low { turn.now.entry_id.number < 2 ^ 56 }
     requires orderly { Orderly turn.now.config.now (made_by hand.old) }
-    requires board { BoardIs turn.now.config.now part.old (board_history (made_by hand.old) turn.now.nest.number) }
-    requires open { TellsHeld turn.now.config.now (P.told ports.old) (leg_pairs (held (board_history (made_by hand.old) turn.now.nest.number))) }
+    requires board { BoardIs turn.now.config.now part.old (board_history (made_by hand.old) turn.now.entry_id.number) }
+    requires open { TellsHeld turn.now.config.now (P.told ports.old) (leg_pairs (held (board_history (made_by hand.old) turn.now.entry_id.number))) }
     requires empty { gone.old ≡ [] }
     ensures same { IsSameHand hand.old hand.new × SameTurns hand.old hand.new }
     ensures may { MayNest turn.now.config.now turn.now.turns.now hand.new }
-    ensures ends { let h = board_history (made_by hand.old) turn.now.nest.number in
-        (calls : List Call) × EndsDue turn.now.config.now h turn.now.nest.number (max turn.now.nest.moment (last_moment h)) hand.old hand.new result (P.told ports.new) calls × BoardIs turn.now.config.now part.new (tick_entry h turn.now.nest.moment calls ∷ h) }
+    ensures ends { let h = board_history (made_by hand.old) turn.now.entry_id.number in
+        (calls : List Call) × EndsDue turn.now.config.now h turn.now.entry_id.number (max turn.now.entry_id.moment (last_moment h)) hand.old hand.new result (P.told ports.new) calls × BoardIs turn.now.config.now part.new (tick_entry h turn.now.entry_id.moment calls ∷ h) }
     ensures closes { Gained (P.told ports.old) (P.told ports.new) OpensNone }
     ensures ties { Ties turn.now.config.now (P.told ports.old) (P.told ports.new) (entries hand.old) (entries hand.new) }
     ensures later { P.faults ports.old ≤ P.faults ports.new }
@@ -138,9 +138,9 @@ fn tick_part<P: PortMaker, R: Wait>(
             let turn = BoardTurn {
                 turns: turn.turns,
                 config: turn.config,
-                nest: Nest {
-                    number: turn.nest.number,
-                    moment: board.advance(turn.nest.moment),
+                entry_id: BoardEntryId {
+                    number: turn.entry_id.number,
+                    moment: board.advance(turn.entry_id.moment),
                 },
             };
             expire_live(rt, &turn, hand, board, ports, gone)
@@ -196,7 +196,7 @@ pub fn tick_turn<P: PortMaker, R: Wait>(
     let board_turn = BoardTurn {
         turns,
         config,
-        nest: Nest {
+        entry_id: BoardEntryId {
             number,
             moment: now,
         },

@@ -40,7 +40,7 @@ fn gifts_of(alloc: Global, calls: u32) -> Option<Vec<LinkGift>> {
     Some(gifts)
 }
 
-/// Runs the words over this link, and devices in memory beside it.
+/// Runs the command line over this link, with all other devices in memory.
 fn run_over<R: Threads + Wait + Sync>(
     rt: &R,
     alloc: Global,

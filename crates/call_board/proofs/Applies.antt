@@ -79,7 +79,7 @@ cells_stay config taken number round now cs s = record {
   taken_are = λ k d below. s.taken_are k d below ∙ ap (λ (ns : List ℕ). has ns (1 + k)) (sym (same_cells number round now cs));
 }
 
--- one more call, behind the others
+-- one more call, after the others
 pub one_more_call : (config : Config) (calls : List LiveCall) (cs : List CallView) (call : LiveCall) (c : CallView) → CallsFor config calls cs → CallFor config call c →
     CallsFor config (calls ++ call ∷ []) (cs ++ c ∷ [])
 one_more_call config [] [] call c s one = (one, _)

@@ -86,7 +86,7 @@ one_begun (act.Offered o) = go o.begins
     go false = omega arith
 one_begun (act.Answered a) = omega arith
 one_begun act.Repeated = omega arith
-one_begun act.Starved = omega arith
+one_begun act.OutOfMemory = omega arith
 one_begun (act.Failed code) = omega arith
 one_begun (act.Undone code leases draws) = omega arith
 one_begun (act.Deleted of) = omega arith
@@ -207,7 +207,7 @@ given_few : (demand : Demand) (given : Given) (a : Act) → length demand.keys �
 given_few demand given (act.Offered o) few gives = let all = gives.1.all_drawn in omega (arith, few, all)
 given_few demand given (act.Undone code leases draws) few gives = undone_few demand given (list_any not given.opens) few gives.0
 given_few demand given act.Repeated few gives = none_drawn given gives.0.no_draws
-given_few demand given act.Starved few gives = none_drawn given gives.no_draws
+given_few demand given act.OutOfMemory few gives = none_drawn given gives.no_draws
 given_few demand given (act.Failed code) few gives = none_drawn given gives.0.no_draws
 given_few demand given (act.Answered a) few gives = none_drawn given gives.0.no_draws
 given_few demand given (act.Deleted of) few gives = none_drawn given gives.0.no_draws
@@ -253,7 +253,7 @@ may_lease config h board v count pair fits s leases short few =
     let bound = generation_case config board v pair (length h) s (omega (arith, most, same)) (low_or_high pair (pair_count config)) in
     omega (arith, bound, short, few)
 
--- nor were so many keys drawn
+-- nor do the draws reach the end of theirs
 pub may_draw : (config : Config) (h : List BoardEntry) (board : Board) (v : View) (count : ℕ) → IsFitting config h → Shows config board (with_draws v count) → v.drawn ≡ length (drawn h) → length h < 2 ^ 56 → count ≤ 24 →
     board.drawn < 2 ^ 63
 may_draw config h board v count fits s drawn_is short few =
@@ -262,7 +262,7 @@ may_draw config h board v count fits s drawn_is short few =
     let more : (with_draws v count).drawn ≡ v.drawn + count = ap (λ (w : View). w.drawn) (draws_are v count) in
     omega (arith, most, here, more, drawn_is, short, few)
 
--- nor so many calls begun
+-- nor do the calls that began
 pub may_begin : (config : Config) (h : List BoardEntry) (board : Board) (v : View) → Shows config board v → v.begun ≡ length (begun h) → length h < 2 ^ 56 → board.begun < 2 ^ 63
 may_begin config h board v s begun_is short =
     let most = few_begun h in

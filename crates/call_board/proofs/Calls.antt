@@ -28,7 +28,7 @@ begins_case config h id o (goes_on is_old found is_live) = nothing (ap (λ b. co
 begins_by : (config : Config) (h : List BoardEntry) (e : BoardEntry) (a : Act) → Tells config h e a → Begins config h (begun_by_act a)
 begins_by config h e (act.Offered o) told = begins_case config h told.id o told.call_is
 begins_by config h e act.Repeated told = nothing refl
-begins_by config h e act.Starved told = nothing refl
+begins_by config h e act.OutOfMemory told = nothing refl
 begins_by config h e (act.Failed code) told = nothing refl
 begins_by config h e (act.Undone code leases draws) told = nothing refl
 begins_by config h e (act.Answered a) told = nothing refl

@@ -36,7 +36,7 @@ round_case config h e n (act.Answered a) old fits is same =
     let number = equal_if a.of.number n same in
     let more = begun_more h e in omega (arith, below, number, more)
 round_case config h e n act.Repeated old fits is same = absurd (let q = same in cc)
-round_case config h e n act.Starved old fits is same = absurd (let q = same in cc)
+round_case config h e n act.OutOfMemory old fits is same = absurd (let q = same in cc)
 round_case config h e n (act.Failed code) old fits is same = absurd (let q = same in cc)
 round_case config h e n (act.Undone code leases draws) old fits is same = absurd (let q = same in cc)
 round_case config h e n (act.Deleted of) old fits is same = absurd (let q = same in cc)
@@ -47,7 +47,7 @@ no_round : (n : ℕ) (a : Act) → is_round n a ≡ false → round_of n a ≡ [
 no_round n (act.Offered o) is = ap (λ b. cond b (round.Offered o.ask o.legs o.keys ∷ []) []) is
 no_round n (act.Answered a) is = ap (λ b. cond b (round.Answered a.ask ∷ []) []) is
 no_round n act.Repeated is = refl
-no_round n act.Starved is = refl
+no_round n act.OutOfMemory is = refl
 no_round n (act.Failed code) is = refl
 no_round n (act.Undone code leases draws) is = refl
 no_round n (act.Deleted of) is = refl
@@ -99,7 +99,7 @@ first_case : (h : List BoardEntry) (e : BoardEntry) (c : Call) (a : Act) → act
 first_case h e c (act.Offered o) is i = offered_first h e o c is o.begins i
 first_case h e c (act.Answered a) is i = elim i [ ]
 first_case h e c act.Repeated is i = elim i [ ]
-first_case h e c act.Starved is i = elim i [ ]
+first_case h e c act.OutOfMemory is i = elim i [ ]
 first_case h e c (act.Failed code) is i = elim i [ ]
 first_case h e c (act.Undone code leases draws) is i = elim i [ ]
 first_case h e c (act.Deleted of) is i = elim i [ ]

@@ -1,4 +1,4 @@
--- What a datagram is answered and does, case by case: each gives the act and the datagram of the reply together.
+-- Which reply a datagram gets and what it does, case by case: each gives the act and the datagram of the reply together.
 use Rattle.std.proofs.Common.{◌≡◌, ◌∙◌, sym, ap, subst, refl, ℕ, List, [], ◌∷◌, ◌++◌, map, length, take, Bool, true, false, cond, not, Option, Some, None, Result, Ok, Err}
 use Rattle.std.specs.Prelude.{nat_le, nat_lt}
 use Rattle.std.specs.List.{list_any}
@@ -26,13 +26,13 @@ use Rattle.call_board.specs.Views.{view_of}
 use Rattle.call_board.specs.Planned.{PlansOffer, target}
 use Rattle.call_board.specs.declared.board_plan.BoardPlan.{BoardPlan}
 use Rattle.call_board.proofs.Dues.{IsAnswerDue, offer_leases}
-use Rattle.call_board.proofs.Fixed.{unless_starved}
+use Rattle.call_board.proofs.Fixed.{unless_out_of_memory}
 use Rattle.call_board.proofs.Offers.{offer_of}
 use Rattle.call_board.proofs.Tells.{leased_case}
 
 -- What is due.
 
--- this is what the datagram is answered and does at that moment; of the datagram its reply and its act are left out
+-- this is the reply to the datagram and what it does at that moment; of the datagram its reply and its act are left out
 abbrev pub IsDue : Config → List BoardEntry → (now : ℕ) → Control → Answered → Type 0
 IsDue config h now c due = answering_unless config h c (kept h c.source c.cookie now) ≡ due
 
@@ -40,10 +40,10 @@ IsDue config h now c due = answering_unless config h c (kept h c.source c.cookie
 abbrev pub with_reply : Config → Control → Reply → Act → Answered
 with_reply config c reply does = record { bytes = reply_datagram config c.cookie reply; act = does }
 
--- nothing is kept for the datagram, memory isn't short, and this is what it asks
+-- nothing is kept for the datagram, memory doesn't run out, and this is what it asks
 pub record Asks (config : Config) (h : List BoardEntry) (now : ℕ) (c : Control) (r : Result Said ErrorCode) : Type 0 where
   pub nothing_kept : kept h c.source c.cookie now ≡ None
-  pub not_starved : c.given.starved ≡ false
+  pub not_out_of_memory : c.given.out_of_memory ≡ false
   pub is_asked : asked config c.too_long c.pairs ≡ r
 
 -- The turn that is made so.
@@ -65,7 +65,7 @@ same_answering config h c due (Ok (said.Listing limit)) = refl
 same_due : (config : Config) (h : List BoardEntry) (c : Control) (due : Answered) (o : Option (List ℕ))
     → answering_unless config h (answered_as c due) o ≡ answering_unless config h c o
 same_due config h c due (Some bytes) = refl
-same_due config h c due None = ap (unless_starved config c.cookie c.given.starved) (same_answering config h c due (asked config c.too_long c.pairs))
+same_due config h c due None = ap (unless_out_of_memory config c.cookie c.given.out_of_memory) (same_answering config h c due (asked config c.too_long c.pairs))
 
 -- what is due, is due whatever stands for the reply and the act
 pub due_as : (config : Config) (h : List BoardEntry) (now : ℕ) (c : Control) (due other : Answered) → IsDue config h now c due → IsDue config h now (answered_as c other) due
@@ -95,7 +95,7 @@ pub due_fits : (config : Config) (h : List BoardEntry) (now : ℕ) (c : Control)
     → (is_read (answered_as c due) ≡ true → Reads c.body c.pairs)
     → (is_heard due.act ≡ true → Hears h c (asked config c.too_long c.pairs))
     → GivesFor (demanded config h c) c.given due.act
-    → (due.act ≡ act.Starved → asks_after h (asked config c.too_long c.pairs) ≡ false → c.given.report ≡ None)
+    → (due.act ≡ act.OutOfMemory → asks_after h (asked config c.too_long c.pairs) ≡ false → c.given.report ≡ None)
     → FitsControl config h now (answered_as c due)
 due_fits config h now c due is framed length_is reads hears gives reports = record {
   framed = framed;
@@ -107,21 +107,21 @@ due_fits config h now c due is framed length_is reads hears gives reports = reco
   answers = sym (due_as config h now c due due is);
 }
 
--- Before a command is answered.
+-- Before a command is carried out.
 
 pub repeated_due : (config : Config) (h : List BoardEntry) (now : ℕ) (c : Control) (bytes : List ℕ) → kept h c.source c.cookie now ≡ Some bytes
     → IsDue config h now c (record { bytes = bytes; act = act.Repeated })
 repeated_due config h now c bytes is = ap (answering_unless config h c) is
 
-pub starved_due : (config : Config) (h : List BoardEntry) (now : ℕ) (c : Control) → kept h c.source c.cookie now ≡ None → c.given.starved ≡ true
-    → IsDue config h now c (with_reply config c (Fault E17) act.Starved)
-starved_due config h now c none starved =
-    ap (answering_unless config h c) none ∙ ap (λ b. unless_starved config c.cookie b (answering config h c)) starved
+pub out_of_memory_due : (config : Config) (h : List BoardEntry) (now : ℕ) (c : Control) → kept h c.source c.cookie now ≡ None → c.given.out_of_memory ≡ true
+    → IsDue config h now c (with_reply config c (Fault E17) act.OutOfMemory)
+out_of_memory_due config h now c none out_of_memory =
+    ap (answering_unless config h c) none ∙ ap (λ b. unless_out_of_memory config c.cookie b (answering config h c)) out_of_memory
 
 asked_due : (config : Config) (h : List BoardEntry) (now : ℕ) (c : Control) (r : Result Said ErrorCode) → Asks config h now c r
     → IsDue config h now c (spelled config c.cookie (answering_asked config h c r))
 asked_due config h now c r asks =
-    ap (answering_unless config h c) asks.nothing_kept ∙ ap (λ b. unless_starved config c.cookie b (answering config h c)) asks.not_starved
+    ap (answering_unless config h c) asks.nothing_kept ∙ ap (λ b. unless_out_of_memory config c.cookie b (answering config h c)) asks.not_out_of_memory
     ∙ ap (λ s. spelled config c.cookie (answering_asked config h c s)) asks.is_asked
 
 pub failed_due : (config : Config) (h : List BoardEntry) (now : ℕ) (c : Control) (code : ErrorCode) → Asks config h now c (Err code)
@@ -312,7 +312,7 @@ pub offer_fault_is : (config : Config) (h : List BoardEntry) (c : Control) (id :
 offer_fault_is config h c id ask code None fault = ap (offer_unless config h c.given ask (new_call h id) true []) fault
 offer_fault_is config h c id ask code (Some of) fault = ap (offer_unless config h c.given ask of false (rounds h of.number)) fault
 
--- what an offer without a fault is answered, by what is short
+-- the reply to an offer without a fault, by what it lacks
 abbrev planned_case : Config → List BoardEntry → Control → OfferAsk → Call → Bool → List Round → (over short : Bool) → Answering
 planned_case config h c ask of begins before over short =
     cond over (failing E14) (cond short (failing E13) (offer_leased config h c.given ask of begins before (leased_pairs config h (plan.demand before ask))))

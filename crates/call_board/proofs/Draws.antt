@@ -38,7 +38,7 @@ draws_case config h now c (act.Undone code leases draws) fits is =
     let told : IsUndone config h (entry now c) code leases draws = tells_of config h (entry now c) (act.Undone code leases draws) fits is in
     failed_draws c told.turn.control code draws (same_control now c (act.Undone code leases draws) told.turn) told.failure
 draws_case config h now c act.Repeated fits is = sym ((subst (GivesFor (demanded config h c) c.given) is fits.gives).0.no_draws)
-draws_case config h now c act.Starved fits is = sym ((subst (GivesFor (demanded config h c) c.given) is fits.gives).no_draws)
+draws_case config h now c act.OutOfMemory fits is = sym ((subst (GivesFor (demanded config h c) c.given) is fits.gives).no_draws)
 draws_case config h now c (act.Failed code) fits is = sym ((subst (GivesFor (demanded config h c) c.given) is fits.gives).0.no_draws)
 draws_case config h now c (act.Answered x) fits is = sym ((subst (GivesFor (demanded config h c) c.given) is fits.gives).0.no_draws)
 draws_case config h now c (act.Deleted of) fits is = sym ((subst (GivesFor (demanded config h c) c.given) is fits.gives).0.no_draws)

@@ -117,7 +117,7 @@ to_target config h given id ask =
 
 -- What is due to an offer.
 
--- what an offer without a fault is answered, by what is short
+-- the reply to an offer without a fault, by what it lacks
 planned_by : (config : Config) (h : List BoardEntry) (given : Given) (ask : OfferAsk) (of : Call) (new : Bool) (before : List Round) → offer_planned config h given ask of new before
     ≡ cond (new && nat_le config.max_sessions (length (map (call_view h) (live h)))) (failing E14)
     (cond (nat_lt (length (free config h)) (length (demand before ask).pairs)) (failing E13) (offer_leased config h given ask of new before (leased_pairs config h (demand before ask))))

@@ -167,8 +167,8 @@ idle_turn : (config : Config) (h : List BoardEntry) (now : ℕ) (c : Control) (a
     }
 idle_turn config h now c act.Repeated ks idle is = let r = idle_changes_nothing config (turn now c act.Repeated) h act.Repeated (its_turn now c act.Repeated) idle in
     view_alike (view_of config (turn now c act.Repeated ∷ h)) _ refl (ap length (append-nil (begun h))) (ap length (append-nil (drawn h))) (ap (map (call_view h)) r.same_live) r.same_free refl is
-idle_turn config h now c act.Starved ks idle is = let r = idle_changes_nothing config (turn now c act.Starved) h act.Starved (its_turn now c act.Starved) idle in
-    view_alike (view_of config (turn now c act.Starved ∷ h)) _ refl (ap length (append-nil (begun h))) (ap length (append-nil (drawn h))) (ap (map (call_view h)) r.same_live) r.same_free refl is
+idle_turn config h now c act.OutOfMemory ks idle is = let r = idle_changes_nothing config (turn now c act.OutOfMemory) h act.OutOfMemory (its_turn now c act.OutOfMemory) idle in
+    view_alike (view_of config (turn now c act.OutOfMemory ∷ h)) _ refl (ap length (append-nil (begun h))) (ap length (append-nil (drawn h))) (ap (map (call_view h)) r.same_live) r.same_free refl is
 idle_turn config h now c (act.Failed code) ks idle is = let r = idle_changes_nothing config (turn now c (act.Failed code)) h (act.Failed code) (its_turn now c (act.Failed code)) idle in
     view_alike (view_of config (turn now c (act.Failed code) ∷ h)) _ refl (ap length (append-nil (begun h))) (ap length (append-nil (drawn h))) (ap (map (call_view h)) r.same_live) r.same_free refl is
 idle_turn config h now c (act.Queried of) ks idle is = let r = idle_changes_nothing config (turn now c (act.Queried of)) h (act.Queried of) (its_turn now c (act.Queried of)) idle in
@@ -404,7 +404,7 @@ stopped config h now calls old fits last =
 turned : (config : Config) (h : List BoardEntry) (now : ℕ) (c : Control) (a : Act) → IsFitting config h → FitsBoard config h (turn now c a) → last_moment h ≤ now →
     view_of config (turn now c a ∷ h) ≡ after h (turn now c a) (view_of config h)
 turned config h now c act.Repeated old fits late = idle_turn config h now c act.Repeated (keepings h) refl refl
-turned config h now c act.Starved old fits late = idle_turn config h now c act.Starved (keepings h) refl refl
+turned config h now c act.OutOfMemory old fits late = idle_turn config h now c act.OutOfMemory (keepings h) refl refl
 turned config h now c (act.Failed code) old fits late = idle_turn config h now c (act.Failed code) (keeping c (moment_used (keepings h) now) ∷ keepings h) refl (kept_now h now c late)
 turned config h now c (act.Queried of) old fits late = idle_turn config h now c (act.Queried of) (keeping c (moment_used (keepings h) now) ∷ keepings h) refl (kept_now h now c late)
 turned config h now c act.Told old fits late = idle_turn config h now c act.Told (keeping c (moment_used (keepings h) now) ∷ keepings h) refl (kept_now h now c late)

@@ -1,5 +1,5 @@
 -- Where nothing read the body of a datagram, or no crypto lines were chosen, what is recorded of that decides nothing: its bytes
--- fix what it is answered and does.
+-- fix its reply and what it does.
 use Rattle.std.proofs.Common.{◌≡◌, ◌∙◌, sym, ap, subst, refl, ℕ, List, [], length, Bool, true, false, cond, not, Option, Some, None, Result, Ok, Err}
 use Rattle.std.specs.Prelude.{◌&&◌, ◌||◌, ◌==◌, nat_le, nat_lt, is_some}
 use Rattle.std.specs.List.{list_any}
@@ -30,10 +30,10 @@ use Rattle.call_board.specs.Fits.{FitsControl, answer_of, is_repeat, is_read, is
 use Rattle.call_board.proofs.Told.{IsRepeat}
 use Rattle.call_board.proofs.Tells.{leased_case, tells_of}
 
--- What is due, where memory may be short.
+-- What is due, where memory may run out.
 
-abbrev pub unless_starved : Config → (cookie : List ℕ) → Bool → Answering → Answered
-unless_starved config cookie starved a = cond starved (record { bytes = reply_datagram config cookie (Fault E17); act = act.Starved }) (spelled config cookie a)
+abbrev pub unless_out_of_memory : Config → (cookie : List ℕ) → Bool → Answering → Answered
+unless_out_of_memory config cookie out_of_memory a = cond out_of_memory (record { bytes = reply_datagram config cookie (Fault E17); act = act.OutOfMemory }) (spelled config cookie a)
 
 abbrev act_of : Answered → Act
 act_of a = a.act
@@ -45,7 +45,7 @@ read_as c pairs chosen = record c { pairs = pairs; chosen = chosen }
 
 repeats : (a : Act) → is_repeat a ≡ true → a ≡ act.Repeated
 repeats act.Repeated is = refl
-repeats act.Starved is = absurd (let e = is in cc)
+repeats act.OutOfMemory is = absurd (let e = is in cc)
 repeats (act.Failed code) is = absurd (let e = is in cc)
 repeats (act.Undone code leases draws) is = absurd (let e = is in cc)
 repeats (act.Offered o) is = absurd (let e = is in cc)
@@ -66,19 +66,19 @@ kept_one config h now c fits is none =
     let there : kept h c.source c.cookie now ≡ Some told.turn.control.reply = subst (λ (x : Control). kept h x.source x.cookie now ≡ Some told.turn.control.reply) same told.is_kept in
     let e = sym none ∙ there in cc
 
--- a datagram that is too long is answered so, whatever it spells
+-- a datagram that is too long gets this reply, whatever it spells
 long_alike : (config : Config) (h : List BoardEntry) (c d : Control) (pairs others : Option Entries) (too_long : Bool) → too_long ≡ true
     → answering_asked config h d (asked config too_long others) ≡ answering_asked config h c (asked config too_long pairs)
 unfolding asked
 long_alike config h c d pairs others true is = refl
 long_alike config h c d pairs others false is = absurd (let e = is in cc)
 
-unread_due : (config : Config) (h : List BoardEntry) (c d : Control) (pairs others : Option Entries) → (c.act ≡ act.Repeated → ⊥) → (repeat too_long starved told : Bool)
-    → is_repeat c.act ≡ repeat → (not repeat && not too_long && (not starved || told)) ≡ false
-    → unless_starved config c.cookie starved (answering_asked config h d (asked config too_long others)) ≡ unless_starved config c.cookie starved (answering_asked config h c (asked config too_long pairs))
-unread_due config h c d pairs others once true too_long starved told is unread = absurd (once (repeats c.act is))
-unread_due config h c d pairs others once false true starved told is unread =
-    ap (unless_starved config c.cookie starved) (long_alike config h c d pairs others true refl)
+unread_due : (config : Config) (h : List BoardEntry) (c d : Control) (pairs others : Option Entries) → (c.act ≡ act.Repeated → ⊥) → (repeat too_long out_of_memory told : Bool)
+    → is_repeat c.act ≡ repeat → (not repeat && not too_long && (not out_of_memory || told)) ≡ false
+    → unless_out_of_memory config c.cookie out_of_memory (answering_asked config h d (asked config too_long others)) ≡ unless_out_of_memory config c.cookie out_of_memory (answering_asked config h c (asked config too_long pairs))
+unread_due config h c d pairs others once true too_long out_of_memory told is unread = absurd (once (repeats c.act is))
+unread_due config h c d pairs others once false true out_of_memory told is unread =
+    ap (unless_out_of_memory config c.cookie out_of_memory) (long_alike config h c d pairs others true refl)
 unread_due config h c d pairs others once false false true told is unread = refl
 unread_due config h c d pairs others once false false false told is unread = absurd (let e : true ≡ false = unread in cc)
 
@@ -87,9 +87,9 @@ unread_case : (config : Config) (h : List BoardEntry) (now : ℕ) (c : Control) 
 unread_case config h now c pairs chosen fits unread (Some bytes) is = refl
 unread_case config h now c pairs chosen fits unread None is =
     unread_due config h c (read_as c pairs chosen) c.pairs pairs (λ repeated. kept_one config h now c fits repeated is)
-    (is_repeat c.act) c.too_long c.given.starved (is_some c.given.report) refl unread
+    (is_repeat c.act) c.too_long c.given.out_of_memory (is_some c.given.report) refl unread
 
--- what a datagram is answered and does, of which nothing is read, is the same whatever its body is taken for
+-- the reply to a datagram of which nothing is read, and what it does, are the same whatever its body is taken for
 pub unread_answer : (config : Config) (h : List BoardEntry) (now : ℕ) (c : Control) (pairs : Option Entries) (chosen : List (Option CryptoLine)) → FitsControl config h now c
     → is_read c ≡ false → answer_of c ≡ answering_unless config h (read_as c pairs chosen) (kept h c.source c.cookie now)
 unread_answer config h now c pairs chosen fits unread =
@@ -190,18 +190,18 @@ asked_same config h c chosen (Ok (said.Delete id from_tag fatal)) unheard = refl
 asked_same config h c chosen (Ok (said.Query id)) unheard = refl
 asked_same config h c chosen (Ok (said.Listing limit)) unheard = refl
 
-unheard_due : (config : Config) (h : List BoardEntry) (c : Control) (chosen : List (Option CryptoLine)) (starved : Bool) (r : Result Said ErrorCode)
-    → is_heard (unless_starved config c.cookie starved (answering_asked config h c r)).act ≡ false
-    → unless_starved config c.cookie starved (answering_asked config h (heard_as c chosen) r) ≡ unless_starved config c.cookie starved (answering_asked config h c r)
+unheard_due : (config : Config) (h : List BoardEntry) (c : Control) (chosen : List (Option CryptoLine)) (out_of_memory : Bool) (r : Result Said ErrorCode)
+    → is_heard (unless_out_of_memory config c.cookie out_of_memory (answering_asked config h c r)).act ≡ false
+    → unless_out_of_memory config c.cookie out_of_memory (answering_asked config h (heard_as c chosen) r) ≡ unless_out_of_memory config c.cookie out_of_memory (answering_asked config h c r)
 unheard_due config h c chosen true r unheard = refl
 unheard_due config h c chosen false r unheard = ap (spelled config c.cookie) (asked_same config h c chosen r unheard)
 
 unheard_case : (config : Config) (h : List BoardEntry) (c : Control) (chosen : List (Option CryptoLine)) (o : Option (List ℕ))
     → is_heard (answering_unless config h c o).act ≡ false → answering_unless config h (heard_as c chosen) o ≡ answering_unless config h c o
 unheard_case config h c chosen (Some bytes) unheard = refl
-unheard_case config h c chosen None unheard = unheard_due config h c chosen c.given.starved (asked config c.too_long c.pairs) unheard
+unheard_case config h c chosen None unheard = unheard_due config h c chosen c.given.out_of_memory (asked config c.too_long c.pairs) unheard
 
--- what a datagram is answered and does, for which no crypto lines are chosen, is the same whatever lines are taken for chosen
+-- the reply to a datagram for which no crypto lines are chosen, and what it does, are the same whatever lines are taken for chosen
 pub unheard_answer : (config : Config) (h : List BoardEntry) (now : ℕ) (c : Control) (chosen : List (Option CryptoLine)) → FitsControl config h now c
     → is_heard c.act ≡ false → answer_of c ≡ answering_unless config h (heard_as c chosen) (kept h c.source c.cookie now)
 unheard_answer config h now c chosen fits unheard =

@@ -26,7 +26,7 @@ pair_of leg = leg.pair
 pub legs_leased : (a : Holder) (x : Act) → In a (legs_of_act x) → In a.pair (leased_by_act x)
 legs_leased a (act.Offered o) i = maps pair_of o.legs i
 legs_leased a act.Repeated i = elim i [ ]
-legs_leased a act.Starved i = elim i [ ]
+legs_leased a act.OutOfMemory i = elim i [ ]
 legs_leased a (act.Failed code) i = elim i [ ]
 legs_leased a (act.Undone code leases draws) i = elim i [ ]
 legs_leased a (act.Answered x) i = elim i [ ]
@@ -47,7 +47,7 @@ pub undone_leased : (p : ℕ) (x : Act) → In p (undone_pairs x) → In p (leas
 undone_leased p (act.Undone code leases draws) i = i
 undone_leased p (act.Offered o) i = elim i [ ]
 undone_leased p act.Repeated i = elim i [ ]
-undone_leased p act.Starved i = elim i [ ]
+undone_leased p act.OutOfMemory i = elim i [ ]
 undone_leased p (act.Failed code) i = elim i [ ]
 undone_leased p (act.Answered x) i = elim i [ ]
 undone_leased p (act.Deleted of) i = elim i [ ]
@@ -240,7 +240,7 @@ lease_free config h e p (act.Undone code leases draws) fits is told i =
     let same : n.from ≡ p = ap pair_leased n.makes ∙ m.makes in
     subst (λ q. In q (free config h)) same (front_free config h told.demand.pairs n.from n.is_in)
 lease_free config h e p act.Repeated fits is told i = elim i [ ]
-lease_free config h e p act.Starved fits is told i = elim i [ ]
+lease_free config h e p act.OutOfMemory fits is told i = elim i [ ]
 lease_free config h e p (act.Failed code) fits is told i = elim i [ ]
 lease_free config h e p (act.Answered x) fits is told i = elim i [ ]
 lease_free config h e p (act.Deleted of) fits is told i = elim i [ ]
@@ -268,7 +268,7 @@ free_below config h p fits i = below_case config h p (leased_below config h p fi
 legs_once : (config : Config) (h : List BoardEntry) (e : BoardEntry) (x : Act) → FitsBoard config h e → act e ≡ x → Once (map pair_of (legs_of_act x))
 legs_once config h e (act.Offered o) fits is = new_legs_once config h e o fits is
 legs_once config h e act.Repeated fits is = tt
-legs_once config h e act.Starved fits is = tt
+legs_once config h e act.OutOfMemory fits is = tt
 legs_once config h e (act.Failed code) fits is = tt
 legs_once config h e (act.Undone code leases draws) fits is = tt
 legs_once config h e (act.Answered x) fits is = tt

@@ -1,4 +1,4 @@
--- Which pairs are free after an entry, in their order: those behind the ones that it leased, then those that it gave back.
+-- Which pairs are free after an entry, in their order: those after the ones that it leased, then those that it gave back.
 use Rattle.std.proofs.Common.{◌≡◌, ◌∙◌, refl, sym, ap, subst, ℕ, zero, suc, ◌+◌, ◌⊎◌, inl, inr, List, [], ◌∷◌, ◌++◌, map, filter, take, drop, length, Bool, true, false, cond, not, arith, append_assoc}
 use Rattle.std.specs.Prelude.{◌&&◌, ◌||◌}
 use Rattle.std.specs.List.{flat_map}
@@ -45,7 +45,7 @@ act_once (act.Offered o) = one_once o.of
 act_once (act.Answered a) = one_once a.of
 act_once (act.Deleted of) = one_once of
 act_once act.Repeated = tt
-act_once act.Starved = tt
+act_once act.OutOfMemory = tt
 act_once (act.Failed code) = tt
 act_once (act.Undone code leases draws) = tt
 act_once (act.Queried of) = tt
@@ -174,7 +174,7 @@ front_case config h e (act.Undone code leases draws) told =
     as_front config h told.demand.pairs (map (λ (lease : Lease). lease.pair) leases) told.enough
     (ap (map (λ (lease : Lease). lease.pair)) told.leases_are ∙ pairs_leased h (fronts (free_in config h) told.demand.pairs))
 front_case config h e act.Repeated told = none_taken (free config h)
-front_case config h e act.Starved told = none_taken (free config h)
+front_case config h e act.OutOfMemory told = none_taken (free config h)
 front_case config h e (act.Failed code) told = none_taken (free config h)
 front_case config h e (act.Answered a) told = none_taken (free config h)
 front_case config h e (act.Deleted of) told = none_taken (free config h)
@@ -191,7 +191,7 @@ leases_front config h e fits = front_case config h e (act e) (tells config h e f
 undone_once : (a : Act) → Once (leased_by_act a) → Once (undone_pairs a)
 undone_once (act.Undone code leases draws) once = once
 undone_once act.Repeated once = tt
-undone_once act.Starved once = tt
+undone_once act.OutOfMemory once = tt
 undone_once (act.Failed code) once = tt
 undone_once (act.Offered o) once = tt
 undone_once (act.Answered a) once = tt
@@ -229,7 +229,7 @@ not_both : (a : Holder) (p : ℕ) (x : Act) → In a (legs_of_act x) → In p (u
 not_both a p (act.Offered o) i j = elim j [ ]
 not_both a p (act.Undone code leases draws) i j = elim i [ ]
 not_both a p act.Repeated i j = elim i [ ]
-not_both a p act.Starved i j = elim i [ ]
+not_both a p act.OutOfMemory i j = elim i [ ]
 not_both a p (act.Failed code) i j = elim i [ ]
 not_both a p (act.Answered x) i j = elim i [ ]
 not_both a p (act.Deleted of) i j = elim i [ ]
@@ -268,7 +268,7 @@ lease_splits : (p : ℕ) (x : Act) → In p (leased_by_act x) → In p (map pair
 lease_splits p (act.Offered o) i = inl i
 lease_splits p (act.Undone code leases draws) i = inr i
 lease_splits p act.Repeated i = elim i [ ]
-lease_splits p act.Starved i = elim i [ ]
+lease_splits p act.OutOfMemory i = elim i [ ]
 lease_splits p (act.Failed code) i = elim i [ ]
 lease_splits p (act.Answered x) i = elim i [ ]
 lease_splits p (act.Deleted of) i = elim i [ ]
@@ -380,7 +380,7 @@ free_without config h e old fits =
     ∙ sym (append_assoc (filter (not_leased e) never) (filter (not_leased e) (back h)) (given_by h e))
     ∙ ap (λ (ps : List ℕ). ps ++ given_by h e) (sym (filter-append (not_leased e) never (back h)))
 
--- those behind the ones that it leased, then those that it gave back
+-- those after the ones that it leased, then those that it gave back
 pub free_after : (config : Config) (h : List BoardEntry) (e : BoardEntry) → IsFitting config h → FitsBoard config h e →
     free config (e ∷ h) ≡ drop (length (leased_by_act (act e))) (free config h) ++ given_by h e
 free_after config h e old fits =

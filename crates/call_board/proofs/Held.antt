@@ -53,7 +53,7 @@ leased_by : (h : List BoardEntry) (e : BoardEntry) (a : Holder) (x : Act) → ac
 leased_by h e a (act.Offered o) is i =
     record { entry = e; before = h; since = leased refl; late = now refl; offer = o; acts = is; has_leg = i }
 leased_by h e a act.Repeated is i = elim i [ ]
-leased_by h e a act.Starved is i = elim i [ ]
+leased_by h e a act.OutOfMemory is i = elim i [ ]
 leased_by h e a (act.Failed code) is i = elim i [ ]
 leased_by h e a (act.Undone code leases draws) is i = elim i [ ]
 leased_by h e a (act.Answered x) is i = elim i [ ]
@@ -148,7 +148,7 @@ signalled_at h e a (act.Answered x) is i closes by_act =
     closed_in h e a x.of i closes (sym (equal_if x.of.number a.call (both_left (x.of.number == a.call) (is_rejected x.signal a.section) by_act)))
     (in_left (signalled_by (act e)) (ended_by e) (subst (λ (y : Act). In x.of (signalled_by y)) (sym is) (here refl)))
 signalled_at h e a act.Repeated is i closes by_act = absurd (let q = by_act in cc)
-signalled_at h e a act.Starved is i closes by_act = absurd (let q = by_act in cc)
+signalled_at h e a act.OutOfMemory is i closes by_act = absurd (let q = by_act in cc)
 signalled_at h e a (act.Failed code) is i closes by_act = absurd (let q = by_act in cc)
 signalled_at h e a (act.Undone code leases draws) is i closes by_act = absurd (let q = by_act in cc)
 signalled_at h e a (act.Deleted of) is i closes by_act = absurd (let q = by_act in cc)
@@ -210,7 +210,7 @@ new_live : (config : Config) (h : List BoardEntry) (e : BoardEntry) (a : Holder)
 new_live config h e a (act.Offered o) old fits is i = let n = new_leg config h e o a fits is i in
     record { of = o.of; is_live = offered_live config h e o old fits is; call_is = n.0; cell_is = n.1 }
 new_live config h e a act.Repeated old fits is i = elim i [ ]
-new_live config h e a act.Starved old fits is i = elim i [ ]
+new_live config h e a act.OutOfMemory old fits is i = elim i [ ]
 new_live config h e a (act.Failed code) old fits is i = elim i [ ]
 new_live config h e a (act.Undone code leases draws) old fits is i = elim i [ ]
 new_live config h e a (act.Answered x) old fits is i = elim i [ ]

@@ -23,7 +23,7 @@ pub record IsIdle (config : Config) (e : BoardEntry) (h : List BoardEntry) : Typ
 -- an act that changes nothing of them
 abbrev pub is_idle : Act → Bool
 is_idle act.Repeated = true
-is_idle act.Starved = true
+is_idle act.OutOfMemory = true
 is_idle (act.Failed code) = true
 is_idle (act.Queried of) = true
 is_idle act.Told = true
@@ -35,7 +35,7 @@ entry moment c a = record { moment = moment; event = Turn (record c { act = a })
 idle_alike : (config : Config) (moment : ℕ) (c : Control) (h : List BoardEntry) (a : Act) → is_idle a ≡ true → IsIdle config (entry moment c a) h
 idle_alike config moment c h act.Repeated idle = let r = repeat_alike config moment c h in
     record { same_live = r.same_live; same_rounds = r.same_rounds; same_held = r.same_held; same_free = r.same_free; same_drawn = r.same_drawn }
-idle_alike config moment c h act.Starved idle = let r = repeat_alike config moment c h in
+idle_alike config moment c h act.OutOfMemory idle = let r = repeat_alike config moment c h in
     record { same_live = r.same_live; same_rounds = r.same_rounds; same_held = r.same_held; same_free = r.same_free; same_drawn = r.same_drawn }
 idle_alike config moment c h (act.Failed code) idle = let r = repeat_alike config moment c h in
     record { same_live = r.same_live; same_rounds = r.same_rounds; same_held = r.same_held; same_free = r.same_free; same_drawn = r.same_drawn }

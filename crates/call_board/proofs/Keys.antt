@@ -143,7 +143,7 @@ act_has : (h : List BoardEntry) (e : BoardEntry) (call : ℕ) (k : NewKey) (a : 
 act_has h e call k (act.Offered o) is i = offer_has h e call o k is (o.of.number == call) refl i
 act_has h e call k (act.Answered a) is i = answer_has h e call k a (a.of.number == call) i
 act_has h e call k act.Repeated is i = elim i [ ]
-act_has h e call k act.Starved is i = elim i [ ]
+act_has h e call k act.OutOfMemory is i = elim i [ ]
 act_has h e call k (act.Failed code) is i = elim i [ ]
 act_has h e call k (act.Undone code leases draws) is i = elim i [ ]
 act_has h e call k (act.Deleted of) is i = elim i [ ]

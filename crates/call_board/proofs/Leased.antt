@@ -60,7 +60,7 @@ none_leased config board v s = record {
   replies_for = s.replies_for;
 }
 
--- a pair behind the first ones was not leased among them
+-- a pair after the first ones was not leased among them
 pub count-none : (p : ℕ) (xs : List ℕ) → has xs p ≡ false → count_by (λ q. q == p) xs ≡ 0
 count-none p [] e = refl
 count-none p (x ∷ xs) e = go (x == p) refl e (count-none p xs)

@@ -1,4 +1,4 @@
--- A valid offer is answered well, or for want of something.
+-- A valid offer is accepted, or something is lacking.
 use Rattle.std.proofs.Common.{◌≡◌, ◌∙◌, sym, ap, subst, ℕ, ◌≤◌, List, [], length, Bool, true, false, cond, not, Option, Some, None, Ok, refl, arith}
 use Rattle.std.specs.Prelude.{nat_le, ◌&&◌}
 use Rattle.std.proofs.lemmas.Bool.Decides.{nat_tests}
@@ -31,7 +31,7 @@ pub data OfferEnds (config : Config) (h : List BoardEntry) (c : Control) (id : L
   session_limit : c.act ≡ act.Failed E14 → find_call h id ≡ None → length (live h) ≡ config.max_sessions → OfferEnds config h c id ask
   port_fault : (leases : List act.Lease) → c.act ≡ act.Undone E15 leases [] → In false c.given.opens → OfferEnds config h c id ask
   key_fault : (leases : List act.Lease) → c.act ≡ act.Undone E16 leases c.given.draws → c.given.draw_failed ≡ true → OfferEnds config h c id ask
-  no_memory : c.act ≡ act.Starved → OfferEnds config h c id ask
+  no_memory : c.act ≡ act.OutOfMemory → OfferEnds config h c id ask
 
 abbrev act_of : Answered → Act
 act_of a = a.act
@@ -88,12 +88,12 @@ found_ends config h c id ask bound (Some of) found no_fault is =
     false (is_short (free_in config h) (plan.demand (rounds h of.number) ask).pairs) refl refl
     (is ∙ ap (λ fault. spelled config c.cookie (offer_unless config h c.given ask of false (rounds h of.number) fault)) no_fault)
 
-starved_ends : (config : Config) (h : List BoardEntry) (c : Control) (id : List ℕ) (ask : OfferAsk) → length (live h) ≤ config.max_sessions
-    → plan.offer_fault (rounds_of_call h (find_call h id)) ask ≡ None → (starved : Bool)
-    → answer_of c ≡ cond starved (record { bytes = reply_datagram config c.cookie (Fault E17); act = act.Starved }) (spelled config c.cookie (offer_to config h c.given id ask (find_call h id)))
+out_of_memory_ends : (config : Config) (h : List BoardEntry) (c : Control) (id : List ℕ) (ask : OfferAsk) → length (live h) ≤ config.max_sessions
+    → plan.offer_fault (rounds_of_call h (find_call h id)) ask ≡ None → (out_of_memory : Bool)
+    → answer_of c ≡ cond out_of_memory (record { bytes = reply_datagram config c.cookie (Fault E17); act = act.OutOfMemory }) (spelled config c.cookie (offer_to config h c.given id ask (find_call h id)))
     → OfferEnds config h c id ask
-starved_ends config h c id ask bound no_fault true is = no_memory (ap act_of is)
-starved_ends config h c id ask bound no_fault false is = found_ends config h c id ask bound (find_call h id) refl no_fault is
+out_of_memory_ends config h c id ask bound no_fault true is = no_memory (ap act_of is)
+out_of_memory_ends config h c id ask bound no_fault false is = found_ends config h c id ask bound (find_call h id) refl no_fault is
 
 pub offer_ends : (config : Config) (h : List BoardEntry) (now : ℕ) (c : Control) (id : List ℕ) (ask : OfferAsk) → IsFitting config h → FitsControl config h now c
     → kept h c.source c.cookie now ≡ None → asked config c.too_long c.pairs ≡ Ok (said.Offer id ask.from_tag ask.sdp ask.options) → ask.chosen ≡ c.chosen
@@ -101,6 +101,6 @@ pub offer_ends : (config : Config) (h : List BoardEntry) (now : ℕ) (c : Contro
 offer_ends config h now c id ask old fits none is_asked heard no_fault =
     let due = λ (ch : List (Option CryptoLine)). spelled config c.cookie (offer_to config h c.given id (offer_ask ask.from_tag ask.sdp ask.options ch) (find_call h id)) in
     let unkept = fits.answers ∙ ap (answering_unless config h c) none in
-    let asking = ap (λ r. cond c.given.starved (record { bytes = reply_datagram config c.cookie (Fault E17); act = act.Starved }) (spelled config c.cookie (answering_asked config h c r))) is_asked in
-    let hearing = ap (λ ch. cond c.given.starved (record { bytes = reply_datagram config c.cookie (Fault E17); act = act.Starved }) (due ch)) (sym heard) in
-    starved_ends config h c id ask (live_bound config h old) no_fault c.given.starved (unkept ∙ asking ∙ hearing)
+    let asking = ap (λ r. cond c.given.out_of_memory (record { bytes = reply_datagram config c.cookie (Fault E17); act = act.OutOfMemory }) (spelled config c.cookie (answering_asked config h c r))) is_asked in
+    let hearing = ap (λ ch. cond c.given.out_of_memory (record { bytes = reply_datagram config c.cookie (Fault E17); act = act.OutOfMemory }) (due ch)) (sym heard) in
+    out_of_memory_ends config h c id ask (live_bound config h old) no_fault c.given.out_of_memory (unkept ∙ asking ∙ hearing)

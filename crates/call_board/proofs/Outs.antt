@@ -80,7 +80,7 @@ new_case config h e a (act.Offered o) fits is i =
     let one = counted a.pair (leased_by_act (act e)) (leases_once config h e fits) (legs_leased a (act e) (subst (λ (y : Act). In a (legs_of_act y)) (sym is) i)) in
     let step = count_step h e a.pair in omega (arith, generation, one, step)
 new_case config h e a act.Repeated fits is i = elim i [ ]
-new_case config h e a act.Starved fits is i = elim i [ ]
+new_case config h e a act.OutOfMemory fits is i = elim i [ ]
 new_case config h e a (act.Failed code) fits is i = elim i [ ]
 new_case config h e a (act.Undone code leases draws) fits is i = elim i [ ]
 new_case config h e a (act.Answered x) fits is i = elim i [ ]
@@ -149,7 +149,7 @@ dropped_in p zero (x ∷ xs) i = i
 dropped_in p (suc k) [] i = i
 dropped_in p (suc k) (x ∷ xs) i = there (dropped_in p k xs i)
 
--- those of the legs that an offer drops may be given back, after it leased so many pairs
+-- those of the legs that an offer drops may be given back, after it leased `count` pairs
 pub dropped_return : (config : Config) (h : List BoardEntry) (e : BoardEntry) (of : Call) (v : View) (count : ℕ) → IsFitting config h → v.free ≡ drop count (free config h) →
     v.leases ≡ (with_leases (view_of config h) count).leases → MayReturnAll config v (map (leg_lease config) (closed_of h e of))
 dropped_return config h e of v count fits free_is leases_are =

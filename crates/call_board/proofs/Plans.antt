@@ -1,4 +1,4 @@
--- What an offer is answered, by its plan and by what is short.
+-- The reply to an offer, by its plan and by what it lacks.
 use Rattle.std.proofs.Common.{◌≡◌, ◌≢◌, ◌∙◌, refl, ap, sym, ℕ, ◌+◌, ◌-◌, ◌<◌, Bool, true, false, not, List, length, map, ◌⊎◌, inl, inr, Option, Some, None, arith, get_or, if◌then◌else◌}
 use Rattle.std.specs.Prelude.{◌&&◌, nat_le, nat_lt, position, Err}
 use Rattle.std.specs.List.{position_or_len}

@@ -65,7 +65,7 @@ last_same [] once = refl
 last_same (x ∷ xs) once =
     ap (λ b. cond b (last_once xs) (x ∷ last_once xs)) (is_out x xs once.0) ∙ ap (λ ns. x ∷ ns) (last_same xs once.1)
 
--- the list behind its front is the list without the numbers of the front
+-- the list after its front is the list without the numbers of the front
 pub without_taken : (k : ℕ) (xs : List ℕ) → Once xs → filter (λ n. not (has (take k xs) n)) xs ≡ drop k xs
 without_taken zero [] once = refl
 without_taken zero (x ∷ xs) once = filter_whole (λ n. not (has (take zero (x ∷ xs)) n)) (x ∷ xs) (λ n i. refl)

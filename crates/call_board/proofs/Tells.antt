@@ -1,4 +1,4 @@
--- An act tells what it stands for: the inversion of the answers.
+-- An act tells what it stands for: the inversion of `Answers`.
 use Rattle.std.proofs.Common.{◌≡◌, ◌∙◌, sym, ap, subst, ℕ, ◌<◌, List, [], length, refl, Bool, true, false, cond, not, Option, Some, None, Result, Ok, Err, arith}
 use Rattle.std.specs.Prelude.{nat_le, ◌&&◌}
 use Rattle.std.proofs.lemmas.Bool.Decides.{nat_tests}
@@ -203,23 +203,23 @@ asked_case : (config : Config) (h : List BoardEntry) (now : ℕ) (c : Control) (
 asked_case config h now c (Err code) asks gives is = turn_is now c _ is
 asked_case config h now c (Ok says) asks gives is = command_case config h now c says asks gives is
 
-starved_case : (config : Config) (h : List BoardEntry) (now : ℕ) (c : Control) → GivesFor (demanded config h c) c.given c.act → (starved : Bool)
-    → c.act ≡ cond starved act.Starved (answering config h c).act → Tells config h (entry now c) (cond starved act.Starved (answering config h c).act)
-starved_case config h now c gives true is = turn_is now c _ is
-starved_case config h now c gives false is = asked_case config h now c (asked config c.too_long c.pairs) refl gives is
+out_of_memory_case : (config : Config) (h : List BoardEntry) (now : ℕ) (c : Control) → GivesFor (demanded config h c) c.given c.act → (out_of_memory : Bool)
+    → c.act ≡ cond out_of_memory act.OutOfMemory (answering config h c).act → Tells config h (entry now c) (cond out_of_memory act.OutOfMemory (answering config h c).act)
+out_of_memory_case config h now c gives true is = turn_is now c _ is
+out_of_memory_case config h now c gives false is = asked_case config h now c (asked config c.too_long c.pairs) refl gives is
 
-starved_act : (config : Config) (h : List BoardEntry) (c : Control) (starved : Bool)
-    → (cond starved (record { bytes = reply_datagram config c.cookie (Fault E17); act = act.Starved }) (spelled config c.cookie (answering config h c))).act ≡ cond starved act.Starved (answering config h c).act
-starved_act config h c true = refl
-starved_act config h c false = refl
+out_of_memory_act : (config : Config) (h : List BoardEntry) (c : Control) (out_of_memory : Bool)
+    → (cond out_of_memory (record { bytes = reply_datagram config c.cookie (Fault E17); act = act.OutOfMemory }) (spelled config c.cookie (answering config h c))).act ≡ cond out_of_memory act.OutOfMemory (answering config h c).act
+out_of_memory_act config h c true = refl
+out_of_memory_act config h c false = refl
 
 kept_case : (config : Config) (h : List BoardEntry) (now : ℕ) (c : Control) → GivesFor (demanded config h c) c.given c.act
     → (o : Option (List ℕ)) → kept h c.source c.cookie now ≡ o → answer_of c ≡ answering_unless config h c o → Tells config h (entry now c) (answering_unless config h c o).act
 kept_case config h now c gives (Some bytes) is_kept is =
     record { turn = turn_is now c _ (ap (λ (a : Answered). a.act) is); is_kept = is_kept ∙ ap Some (sym (ap (λ (a : Answered). a.bytes) is)) }
 kept_case config h now c gives None is_kept is =
-    let acts = starved_act config h c c.given.starved in
-    subst (Tells config h (entry now c)) (sym acts) (starved_case config h now c gives c.given.starved (ap (λ (a : Answered). a.act) is ∙ acts))
+    let acts = out_of_memory_act config h c c.given.out_of_memory in
+    subst (Tells config h (entry now c)) (sym acts) (out_of_memory_case config h now c gives c.given.out_of_memory (ap (λ (a : Answered). a.act) is ∙ acts))
 
 control_told : (config : Config) (h : List BoardEntry) (now : ℕ) (c : Control) → FitsControl config h now c → Tells config h (entry now c) c.act
 control_told config h now c fits =
@@ -247,7 +247,7 @@ ended_by_turn : (config : Config) (h : List BoardEntry) (e : BoardEntry) (c : Ca
 ended_by_turn config h e c (act.Deleted of) told (here same) = subst (λ x. In x (live h)) (sym same) told.is_live
 ended_by_turn config h e c (act.Deleted of) told (there i) = elim i [ ]
 ended_by_turn config h e c act.Repeated told i = elim i [ ]
-ended_by_turn config h e c act.Starved told i = elim i [ ]
+ended_by_turn config h e c act.OutOfMemory told i = elim i [ ]
 ended_by_turn config h e c (act.Failed code) told i = elim i [ ]
 ended_by_turn config h e c (act.Undone code leases draws) told i = elim i [ ]
 ended_by_turn config h e c (act.Offered o) told i = elim i [ ]

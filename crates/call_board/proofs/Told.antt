@@ -74,7 +74,7 @@ pub record IsRepeat (h : List BoardEntry) (e : BoardEntry) : Type 0 where
 -- what an act of an entry after that history tells
 abbrev pub Tells : Config → List BoardEntry → BoardEntry → Act → Type 0
 Tells config h e act.Repeated = IsRepeat h e
-Tells config h e act.Starved = IsTurn e act.Starved
+Tells config h e act.OutOfMemory = IsTurn e act.OutOfMemory
 Tells config h e (act.Failed code) = IsTurn e (act.Failed code)
 Tells config h e (act.Undone code leases draws) = IsUndone config h e code leases draws
 Tells config h e (act.Offered o) = IsOffer config h e o

@@ -41,7 +41,7 @@ lease_now : (h : List BoardEntry) (e : BoardEntry) (p : ℕ) (x : Act) → act e
 lease_now h e p (act.Offered o) is i = inl (subst (λ (y : Act). In p (map pair_of (legs_of_act y))) (sym is) i)
 lease_now h e p (act.Undone code leases draws) is i = inr (subst (λ (y : Act). In p (undone_pairs y)) (sym is) i)
 lease_now h e p act.Repeated is i = elim i [ ]
-lease_now h e p act.Starved is i = elim i [ ]
+lease_now h e p act.OutOfMemory is i = elim i [ ]
 lease_now h e p (act.Failed code) is i = elim i [ ]
 lease_now h e p (act.Answered x) is i = elim i [ ]
 lease_now h e p (act.Deleted of) is i = elim i [ ]

@@ -1,4 +1,4 @@
--- The history of the board, latest first: control datagrams with what they were answered and did, ticks and stops.
+-- The history of the board, latest first: control datagrams with their replies and what they did, ticks and stops.
 use Rattle.std.specs.Prelude.{ℕ, Bool, List, Option}
 use Rattle.relay_outside.specs.declared.address.Addr.{Addr}
 use Rattle.ng_bencode.specs.Tree.{Entries}
@@ -37,12 +37,12 @@ pub record Answer : Type 0 where
   pub ask : AnswerAsk
   pub signal : List SectionSignal
 
--- What a control datagram did: it repeated a kept cookie; it was short of memory; it failed; it failed after it had leased
+-- What a control datagram did: it repeated a kept cookie; it ran out of memory; it failed; it failed after it had leased
 -- pairs and drawn keys, which were given back and used up; its offer, its answer, its delete was accepted; it asked after a
 -- call; or it changed nothing
 pub data Act : Type 0 where
   Repeated : Act
-  Starved : Act
+  OutOfMemory : Act
   Failed : ErrorCode → Act
   Undone : ErrorCode → (leases : List Lease) → (draws : List (List ℕ)) → Act
   Offered : Offer → Act
@@ -51,18 +51,18 @@ pub data Act : Type 0 where
   Queried : Call → Act
   Told : Act
 
--- What the outside answered in the turn of a control datagram: whether memory was short, the answers of the opens in order,
+-- What the devices returned in the turn of a control datagram: whether memory ran out, the results of the opens in order,
 -- the keys that were drawn in order and whether the next draw failed, and the report of the call that was asked after
 pub record Given : Type 0 where
-  pub starved : Bool
+  pub out_of_memory : Bool
   pub opens : List Bool
   pub draws : List (List ℕ)
   pub draw_failed : Bool
   pub report : Option (List LegReport)
 
 -- A control datagram with a frame: its source, cookie and body, and whether it filled 16,385 bytes; the dictionary that the
--- body spells, where it spells one, and the usable crypto keys of its description, section by section; what the outside
--- answered; the reply, a whole datagram with the cookie first; and what it did
+-- body spells, where it spells one, and the usable crypto keys of its description, section by section; what the devices
+-- returned; the reply, a whole datagram with the cookie first; and what it did
 pub record Control : Type 0 where
   pub source : Addr
   pub cookie : List ℕ

@@ -1,4 +1,4 @@
--- What a control datagram is answered and does, after the history of the board.
+-- Which reply a control datagram gets and what it does, after the history of the board.
 use Rattle.std.specs.Prelude.{ℕ, Bool, true, false, not, ◌&&◌, nat_le, List, [], map, length, take, Option, Some, None, Result, Ok, Err, if◌then◌else◌}
 use Rattle.std.specs.List.{list_any}
 use Rattle.relay_outside.specs.declared.settings.Config.{Config}
@@ -146,7 +146,7 @@ abbrev pub answering_asked : Config → List BoardEntry → Control → Result S
 answering_asked config h c (Err code) = failing code
 answering_asked config h c (Ok says) = answering_command config h c says
 
--- the reply that is due where nothing is kept and memory is not short
+-- the reply that is due where nothing is kept and memory doesn't run out
 abbrev pub answering : Config → List BoardEntry → Control → Answering
 answering config h c = answering_asked config h c (asked config c.too_long c.pairs)
 
@@ -158,10 +158,10 @@ pub record Answered : Type 0 where
 abbrev pub spelled : Config → (cookie : List ℕ) → Answering → Answered
 spelled config cookie a = record { bytes = reply_datagram config cookie a.reply; act = a.act }
 
--- What a datagram is answered and does: a kept reply is given again, as it was kept; want of memory may be the answer to any other
--- datagram; and else the reply is the one that is due
+-- Which reply a datagram gets and what it does: a kept reply is sent again, as it was kept; the reply to any other datagram may be
+-- that memory ran out; else it is the one that is due
 abbrev pub answering_unless : Config → List BoardEntry → Control → Option (List ℕ) → Answered
 answering_unless config h c (Some bytes) = record { bytes = bytes; act = act.Repeated }
 answering_unless config h c None =
-    if c.given.starved then record { bytes = reply_datagram config c.cookie (Fault E17); act = act.Starved }
+    if c.given.out_of_memory then record { bytes = reply_datagram config c.cookie (Fault E17); act = act.OutOfMemory }
     else spelled config c.cookie (answering config h c)

@@ -1,4 +1,4 @@
--- Which entries a board's history demands: what a datagram says, what the outside gave in its turn, and what it is answered.
+-- Which entries a board's history demands: what a datagram says, what the devices returned in its turn, and its reply.
 use Rattle.std.specs.Prelude.{◌≡◌, ℕ, ◌*◌, ◌<◌, Bool, true, false, not, ◌&&◌, ◌||◌, List, [], ◌∷◌, ◌++◌, map, length, nat_lt, replicate, Option, Some, None, is_some, IsSome, Result, Ok, filter}
 use Rattle.std.specs.List.{list_any}
 use Rattle.relay_outside.specs.declared.settings.Config.{Config}
@@ -19,7 +19,7 @@ use Rattle.call_board.specs.Kept.{kept}
 use Rattle.call_board.specs.Asked.{Reads, asked}
 use Rattle.call_board.specs.Answers.{offer_ask, answer_ask, answering_unless, Answered}
 
--- What the outside gave.
+-- What the devices returned.
 
 -- an offer opens two ports for each pair, in the order of leases, up to the first open that fails
 pub record OpensAll (given : Given) (pairs : ℕ) : Type 0 where
@@ -58,12 +58,12 @@ abbrev pub GivesUndone : Demand → Given → Bool → Type 0
 GivesUndone demand given true = OpenFails given (length demand.pairs) × (given.draws ≡ []) × (given.draw_failed ≡ false)
 GivesUndone demand given false = OpensAll given (length demand.pairs) × DrawFails given (length demand.keys)
 
--- the turn of a datagram that does this opened and drew so
+-- what the turn of a datagram that does this opened and drew
 abbrev pub GivesFor : Demand → Given → Act → Type 0
 GivesFor demand given (act.Offered offer) = OpensAll given (length demand.pairs) × DrawsAll given (length demand.keys) × (given.report ≡ None)
 GivesFor demand given (act.Undone code leases draws) = GivesUndone demand given (list_any not given.opens) × (given.report ≡ None)
 GivesFor demand given (act.Queried of) = GivesNothing given × IsSome given.report
-GivesFor demand given act.Starved = GivesNothing given
+GivesFor demand given act.OutOfMemory = GivesNothing given
 GivesFor demand given act.Repeated = GivesNothing given × (given.report ≡ None)
 GivesFor demand given (act.Failed code) = GivesNothing given × (given.report ≡ None)
 GivesFor demand given (act.Answered answer) = GivesNothing given × (given.report ≡ None)
@@ -86,10 +86,10 @@ abbrev pub is_repeat : Act → Bool
 is_repeat act.Repeated = true
 is_repeat _ = false
 
--- the body is read, unless a kept reply is given again, the datagram is too long, or memory is short before it was read; a
--- datagram that had a report for all its want of memory was read
+-- the body is read, unless a kept reply is sent again, the datagram is too long, or memory ran out before it was read; one for
+-- which memory ran out was read if it had a report
 abbrev pub is_read : Control → Bool
-is_read c = not (is_repeat c.act) && not c.too_long && (not c.given.starved || is_some c.given.report)
+is_read c = not (is_repeat c.act) && not c.too_long && (not c.given.out_of_memory || is_some c.given.report)
 
 -- the errors that are found when crypto lines have been chosen
 abbrev pub is_found_late : ErrorCode → Bool
@@ -98,7 +98,7 @@ is_found_late E13 = true
 is_found_late E14 = true
 is_found_late _ = false
 
--- crypto lines are chosen for an offer or an answer that is accepted, and for one that fails at or behind the choice
+-- crypto lines are chosen for an offer or an answer that is accepted, and for one that fails at the choice or after it
 abbrev pub is_heard : Act → Bool
 is_heard (act.Offered offer) = true
 is_heard (act.Answered answer) = true
@@ -121,8 +121,8 @@ pub record FitsControl (config : Config) (h : List BoardEntry) (now : ℕ) (c : 
   pub reads : is_read c ≡ true → Reads c.body c.pairs
   pub hears : is_heard c.act ≡ true → Hears h c (asked config c.too_long c.pairs)
   pub gives : GivesFor (demanded config h c) c.given c.act
-  -- where memory is short, a report is had of no call but a live one that is asked after
-  pub reports : c.act ≡ act.Starved → asks_after h (asked config c.too_long c.pairs) ≡ false → c.given.report ≡ None
+  -- where memory runs out, there is a report of no call but a live one that is asked after
+  pub reports : c.act ≡ act.OutOfMemory → asks_after h (asked config c.too_long c.pairs) ≡ false → c.given.report ≡ None
   pub answers : answer_of c ≡ answering_unless config h c (kept h c.source c.cookie now)
 
 -- of the live calls those that the entry names, in order

@@ -3,12 +3,12 @@ use Rattle.std.specs.Prelude.{ℕ, Bool, true, false, List, Option, Some, None, 
 use Rattle.relay_outside.specs.declared.address.Addr.{Addr}
 use Rattle.cookie_cache.specs.Keepings.{Keeping}
 use Rattle.cookie_cache.specs.Keepings as cache
-use Rattle.call_board.specs.Acts.{Act, Repeated, Starved, BoardEvent, Turn, Tick, Stop, BoardEntry}
+use Rattle.call_board.specs.Acts.{Act, Repeated, OutOfMemory, BoardEvent, Turn, Tick, Stop, BoardEntry}
 
--- the first reply of a cookie is kept, and none for want of memory
+-- the first reply of a cookie is kept, but none that says out of memory
 abbrev pub is_kept : Act → Bool
 is_kept Repeated = false
-is_kept Starved = false
+is_kept OutOfMemory = false
 is_kept _ = true
 
 abbrev pub keeping_at : ℕ → BoardEvent → Option Keeping

@@ -96,7 +96,7 @@ pub record OfferPlanFor (config : Config) (t : Target) (ask : OfferAsk) (p : Boa
   pub plan_for : OfferPlan config t.rounds ask p.plan
   pub begins : BeginsFor config t ask.from_tag p.begun
 
--- what an offer is answered: its first fault or shortage, or a plan, or that memory was refused
+-- the result of planning an offer: its first fault or shortage, a plan, or out of memory
 abbrev pub PlansFor : Config → View → Target → OfferAsk → Result BoardPlan BoardFault → Type 0
 PlansFor config v t ask (Err fault) = fault ≢ faults.OutOfMemory → refusal config v t.begins t.rounds ask ≡ code_of fault
 PlansFor config v t ask (Ok p) = (refusal config v t.begins t.rounds ask ≡ None) × OfferPlanFor config t ask p
@@ -125,7 +125,7 @@ pub record AnswerPlanFor (config : Config) (c : CallView) (ask : AnswerAsk) (lin
   pub plan_for : AnswerPlan config c.rounds ask lines p.plan
   pub begins_none : p.begun ≡ None
 
--- what an answer is answered: that no live call has its call-id; or its first fault or a plan, or that memory was refused
+-- the result of planning an answer: that no live call has its call-id, its first fault, a plan, or out of memory
 abbrev pub PlansAnswer : Config → AnswerIn → List (List ℕ) → Option CallView → Result BoardPlan BoardFault → Type 0
 PlansAnswer config input lines None result = result ≡ Err faults.UnknownCall
 PlansAnswer config input lines (Some c) (Err fault) =

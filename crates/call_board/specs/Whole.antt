@@ -5,7 +5,7 @@ use Rattle.port_pool.specs.declared.holder.Holder.{Holder}
 use Rattle.port_pool.specs.declared.pairs.Lease as pairs
 use Rattle.offer_answer.specs.Rounds.{Round, NewLeg}
 use Rattle.offer_answer.specs.Rounds as round
-use Rattle.call_board.specs.Acts.{Call, Lease, Offer, Answer, Act, Repeated, Starved, Failed, Undone, Offered, Answered, Deleted, Queried, Told, Control, BoardEvent, Turn, Tick, Stop, BoardEntry}
+use Rattle.call_board.specs.Acts.{Call, Lease, Offer, Answer, Act, Repeated, OutOfMemory, Failed, Undone, Offered, Answered, Deleted, Queried, Told, Control, BoardEvent, Turn, Tick, Stop, BoardEntry}
 use Rattle.call_board.specs.Pairs.{closed_of}
 use Rattle.call_board.specs.Views.{View, last_moment, at_moment, with_keeping, one_drawn, with_calls, with_new_call, with_leases, with_returned, without_call, goes_on}
 
@@ -49,7 +49,7 @@ with_ended h e (of ∷ calls) v = with_ended h e calls (with_closed h e of (with
 
 -- What each act makes, from the moment of its datagram on.
 
--- a reply that is kept is given again, or memory was short: nothing is kept
+-- a kept reply is sent again, or memory ran out: nothing is kept
 abbrev pub after_nothing : View → View
 after_nothing v = v
 
@@ -81,7 +81,7 @@ after_delete h e c of v = with_reply e.moment c (with_closed h e of (without_cal
 
 abbrev pub after_act : List BoardEntry → BoardEntry → Control → Act → View → View
 after_act h e c Repeated v = after_nothing v
-after_act h e c Starved v = after_nothing v
+after_act h e c OutOfMemory v = after_nothing v
 after_act h e c (Failed code) v = after_reply e c v
 after_act h e c (Undone code leases draws) v = after_undone e c leases draws v
 after_act h e c (Offered o) v = after_offer h e c o v
@@ -100,7 +100,7 @@ after_event h e (Stop calls) v = with_ended h e calls v
 abbrev pub after : List BoardEntry → BoardEntry → View → View
 after h e v = after_event h e e.event v
 
--- The moment of a datagram or a tick is none before the last one, that of a stop is the last one.
+-- The moment of a datagram or a tick is not before the last one; that of a stop is the last one.
 abbrev pub IsMomentOf : List BoardEntry → ℕ → BoardEvent → Type 0
 IsMomentOf h moment (Turn c) = last_moment h ≤ moment
 IsMomentOf h moment (Tick calls) = last_moment h ≤ moment

@@ -17,7 +17,7 @@ use crate::fault::BoardFault;
 use crate::live_call::place_of_id;
 use crate::planning::fault_by;
 use ng_command::AnswerIn;
-use offer_answer::{Heard, answer};
+use offer_answer::{ChosenLines, answer};
 use sdp_text::Sdp;
 use std::alloc::Global;
 
@@ -70,16 +70,16 @@ impl Board {
         }
     }
 
-    /// What is heard in the description of an answer to the last offer of the live call with this call-id: of each section the
-    /// first usable crypto line that its side was offered. Nothing where no live call has the call-id.
-    pub fn hear_answer(&self, call_id: &[u8], sdp: &Sdp) -> Heard
+    /// The crypto lines that are chosen in the description of an answer to the last offer of the live call with this call-id: for each
+    /// section the first usable one that its side was offered. None where no live call has the call-id.
+    pub fn hear_answer(&self, call_id: &[u8], sdp: &Sdp) -> ChosenLines
         ensures heard { (config : Config) (v : View) (c : CallView) (ask : AnswerAsk) → Shows config self.now v →
             call_of_id v call_id.now ≡ Some c → lines_of ask.sdp ≡ sdp.now → ask.chosen ≡ result → AnswerHeard c.rounds ask }
         ensures nothing { (config : Config) (v : View) → Shows config self.now v → call_of_id v call_id.now ≡ None → result ≡ [] }
     {
         match place_of_id(self.calls.as_slice(), call_id) {
             Some(place) => self.calls[place].dialog.hear(sdp),
-            None => Heard::none(),
+            None => ChosenLines::none(),
         }
     }
 }

@@ -66,7 +66,7 @@ impl Board {
         })
     }
 
-    /// Raises the board's last moment to `now`, in milliseconds, where that is greater, and answers it.
+    /// Raises the board's last moment to `now`, in milliseconds, if that is greater, and returns it.
     pub fn advance(&mut self, now: u64) -> u64
         ensures moment { (config : Config) (v : View) → Shows config self.old v → Shows config self.new (at_moment v now) × (result ≡ max now v.moment) }
         ensures calls { KeepsCalls self.old self.new }
@@ -87,7 +87,7 @@ impl Board {
         self.replies.find(source, cookie, now)
     }
 
-    /// Makes room for the one reply that `keep_reply` keeps. Nothing else changes, whatever the answer.
+    /// Makes room for the one reply that `keep_reply` keeps. Nothing else changes, also when it fails.
     pub fn reserve_reply(&mut self) -> Result<(), OutOfMemory>
         ensures shows { (config : Config) (v : View) → Shows config self.old v → Shows config self.new v }
         ensures place { OnOk result (HasSparePlace self.new.replies) }

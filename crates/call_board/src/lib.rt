@@ -1,13 +1,13 @@
 //! The board: the live calls, the port pairs, the drawn keys and the kept replies, by the history of the control datagrams.
 //!
 //! `specs/Acts.antt` has the entries of that history, `specs/Calls.antt` the live calls and their rounds, `specs/Pairs.antt`
-//! who holds which pair and which pairs are free, `specs/Kept.antt` the replies that are kept, `specs/Answers.antt` what a
-//! datagram is answered and does.
+//! who holds which pair and which pairs are free, `specs/Kept.antt` the replies that are kept, `specs/Answers.antt` which reply a
+//! datagram gets and what it does.
 //!
 //! Module `board` has the board, `live_call` a live call. `planning` plans offers and `answering` answers as a `BoardPlan`,
 //! `leasing` leases the pairs that it demands and takes them back, `applying` takes it in, `ending` ends a call.
 //! `specs/Views.antt` says what the board keeps of its history, and what each call changes of that; `specs/Boards.antt` that it
-//! keeps it, `specs/Planned.antt` what an offer or an answer is answered, `specs/Applied.antt` what a plan makes of the board,
+//! keeps it, `specs/Planned.antt` the result of planning an offer or an answer, `specs/Applied.antt` what a plan makes of the board,
 //! `specs/Whole.antt` what the calls of an entry's turn make together, and `law` that this is the entry.
 #![tactic(auto)]
 

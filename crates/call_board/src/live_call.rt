@@ -15,7 +15,7 @@ pub(crate) struct LiveCall {
     pub cell: u32,
     /// Its call-id.
     pub id: Text,
-    /// What its accepted offers and answers come to.
+    /// The state that its accepted offers and answers lead to.
     pub dialog: Dialog,
     /// The moment of the first of them, in milliseconds.
     pub first_moment: u64,

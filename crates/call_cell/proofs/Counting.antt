@@ -109,7 +109,7 @@ module _ (m : ℕ) (p : Receipt) (ok : Bool) (d : Deed) (h : List CellEntry) (le
       → IsCounted (relay_entry m p ok d ∷ h) leg counts
   counted_still for none unsent = record { accepted = accepted_same for none; sent = λ half. sent_same for half (unsent half) }
 
-  -- accepted, and sent by another leg or by none
+  -- accepted, and sent by another leg or not at all
   pub counted_accepts : IsCounted h leg counts → accepts leg p d ≡ true → d.kind ≡ p.half → ((half : Half) → sent_from h leg half p d ≡ false)
       → IsCounted (relay_entry m p ok d ∷ h) leg (more_accepted p.half counts)
   counted_accepts for so kind unsent = record {
@@ -122,7 +122,7 @@ module _ (m : ℕ) (p : Receipt) (ok : Bool) (d : Deed) (h : List CellEntry) (le
     sent = λ half. sent_unaccepted p.half half counts ∙ sent_same for half (unsent half);
   }
 
-  -- accepted by another leg, and sent by this one where the send was answered Ok
+  -- accepted by another leg, and sent by this one where the send returned Ok
   pub counted_sends : (done : Bool) → IsCounted h leg counts → accepts leg p d ≡ false → ((half : Half) → sent_from h leg half p d ≡ (done && is_half p.half half))
       → IsCounted (relay_entry m p ok d ∷ h) leg (more_sent p.half done counts)
   counted_sends done for none sent_so = record {

@@ -41,7 +41,7 @@ pub is_wrong_so : (o : Option Learner) (l : Learner) (source : Addr) (answer : J
 is_wrong_so o l source answer is does q =
     sym (ap (λ (x : Option Learner). is_wrong_for x source) is ∙ fails (is_wrong_source l.flags l.learned source) (sym (judges l source answer does) ∙ q))
 
--- a learner that heard a source
+-- a learner with a received source
 pub teaches : (o : Option Learner) (l new : Learner) (source : Addr) (half : Half) (s : LegSignal) (known : Option Addr) → o ≡ Some l
     → ((steps : List Step) → StandsFor l steps → StandsFor new (Heard source ∷ steps))
     → o ≡ learner_of half (Some s) known → Some new ≡ learner_of half (Some s) (taught s.flags known source)

@@ -43,7 +43,7 @@ pub refused_is : (config : Config) (h : List CellEntry) (p : Receipt) (ok : Bool
     → (deed config h p ok).outcome ≡ outcomes.Refused cause → deed config h p ok ≡ refused_deed (kind h p) cause
 refused_is config h p ok cause q = refused_case config h p ok cause (deed config h p ok) (does config h p ok) q
 
--- a relay that is accepted: its leg, which was answered, and what it notes, which is something exactly under an inbound key
+-- a relay that is accepted: its leg, which an answer has committed, and what it notes, which is something exactly under an inbound key
 pub record Accepts (h : List CellEntry) (p : Receipt) (d : Deed) : Type 0 where
   pub leg : Holder
   pub is_found : found h p ≡ Some leg
@@ -80,7 +80,7 @@ packet_case true true rest noted plain q = absurd (let f = q in cc)
 packet_case true false rest noted plain q = q
 packet_case false wrong rest noted plain q = absurd (let f = q in cc)
 
--- a leg whose packet was taken was answered, and something is noted exactly under an inbound key
+-- a leg whose packet was taken was committed by an answer, and something is noted exactly under an inbound key
 pub record Own (h : List CellEntry) (leg : Holder) (noted : Option Note) : Type 0 where
   pub signal : LegSignal
   pub is_in_force : in_force h leg ≡ Some signal

@@ -1,5 +1,5 @@
 -- Where each Prepare adds the two legs of a section together, a leg has an opposite one, and what was committed for the one
--- was committed for the other: no packet is held back for want of them.
+-- was committed for the other: no packet is held back for lack of them.
 use Rattle.std.proofs.Common.{◌≡◌, refl, ap, subst, sym, ◌∙◌, ℕ, List, [], ◌∷◌, ◌++◌, Bool, true, false, cond, Option, Some, None, filter, filter_map, not, ◌==◌}
 use Rattle.std.specs.Prelude.{slice_get}
 use Rattle.std.specs.List.{list_any, cons_option}

@@ -186,7 +186,7 @@ pub good_since : {config : Config} (h : List CellEntry) → FittingCell config h
 good_since h empty = begins
 good_since h (longer {e} {h = k} f rest) = good_event k e.moment e.event f (good_since k rest)
 
--- two relays of one packet, with one answer of the send, after one history, do the same
+-- two relays of one packet, with one result of the send, after one history, do the same
 pub same_deed : (config : Config) {h k : List CellEntry} {r s : Relayed} → r.deed ≡ deed config h r.packet r.sent_ok
     → s.deed ≡ deed config k s.packet s.sent_ok → h ≡ k → r.packet ≡ s.packet → r.sent_ok ≡ s.sent_ok → r.deed ≡ s.deed
 same_deed config p q same packets answers = cc

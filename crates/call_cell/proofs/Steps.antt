@@ -118,13 +118,13 @@ cut_accepted : (moment : ℕ) (signal : List SectionSignal) (rest : List CellEnt
 cut_accepted moment signal rest leg true = refl
 cut_accepted moment signal rest leg false = refl
 
--- a commit that says another key or suite begins the leg's notes anew
+-- a commit that says another key or suite resets the leg's notes
 pub commit_accepted : (moment : ℕ) (signal : List SectionSignal) (h : List CellEntry) (leg : Holder)
     → accepted (entry moment (Commit signal) ∷ h) leg ≡ cond (differs same_inbound (signal_at signal leg.section leg.side) (in_force h leg)) [] (accepted h leg)
 commit_accepted moment signal h leg =
     cut_accepted moment signal (span h leg) leg (differs same_inbound (signal_at signal leg.section leg.side) (in_force h leg))
 
--- a commit that says another address begins the half's lessons anew
+-- a commit that says another address resets what is learned of the half
 pub commit_lessons : (moment : ℕ) (signal : List SectionSignal) (h : List CellEntry) (leg : Holder) (half : Half)
     → lessons (entry moment (Commit signal) ∷ h) leg half
     ≡ cond (differs (same_address half) (signal_at signal leg.section leg.side) (in_force h leg)) [] (lessons h leg half)

@@ -1,4 +1,4 @@
--- Legs that go from a list, one by one from its front, while the others move behind.
+-- Legs that go from a list, one by one from its front, while the others move to its end.
 use Rattle.std.proofs.Common.{◌≡◌, refl, ap, subst, sym, ◌∙◌, ℕ, ◌+◌, ◌<◌, ◌≤◌, Bool, true, false, cond, List, [], ◌∷◌, ◌++◌, map, filter, take, drop, length, get_or, set, arith}
 use Rattle.std.proofs.lemmas.List.Sums.{length-filter, count_by-le-length}
 use Rattle.std.proofs.lemmas.List.{drop_more, drop_all, take_all, length-append, length-map, length-take-le, append_assoc, map-append, get_or-set_same, get_or-set_other}

@@ -112,7 +112,7 @@ abbrev pub IsAnswered : Option Sending → Bool → Type 0
 IsAnswered None sent_ok = sent_ok ≡ true
 IsAnswered (Some sending) sent_ok = Unit {0}
 
--- a relay does what the history demands, with that answer of its send
+-- a relay does what the history demands, with that result of its send
 pub record FitsRelay (config : Config) (h : List CellEntry) (r : Relayed) : Type 0 where
   pub does : r.deed ≡ deed config h r.packet r.sent_ok
   pub answered : IsAnswered r.deed.sending r.sent_ok

@@ -42,7 +42,7 @@ pub record Deed : Type 0 where
   pub shield : Option Shield
   pub sending : Option Sending
 
--- a relay: the packet, whether a send answered Ok, and what it did
+-- a relay: the packet, whether a send returned Ok, and what it did
 pub record Relayed : Type 0 where
   pub packet : Receipt
   pub sent_ok : Bool

@@ -24,11 +24,11 @@ use Rattle.call_cell.specs.Ending.{parts_of}
 
 -- A leg.
 
--- what is learned of a half begins anew where the half's address changed
+-- what is learned of a half starts over where the half's address changed
 abbrev pub relearned : Option LegSignal → LegSignal → Half → Option Addr → Option Addr
 relearned earlier s half known = if differs (same_address half) (Some s) earlier then None else known
 
--- the notes under the inbound key begin anew where the key or its suite changed
+-- the notes under the inbound key start over where the key or its suite changed
 abbrev pub renoted : Option LegSignal → LegSignal → List Note → List Note
 renoted earlier s notes = if differs same_inbound (Some s) earlier then [] else notes
 

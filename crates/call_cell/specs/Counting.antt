@@ -32,7 +32,7 @@ abbrev pub one_sent : Half → Counts → Counts
 one_sent Rtp counts = record counts { rtp_sent = as_counted (counts.rtp_sent + 1) }
 one_sent Rtcp counts = record counts { rtcp_sent = as_counted (counts.rtcp_sent + 1) }
 
--- a packet of a half left, and its send was answered so
+-- a packet of a half left, and its send had this result
 abbrev pub more_sent : Half → Bool → Counts → Counts
 more_sent half ok counts = if ok then one_sent half counts else counts
 

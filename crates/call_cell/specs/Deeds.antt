@@ -77,7 +77,7 @@ abbrev pub sent_deed : Config → Half → Option Note → Option Shield → Sen
 sent_deed config kind note shield sending sent_ok =
     record { outcome = sent_outcome config sending sent_ok; kind = kind; noted = note; shield = shield; sending = Some sending }
 
--- a packet that is wrapped so, towards a leg with that in force
+-- a packet that is wrapped in this way, towards a leg with that in force
 abbrev pub deed_wrapped : Config → List CellEntry → Receipt → Option Note → Holder → LegSignal → Bool → Wrapped → Deed
 deed_wrapped config h p note other s sent_ok (Held cause) = lost_deed (kind h p) note cause
 deed_wrapped config h p note other s sent_ok (Leaves shield bytes) =
@@ -101,7 +101,7 @@ abbrev pub deed_found : Config → List CellEntry → Receipt → Bool → Optio
 deed_found config h p sent_ok None = refused_deed (kind h p) refused.Stale
 deed_found config h p sent_ok (Some leg) = deed_judged config h p sent_ok leg (judged h p leg)
 
--- what a relay of the packet does after that history, and with that answer of its send
+-- what a relay of the packet does after that history, with that result of its send
 unfoldable pub deed : Config → List CellEntry → Receipt → Bool → Deed
 deed config h p sent_ok = deed_found config h p sent_ok (found h p)
 

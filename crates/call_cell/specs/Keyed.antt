@@ -86,7 +86,7 @@ opened_by (Some key) notes kind bytes = opened_under key notes kind bytes
 
 -- Protecting.
 
--- a packet stays; or it leaves so, with what is noted of it
+-- a packet is held back; or it leaves with these bytes, and this is noted of it
 pub data Wrapped : Type 0 where
   Held : Lost → Wrapped
   Leaves : Option Shield → List ℕ → Wrapped

@@ -237,7 +237,7 @@ pub record SameKeys {O : Type 0} (old new : Sending O) : Type 0 where
 abbrev pub wrapped_for : (ℕ → Option NewKey) → (ℕ → List Note) → LegSignal → Half → List ℕ → Wrapped
 wrapped_for keys notes s kind bytes = if s.hold then Held lost.Hold else wrapped_by keys notes s.outbound kind bytes
 
--- the answer of a send of so many bytes by a local port
+-- the result of a send of `size` bytes by a local port
 abbrev pub send_answer : (port size : ℕ) → Bool → Result ℕ Lost
 send_answer port size true = Ok size
 send_answer port size false = Err (lost.SendFault port)

@@ -41,7 +41,7 @@ pub record IsPrepared (prepared : PreparedKey) (key : NewKey) : Type 0 where
   pub suite : prepared.suite ≡ key.suite
   pub contexts : IsOutboundAnew key prepared.contexts.value
 
--- a leg that was answered by none, has received and sent nothing and has no key
+-- a leg that no answer has committed yet: it has received and sent nothing and has no key
 pub record IsFresh {O : Type 0} (leg : Leg O) : Type 0 where
   pub pair : leg.lease.pair ≡ leg.holder.pair
   pub generation : leg.lease.generation ≡ leg.holder.generation

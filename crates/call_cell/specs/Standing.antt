@@ -63,7 +63,7 @@ with_sending leg sending = record {
   counts = leg.counts;
 }
 
--- a packet of a half left, and its send was answered so
+-- a packet of a half left, and its send had this result
 abbrev pub with_send : {O : Type 0} → Half → Bool → Leg O → parts.Sending O → Leg O
 with_send half ok leg sending = record {
   holder = leg.holder;
@@ -74,7 +74,7 @@ with_send half ok leg sending = record {
   counts = more_sent half ok leg.counts;
 }
 
--- a packet of a half and source was accepted from a leg that was answered
+-- a packet of a half and source was accepted from a leg that an answer has committed
 pub record LegTakes {O : Type 0} (half : Half) (source : Addr) (known : Half → Option Addr) (notes : List Note) (noted : Option Note)
     (plain : List ℕ) (old new : Leg O) (buf : List ℕ) (result : Result ℕ Refused) : Type 0 where
   pub answer : result ≡ Ok (length plain)
@@ -88,7 +88,7 @@ abbrev pub LegAccepts : {O : Type 0} → Judged → Half → Addr → (Half → 
 LegAccepts (Stopped cause) half source known notes old new buf result = Refuses cause old new result
 LegAccepts (Passed noted plain) half source known notes old new buf result = LegTakes half source known notes noted plain old new buf result
 
--- whether the one send of a relay, if it made one, was answered Ok
+-- whether the one send of a relay, if it made one, returned Ok
 abbrev pub sent_ok : Outcome → Bool
 sent_ok (outcomes.Lost (lost.SendFault port)) = false
 sent_ok _ = true
@@ -192,7 +192,7 @@ pub record LegsDo {O : Type 0} (told : O → EndTold OutCall) (faults : O → �
       → EndsFor told faults (is_leaving (opposite_of h (found h p)) (slice_index_or old i x).holder) d.sending
       (sent_ok result) (slice_index_or old i x).sending (slice_index_or new i x).sending
 
--- a relay does what the history demands, with that answer of its send
+-- a relay does what the history demands, with that result of its send
 abbrev pub LegsRelay : {O : Type 0} → (O → EndTold OutCall) → (O → ℕ) → Config → List CellEntry → Receipt → List (Leg O) → List (Leg O)
     → List ℕ → Outcome → Type 0
 LegsRelay told faults config h p old new buf result =

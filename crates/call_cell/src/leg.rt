@@ -24,7 +24,7 @@ use sdes_lines::Suite;
 /// One leg of the cell's call.
 #[derive(Drop)]
 pub(crate) struct Leg<O> {
-    /// Who it is.
+    /// The leg's identity.
     pub(crate) holder: Holder,
     /// The lease of its pair.
     lease: Lease,
@@ -32,7 +32,7 @@ pub(crate) struct Leg<O> {
     signal: Option<LegSignal>,
     /// What it keeps of received packets.
     receiving: Receiving,
-    /// By what it sends.
+    /// Its sockets and outbound contexts.
     sending: Sending<O>,
     /// How many packets it accepted and sent.
     counts: Counts,
@@ -92,7 +92,7 @@ impl<O> Leg<O> {
     ghost use Rattle.call_cell.specs.Preparing.{IsFresh};
     ghost use Rattle.call_cell.specs.Reading.{told_by};
 
-    /// A leg that was answered by none, has received and sent nothing and has no key.
+    /// A leg that no answer has committed yet: it has received and sent nothing and has no key.
     pub(crate) fn new(holder: Holder, lease: Lease, rtp: O, rtcp: O) -> Leg<O>
         requires pair { lease.pair ≡ holder.pair }
         requires generation { lease.generation ≡ holder.generation }
@@ -181,7 +181,7 @@ impl<O: OutEnd> Leg<O> {
     ghost use Rattle.call_cell.specs.Standing.{outbound_of, LegAccepts, LegForwardsBy};
 
     /// Judges the packet in the buffer's first `len` bytes, which the leg received, opens it in place, learns its source and
-    /// counts it. Answers the plain packet's length. After a refusal nothing has changed.
+    /// counts it. Returns the plain packet's length. After a refusal nothing has changed.
     pub(crate) fn accept(
         &mut self,
         half: Half,

@@ -24,7 +24,7 @@ pub(crate) struct PreparedKey {
 pub struct Prepare<O> {
     /// The new legs, in lease order.
     pub(crate) legs: Vec<Leg<O>>,
-    /// Where the legs of the cell will stand: none yet, with room for 16.
+    /// The memory for the legs of the cell: an empty list with capacity for 16.
     pub(crate) places: Vec<Leg<O>>,
     /// The new keys.
     pub(crate) keys: Vec<PreparedKey>,
@@ -65,7 +65,7 @@ fn leg_places<O>(alloc: Global, legs: usize) -> Result<(Vec<Leg<O>>, Vec<Leg<O>>
 impl<O> Prepare<O> {
     ghost use Rattle.call_cell.specs.Preparing.{PrepareFor, IsReady, added, parts_added, leg_room, key_room};
 
-    /// Nothing yet, with capacity for this many legs and keys.
+    /// An empty `Prepare` with capacity for this many legs and keys.
     pub fn reserve(alloc: Global, legs: usize, keys: usize) -> Result<Prepare<O>, OutOfMemory>
         ensures nothing { IfOk result (λ signal. PrepareFor signal [] [] × (added signal ≡ []) × (parts_added signal ≡ [])) }
         ensures room { IfOk result (λ signal. (leg_room signal ≡ legs) × (key_room signal ≡ keys)) }

@@ -13,7 +13,7 @@ use relay_outside::{Addr, OutEnd};
 use rtp_packet::Half;
 use sdes_lines::Suite;
 
-/// By what a leg sends: the out ends of its ports, and the contexts of the keys that were drawn for it.
+/// How a leg sends: the out ends of its ports, and the contexts of the keys that were drawn for it.
 #[derive(Drop)]
 pub(crate) struct Sending<O> {
     rtp: O,
@@ -86,7 +86,7 @@ fn protect_under(
     }
 }
 
-/// The answer of a send of this many bytes by a local port.
+/// The result of a send of this many bytes by a local port.
 fn send_answer(port: u16, size: usize, done: bool) -> Result<usize, Lost>
     ensures { result ≡ send_answer port size done }
 {

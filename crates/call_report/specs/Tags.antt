@@ -13,11 +13,11 @@ first_side (Some a) (Some b) = if stands_before a b then A else B
 first_side (Some a) None = A
 first_side None other = A
 
--- the pairs with the tag of a side behind them, where it has one
+-- the pairs with the tag of a side appended, if it has one
 abbrev pub with_tag : Entries → Option (List ℕ) → Tree → Entries
 with_tag pairs None tree = pairs
 with_tag pairs (Some tag) tree = with_pair pairs tag tree
 
--- of a call: the pairs with the tag of a side, and what is told of the side, behind them
+-- of a call: the pairs with the tag of a side and what is told of the side appended
 abbrev pub with_side : Entries → Report → Side → Entries
 with_side pairs told side = with_tag pairs (plan.tag told.rounds side) (side_value told side)

@@ -1,4 +1,4 @@
--- What the outside gave, by what the devices told.
+-- What the devices returned, by what they told.
 use Rattle.std.proofs.Common.{◌≡◌, ◌∙◌, refl, sym, subst, ℕ, zero, suc, Bool, true, false, List, [], ◌∷◌, ◌++◌, Option, Some, None, map, replicate, append-nil}
 use Rattle.histories.specs.Words.{In, here, there}
 use Rattle.histories.proofs.Lists.{in_nothing}
@@ -12,8 +12,8 @@ use Rattle.port_pool.specs.declared.reports.LegReport.{LegReport}
 use Rattle.media_ports.specs.Asked.{OpensNone, OpensAt}
 use Rattle.media_ports.proofs.Asked.{gained_no_opening, opens_none_at}
 use Rattle.media_ports.specs.Draws.{KeyBytes, DrawsAll, DrawsUpTo}
-use Rattle.control_entries.specs.declared.gave.Gave.{Gave}
-use Rattle.control_entries.specs.declared.gave.Gave.TheVariants.{Nothing, Starved, PortFault, KeyFault, Offered, Report, ReportStarved}
+use Rattle.control_entries.specs.declared.device_answers.DeviceAnswers.{DeviceAnswers}
+use Rattle.control_entries.specs.declared.device_answers.DeviceAnswers.TheVariants.{Nothing, OutOfMemory, PortFault, KeyFault, Offered, Report, ReportOutOfMemory}
 use Rattle.control_entries.specs.Giving.{given_by, IsUnasked, IsGivenBy}
 
 -- where all ports were opened, none failed
@@ -22,9 +22,9 @@ none_failed zero i = in_nothing i
 none_failed (suc opened) (here e) = let k : false ≡ true = e in cc
 none_failed (suc opened) (there i) = none_failed opened i
 
-nothing_given : (config : Config) (free : List ℕ) (starved : Bool) (report : Option (List LegReport)) (ports ports_now keys keys_now : ℕ) (opened opened_now : Option (List PortCall)) (drew : Option (List KeyCall))
-    → Gained opened opened_now OpensNone → IsGivenBy config free (record { starved = starved; opens = []; draws = []; draw_failed = false; report = report }) ports ports_now keys keys_now opened opened_now drew drew
-nothing_given config free starved report ports ports_now keys keys_now opened opened_now drew closes = record {
+nothing_given : (config : Config) (free : List ℕ) (out_of_memory : Bool) (report : Option (List LegReport)) (ports ports_now keys keys_now : ℕ) (opened opened_now : Option (List PortCall)) (drew : Option (List KeyCall))
+    → Gained opened opened_now OpensNone → IsGivenBy config free (record { out_of_memory = out_of_memory; opens = []; draws = []; draw_failed = false; report = report }) ports ports_now keys keys_now opened opened_now drew drew
+nothing_given config free out_of_memory report ports ports_now keys keys_now opened opened_now drew closes = record {
   port_fault = λ i. absurd (in_nothing i);
   key_fault = λ t. absurd (let k : false ≡ true = t in cc);
   opens = gained_less opened opened_now OpensNone (OpensAt config free []) (opens_none_at config free) closes;
@@ -32,21 +32,21 @@ nothing_given config free starved report ports ports_now keys keys_now opened op
 }
 
 -- nothing was asked: the port maker was at most asked to close, and the key source's list stands as it was, whatever the counts are
-pub closing_given : (config : Config) (free : List ℕ) (gave : Gave) (ports ports_now keys keys_now : ℕ) (opened opened_now : Option (List PortCall)) (drew : Option (List KeyCall))
-    → Gained opened opened_now OpensNone → IsUnasked gave → IsGivenBy config free (given_by gave) ports ports_now keys keys_now opened opened_now drew drew
+pub closing_given : (config : Config) (free : List ℕ) (device_answers : DeviceAnswers) (ports ports_now keys keys_now : ℕ) (opened opened_now : Option (List PortCall)) (drew : Option (List KeyCall))
+    → Gained opened opened_now OpensNone → IsUnasked device_answers → IsGivenBy config free (given_by device_answers) ports ports_now keys keys_now opened opened_now drew drew
 closing_given config free Nothing ports ports_now keys keys_now opened opened_now drew closes unasked = nothing_given config free false None ports ports_now keys keys_now opened opened_now drew closes
-closing_given config free Starved ports ports_now keys keys_now opened opened_now drew closes unasked = nothing_given config free true None ports ports_now keys keys_now opened opened_now drew closes
+closing_given config free OutOfMemory ports ports_now keys keys_now opened opened_now drew closes unasked = nothing_given config free true None ports ports_now keys keys_now opened opened_now drew closes
 closing_given config free (PortFault count) ports ports_now keys keys_now opened opened_now drew closes unasked = absurd unasked
 closing_given config free (KeyFault count drawn) ports ports_now keys keys_now opened opened_now drew closes unasked = absurd unasked
 closing_given config free (Offered count drawn) ports ports_now keys keys_now opened opened_now drew closes unasked = absurd unasked
 closing_given config free (Report told) ports ports_now keys keys_now opened opened_now drew closes unasked = nothing_given config free false (Some told) ports ports_now keys keys_now opened opened_now drew closes
-closing_given config free (ReportStarved told) ports ports_now keys keys_now opened opened_now drew closes unasked = nothing_given config free true (Some told) ports ports_now keys keys_now opened opened_now drew closes
+closing_given config free (ReportOutOfMemory told) ports ports_now keys keys_now opened opened_now drew closes unasked = nothing_given config free true (Some told) ports ports_now keys keys_now opened opened_now drew closes
 
 -- no port was closed either
-pub unasked_given : (config : Config) (free : List ℕ) (gave : Gave) (ports ports_now keys keys_now : ℕ) (opened : Option (List PortCall)) (drew : Option (List KeyCall)) → IsUnasked gave
-    → IsGivenBy config free (given_by gave) ports ports_now keys keys_now opened opened drew drew
-unasked_given config free gave ports ports_now keys keys_now opened drew unasked =
-    closing_given config free gave ports ports_now keys keys_now opened opened drew (gained_no_opening opened) unasked
+pub unasked_given : (config : Config) (free : List ℕ) (device_answers : DeviceAnswers) (ports ports_now keys keys_now : ℕ) (opened : Option (List PortCall)) (drew : Option (List KeyCall)) → IsUnasked device_answers
+    → IsGivenBy config free (given_by device_answers) ports ports_now keys keys_now opened opened drew drew
+unasked_given config free device_answers ports ports_now keys keys_now opened drew unasked =
+    closing_given config free device_answers ports ports_now keys keys_now opened opened drew (gained_no_opening opened) unasked
 
 -- all ports were opened, and all keys drawn
 pub offered_given : (config : Config) (free : List ℕ) (count : ℕ) (drawn : KeyBytes) (ports ports_now keys keys_now : ℕ) (opened opened_now : Option (List PortCall)) (drew drew_now : Option (List KeyCall))
@@ -83,8 +83,8 @@ keys_given config free count drawn ports ports_now keys keys_now opened opened_n
 }
 
 -- the same of a gave that is the one that was told
-pub given_as : (config : Config) (free : List ℕ) (gave is : Gave) (ports ports_now keys keys_now : ℕ) (opened opened_now : Option (List PortCall)) (drew drew_now : Option (List KeyCall)) → gave ≡ is
+pub given_as : (config : Config) (free : List ℕ) (device_answers is : DeviceAnswers) (ports ports_now keys keys_now : ℕ) (opened opened_now : Option (List PortCall)) (drew drew_now : Option (List KeyCall)) → device_answers ≡ is
     → IsGivenBy config free (given_by is) ports ports_now keys keys_now opened opened_now drew drew_now
-    → IsGivenBy config free (given_by gave) ports ports_now keys keys_now opened opened_now drew drew_now
-given_as config free gave is ports ports_now keys keys_now opened opened_now drew drew_now e given =
-    subst (λ (these : Gave). IsGivenBy config free (given_by these) ports ports_now keys keys_now opened opened_now drew drew_now) (sym e) given
+    → IsGivenBy config free (given_by device_answers) ports ports_now keys keys_now opened opened_now drew drew_now
+given_as config free device_answers is ports ports_now keys keys_now opened opened_now drew drew_now e given =
+    subst (λ (these : DeviceAnswers). IsGivenBy config free (given_by these) ports ports_now keys keys_now opened opened_now drew drew_now) (sym e) given

@@ -24,10 +24,10 @@ use Rattle.call_board.proofs.Done.{IsDue}
 use Rattle.relay_core.specs.declared.part.Part.{Part}
 use Rattle.relay_core.specs.Entries.{board_history}
 use Rattle.relay_core.specs.Made.{Made}
-use Rattle.relay_core.specs.Scripts.{Owed, script_of_act, reading, reading_starved}
+use Rattle.relay_core.specs.Scripts.{Owed, script_of_act, reading, reading_out_of_memory}
 use Rattle.relay_core.specs.Turning.{GainsNested, made_by}
 use Rattle.media_ports.specs.Held.{TellsHeld}
-use Rattle.nested_steps.specs.declared.nest.Nest.{Nest}
+use Rattle.nested_steps.specs.declared.board_turn.BoardEntryId.{BoardEntryId}
 use Rattle.nested_steps.proofs.Nesting.{gains_nothing}
 use Rattle.board_turns.specs.Ending.{leg_pairs}
 use Rattle.board_turns.specs.Acting.{acted, DoesAct}
@@ -37,14 +37,14 @@ use Rattle.control_entries.specs.Carrying.{IsReplyOf, Carries}
 -- acts of commands that change nothing, without a report
 abbrev pub is_plain : Act → Bool
 is_plain act.Repeated = true
-is_plain act.Starved = true
+is_plain act.OutOfMemory = true
 is_plain (act.Failed code) = true
 is_plain act.Told = true
 is_plain _ = false
 
 plain_idle : (a : Act) → is_plain a ≡ true → is_idle a ≡ true
 plain_idle act.Repeated t = refl
-plain_idle act.Starved t = refl
+plain_idle act.OutOfMemory t = refl
 plain_idle (act.Failed code) t = refl
 plain_idle act.Told t = refl
 plain_idle (act.Undone code leases draws) t = absurd (let k : false ≡ true = t in cc)
@@ -58,7 +58,7 @@ nothing_read : (o : Option Call) → reading o None ≡ []
 nothing_read None = refl
 nothing_read (Some c) = refl
 
-no_reading : (h : List BoardEntry) (c : Control) (r : Result Said ErrorCode) → c.given.report ≡ None → reading_starved h c r ≡ []
+no_reading : (h : List BoardEntry) (c : Control) (r : Result Said ErrorCode) → c.given.report ≡ None → reading_out_of_memory h c r ≡ []
 no_reading h c (Err code) none = refl
 no_reading h c (Ok said.Ping) none = refl
 no_reading h c (Ok (said.Offer id from_tag sdp options)) none = refl
@@ -70,7 +70,7 @@ no_reading h c (Ok (said.Listing limit)) none = refl
 owes_nothing : (config : Config) (h : List BoardEntry) (e : BoardEntry) (c : Control) (a : Act) → c.given.report ≡ None → is_plain a ≡ true
     → script_of_act config h e c a ≡ []
 owes_nothing config h e c act.Repeated none t = refl
-owes_nothing config h e c act.Starved none t = no_reading h c (asked config c.too_long c.pairs) none
+owes_nothing config h e c act.OutOfMemory none t = no_reading h c (asked config c.too_long c.pairs) none
 owes_nothing config h e c (act.Failed code) none t = refl
 owes_nothing config h e c act.Told none t = refl
 owes_nothing config h e c (act.Undone code leases draws) none t = absurd (let k : false ≡ true = t in cc)
@@ -81,7 +81,7 @@ owes_nothing config h e c (act.Queried of) none t = absurd (let k : false ≡ tr
 
 acts_nothing : (h : List BoardEntry) (e : BoardEntry) (a : Act) (v : View) → is_plain a ≡ true → acted h e a v ≡ v
 acts_nothing h e act.Repeated v t = refl
-acts_nothing h e act.Starved v t = refl
+acts_nothing h e act.OutOfMemory v t = refl
 acts_nothing h e (act.Failed code) v t = refl
 acts_nothing h e act.Told v t = refl
 acts_nothing h e (act.Undone code leases draws) v t = absurd (let k : false ≡ true = t in cc)
@@ -96,35 +96,35 @@ holds_same config h moment x a t =
 
 module _ {M I O T : Type 0} {g : _} where
   -- with this answer, in place of the one that is due
-  record CarriesAs (config : Config) (old new : Hand M (Part I O) Made T g) (nest : Nest) (x : Hearing) (a : Answered) (reply : Option (Room ℕ)) (board : Board) (told : Option (List PortCall)) : Type 0 where
-    fits : FitsBoard config (board_history (made_by old) nest.number) (entry_with nest.moment x a)
-    does : DoesAct config old new nest (entry_with nest.moment x a) board told
+  record CarriesAs (config : Config) (old new : Hand M (Part I O) Made T g) (entry_id : BoardEntryId) (x : Hearing) (a : Answered) (reply : Option (Room ℕ)) (board : Board) (told : Option (List PortCall)) : Type 0 where
+    fits : FitsBoard config (board_history (made_by old) entry_id.number) (entry_with entry_id.moment x a)
+    does : DoesAct config old new entry_id (entry_with entry_id.moment x a) board told
     replies : IsReplyOf (with_answer x a) reply
 
   -- what is carried out with the answer that is due
-  pub carries_due : (config : Config) (old new : Hand M (Part I O) Made T g) (nest : Nest) (x : Hearing) (due : Answered) (reply : Option (Room ℕ)) (board : Board) (told : Option (List PortCall))
-      → IsDue config (board_history (made_by old) nest.number) nest.moment (unanswered x) due
-      → FitsControl config (board_history (made_by old) nest.number) nest.moment (with_answer x due)
-      → DoesAct config old new nest (entry_with nest.moment x due) board told
+  pub carries_due : (config : Config) (old new : Hand M (Part I O) Made T g) (entry_id : BoardEntryId) (x : Hearing) (due : Answered) (reply : Option (Room ℕ)) (board : Board) (told : Option (List PortCall))
+      → IsDue config (board_history (made_by old) entry_id.number) entry_id.moment (unanswered x) due
+      → FitsControl config (board_history (made_by old) entry_id.number) entry_id.moment (with_answer x due)
+      → DoesAct config old new entry_id (entry_with entry_id.moment x due) board told
       → IsReplyOf (with_answer x due) reply
-      → Carries config old new nest x reply board told
-  carries_due config old new nest x due reply board told is fits does replies =
-      let c = subst (λ (a : Answered). CarriesAs config old new nest x a reply board told) (sym is) (record { fits = fits; does = does; replies = replies }) in
+      → Carries config old new entry_id x reply board told
+  carries_due config old new entry_id x due reply board told is fits does replies =
+      let c = subst (λ (a : Answered). CarriesAs config old new entry_id x a reply board told) (sym is) (record { fits = fits; does = does; replies = replies }) in
       record { fits = c.fits; does = c.does; replies = c.replies }
 
   -- nothing is done
-  pub does_nothing : (config : Config) (turns : Turns M (Part I O) Made T) (hand : Hand M (Part I O) Made T g) (nest : Nest) (x : Hearing) (a : Answered) (board : Board) (told : Option (List PortCall))
-      → Shows config board (at_moment (view_of config (board_history (made_by hand) nest.number)) nest.moment)
-      → TellsHeld config told (leg_pairs (held (board_history (made_by hand) nest.number)))
+  pub does_nothing : (config : Config) (turns : Turns M (Part I O) Made T) (hand : Hand M (Part I O) Made T g) (entry_id : BoardEntryId) (x : Hearing) (a : Answered) (board : Board) (told : Option (List PortCall))
+      → Shows config board (at_moment (view_of config (board_history (made_by hand) entry_id.number)) entry_id.moment)
+      → TellsHeld config told (leg_pairs (held (board_history (made_by hand) entry_id.number)))
       → x.given.report ≡ None → is_plain a.act ≡ true
-      → DoesAct config hand hand nest (entry_with nest.moment x a) board told
-  does_nothing config turns hand nest x a board told shows opens none t =
-      let h = board_history (made_by hand) nest.number in
-      let e = entry_with nest.moment x a in
-      let v = at_moment (view_of config h) nest.moment in
+      → DoesAct config hand hand entry_id (entry_with entry_id.moment x a) board told
+  does_nothing config turns hand entry_id x a board told shows opens none t =
+      let h = board_history (made_by hand) entry_id.number in
+      let e = entry_with entry_id.moment x a in
+      let v = at_moment (view_of config h) entry_id.moment in
       record {
-        gained = subst (λ (owed : List Owed). GainsNested nest.number nest.moment owed hand hand) (sym (owes_nothing config h e (with_answer x a) a.act none t))
-            (gains_nothing nest.number nest.moment hand);
+        gained = subst (λ (owed : List Owed). GainsNested entry_id.number entry_id.moment owed hand hand) (sym (owes_nothing config h e (with_answer x a) a.act none t))
+            (gains_nothing entry_id.number entry_id.moment hand);
         shows = subst (λ (w : View). Shows config board w) (sym (acts_nothing h e a.act v t)) shows;
-        opens = subst (λ (legs : List Holder). TellsHeld config told (leg_pairs legs)) (sym (holds_same config h nest.moment x a t)) opens;
+        opens = subst (λ (legs : List Holder). TellsHeld config told (leg_pairs legs)) (sym (holds_same config h entry_id.moment x a t)) opens;
       }

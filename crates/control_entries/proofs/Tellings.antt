@@ -18,18 +18,18 @@ use Rattle.call_board.specs.Asked.{Reads, asked}
 use Rattle.call_board.specs.Fits.{GivesNothing, GivesFor, Hears, is_heard, is_repeat, demanded}
 use Rattle.call_board.specs.Kept.{is_kept}
 use Rattle.call_board.specs.Replies.{Fault}
-use Rattle.call_board.proofs.Done.{IsDue, with_reply, due_fits, starved_due}
+use Rattle.call_board.proofs.Done.{IsDue, with_reply, due_fits, out_of_memory_due}
 use Rattle.control_replies.proofs.Datagrams.{fault_is}
 use Rattle.relay_core.specs.declared.part.Part.{Part}
 use Rattle.relay_core.specs.Entries.{board_history}
 use Rattle.relay_core.specs.Made.{Made}
 use Rattle.relay_core.specs.Turning.{made_by}
-use Rattle.nested_steps.specs.declared.nest.Nest.{Nest}
+use Rattle.nested_steps.specs.declared.board_turn.BoardEntryId.{BoardEntryId}
 use Rattle.board_turns.specs.Acting.{InTurn}
 use Rattle.control_entries.specs.declared.request.Request.{Request}
-use Rattle.control_entries.specs.declared.gave.Gave.{Gave}
-use Rattle.control_entries.specs.declared.gave.Gave.TheVariants.{Nothing, Starved}
-use Rattle.control_entries.specs.declared.done.Done.{Done}
+use Rattle.control_entries.specs.declared.device_answers.DeviceAnswers.{DeviceAnswers}
+use Rattle.control_entries.specs.declared.device_answers.DeviceAnswers.TheVariants.{Nothing, OutOfMemory}
+use Rattle.control_entries.specs.declared.command_outcome.CommandOutcome.{CommandOutcome}
 use Rattle.control_entries.specs.Controls.{unanswered}
 use Rattle.control_entries.specs.Giving.{given_by}
 use Rattle.control_entries.specs.Carrying.{hearing_as, hearing_by, Carries}
@@ -42,7 +42,7 @@ read_short a false b t = refl
 read_short true true b t = absurd (let k : false ≡ true = t in cc)
 read_short false true b t = absurd (let k : false ≡ true = t in cc)
 
--- where memory was short, it was not read
+-- where memory ran out, it was not read
 not_read : (a b : Bool) → ((a && b) && false) ≡ true → ⊥
 not_read true true t = let k : false ≡ true = t in cc
 not_read true false t = let k : false ≡ true = t in cc
@@ -50,7 +50,7 @@ not_read false b t = let k : false ≡ true = t in cc
 
 pub gives_plain : (d : Demand) (given : Given) (a : Act) → is_plain a ≡ true → GivesNothing given → given.report ≡ None → GivesFor d given a
 gives_plain d given act.Repeated t nothing none = (nothing, none)
-gives_plain d given act.Starved t nothing none = nothing
+gives_plain d given act.OutOfMemory t nothing none = nothing
 gives_plain d given (act.Failed code) t nothing none = (nothing, none)
 gives_plain d given act.Told t nothing none = (nothing, none)
 gives_plain d given (act.Undone code leases draws) t nothing none = absurd (let k : false ≡ true = t in cc)
@@ -60,85 +60,85 @@ gives_plain d given (act.Deleted of) t nothing none = absurd (let k : false ≡ 
 gives_plain d given (act.Queried of) t nothing none = absurd (let k : false ≡ true = t in cc)
 
 module _ {M I O T : Type 0} {g : _} where
-  starved_carries : (config : Config) (turns : Turns M (Part I O) Made T) (hand : Hand M (Part I O) Made T g) (nest : Nest) (request : Request) (pairs : Option Entries)
+  out_of_memory_carries : (config : Config) (turns : Turns M (Part I O) Made T) (hand : Hand M (Part I O) Made T g) (entry_id : BoardEntryId) (request : Request) (pairs : Option Entries)
       (chosen : List (Option CryptoLine)) (board : Board) (told : Option (List PortCall))
-      → InTurn config turns hand nest board told → IsAnew (board_history (made_by hand) nest.number) nest.moment request
-      → Carries config hand hand nest (hearing_as request pairs chosen Starved) None board told
-  starved_carries config turns hand nest request pairs chosen board told turn anew =
-      let h = board_history (made_by hand) nest.number in
-      let x = hearing_as request pairs chosen Starved in
+      → InTurn config turns hand entry_id board told → IsAnew (board_history (made_by hand) entry_id.number) entry_id.moment request
+      → Carries config hand hand entry_id (hearing_as request pairs chosen OutOfMemory) None board told
+  out_of_memory_carries config turns hand entry_id request pairs chosen board told turn anew =
+      let h = board_history (made_by hand) entry_id.number in
+      let x = hearing_as request pairs chosen OutOfMemory in
       let c = unanswered x in
-      let due = with_reply config c (Fault E17) act.Starved in
-      let is = starved_due config h nest.moment c anew.not_kept refl in
-      carries_due config hand hand nest x due None board told is
-      (due_fits config h nest.moment c due is anew.framed anew.length_is
+      let due = with_reply config c (Fault E17) act.OutOfMemory in
+      let is = out_of_memory_due config h entry_id.moment c anew.not_kept refl in
+      carries_due config hand hand entry_id x due None board told is
+      (due_fits config h entry_id.moment c due is anew.framed anew.length_is
       (λ read. absurd (not_read true (not request.too_long) read)) (λ heard. absurd (let k : false ≡ true = heard in cc))
       (record { no_opens = refl; no_draws = refl; none_failed = refl }) (λ s t. refl))
-      (does_nothing config turns hand nest x due board told turn.shows turn.opens refl refl) (refl, sym (fault_is config request.cookie.now E17))
+      (does_nothing config turns hand entry_id x due board told turn.shows turn.opens refl refl) (refl, sym (fault_is config request.cookie.now E17))
 
-  -- memory was short
-  pub short_carries : (config : Config) (turns : Turns M (Part I O) Made T) (hand : Hand M (Part I O) Made T g) (nest : Nest) (request : Request) (pairs : Option Entries)
-      (chosen : List (Option CryptoLine)) (gave : Gave) (board : Board) (told : Option (List PortCall))
-      → InTurn config turns hand nest board told → IsAnew (board_history (made_by hand) nest.number) nest.moment request → gave ≡ Starved
-      → Carries config hand hand nest (hearing_as request pairs chosen gave) None board told
-  short_carries config turns hand nest request pairs chosen gave board told turn anew is =
-      subst (λ (given : Gave). Carries config hand hand nest (hearing_as request pairs chosen given) None board told) (sym is)
-      (starved_carries config turns hand nest request pairs chosen board told turn anew)
+  -- memory ran out
+  pub short_carries : (config : Config) (turns : Turns M (Part I O) Made T) (hand : Hand M (Part I O) Made T g) (entry_id : BoardEntryId) (request : Request) (pairs : Option Entries)
+      (chosen : List (Option CryptoLine)) (device_answers : DeviceAnswers) (board : Board) (told : Option (List PortCall))
+      → InTurn config turns hand entry_id board told → IsAnew (board_history (made_by hand) entry_id.number) entry_id.moment request → device_answers ≡ OutOfMemory
+      → Carries config hand hand entry_id (hearing_as request pairs chosen device_answers) None board told
+  short_carries config turns hand entry_id request pairs chosen device_answers board told turn anew is =
+      subst (λ (given : DeviceAnswers). Carries config hand hand entry_id (hearing_as request pairs chosen given) None board told) (sym is)
+      (out_of_memory_carries config turns hand entry_id request pairs chosen board told turn anew)
 
   -- the same of a command that was carried out so
-  pub is_short_carries : (config : Config) (turns : Turns M (Part I O) Made T) (hand : Hand M (Part I O) Made T g) (nest : Nest) (request : Request) (pairs : Option Entries)
-      (done : Done) (board : Board) (told : Option (List PortCall))
-      → InTurn config turns hand nest board told → IsAnew (board_history (made_by hand) nest.number) nest.moment request → IsShort done
-      → Carries config hand hand nest (hearing_by request pairs done) done.reply board told
-  is_short_carries config turns hand nest request pairs done board told turn anew short =
-      subst (λ (reply : Option (Room ℕ)). Carries config hand hand nest (hearing_by request pairs done) reply board told) (sym short.without)
-      (short_carries config turns hand nest request pairs done.heard done.gave board told turn anew short.gave_is)
+  pub is_short_carries : (config : Config) (turns : Turns M (Part I O) Made T) (hand : Hand M (Part I O) Made T g) (entry_id : BoardEntryId) (request : Request) (pairs : Option Entries)
+      (done : CommandOutcome) (board : Board) (told : Option (List PortCall))
+      → InTurn config turns hand entry_id board told → IsAnew (board_history (made_by hand) entry_id.number) entry_id.moment request → IsShort done
+      → Carries config hand hand entry_id (hearing_by request pairs done) done.reply board told
+  is_short_carries config turns hand entry_id request pairs done board told turn anew short =
+      subst (λ (reply : Option (Room ℕ)). Carries config hand hand entry_id (hearing_by request pairs done) reply board told) (sym short.without)
+      (short_carries config turns hand entry_id request pairs done.chosen_lines done.device_answers board told turn anew short.answers_are)
 
-  plain_carries : (config : Config) (turns : Turns M (Part I O) Made T) (hand : Hand M (Part I O) Made T g) (nest : Nest) (request : Request) (pairs : Option Entries)
+  plain_carries : (config : Config) (turns : Turns M (Part I O) Made T) (hand : Hand M (Part I O) Made T g) (entry_id : BoardEntryId) (request : Request) (pairs : Option Entries)
       (chosen : List (Option CryptoLine)) (due : Answered) (text : Room ℕ) (board : Board) (told : Option (List PortCall))
-      → InTurn config turns hand nest board told → IsAnew (board_history (made_by hand) nest.number) nest.moment request
+      → InTurn config turns hand entry_id board told → IsAnew (board_history (made_by hand) entry_id.number) entry_id.moment request
       → (request.too_long ≡ false → Reads request.body.now pairs)
-      → IsDue config (board_history (made_by hand) nest.number) nest.moment (unanswered (hearing_as request pairs chosen Nothing)) due
+      → IsDue config (board_history (made_by hand) entry_id.number) entry_id.moment (unanswered (hearing_as request pairs chosen Nothing)) due
       → is_plain due.act ≡ true → is_kept due.act ≡ true
-      → (is_heard due.act ≡ true → Hears (board_history (made_by hand) nest.number) (unanswered (hearing_as request pairs chosen Nothing)) (asked config request.too_long pairs))
+      → (is_heard due.act ≡ true → Hears (board_history (made_by hand) entry_id.number) (unanswered (hearing_as request pairs chosen Nothing)) (asked config request.too_long pairs))
       → text.list ≡ due.bytes
-      → Carries config hand hand nest (hearing_as request pairs chosen Nothing) (Some text) board told
-  plain_carries config turns hand nest request pairs chosen due text board told turn anew reads is plain kept hears bytes =
-      let h = board_history (made_by hand) nest.number in
+      → Carries config hand hand entry_id (hearing_as request pairs chosen Nothing) (Some text) board told
+  plain_carries config turns hand entry_id request pairs chosen due text board told turn anew reads is plain kept hears bytes =
+      let h = board_history (made_by hand) entry_id.number in
       let x = hearing_as request pairs chosen Nothing in
       let c = unanswered x in
-      carries_due config hand hand nest x due (Some text) board told is
-      (due_fits config h nest.moment c due is anew.framed anew.length_is
+      carries_due config hand hand entry_id x due (Some text) board told is
+      (due_fits config h entry_id.moment c due is anew.framed anew.length_is
       (λ read. reads (read_short (not (is_repeat due.act)) request.too_long true read)) hears
       (gives_plain (demanded config h c) (given_by Nothing) due.act plain (record { no_opens = refl; no_draws = refl; none_failed = refl }) refl) (λ s t. refl))
-      (does_nothing config turns hand nest x due board told turn.shows turn.opens refl plain) (kept, bytes)
+      (does_nothing config turns hand entry_id x due board told turn.shows turn.opens refl plain) (kept, bytes)
 
-  tells_case : (config : Config) (turns : Turns M (Part I O) Made T) (hand : Hand M (Part I O) Made T g) (nest : Nest) (request : Request) (pairs : Option Entries)
-      (chosen : List (Option CryptoLine)) (due : Answered) (done : Done) (reply : Option (Room ℕ)) (board : Board) (told : Option (List PortCall))
-      → InTurn config turns hand nest board told → IsAnew (board_history (made_by hand) nest.number) nest.moment request
+  tells_case : (config : Config) (turns : Turns M (Part I O) Made T) (hand : Hand M (Part I O) Made T g) (entry_id : BoardEntryId) (request : Request) (pairs : Option Entries)
+      (chosen : List (Option CryptoLine)) (due : Answered) (done : CommandOutcome) (reply : Option (Room ℕ)) (board : Board) (told : Option (List PortCall))
+      → InTurn config turns hand entry_id board told → IsAnew (board_history (made_by hand) entry_id.number) entry_id.moment request
       → (request.too_long ≡ false → Reads request.body.now pairs)
-      → IsDue config (board_history (made_by hand) nest.number) nest.moment (unanswered (hearing_as request pairs chosen Nothing)) due
+      → IsDue config (board_history (made_by hand) entry_id.number) entry_id.moment (unanswered (hearing_as request pairs chosen Nothing)) due
       → is_plain due.act ≡ true → is_kept due.act ≡ true
-      → (is_heard due.act ≡ true → Hears (board_history (made_by hand) nest.number) (unanswered (hearing_as request pairs chosen Nothing)) (asked config request.too_long pairs))
+      → (is_heard due.act ≡ true → Hears (board_history (made_by hand) entry_id.number) (unanswered (hearing_as request pairs chosen Nothing)) (asked config request.too_long pairs))
       → TellsBy chosen due.bytes done reply
-      → Carries config hand hand nest (hearing_by request pairs done) reply board told
-  tells_case config turns hand nest request pairs chosen due done None board told turn anew reads is plain kept hears tells =
-      short_carries config turns hand nest request pairs done.heard done.gave board told turn anew tells
-  tells_case config turns hand nest request pairs chosen due done (Some text) board told turn anew reads is plain kept hears tells =
-      subst (λ (lines : List (Option CryptoLine)). Carries config hand hand nest (hearing_as request pairs lines done.gave) (Some text) board told) (sym tells.0)
-      (subst (λ (gave : Gave). Carries config hand hand nest (hearing_as request pairs chosen gave) (Some text) board told) (sym tells.1)
-      (plain_carries config turns hand nest request pairs chosen due text board told turn anew reads is plain kept hears tells.2))
+      → Carries config hand hand entry_id (hearing_by request pairs done) reply board told
+  tells_case config turns hand entry_id request pairs chosen due done None board told turn anew reads is plain kept hears tells =
+      short_carries config turns hand entry_id request pairs done.chosen_lines done.device_answers board told turn anew tells
+  tells_case config turns hand entry_id request pairs chosen due done (Some text) board told turn anew reads is plain kept hears tells =
+      subst (λ (lines : List (Option CryptoLine)). Carries config hand hand entry_id (hearing_as request pairs lines done.device_answers) (Some text) board told) (sym tells.0)
+      (subst (λ (device_answers : DeviceAnswers). Carries config hand hand entry_id (hearing_as request pairs chosen device_answers) (Some text) board told) (sym tells.1)
+      (plain_carries config turns hand entry_id request pairs chosen due text board told turn anew reads is plain kept hears tells.2))
 
-  -- A command that changes nothing was answered with what is due, where these crypto lines were chosen in its description, or memory
-  -- was short.
-  pub tells_carries : (config : Config) (turns : Turns M (Part I O) Made T) (hand : Hand M (Part I O) Made T g) (nest : Nest) (request : Request) (pairs : Option Entries)
-      (chosen : List (Option CryptoLine)) (due : Answered) (done : Done) (board : Board) (told : Option (List PortCall))
-      → InTurn config turns hand nest board told → IsAnew (board_history (made_by hand) nest.number) nest.moment request
+  -- A command that changes nothing got the reply that is due, where these crypto lines were chosen in its description, or memory
+  -- ran out.
+  pub tells_carries : (config : Config) (turns : Turns M (Part I O) Made T) (hand : Hand M (Part I O) Made T g) (entry_id : BoardEntryId) (request : Request) (pairs : Option Entries)
+      (chosen : List (Option CryptoLine)) (due : Answered) (done : CommandOutcome) (board : Board) (told : Option (List PortCall))
+      → InTurn config turns hand entry_id board told → IsAnew (board_history (made_by hand) entry_id.number) entry_id.moment request
       → (request.too_long ≡ false → Reads request.body.now pairs)
-      → IsDue config (board_history (made_by hand) nest.number) nest.moment (unanswered (hearing_as request pairs chosen Nothing)) due
+      → IsDue config (board_history (made_by hand) entry_id.number) entry_id.moment (unanswered (hearing_as request pairs chosen Nothing)) due
       → is_plain due.act ≡ true → is_kept due.act ≡ true
-      → (is_heard due.act ≡ true → Hears (board_history (made_by hand) nest.number) (unanswered (hearing_as request pairs chosen Nothing)) (asked config request.too_long pairs))
+      → (is_heard due.act ≡ true → Hears (board_history (made_by hand) entry_id.number) (unanswered (hearing_as request pairs chosen Nothing)) (asked config request.too_long pairs))
       → Tells chosen due.bytes done
-      → Carries config hand hand nest (hearing_by request pairs done) done.reply board told
-  tells_carries config turns hand nest request pairs chosen due done board told turn anew reads is plain kept hears tells =
-      tells_case config turns hand nest request pairs chosen due done done.reply board told turn anew reads is plain kept hears tells
+      → Carries config hand hand entry_id (hearing_by request pairs done) done.reply board told
+  tells_carries config turns hand entry_id request pairs chosen due done board told turn anew reads is plain kept hears tells =
+      tells_case config turns hand entry_id request pairs chosen due done done.reply board told turn anew reads is plain kept hears tells

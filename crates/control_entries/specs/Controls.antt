@@ -1,5 +1,5 @@
--- The board's entry of a control datagram: a function of the board's history, of what was heard of the datagram and of what the
--- outside gave in its turn.
+-- The board's entry of a control datagram: a function of the board's history, of what is recorded of the datagram and of what the
+-- devices returned in its turn.
 use Rattle.std.specs.Prelude.{ℕ, Bool, List, [], Option, max}
 use Rattle.relay_outside.specs.declared.address.Addr.{Addr}
 use Rattle.relay_outside.specs.declared.settings.Config.{Config}
@@ -12,7 +12,7 @@ use Rattle.call_board.specs.Views.{last_moment}
 use Rattle.relay_core.specs.Entries.{Board}
 use Rattle.relay_core.specs.Made.{Made, nothing_left}
 
--- what was heard of a datagram with a frame, and what the outside gave in its turn
+-- what is recorded of a datagram with a frame, and what the devices returned in its turn
 pub record Hearing : Type 0 where
   pub source : Addr
   pub cookie : List ℕ
@@ -22,7 +22,7 @@ pub record Hearing : Type 0 where
   pub chosen : List (Option CryptoLine)
   pub given : Given
 
--- the datagram, before it is answered
+-- the datagram before its reply
 abbrev pub unanswered : Hearing → Control
 unanswered x = record {
   source = x.source;
@@ -36,7 +36,7 @@ unanswered x = record {
   act = Told;
 }
 
--- with what it is answered, and does
+-- with its reply and what it does
 abbrev pub with_answer : Hearing → Answered → Control
 with_answer x a = record {
   source = x.source;
@@ -58,7 +58,7 @@ control_of config h moment x = with_answer x (answering_unless config h (unanswe
 abbrev pub moment_at : List BoardEntry → ℕ → ℕ
 moment_at h now = max now (last_moment h)
 
--- the board's entry of a datagram that is answered so
+-- the board's entry of a datagram with this reply and act
 abbrev pub entry_with : ℕ → Hearing → Answered → BoardEntry
 entry_with moment x a = record { moment = moment; event = Turn (with_answer x a) }
 

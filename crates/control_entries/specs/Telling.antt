@@ -15,8 +15,8 @@ use Rattle.call_board.specs.Replies.{Reply, Fault, Warned, reply_datagram}
 use Rattle.control_reading.specs.declared.description.DescriptionFault.{DescriptionFault}
 use Rattle.control_reading.specs.declared.description.DescriptionFault.TheVariants as faults
 use Rattle.control_entries.specs.declared.request.Request.{Request}
-use Rattle.control_entries.specs.declared.gave.Gave.TheVariants.{Nothing, Starved}
-use Rattle.control_entries.specs.declared.done.Done.{Done}
+use Rattle.control_entries.specs.declared.device_answers.DeviceAnswers.TheVariants.{Nothing, OutOfMemory}
+use Rattle.control_entries.specs.declared.command_outcome.CommandOutcome.{CommandOutcome}
 
 -- The datagram has a frame, and no reply is kept for it at this moment
 pub record IsAnew (h : List BoardEntry) (moment : ℕ) (request : Request) : Type 0 where
@@ -31,29 +31,29 @@ pub record IsAsking (request : Request) (pairs : Option Entries) (says : Said) :
   pub reads : Reads request.body.now pairs
   pub command : command_in false pairs ≡ Ok says
 
--- memory was short
-pub record IsShort (done : Done) : Type 0 where
-  pub gave_is : done.gave ≡ Starved
+-- memory ran out
+pub record IsShort (done : CommandOutcome) : Type 0 where
+  pub answers_are : done.device_answers ≡ OutOfMemory
   pub without : done.reply ≡ None
 
--- nothing was asked of the outside, and these bytes are the reply; or memory was short
-abbrev pub TellsBy : List (Option CryptoLine) → List ℕ → Done → Option (Room ℕ) → Type 0
-TellsBy chosen bytes done None = done.gave ≡ Starved
-TellsBy chosen bytes done (Some text) = (done.heard ≡ chosen) × (done.gave ≡ Nothing) × (text.list ≡ bytes)
+-- no device was called, and these bytes are the reply; or memory ran out
+abbrev pub TellsBy : List (Option CryptoLine) → List ℕ → CommandOutcome → Option (Room ℕ) → Type 0
+TellsBy chosen bytes done None = done.device_answers ≡ OutOfMemory
+TellsBy chosen bytes done (Some text) = (done.chosen_lines ≡ chosen) × (done.device_answers ≡ Nothing) × (text.list ≡ bytes)
 
-abbrev pub Tells : List (Option CryptoLine) → List ℕ → Done → Type 0
+abbrev pub Tells : List (Option CryptoLine) → List ℕ → CommandOutcome → Type 0
 Tells chosen bytes done = TellsBy chosen bytes done done.reply
 
 -- the reply of a delete that finds nothing to end
 abbrev pub missing_reply : Bool → ErrorCode → Reply
 missing_reply fatal code = if fatal then Fault code else Warned code
 
--- the error of a description that is refused; without one, memory was short
+-- the error of a description that is refused; without one memory ran out
 abbrev pub error_in : DescriptionFault → Option ErrorCode
 error_in (faults.Error code) = Some code
 error_in faults.OutOfMemory = None
 
--- this error is told, where these crypto lines were chosen; without one, memory was short
-abbrev pub Refuses : (cookie : List ℕ) → List (Option CryptoLine) → Option ErrorCode → Done → Type 0
+-- this error is told, and these crypto lines were chosen; without one memory ran out
+abbrev pub Refuses : (cookie : List ℕ) → List (Option CryptoLine) → Option ErrorCode → CommandOutcome → Type 0
 Refuses cookie chosen None done = IsShort done
 Refuses cookie chosen (Some code) done = (config : Config) → Tells chosen (reply_datagram config cookie (Fault code)) done

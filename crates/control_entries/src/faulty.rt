@@ -5,12 +5,12 @@ ghost use Rattle.call_board.specs.Planned.{code_of};
 ghost use Rattle.control_entries.specs.Giving.{IsUnasked};
 ghost use Rattle.control_entries.specs.Telling.{Refuses, error_in};
 
-use crate::done::Done;
+use crate::command_outcome::CommandOutcome;
 use crate::refusing::{refused, short};
 use call_board::BoardFault;
 use control_reading::DescriptionFault;
 use ng_reply::ErrorCode;
-use offer_answer::Heard;
+use offer_answer::ChosenLines;
 use std::alloc::Global;
 
 /// The error of a fault. None: out of memory.
@@ -29,26 +29,31 @@ fn code_of(fault: BoardFault) -> Option<ErrorCode>
     }
 }
 
-/// The board has this fault in place of a plan, where these crypto lines were chosen: its error is told, or running out of memory.
-pub fn unplanned(alloc: Global, cookie: &[u8], fault: BoardFault, heard: Heard) -> Done
+/// The outcome when planning fails with this fault, after these crypto lines were chosen: the reply tells its error, or that memory ran out.
+pub fn unplanned(
+    alloc: Global,
+    cookie: &[u8],
+    fault: BoardFault,
+    chosen_lines: ChosenLines,
+) -> CommandOutcome
     requires { IsCookie cookie.now }
-    ensures refuses { Refuses cookie.now heard (code_of fault) result }
-    ensures unasked { IsUnasked result.gave }
+    ensures refuses { Refuses cookie.now chosen_lines (code_of fault) result }
+    ensures unasked { IsUnasked result.device_answers }
 {
     match code_of(fault) {
-        Some(code) => refused(alloc, cookie, code, heard),
+        Some(code) => refused(alloc, cookie, code, chosen_lines),
         None => short(),
     }
 }
 
-/// The description is refused so: its error is told, or running out of memory. No crypto line is chosen in it.
-pub fn misdescribed(alloc: Global, cookie: &[u8], fault: DescriptionFault) -> Done
+/// The outcome when the description is refused: the reply tells the error, or that memory ran out. No crypto line is chosen in it.
+pub fn misdescribed(alloc: Global, cookie: &[u8], fault: DescriptionFault) -> CommandOutcome
     requires { IsCookie cookie.now }
     ensures refuses { Refuses cookie.now [] (error_in fault) result }
-    ensures unasked { IsUnasked result.gave }
+    ensures unasked { IsUnasked result.device_answers }
 {
     match fault {
-        DescriptionFault::Error(code) => refused(alloc, cookie, code, Heard::none()),
+        DescriptionFault::Error(code) => refused(alloc, cookie, code, ChosenLines::none()),
         DescriptionFault::OutOfMemory => short(),
     }
 }

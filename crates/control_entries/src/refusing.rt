@@ -6,36 +6,36 @@ ghost use Rattle.relay_outside.specs.declared.settings.Config.{Config};
 ghost use Rattle.control_entries.specs.Giving.{IsUnasked};
 ghost use Rattle.control_entries.specs.Telling.{Tells, IsShort, missing_reply};
 
-use crate::done::Done;
-use crate::gave::Gave;
+use crate::command_outcome::CommandOutcome;
+use crate::device_answers::DeviceAnswers;
 use control_replies::{error_datagram, warned_datagram};
 use ng_bencode::Text;
 use ng_reply::ErrorCode;
-use offer_answer::Heard;
+use offer_answer::ChosenLines;
 use relay_outside::OutOfMemory;
 use std::alloc::Global;
 
 /// Out of memory.
-pub fn short() -> Done
+pub fn short() -> CommandOutcome
     ensures is_short { IsShort result }
-    ensures unasked { IsUnasked result.gave }
+    ensures unasked { IsUnasked result.device_answers }
 {
-    Done {
-        heard: Heard::none(),
-        gave: Gave::Starved,
+    CommandOutcome {
+        chosen_lines: ChosenLines::none(),
+        device_answers: DeviceAnswers::OutOfMemory,
         reply: None,
     }
 }
 
 /// Nothing was asked of the outside, and this is the reply, where memory sufficed for it.
-pub fn told(heard: Heard, reply: Result<Text, OutOfMemory>) -> Done
-    ensures tells { (bytes : List ℕ) → IfOk reply (λ text. text.list ≡ bytes) → Tells heard bytes result }
-    ensures unasked { IsUnasked result.gave }
+pub fn told(chosen_lines: ChosenLines, reply: Result<Text, OutOfMemory>) -> CommandOutcome
+    ensures tells { (bytes : List ℕ) → IfOk reply (λ text. text.list ≡ bytes) → Tells chosen_lines bytes result }
+    ensures unasked { IsUnasked result.device_answers }
 {
     match reply {
-        Ok(reply) => Done {
-            heard,
-            gave: Gave::Nothing,
+        Ok(reply) => CommandOutcome {
+            chosen_lines,
+            device_answers: DeviceAnswers::Nothing,
             reply: Some(reply),
         },
         Err(_) => short(),
@@ -43,23 +43,28 @@ pub fn told(heard: Heard, reply: Result<Text, OutOfMemory>) -> Done
 }
 
 /// A command that fails.
-pub fn refused(alloc: Global, cookie: &[u8], code: ErrorCode, heard: Heard) -> Done
+pub fn refused(
+    alloc: Global,
+    cookie: &[u8],
+    code: ErrorCode,
+    chosen_lines: ChosenLines,
+) -> CommandOutcome
     requires { IsCookie cookie.now }
-    ensures tells { (config : Config) → Tells heard (reply_datagram config cookie.now (Fault code)) result }
-    ensures unasked { IsUnasked result.gave }
+    ensures tells { (config : Config) → Tells chosen_lines (reply_datagram config cookie.now (Fault code)) result }
+    ensures unasked { IsUnasked result.device_answers }
 {
-    told(heard, error_datagram(alloc, cookie, code))
+    told(chosen_lines, error_datagram(alloc, cookie, code))
 }
 
 /// A delete that finds nothing to end: an error where it is fatal, a warning otherwise.
-pub fn missing(alloc: Global, cookie: &[u8], fatal: bool, code: ErrorCode) -> Done
+pub fn missing(alloc: Global, cookie: &[u8], fatal: bool, code: ErrorCode) -> CommandOutcome
     requires { IsCookie cookie.now }
     ensures tells { (config : Config) → Tells [] (reply_datagram config cookie.now (missing_reply fatal code)) result }
-    ensures unasked { IsUnasked result.gave }
+    ensures unasked { IsUnasked result.device_answers }
 {
     if fatal {
-        refused(alloc, cookie, code, Heard::none())
+        refused(alloc, cookie, code, ChosenLines::none())
     } else {
-        told(Heard::none(), warned_datagram(alloc, cookie, code))
+        told(ChosenLines::none(), warned_datagram(alloc, cookie, code))
     }
 }

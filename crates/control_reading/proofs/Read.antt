@@ -19,7 +19,7 @@ use Rattle.control_reading.specs.Bodies.{pairs_if, pairs_in, said_by, descriptio
 use Rattle.control_reading.specs.declared.body.Body.{Body}
 use Rattle.control_reading.proofs.Sizes.{description_small}
 
--- a fault but want of memory is the one that is told
+-- a fault other than out of memory is the one that is told
 pub agrees_err : (expected : Result Said CommandFault) (fault : CommandFault) → fault ≢ faults.OutOfMemory → Agrees expected (Err fault) → expected ≡ Err fault
 agrees_err expected faults.Malformed n a = a
 agrees_err expected faults.NoCommand n a = a

@@ -35,7 +35,7 @@ description_in (Delete call_id from_tag fatal) = []
 description_in (Query call_id) = []
 description_in (Listing limit) = []
 
--- the description is refused for this error, or for want of memory
+-- the description is refused for this error, or memory ran out
 abbrev pub IsErrorOf : Option ErrorCode → DescriptionFault → Type 0
 IsErrorOf error (faults.Error code) = error ≡ Some code
 IsErrorOf error faults.OutOfMemory = Unit {0}

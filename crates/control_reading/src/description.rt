@@ -55,7 +55,7 @@ fn v6_error(address: Option<Ip>, line: Option<u32>) -> Option<ErrorCode>
 }
 
 /// Reads a description of less than 2^31 bytes, as `sdp_text::read` does, and refuses one with an IPv6 address in effect where
-/// the relay has no address of version 6 (`E7` of that line). It is heard in the memory of the text.
+/// the relay has no address of version 6 (`E7` of that line). The `Sdp` borrows `text`.
 ///
 /// # Errors
 ///

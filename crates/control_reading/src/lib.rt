@@ -1,5 +1,5 @@
 //! What a control datagram asks, read once: the dictionary of its body with the command that this says, and the lines of its
-//! description; where there is none, the error that it is answered. `specs/Bodies.antt` says what a `Body` shows of the body;
+//! description; where there is none, the error of its reply. `specs/Bodies.antt` says what a `Body` shows of the body;
 //! what a body spells and asks is defined in the specs of `call_board` (`Asked`).
 #![tactic(auto)]
 

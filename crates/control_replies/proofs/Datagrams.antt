@@ -33,7 +33,7 @@ pub described_is : (config : Config) (cookie sdp : List ℕ) → cookie ++ 32 �
 unfolding reply_text
 described_is config cookie sdp = refl
 
--- what `fixed_error` writes, want of memory among it, is the datagram of the error
+-- what `fixed_error` writes, out of memory included, is the datagram of the error
 pub fault_is : (config : Config) (cookie : List ℕ) (code : ErrorCode) → bare.error_datagram cookie code ≡ reply_datagram config cookie (Fault code)
 unfolding reply_text
 fault_is config cookie code = refl

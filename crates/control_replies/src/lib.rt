@@ -1,4 +1,4 @@
-//! The datagrams by which control datagrams are answered: a cookie, a space, a reply.
+//! The datagrams of replies to control datagrams: a cookie, a space, a reply.
 //!
 //! Module `short` makes the datagrams of replies that carry no description, that of any value among them. `room` takes the memory for a reply before
 //! it is known which one it is, and writes one into it without taking any. The datagrams are

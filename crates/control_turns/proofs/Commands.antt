@@ -24,11 +24,11 @@ use Rattle.relay_core.specs.declared.part.Part.{Part}
 use Rattle.relay_core.specs.Entries.{board_history}
 use Rattle.relay_core.specs.Made.{Made}
 use Rattle.relay_core.specs.Turning.{made_by}
-use Rattle.nested_steps.specs.declared.nest.Nest.{Nest}
+use Rattle.nested_steps.specs.declared.board_turn.BoardEntryId.{BoardEntryId}
 use Rattle.board_turns.specs.Acting.{InTurn}
 use Rattle.control_entries.specs.declared.request.Request.{Request}
-use Rattle.control_entries.specs.declared.gave.Gave.TheVariants.{Nothing}
-use Rattle.control_entries.specs.declared.done.Done.{Done}
+use Rattle.control_entries.specs.declared.device_answers.DeviceAnswers.TheVariants.{Nothing}
+use Rattle.control_entries.specs.declared.command_outcome.CommandOutcome.{CommandOutcome}
 use Rattle.control_entries.specs.Controls.{unanswered}
 use Rattle.control_entries.specs.Carrying.{hearing_as, hearing_by, Carries}
 use Rattle.control_entries.specs.Telling.{IsAnew, Tells}
@@ -51,48 +51,48 @@ call_ids h [] = refl
 call_ids h (c ∷ calls) = ap (λ (ids : List (List ℕ)). c.id ∷ ids) (call_ids h calls)
 
 module _ {M I O T : Type 0} {g : _} where
-  -- a datagram that is too long, or whose dictionary or keys are faulty, was answered with its error
-  pub faulty_carries : (config : Config) (turns : Turns M (Part I O) Made T) (hand : Hand M (Part I O) Made T g) (nest : Nest) (request : Request) (pairs : Option Entries)
-      (chosen : List (Option CryptoLine)) (code : ErrorCode) (done : Done) (board : Board) (told : Option (List PortCall))
-      → InTurn config turns hand nest board told → IsAnew (board_history (made_by hand) nest.number) nest.moment request
+  -- the reply to a datagram that is too long, or whose dictionary or keys are faulty, is its error
+  pub faulty_carries : (config : Config) (turns : Turns M (Part I O) Made T) (hand : Hand M (Part I O) Made T g) (entry_id : BoardEntryId) (request : Request) (pairs : Option Entries)
+      (chosen : List (Option CryptoLine)) (code : ErrorCode) (done : CommandOutcome) (board : Board) (told : Option (List PortCall))
+      → InTurn config turns hand entry_id board told → IsAnew (board_history (made_by hand) entry_id.number) entry_id.moment request
       → (request.too_long ≡ false → Reads request.body.now pairs) → command_in request.too_long pairs ≡ Err code
       → Tells chosen (reply_datagram config request.cookie.now (Fault code)) done
-      → Carries config hand hand nest (hearing_by request pairs done) done.reply board told
-  faulty_carries config turns hand nest request pairs chosen code done board told turn anew reads is tells =
-      let h = board_history (made_by hand) nest.number in
+      → Carries config hand hand entry_id (hearing_by request pairs done) done.reply board told
+  faulty_carries config turns hand entry_id request pairs chosen code done board told turn anew reads is tells =
+      let h = board_history (made_by hand) entry_id.number in
       let c = unanswered (hearing_as request pairs chosen Nothing) in
       let is_asked = asks_faulty config request.too_long pairs code is in
-      tells_carries config turns hand nest request pairs chosen (with_reply config c (Fault code) (act.Failed code)) done board told turn anew reads
-      (failed_due config h nest.moment c code (record { nothing_kept = anew.not_kept; not_starved = refl; is_asked = is_asked })) refl refl
+      tells_carries config turns hand entry_id request pairs chosen (with_reply config c (Fault code) (act.Failed code)) done board told turn anew reads
+      (failed_due config h entry_id.moment c code (record { nothing_kept = anew.not_kept; not_out_of_memory = refl; is_asked = is_asked })) refl refl
       (λ heard. subst (λ r. Hears h c r) (sym is_asked) tt) tells
 
-  -- a ping was answered
-  pub ping_carries : (config : Config) (turns : Turns M (Part I O) Made T) (hand : Hand M (Part I O) Made T g) (nest : Nest) (request : Request) (pairs : Option Entries)
-      (chosen : List (Option CryptoLine)) (done : Done) (board : Board) (told : Option (List PortCall))
-      → InTurn config turns hand nest board told → IsAnew (board_history (made_by hand) nest.number) nest.moment request
+  -- the reply to a ping
+  pub ping_carries : (config : Config) (turns : Turns M (Part I O) Made T) (hand : Hand M (Part I O) Made T g) (entry_id : BoardEntryId) (request : Request) (pairs : Option Entries)
+      (chosen : List (Option CryptoLine)) (done : CommandOutcome) (board : Board) (told : Option (List PortCall))
+      → InTurn config turns hand entry_id board told → IsAnew (board_history (made_by hand) entry_id.number) entry_id.moment request
       → (request.too_long ≡ false → Reads request.body.now pairs) → command_in request.too_long pairs ≡ Ok said.Ping
       → Tells chosen (reply_datagram config request.cookie.now Pong) done
-      → Carries config hand hand nest (hearing_by request pairs done) done.reply board told
-  ping_carries config turns hand nest request pairs chosen done board told turn anew reads is tells =
-      let h = board_history (made_by hand) nest.number in
+      → Carries config hand hand entry_id (hearing_by request pairs done) done.reply board told
+  ping_carries config turns hand entry_id request pairs chosen done board told turn anew reads is tells =
+      let h = board_history (made_by hand) entry_id.number in
       let c = unanswered (hearing_as request pairs chosen Nothing) in
-      tells_carries config turns hand nest request pairs chosen (with_reply config c Pong act.Told) done board told turn anew reads
-      (ping_due config h nest.moment c (record { nothing_kept = anew.not_kept; not_starved = refl; is_asked = asks_so config request.too_long pairs said.Ping is refl })) refl refl
+      tells_carries config turns hand entry_id request pairs chosen (with_reply config c Pong act.Told) done board told turn anew reads
+      (ping_due config h entry_id.moment c (record { nothing_kept = anew.not_kept; not_out_of_memory = refl; is_asked = asks_so config request.too_long pairs said.Ping is refl })) refl refl
       (λ heard. absurd (let k : false ≡ true = heard in cc)) tells
 
-  -- a list was answered
-  pub list_carries : (config : Config) (turns : Turns M (Part I O) Made T) (hand : Hand M (Part I O) Made T g) (nest : Nest) (request : Request) (pairs : Option Entries)
-      (limit : ℕ) (done : Done) (board : Board) (told : Option (List PortCall))
-      → InTurn config turns hand nest board told → IsAnew (board_history (made_by hand) nest.number) nest.moment request
+  -- the reply to a list
+  pub list_carries : (config : Config) (turns : Turns M (Part I O) Made T) (hand : Hand M (Part I O) Made T g) (entry_id : BoardEntryId) (request : Request) (pairs : Option Entries)
+      (limit : ℕ) (done : CommandOutcome) (board : Board) (told : Option (List PortCall))
+      → InTurn config turns hand entry_id board told → IsAnew (board_history (made_by hand) entry_id.number) entry_id.moment request
       → (request.too_long ≡ false → Reads request.body.now pairs) → command_in request.too_long pairs ≡ Ok (said.Listing limit)
       → ((config : Config) (v : View) → Shows config board v → Tells [] (reply_datagram config request.cookie.now (Listed (take limit (map (λ (c : CallView). c.of.id) v.calls)))) done)
-      → Carries config hand hand nest (hearing_by request pairs done) done.reply board told
-  list_carries config turns hand nest request pairs limit done board told turn anew reads is tells =
-      let h = board_history (made_by hand) nest.number in
+      → Carries config hand hand entry_id (hearing_by request pairs done) done.reply board told
+  list_carries config turns hand entry_id request pairs limit done board told turn anew reads is tells =
+      let h = board_history (made_by hand) entry_id.number in
       let c = unanswered (hearing_as request pairs [] Nothing) in
       let ids : List (List ℕ) = take limit (map (λ (call : Call). call.id) (live h)) in
-      tells_carries config turns hand nest request pairs [] (with_reply config c (Listed ids) act.Told) done board told turn anew reads
-      (listed_due config h nest.moment c limit (record { nothing_kept = anew.not_kept; not_starved = refl; is_asked = asks_so config request.too_long pairs (said.Listing limit) is refl })) refl refl
+      tells_carries config turns hand entry_id request pairs [] (with_reply config c (Listed ids) act.Told) done board told turn anew reads
+      (listed_due config h entry_id.moment c limit (record { nothing_kept = anew.not_kept; not_out_of_memory = refl; is_asked = asks_so config request.too_long pairs (said.Listing limit) is refl })) refl refl
       (λ heard. absurd (let k : false ≡ true = heard in cc))
       (subst (λ (names : List (List ℕ)). Tells [] (reply_datagram config request.cookie.now (Listed (take limit names))) done) (call_ids h (live h))
-      (tells config (at_moment (view_of config h) nest.moment) turn.shows))
+      (tells config (at_moment (view_of config h) entry_id.moment) turn.shows))

@@ -24,7 +24,7 @@ use Rattle.call_board.specs.Kept.{is_kept, kept, keepings}
 use Rattle.call_board.specs.Pairs.{held}
 use Rattle.call_board.specs.Views.{View, view_of, at_moment, last_moment, with_keeping}
 use Rattle.call_board.specs.Whole.{with_reply, after, after_act}
-use Rattle.call_board.proofs.Done.{IsDue, due_fits, repeated_due, starved_due}
+use Rattle.call_board.proofs.Done.{IsDue, due_fits, repeated_due, out_of_memory_due}
 use Rattle.call_board.proofs.Entries.{whole, used_now}
 use Rattle.relay_core.specs.declared.part.Part.{Part}
 use Rattle.relay_core.specs.Entries.{board_history}
@@ -33,14 +33,14 @@ use Rattle.relay_core.specs.Scripts.{script}
 use Rattle.relay_core.specs.Turning.{GainsNested, made_by}
 use Rattle.relay_core.proofs.Histories.{good_history}
 use Rattle.media_ports.specs.Held.{TellsHeld}
-use Rattle.nested_steps.specs.declared.nest.Nest.{Nest}
+use Rattle.nested_steps.specs.declared.board_turn.BoardEntryId.{BoardEntryId}
 use Rattle.board_turns.specs.Ending.{leg_pairs}
 use Rattle.board_turns.specs.Acting.{acted, InTurn}
 use Rattle.control_entries.specs.declared.request.Request.{Request}
-use Rattle.control_turns.specs.declared.dealt.Dealt.{Dealt}
+use Rattle.control_turns.specs.declared.turn_record.TurnRecord.{TurnRecord}
 use Rattle.control_entries.specs.Controls.{Hearing, unanswered, with_answer, entry_with, entry_at, control_of}
-use Rattle.control_entries.specs.declared.gave.Gave.{Gave}
-use Rattle.control_entries.specs.declared.gave.Gave.TheVariants.{Nothing, Starved}
+use Rattle.control_entries.specs.declared.device_answers.DeviceAnswers.{DeviceAnswers}
+use Rattle.control_entries.specs.declared.device_answers.DeviceAnswers.TheVariants.{Nothing, OutOfMemory}
 use Rattle.control_entries.specs.Carrying.{IsReplyOf, Carries, hearing_as}
 use Rattle.control_entries.specs.Telling.{IsAnew}
 use Rattle.control_entries.proofs.Tellings.{short_carries}
@@ -51,7 +51,7 @@ use Rattle.control_entries.proofs.Plain.{is_plain, does_nothing}
 -- the turn of an act whose reply is kept is the act, and then the keeping
 after_kept : (h : List BoardEntry) (e : BoardEntry) (c : Control) (a : Act) (v : View) → is_kept a ≡ true → after_act h e c a v ≡ with_reply e.moment c (acted h e a v)
 after_kept h e c act.Repeated v t = absurd (let k : false ≡ true = t in cc)
-after_kept h e c act.Starved v t = absurd (let k : false ≡ true = t in cc)
+after_kept h e c act.OutOfMemory v t = absurd (let k : false ≡ true = t in cc)
 after_kept h e c (act.Failed code) v t = refl
 after_kept h e c (act.Undone code leases draws) v t = refl
 after_kept h e c (act.Offered o) v t = refl
@@ -60,10 +60,10 @@ after_kept h e c (act.Deleted of) v t = refl
 after_kept h e c (act.Queried of) v t = refl
 after_kept h e c act.Told v t = refl
 
--- the turn of a repeat, and of one for which memory was short, leaves all as it was
+-- the turn of a repeat, and of one that ran out of memory, leaves all as it was
 after_unkept : (h : List BoardEntry) (e : BoardEntry) (c : Control) (a : Act) (v : View) → is_plain a ≡ true → is_kept a ≡ false → after_act h e c a v ≡ v
 after_unkept h e c act.Repeated v t k = refl
-after_unkept h e c act.Starved v t k = refl
+after_unkept h e c act.OutOfMemory v t k = refl
 after_unkept h e c (act.Failed code) v t k = absurd (let f : true ≡ false = k in cc)
 after_unkept h e c (act.Undone code leases draws) v t k = absurd (let f : true ≡ false = k in cc)
 after_unkept h e c (act.Offered o) v t k = absurd (let f : true ≡ false = k in cc)
@@ -85,117 +85,117 @@ reply_case config h e c request (Some text) v board source cookie is shows =
 
 module _ {M I O T : Type 0} {g : _} where
   -- a board that shows as much stands in the turn as well
-  pub turn_keeps : (config : Config) (turns : Turns M (Part I O) Made T) (hand : Hand M (Part I O) Made T g) (nest : Nest) (was board : Board) (told : Option (List PortCall))
-      → ((config : Config) (v : View) → Shows config was v → Shows config board v) → InTurn config turns hand nest was told → InTurn config turns hand nest board told
-  turn_keeps config turns hand nest was board told keeps turn = record {
+  pub turn_keeps : (config : Config) (turns : Turns M (Part I O) Made T) (hand : Hand M (Part I O) Made T g) (entry_id : BoardEntryId) (was board : Board) (told : Option (List PortCall))
+      → ((config : Config) (v : View) → Shows config was v → Shows config board v) → InTurn config turns hand entry_id was told → InTurn config turns hand entry_id board told
+  turn_keeps config turns hand entry_id was board told keeps turn = record {
     may = turn.may;
     above = turn.above;
     low = turn.low;
     orderly = turn.orderly;
     timely = turn.timely;
-    shows = keeps config (at_moment (view_of config (board_history (made_by hand) nest.number)) nest.moment) turn.shows;
+    shows = keeps config (at_moment (view_of config (board_history (made_by hand) entry_id.number)) entry_id.moment) turn.shows;
     opens = turn.opens;
   }
 
   -- what the board keeps after the entry
-  keeps_entry : (config : Config) (turns : Turns M (Part I O) Made T) (old : Hand M (Part I O) Made T g) (nest : Nest) (x : Hearing) (was board : Board) (told : Option (List PortCall))
-      → (turn : InTurn config turns old nest was told)
-      → FitsControl config (board_history (made_by old) nest.number) nest.moment (control_of config (board_history (made_by old) nest.number) nest.moment x)
-      → Shows config board (after (board_history (made_by old) nest.number) (entry_at config (board_history (made_by old) nest.number) nest.moment x)
-      (view_of config (board_history (made_by old) nest.number)))
-      → BoardFor config board (entry_at config (board_history (made_by old) nest.number) nest.moment x ∷ board_history (made_by old) nest.number)
-  keeps_entry config turns old nest x was board told turn fits shows =
-      let h = board_history (made_by old) nest.number in
+  keeps_entry : (config : Config) (turns : Turns M (Part I O) Made T) (old : Hand M (Part I O) Made T g) (entry_id : BoardEntryId) (x : Hearing) (was board : Board) (told : Option (List PortCall))
+      → (turn : InTurn config turns old entry_id was told)
+      → FitsControl config (board_history (made_by old) entry_id.number) entry_id.moment (control_of config (board_history (made_by old) entry_id.number) entry_id.moment x)
+      → Shows config board (after (board_history (made_by old) entry_id.number) (entry_at config (board_history (made_by old) entry_id.number) entry_id.moment x)
+      (view_of config (board_history (made_by old) entry_id.number)))
+      → BoardFor config board (entry_at config (board_history (made_by old) entry_id.number) entry_id.moment x ∷ board_history (made_by old) entry_id.number)
+  keeps_entry config turns old entry_id x was board told turn fits shows =
+      let h = board_history (made_by old) entry_id.number in
       subst (λ (v : View). Shows config board v)
-      (sym (whole config h (entry_at config h nest.moment x) (good_history config (made_by old) turn.orderly nest.number) fits turn.timely)) shows
+      (sym (whole config h (entry_at config h entry_id.moment x) (good_history config (made_by old) turn.orderly entry_id.number) fits turn.timely)) shows
 
   -- a command was carried out, and its reply kept
-  pub deals_kept : (config : Config) (turns : Turns M (Part I O) Made T) (old new : Hand M (Part I O) Made T g) (nest : Nest) (request : Request) (dealt : Dealt) (reply : Option (Room ℕ))
-      (was done board : Board) (before told : Option (List PortCall)) → InTurn config turns old nest was before
-      → Carries config old new nest (hearing_of request dealt) reply done told
-      → ((config : Config) (v : View) → Shows config done v → Shows config board (with_kept request nest.moment reply v))
-      → Deals config old new nest (hearing_of request dealt) board told
-  deals_kept config turns old new nest request dealt reply was done board before told turn carries keeps =
-      let h = board_history (made_by old) nest.number in
-      let x = hearing_of request dealt in
-      let e = entry_at config h nest.moment x in
-      let c = control_of config h nest.moment x in
-      let v = at_moment (view_of config h) nest.moment in
+  pub deals_kept : (config : Config) (turns : Turns M (Part I O) Made T) (old new : Hand M (Part I O) Made T g) (entry_id : BoardEntryId) (request : Request) (turn_record : TurnRecord) (reply : Option (Room ℕ))
+      (was done board : Board) (before told : Option (List PortCall)) → InTurn config turns old entry_id was before
+      → Carries config old new entry_id (hearing_of request turn_record) reply done told
+      → ((config : Config) (v : View) → Shows config done v → Shows config board (with_kept request entry_id.moment reply v))
+      → Deals config old new entry_id (hearing_of request turn_record) board told
+  deals_kept config turns old new entry_id request turn_record reply was done board before told turn carries keeps =
+      let h = board_history (made_by old) entry_id.number in
+      let x = hearing_of request turn_record in
+      let e = entry_at config h entry_id.moment x in
+      let c = control_of config h entry_id.moment x in
+      let v = at_moment (view_of config h) entry_id.moment in
       record {
         fits = carries.fits;
         gained = carries.does.gained;
-        stands = keeps_entry config turns old nest x was board before turn carries.fits
+        stands = keeps_entry config turns old entry_id x was board before turn carries.fits
             (reply_case config h e c request reply v board refl refl carries.replies (keeps config (acted h e c.act v) carries.does.shows));
         opens = carries.does.opens;
       }
 
   -- with this answer, in place of the one that is due
-  record DealsAs (config : Config) (old new : Hand M (Part I O) Made T g) (nest : Nest) (x : Hearing) (a : Answered) (board : Board) (told : Option (List PortCall)) : Type 0 where
-    fits : FitsControl config (board_history (made_by old) nest.number) nest.moment (with_answer x a)
-    gained : GainsNested nest.number nest.moment (script config (board_history (made_by old) nest.number) (entry_with nest.moment x a)) old new
-    stands : BoardFor config board (entry_with nest.moment x a ∷ board_history (made_by old) nest.number)
-    opens : TellsHeld config told (leg_pairs (held (entry_with nest.moment x a ∷ board_history (made_by old) nest.number)))
+  record DealsAs (config : Config) (old new : Hand M (Part I O) Made T g) (entry_id : BoardEntryId) (x : Hearing) (a : Answered) (board : Board) (told : Option (List PortCall)) : Type 0 where
+    fits : FitsControl config (board_history (made_by old) entry_id.number) entry_id.moment (with_answer x a)
+    gained : GainsNested entry_id.number entry_id.moment (script config (board_history (made_by old) entry_id.number) (entry_with entry_id.moment x a)) old new
+    stands : BoardFor config board (entry_with entry_id.moment x a ∷ board_history (made_by old) entry_id.number)
+    opens : TellsHeld config told (leg_pairs (held (entry_with entry_id.moment x a ∷ board_history (made_by old) entry_id.number)))
 
   -- nothing was done, and nothing is kept
-  pub deals_nothing : (config : Config) (turns : Turns M (Part I O) Made T) (hand : Hand M (Part I O) Made T g) (nest : Nest) (x : Hearing) (due : Answered) (was board : Board)
-      (told : Option (List PortCall)) → InTurn config turns hand nest was told
-      → IsDue config (board_history (made_by hand) nest.number) nest.moment (unanswered x) due
-      → FitsControl config (board_history (made_by hand) nest.number) nest.moment (with_answer x due)
+  pub deals_nothing : (config : Config) (turns : Turns M (Part I O) Made T) (hand : Hand M (Part I O) Made T g) (entry_id : BoardEntryId) (x : Hearing) (due : Answered) (was board : Board)
+      (told : Option (List PortCall)) → InTurn config turns hand entry_id was told
+      → IsDue config (board_history (made_by hand) entry_id.number) entry_id.moment (unanswered x) due
+      → FitsControl config (board_history (made_by hand) entry_id.number) entry_id.moment (with_answer x due)
       → x.given.report ≡ None → is_plain due.act ≡ true → is_kept due.act ≡ false
-      → Shows config board (at_moment (view_of config (board_history (made_by hand) nest.number)) nest.moment)
-      → Deals config hand hand nest x board told
-  deals_nothing config turns hand nest x due was board told turn is fits none plain unkept shows =
-      let h = board_history (made_by hand) nest.number in
-      let e = entry_with nest.moment x due in
-      let v = at_moment (view_of config h) nest.moment in
-      let does = does_nothing config turns hand nest x due board told shows turn.opens none plain in
-      let as_due : DealsAs config hand hand nest x due board told = record {
+      → Shows config board (at_moment (view_of config (board_history (made_by hand) entry_id.number)) entry_id.moment)
+      → Deals config hand hand entry_id x board told
+  deals_nothing config turns hand entry_id x due was board told turn is fits none plain unkept shows =
+      let h = board_history (made_by hand) entry_id.number in
+      let e = entry_with entry_id.moment x due in
+      let v = at_moment (view_of config h) entry_id.moment in
+      let does = does_nothing config turns hand entry_id x due board told shows turn.opens none plain in
+      let as_due : DealsAs config hand hand entry_id x due board told = record {
         fits = fits;
         gained = does.gained;
         stands = subst (λ (w : View). Shows config board w)
-            (sym (whole config h e (good_history config (made_by hand) turn.orderly nest.number) fits turn.timely ∙ after_unkept h e (with_answer x due) due.act v plain unkept)) shows;
+            (sym (whole config h e (good_history config (made_by hand) turn.orderly entry_id.number) fits turn.timely ∙ after_unkept h e (with_answer x due) due.act v plain unkept)) shows;
         opens = does.opens;
       } in
-      let d = subst (λ (a : Answered). DealsAs config hand hand nest x a board told) (sym is) as_due in
+      let d = subst (λ (a : Answered). DealsAs config hand hand entry_id x a board told) (sym is) as_due in
       record { fits = d.fits; gained = d.gained; stands = d.stands; opens = d.opens }
 
   -- a reply is kept: it is given again, and nothing is done
-  pub repeat_deals : (config : Config) (turns : Turns M (Part I O) Made T) (hand : Hand M (Part I O) Made T g) (nest : Nest) (request : Request) (pairs : Option Entries)
-      (chosen : List (Option CryptoLine)) (bytes : List ℕ) (board : Board) (told : Option (List PortCall)) → InTurn config turns hand nest board told → IsRequest request
-      → kept (board_history (made_by hand) nest.number) request.source request.cookie.now nest.moment ≡ Some bytes
-      → Deals config hand hand nest (hearing_as request pairs chosen Nothing) board told
-  repeat_deals config turns hand nest request pairs chosen bytes board told turn is kept_is =
-      let h = board_history (made_by hand) nest.number in
+  pub repeat_deals : (config : Config) (turns : Turns M (Part I O) Made T) (hand : Hand M (Part I O) Made T g) (entry_id : BoardEntryId) (request : Request) (pairs : Option Entries)
+      (chosen : List (Option CryptoLine)) (bytes : List ℕ) (board : Board) (told : Option (List PortCall)) → InTurn config turns hand entry_id board told → IsRequest request
+      → kept (board_history (made_by hand) entry_id.number) request.source request.cookie.now entry_id.moment ≡ Some bytes
+      → Deals config hand hand entry_id (hearing_as request pairs chosen Nothing) board told
+  repeat_deals config turns hand entry_id request pairs chosen bytes board told turn is kept_is =
+      let h = board_history (made_by hand) entry_id.number in
       let x = hearing_as request pairs chosen Nothing in
       let c = unanswered x in
       let due : Answered = record { bytes = bytes; act = act.Repeated } in
-      let is_due = repeated_due config h nest.moment c bytes kept_is in
-      deals_nothing config turns hand nest x due board board told turn is_due
-      (due_fits config h nest.moment c due is_due is.framed is.length_is (λ read. absurd (let k : false ≡ true = read in cc))
+      let is_due = repeated_due config h entry_id.moment c bytes kept_is in
+      deals_nothing config turns hand entry_id x due board board told turn is_due
+      (due_fits config h entry_id.moment c due is_due is.framed is.length_is (λ read. absurd (let k : false ≡ true = read in cc))
       (λ heard. absurd (let k : false ≡ true = heard in cc)) (record { no_opens = refl; no_draws = refl; none_failed = refl }, refl) (λ s t. refl))
       refl refl refl turn.shows
 
-  -- memory was short before anything was done
-  pub short_deals : (config : Config) (turns : Turns M (Part I O) Made T) (hand : Hand M (Part I O) Made T g) (nest : Nest) (request : Request) (dealt : Dealt) (was board : Board)
-      (told : Option (List PortCall)) → InTurn config turns hand nest was told → IsAnew (board_history (made_by hand) nest.number) nest.moment request
-      → ((config : Config) (v : View) → Shows config was v → Shows config board v) → dealt.gave ≡ Starved
-      → Deals config hand hand nest (hearing_of request dealt) board told
-  short_deals config turns hand nest request dealt was board told turn anew keeps gave =
-      deals_kept config turns hand hand nest request dealt None was was board told told turn
-      (short_carries config turns hand nest request (pairs_if dealt.dictionary) dealt.heard dealt.gave was told turn anew gave) keeps
+  -- memory ran out before anything was done
+  pub short_deals : (config : Config) (turns : Turns M (Part I O) Made T) (hand : Hand M (Part I O) Made T g) (entry_id : BoardEntryId) (request : Request) (turn_record : TurnRecord) (was board : Board)
+      (told : Option (List PortCall)) → InTurn config turns hand entry_id was told → IsAnew (board_history (made_by hand) entry_id.number) entry_id.moment request
+      → ((config : Config) (v : View) → Shows config was v → Shows config board v) → turn_record.device_answers ≡ OutOfMemory
+      → Deals config hand hand entry_id (hearing_of request turn_record) board told
+  short_deals config turns hand entry_id request turn_record was board told turn anew keeps device_answers =
+      deals_kept config turns hand hand entry_id request turn_record None was was board told told turn
+      (short_carries config turns hand entry_id request (pairs_if turn_record.dictionary) turn_record.chosen_lines turn_record.device_answers was told turn anew device_answers) keeps
 
 -- the reply that was made is the one that is due
 pub datagram_is : (c : Control) (reply : Option (Room ℕ)) → IsReplyOf c reply → datagram_of c.cookie reply ≡ c.reply
 datagram_is c None is = sym is.1
 datagram_is c (Some text) is = is.1
 
--- where memory was short, that is the reply
-pub short_reply : (config : Config) (h : List BoardEntry) (moment : ℕ) (request : Request) (pairs : Option Entries) (chosen : List (Option CryptoLine)) (gave : Gave)
-    → kept h request.source request.cookie.now moment ≡ None → gave ≡ Starved
-    → (control_of config h moment (hearing_as request pairs chosen gave)).reply ≡ error_datagram request.cookie.now E17
-short_reply config h moment request pairs chosen gave none is =
-    ap (λ (given : Gave). (control_of config h moment (hearing_as request pairs chosen given)).reply) is
-    ∙ ap (λ (a : Answered). a.bytes) (starved_due config h moment (unanswered (hearing_as request pairs chosen Starved)) none refl)
+-- where memory ran out, the reply says so
+pub short_reply : (config : Config) (h : List BoardEntry) (moment : ℕ) (request : Request) (pairs : Option Entries) (chosen : List (Option CryptoLine)) (device_answers : DeviceAnswers)
+    → kept h request.source request.cookie.now moment ≡ None → device_answers ≡ OutOfMemory
+    → (control_of config h moment (hearing_as request pairs chosen device_answers)).reply ≡ error_datagram request.cookie.now E17
+short_reply config h moment request pairs chosen device_answers none is =
+    ap (λ (given : DeviceAnswers). (control_of config h moment (hearing_as request pairs chosen given)).reply) is
+    ∙ ap (λ (a : Answered). a.bytes) (out_of_memory_due config h moment (unanswered (hearing_as request pairs chosen OutOfMemory)) none refl)
     ∙ sym (fault_is config request.cookie.now E17)
 
 -- a kept reply is the reply

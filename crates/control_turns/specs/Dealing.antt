@@ -22,36 +22,36 @@ use Rattle.relay_core.specs.Scripts.{script}
 use Rattle.relay_core.specs.Turning.{GainsNested, IsAbove, made_by}
 use Rattle.relay_core.specs.declared.part.Part.{Part}
 use Rattle.media_ports.specs.Held.{TellsHeld}
-use Rattle.nested_steps.specs.declared.nest.Nest.{Nest}
+use Rattle.nested_steps.specs.declared.board_turn.BoardEntryId.{BoardEntryId}
 use Rattle.nested_steps.specs.Nesting.{MayNest}
 use Rattle.board_turns.specs.Ending.{leg_pairs}
 use Rattle.control_entries.specs.declared.request.Request.{Request}
-use Rattle.control_turns.specs.declared.dealt.Dealt.{Dealt}
+use Rattle.control_turns.specs.declared.turn_record.TurnRecord.{TurnRecord}
 use Rattle.control_entries.specs.Controls.{Hearing, entry_at}
 use Rattle.control_entries.specs.Carrying.{hearing_as}
 
--- What is heard.
+-- What is recorded.
 
-abbrev pub hearing_of : Request → Dealt → Hearing
-hearing_of request dealt = hearing_as request (pairs_if dealt.dictionary) dealt.heard dealt.gave
+abbrev pub hearing_of : Request → TurnRecord → Hearing
+hearing_of request turn_record = hearing_as request (pairs_if turn_record.dictionary) turn_record.chosen_lines turn_record.device_answers
 
 -- What is done.
 
 module _ {M I O T : Type 0} {g : _} where
   -- A datagram was dealt with in the board's turn: the entry is one that the history demands, the nested entries that it owes are
   -- made, the board stands for the history with it, and just the ports of the pairs that are held then are open
-  pub record Deals (config : Config) (old new : Hand M (Part I O) Made T g) (nest : Nest) (x : Hearing) (board : Board) (told : Option (List PortCall)) : Type 0 where
-    pub fits : FitsBoard config (board_history (made_by old) nest.number) (entry_at config (board_history (made_by old) nest.number) nest.moment x)
-    pub gained : GainsNested nest.number nest.moment
-        (script config (board_history (made_by old) nest.number) (entry_at config (board_history (made_by old) nest.number) nest.moment x)) old new
+  pub record Deals (config : Config) (old new : Hand M (Part I O) Made T g) (entry_id : BoardEntryId) (x : Hearing) (board : Board) (told : Option (List PortCall)) : Type 0 where
+    pub fits : FitsBoard config (board_history (made_by old) entry_id.number) (entry_at config (board_history (made_by old) entry_id.number) entry_id.moment x)
+    pub gained : GainsNested entry_id.number entry_id.moment
+        (script config (board_history (made_by old) entry_id.number) (entry_at config (board_history (made_by old) entry_id.number) entry_id.moment x)) old new
     pub stands : BoardFor config board
-        (entry_at config (board_history (made_by old) nest.number) nest.moment x ∷ board_history (made_by old) nest.number)
+        (entry_at config (board_history (made_by old) entry_id.number) entry_id.moment x ∷ board_history (made_by old) entry_id.number)
     pub opens : TellsHeld config told
-        (leg_pairs (held (entry_at config (board_history (made_by old) nest.number) nest.moment x ∷ board_history (made_by old) nest.number)))
+        (leg_pairs (held (entry_at config (board_history (made_by old) entry_id.number) entry_id.moment x ∷ board_history (made_by old) entry_id.number)))
 
 -- The reply that is sent, and kept.
 
--- the datagram that is sent: the reply that was made, or that memory was short
+-- the datagram that is sent: the reply that was made, or that memory ran out
 abbrev pub datagram_of : List ℕ → Option (Room ℕ) → List ℕ
 datagram_of cookie None = error_datagram cookie E17
 datagram_of cookie (Some text) = text.list

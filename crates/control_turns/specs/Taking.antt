@@ -41,14 +41,14 @@ abbrev pub is_too_long : List ℕ → Bool
 is_too_long datagram = nat_lt 16384 (length datagram)
 
 module _ {M I O T : Type 0} {g : _} where
-  -- a turn that answered added to the hand's list the board's turn of what was heard, with the entry that the history demands; every
+  -- a turn that replied added to the hand's list the board's turn of what is recorded, with the entry that the history demands; every
   -- other turn left the hand as it was
   abbrev pub Follows : Config → (old new : Hand M (Part I O) Made T g) → ℕ → ControlTurn → Option Hearing → Type 0
   Follows config old new now answer None = (is_answered answer ≡ false) × (new ≡ old)
   Follows config old new now answer (Some x) =
       (is_answered answer ≡ true) × MakesTurn config old new (entry_at config (board_of (made_by old)) (moment_at (board_of (made_by old)) now) x)
 
--- one send, to the datagram's source, of the reply that this history of the board demands; what was heard is this datagram
+-- one send, to the datagram's source, of the reply that this history of the board demands; what is recorded is this datagram
 pub record Exchanged (config : Config) (h : List BoardEntry) (now : ℕ) (from : Addr) (parts : List ℕ × List ℕ) (too_long : Bool) (answer : ControlTurn) (x : Hearing) (sends : List LinkCall) : Type 0 where
   pub source_is : x.source ≡ from
   pub cookie_is : x.cookie ≡ parts.0
@@ -78,7 +78,7 @@ pub record DidTurn (config : Config) (h : List BoardEntry) (now : ℕ) (answer :
   pub calls_are : calls ≡ call.Take 16385 gave ∷ sends
   pub followed : DidFollow config h now gave answer made sends
 
--- what the outside gave in a turn, by the board's history before it; of a turn that made no entry neither the port maker nor the key
+-- what the devices returned in a turn, by the board's history before it; of a turn that made no entry neither the port maker nor the key
 -- source was asked
 abbrev pub GaveFor : Config → List BoardEntry → Option Hearing → (ports ports_now keys keys_now : ℕ) → (opened opened_now : Option (List PortCall)) → (drew drew_now : Option (List KeyCall)) → Type 0
 GaveFor config h None ports ports_now keys keys_now opened opened_now drew drew_now = (opened_now ≡ opened) × (drew_now ≡ drew)

@@ -24,7 +24,7 @@ pub record IsRequest (request : Request) : Type 0 where
   pub framed : frame (request.cookie.now ++ 32 ∷ request.body.now) ≡ Some (request.cookie.now, request.body.now)
   pub length_is : request.too_long ≡ nat_lt 16384 (length (request.cookie.now ++ 32 ∷ request.body.now))
 
--- it is the request that was heard
+-- it is the request that is recorded
 pub record IsHeard (request : Request) (x : Hearing) : Type 0 where
   pub source_is : x.source ≡ request.source
   pub cookie_is : x.cookie ≡ request.cookie.now
@@ -33,8 +33,8 @@ pub record IsHeard (request : Request) (x : Hearing) : Type 0 where
 
 module _ {M I O T : Type 0} {g : _} where
   -- The hand's list gained the board's turn of this request at this moment: the nested entries that are owed, and the entry that the
-  -- board's history demands; what the entry says that the outside gave is what the devices told; and the entry's reply was sent
-  -- once, to the request's source, with this answer
+  -- board's history demands; what the entry says that the devices returned is what they told; and the entry's reply was sent
+  -- once, to the request's source, with this result
   pub record Answers (config : Config) (old new : Hand M (Part I O) Made T g) (request : Request) (now : ℕ) (sent : Result (Unit {0}) Failed)
       (ports ports_now keys keys_now : ℕ) (opened opened_now : Option (List PortCall)) (drew drew_now : Option (List KeyCall)) (before after : Option (List LinkCall)) : Type 0 where
     pub hearing : Hearing

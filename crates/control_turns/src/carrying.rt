@@ -19,7 +19,7 @@ ghost use Rattle.board_turns.specs.Ties.{Ties};
 use answer_command::answer;
 use call_board::Board;
 use call_cell::Gone;
-use control_entries::{Done, Request, refused, short, told};
+use control_entries::{CommandOutcome, Request, refused, short, told};
 use control_reading::{Body, read_body};
 use control_replies::pong_datagram;
 use delete_command::delete;
@@ -27,7 +27,7 @@ use nested_steps::BoardTurn;
 use ng_bencode::Pairs;
 use ng_command::Command;
 use ng_reply::ErrorCode;
-use offer_answer::Heard;
+use offer_answer::ChosenLines;
 use offer_command::offer;
 use relay_core::Relay;
 use relay_outside::{KeySource, PortMaker};
@@ -42,7 +42,7 @@ pub(crate) struct Carried {
     /// The dictionary.
     pub dictionary: Option<Pairs>,
     /// How it was carried out.
-    pub done: Done,
+    pub done: CommandOutcome,
 }
 
 /// Carries out a command, or returns the error that there is in its place.
@@ -57,29 +57,29 @@ fn carry_out_command<P: PortMaker, K: KeySource, R: Wait>(
     gone: &mut Gone<P::Out>,
     request: &Request,
     command: &Result<Command, ErrorCode>,
-) -> Done
-    requires turn { InTurn turn.now.config.now turn.now.turns.now hand.old turn.now.nest board.old (P.told ports.old) }
-    requires anew { IsAnew (board_history (made_by hand.old) turn.now.nest.number) turn.now.nest.moment request.now }
+) -> CommandOutcome
+    requires turn { InTurn turn.now.config.now turn.now.turns.now hand.old turn.now.entry_id board.old (P.told ports.old) }
+    requires anew { IsAnew (board_history (made_by hand.old) turn.now.entry_id.number) turn.now.entry_id.moment request.now }
     requires empty { gone.old ≡ [] }
     requires small { IfOk command.now (λ asks. length (description_in (said asks)) ≤ length request.now.body.now) }
     requires asked { (pairs : Option Entries) × (request.now.too_long ≡ false) × Reads request.now.body.now pairs × (command_in false pairs ≡ said_by command.now) }
     ensures same { IsSameHand hand.old hand.new × SameTurns hand.old hand.new }
     ensures may { MayNest turn.now.config.now turn.now.turns.now hand.new }
     ensures carries { (pairs : Option Entries) → request.now.too_long ≡ false → Reads request.now.body.now pairs → command_in false pairs ≡ said_by command.now →
-        Carries turn.now.config.now hand.old hand.new turn.now.nest (hearing_by request.now pairs result) result.reply board.new (P.told ports.new) }
+        Carries turn.now.config.now hand.old hand.new turn.now.entry_id (hearing_by request.now pairs result) result.reply board.new (P.told ports.new) }
     ensures replies { KeepsReplies board.old board.new }
     ensures empty { gone.new ≡ [] }
     ensures ties { Ties turn.now.config.now (P.told ports.old) (P.told ports.new) (entries hand.old) (entries hand.new) }
     ensures later { (P.faults ports.old ≤ P.faults ports.new) × (K.faults keys.old ≤ K.faults keys.new) }
-    ensures given { let h = board_history (made_by hand.old) turn.now.nest.number in
-        IsGivenBy turn.now.config.now (free turn.now.config.now h) (given_by result.gave) (P.faults ports.old) (P.faults ports.new) (K.faults keys.old) (K.faults keys.new) (P.told ports.old) (P.told ports.new) (K.told keys.old) (K.told keys.new) }
+    ensures given { let h = board_history (made_by hand.old) turn.now.entry_id.number in
+        IsGivenBy turn.now.config.now (free turn.now.config.now h) (given_by result.device_answers) (P.faults ports.old) (P.faults ports.new) (K.faults keys.old) (K.faults keys.new) (P.told ports.old) (P.told ports.new) (K.told keys.old) (K.told keys.new) }
 {
     let command = match command {
         Ok(command) => command,
-        Err(code) => return refused(alloc, request.cookie, *code, Heard::none()),
+        Err(code) => return refused(alloc, request.cookie, *code, ChosenLines::none()),
     };
     match command {
-        Command::Ping => told(Heard::none(), pong_datagram(alloc, request.cookie)),
+        Command::Ping => told(ChosenLines::none(), pong_datagram(alloc, request.cookie)),
         Command::Offer(input) => offer(
             rt, alloc, turn, hand, board, ports, keys, gone, request, input,
         ),
@@ -102,21 +102,21 @@ pub(crate) fn carry_out<P: PortMaker, K: KeySource, R: Wait>(
     gone: &mut Gone<P::Out>,
     request: &Request,
 ) -> Carried
-    requires turn { InTurn turn.now.config.now turn.now.turns.now hand.old turn.now.nest board.old (P.told ports.old) }
-    requires anew { IsAnew (board_history (made_by hand.old) turn.now.nest.number) turn.now.nest.moment request.now }
+    requires turn { InTurn turn.now.config.now turn.now.turns.now hand.old turn.now.entry_id board.old (P.told ports.old) }
+    requires anew { IsAnew (board_history (made_by hand.old) turn.now.entry_id.number) turn.now.entry_id.moment request.now }
     requires empty { gone.old ≡ [] }
     ensures same { IsSameHand hand.old hand.new × SameTurns hand.old hand.new }
     ensures may { MayNest turn.now.config.now turn.now.turns.now hand.new }
-    ensures carries { Carries turn.now.config.now hand.old hand.new turn.now.nest (hearing_by request.now (pairs_if result.dictionary) result.done) result.done.reply board.new (P.told ports.new) }
+    ensures carries { Carries turn.now.config.now hand.old hand.new turn.now.entry_id (hearing_by request.now (pairs_if result.dictionary) result.done) result.done.reply board.new (P.told ports.new) }
     ensures replies { KeepsReplies board.old board.new }
     ensures empty { gone.new ≡ [] }
     ensures ties { Ties turn.now.config.now (P.told ports.old) (P.told ports.new) (entries hand.old) (entries hand.new) }
     ensures later { (P.faults ports.old ≤ P.faults ports.new) × (K.faults keys.old ≤ K.faults keys.new) }
-    ensures given { let h = board_history (made_by hand.old) turn.now.nest.number in
-        IsGivenBy turn.now.config.now (free turn.now.config.now h) (given_by result.done.gave) (P.faults ports.old) (P.faults ports.new) (K.faults keys.old) (K.faults keys.new) (P.told ports.old) (P.told ports.new) (K.told keys.old) (K.told keys.new) }
+    ensures given { let h = board_history (made_by hand.old) turn.now.entry_id.number in
+        IsGivenBy turn.now.config.now (free turn.now.config.now h) (given_by result.done.device_answers) (P.faults ports.old) (P.faults ports.new) (K.faults keys.old) (K.faults keys.new) (P.told ports.old) (P.told ports.new) (K.told keys.old) (K.told keys.new) }
 {
     if request.too_long {
-        let done = refused(alloc, request.cookie, ErrorCode::E18, Heard::none());
+        let done = refused(alloc, request.cookie, ErrorCode::E18, ChosenLines::none());
         return Carried {
             dictionary: None,
             done,

@@ -18,16 +18,16 @@ ghost use Rattle.control_turns.specs.Dealing.{hearing_of, Deals, IsTaken, DealsA
 ghost use Rattle.board_turns.specs.Ties.{Ties};
 
 use crate::carrying::{Carried, carry_out};
-use crate::dealt::Dealt;
 use crate::replying::reply_to;
 use crate::sending::{send, send_shortage};
+use crate::turn_record::TurnRecord;
 use call_board::Board;
 use call_cell::Gone;
-use control_entries::{Done, Gave, Request};
-use nested_steps::{BoardTurn, Nest};
+use control_entries::{CommandOutcome, DeviceAnswers, Request};
+use nested_steps::{BoardEntryId, BoardTurn};
 use ng_bencode::Text;
 use ng_reply::ErrorCode;
-use offer_answer::Heard;
+use offer_answer::ChosenLines;
 use relay_core::{Part, Relay};
 use relay_outside::{ControlLink, Failed, KeySource, PortMaker};
 use std::alloc::Global;
@@ -38,26 +38,26 @@ use turn_table::Hand;
 #[derive(Drop)]
 pub(crate) struct Answered {
     /// What the board's entry records of it.
-    pub dealt: Dealt,
-    /// What the send of its reply answered.
+    pub turn_record: TurnRecord,
+    /// The result of sending its reply.
     pub sent: Result<(), Failed>,
 }
 
-/// Answers that memory was short before anything was read.
+/// Replies that memory ran out before anything was read.
 fn answer_short<N: ControlLink>(link: &mut N, request: &Request) -> Answered
     requires { IsCookie request.now.cookie.now }
-    ensures short { (result.dealt.dictionary ≡ None) × (result.dealt.heard ≡ []) × (result.dealt.gave ≡ Gave.Starved) }
-    ensures unasked { IsUnasked result.dealt.gave }
+    ensures short { (result.turn_record.dictionary ≡ None) × (result.turn_record.chosen_lines ≡ []) × (result.turn_record.device_answers ≡ DeviceAnswers.OutOfMemory) }
+    ensures unasked { IsUnasked result.turn_record.device_answers }
     ensures sent { Sends request.now.source (error_datagram request.now.cookie.now ErrorCode.E17) result.sent (N.told link.old) (N.told link.new) }
     ensures cause { HasCause (N.faults link.old) (N.faults link.new) result.sent }
 {
     let sent = send_shortage(link, request.source, request.cookie);
-    let dealt = Dealt {
+    let turn_record = TurnRecord {
         dictionary: None,
-        heard: Heard::none(),
-        gave: Gave::Starved,
+        chosen_lines: ChosenLines::none(),
+        device_answers: DeviceAnswers::OutOfMemory,
     };
-    Answered { dealt, sent }
+    Answered { turn_record, sent }
 }
 
 /// Carries out a command for which no reply is kept, sends its reply and keeps it.
@@ -73,20 +73,20 @@ fn answer_anew<N: ControlLink, P: PortMaker, K: KeySource, R: Wait>(
     gone: &mut Gone<P::Out>,
     request: &Request,
 ) -> Answered
-    requires turn { InTurn turn.now.config.now turn.now.turns.now hand.old turn.now.nest board.old (P.told ports.old) }
-    requires anew { IsAnew (board_history (made_by hand.old) turn.now.nest.number) turn.now.nest.moment request.now }
+    requires turn { InTurn turn.now.config.now turn.now.turns.now hand.old turn.now.entry_id board.old (P.told ports.old) }
+    requires anew { IsAnew (board_history (made_by hand.old) turn.now.entry_id.number) turn.now.entry_id.moment request.now }
     requires empty { gone.old ≡ [] }
     ensures same { IsSameHand hand.old hand.new × SameTurns hand.old hand.new }
     ensures may { MayNest turn.now.config.now turn.now.turns.now hand.new }
-    ensures deals { Deals turn.now.config.now hand.old hand.new turn.now.nest (hearing_of request.now result.dealt) board.new (P.told ports.new) }
-    ensures sent { Sends request.now.source (control_of turn.now.config.now (board_history (made_by hand.old) turn.now.nest.number) turn.now.nest.moment (hearing_of request.now result.dealt)).reply
+    ensures deals { Deals turn.now.config.now hand.old hand.new turn.now.entry_id (hearing_of request.now result.turn_record) board.new (P.told ports.new) }
+    ensures sent { Sends request.now.source (control_of turn.now.config.now (board_history (made_by hand.old) turn.now.entry_id.number) turn.now.entry_id.moment (hearing_of request.now result.turn_record)).reply
         result.sent (N.told link.old) (N.told link.new) }
     ensures cause { HasCause (N.faults link.old) (N.faults link.new) result.sent }
     ensures empty { gone.new ≡ [] }
     ensures ties { Ties turn.now.config.now (P.told ports.old) (P.told ports.new) (entries hand.old) (entries hand.new) }
     ensures later { (P.faults ports.old ≤ P.faults ports.new) × (K.faults keys.old ≤ K.faults keys.new) }
-    ensures given { let h = board_history (made_by hand.old) turn.now.nest.number in
-        IsGivenBy turn.now.config.now (free turn.now.config.now h) (given_by result.dealt.gave) (P.faults ports.old) (P.faults ports.new) (K.faults keys.old) (K.faults keys.new) (P.told ports.old) (P.told ports.new) (K.told keys.old) (K.told keys.new) }
+    ensures given { let h = board_history (made_by hand.old) turn.now.entry_id.number in
+        IsGivenBy turn.now.config.now (free turn.now.config.now h) (given_by result.turn_record.device_answers) (P.faults ports.old) (P.faults ports.new) (K.faults keys.old) (K.faults keys.new) (P.told ports.old) (P.told ports.new) (K.told keys.old) (K.told keys.new) }
 {
     if board.reserve_reply().is_err() {
         return answer_short(link, request);
@@ -97,14 +97,18 @@ fn answer_anew<N: ControlLink, P: PortMaker, K: KeySource, R: Wait>(
     let Carried { dictionary, done } = carry_out(
         rt, alloc, turn, hand, board, ports, keys, gone, request,
     );
-    let Done { heard, gave, reply } = done;
-    let sent = reply_to(board, link, request, turn.nest.moment, cookie, reply);
-    let dealt = Dealt {
+    let CommandOutcome {
+        chosen_lines,
+        device_answers,
+        reply,
+    } = done;
+    let sent = reply_to(board, link, request, turn.entry_id.moment, cookie, reply);
+    let turn_record = TurnRecord {
         dictionary,
-        heard,
-        gave,
+        chosen_lines,
+        device_answers,
     };
-    Answered { dealt, sent }
+    Answered { turn_record, sent }
 }
 
 /// Sends the reply that is kept for a request, where there is one, and else carries its command out.
@@ -120,29 +124,29 @@ fn deal<N: ControlLink, P: PortMaker, K: KeySource, R: Wait>(
     gone: &mut Gone<P::Out>,
     request: &Request,
 ) -> Answered
-    requires turn { InTurn turn.now.config.now turn.now.turns.now hand.old turn.now.nest board.old (P.told ports.old) }
+    requires turn { InTurn turn.now.config.now turn.now.turns.now hand.old turn.now.entry_id board.old (P.told ports.old) }
     requires request { IsRequest request.now }
     requires empty { gone.old ≡ [] }
     ensures same { IsSameHand hand.old hand.new × SameTurns hand.old hand.new }
     ensures may { MayNest turn.now.config.now turn.now.turns.now hand.new }
-    ensures deals { Deals turn.now.config.now hand.old hand.new turn.now.nest (hearing_of request.now result.dealt) board.new (P.told ports.new) }
-    ensures sent { Sends request.now.source (control_of turn.now.config.now (board_history (made_by hand.old) turn.now.nest.number) turn.now.nest.moment (hearing_of request.now result.dealt)).reply
+    ensures deals { Deals turn.now.config.now hand.old hand.new turn.now.entry_id (hearing_of request.now result.turn_record) board.new (P.told ports.new) }
+    ensures sent { Sends request.now.source (control_of turn.now.config.now (board_history (made_by hand.old) turn.now.entry_id.number) turn.now.entry_id.moment (hearing_of request.now result.turn_record)).reply
         result.sent (N.told link.old) (N.told link.new) }
     ensures cause { HasCause (N.faults link.old) (N.faults link.new) result.sent }
     ensures empty { gone.new ≡ [] }
     ensures ties { Ties turn.now.config.now (P.told ports.old) (P.told ports.new) (entries hand.old) (entries hand.new) }
     ensures later { (P.faults ports.old ≤ P.faults ports.new) × (K.faults keys.old ≤ K.faults keys.new) }
-    ensures given { let h = board_history (made_by hand.old) turn.now.nest.number in
-        IsGivenBy turn.now.config.now (free turn.now.config.now h) (given_by result.dealt.gave) (P.faults ports.old) (P.faults ports.new) (K.faults keys.old) (K.faults keys.new) (P.told ports.old) (P.told ports.new) (K.told keys.old) (K.told keys.new) }
+    ensures given { let h = board_history (made_by hand.old) turn.now.entry_id.number in
+        IsGivenBy turn.now.config.now (free turn.now.config.now h) (given_by result.turn_record.device_answers) (P.faults ports.old) (P.faults ports.new) (K.faults keys.old) (K.faults keys.new) (P.told ports.old) (P.told ports.new) (K.told keys.old) (K.told keys.new) }
 {
-    if let Some(kept) = board.find_reply(request.source, request.cookie, turn.nest.moment) {
+    if let Some(kept) = board.find_reply(request.source, request.cookie, turn.entry_id.moment) {
         let sent = send(link, request.source, kept);
-        let dealt = Dealt {
+        let turn_record = TurnRecord {
             dictionary: None,
-            heard: Heard::none(),
-            gave: Gave::Nothing,
+            chosen_lines: ChosenLines::none(),
+            device_answers: DeviceAnswers::Nothing,
         };
-        return Answered { dealt, sent };
+        return Answered { turn_record, sent };
     }
     answer_anew(
         rt, alloc, turn, hand, board, link, ports, keys, gone, request,
@@ -163,30 +167,30 @@ pub(crate) fn deal_part<N: ControlLink, P: PortMaker, K: KeySource, R: Wait>(
     gone: &mut Gone<P::Out>,
     request: &Request,
 ) -> Answered
-    requires taken { IsTaken turn.now.config.now turn.now.turns.now hand.old turn.now.nest.number part.old (P.told ports.old) }
+    requires taken { IsTaken turn.now.config.now turn.now.turns.now hand.old turn.now.entry_id.number part.old (P.told ports.old) }
     requires request { IsRequest request.now }
     requires empty { gone.old ≡ [] }
     ensures same { IsSameHand hand.old hand.new × SameTurns hand.old hand.new }
     ensures may { MayNest turn.now.config.now turn.now.turns.now hand.new }
-    ensures deals { let h = board_history (made_by hand.old) turn.now.nest.number in
-        DealsAt turn.now.config.now hand.old hand.new turn.now.nest.number (moment_at h turn.now.nest.moment) (hearing_of request.now result.dealt) part.new (P.told ports.new) }
-    ensures sent { let h = board_history (made_by hand.old) turn.now.nest.number in
-        Sends request.now.source (control_of turn.now.config.now h (moment_at h turn.now.nest.moment) (hearing_of request.now result.dealt)).reply result.sent (N.told link.old) (N.told link.new) }
+    ensures deals { let h = board_history (made_by hand.old) turn.now.entry_id.number in
+        DealsAt turn.now.config.now hand.old hand.new turn.now.entry_id.number (moment_at h turn.now.entry_id.moment) (hearing_of request.now result.turn_record) part.new (P.told ports.new) }
+    ensures sent { let h = board_history (made_by hand.old) turn.now.entry_id.number in
+        Sends request.now.source (control_of turn.now.config.now h (moment_at h turn.now.entry_id.moment) (hearing_of request.now result.turn_record)).reply result.sent (N.told link.old) (N.told link.new) }
     ensures cause { HasCause (N.faults link.old) (N.faults link.new) result.sent }
     ensures empty { gone.new ≡ [] }
     ensures ties { Ties turn.now.config.now (P.told ports.old) (P.told ports.new) (entries hand.old) (entries hand.new) }
     ensures later { (P.faults ports.old ≤ P.faults ports.new) × (K.faults keys.old ≤ K.faults keys.new) }
-    ensures given { let h = board_history (made_by hand.old) turn.now.nest.number in
-        IsGivenBy turn.now.config.now (free turn.now.config.now h) (given_by result.dealt.gave) (P.faults ports.old) (P.faults ports.new) (K.faults keys.old) (K.faults keys.new) (P.told ports.old) (P.told ports.new) (K.told keys.old) (K.told keys.new) }
+    ensures given { let h = board_history (made_by hand.old) turn.now.entry_id.number in
+        IsGivenBy turn.now.config.now (free turn.now.config.now h) (given_by result.turn_record.device_answers) (P.faults ports.old) (P.faults ports.new) (K.faults keys.old) (K.faults keys.new) (P.told ports.old) (P.told ports.new) (K.told keys.old) (K.told keys.new) }
 {
     match part {
         Part::Board(board) => {
             let turn = BoardTurn {
                 turns: turn.turns,
                 config: turn.config,
-                nest: Nest {
-                    number: turn.nest.number,
-                    moment: board.advance(turn.nest.moment),
+                entry_id: BoardEntryId {
+                    number: turn.entry_id.number,
+                    moment: board.advance(turn.entry_id.moment),
                 },
             };
             deal(

@@ -7,7 +7,7 @@ ghost use Rattle.relay_core.specs.Turning.{made_by};
 ghost use Rattle.control_entries.specs.Controls.{control_made};
 ghost use Rattle.control_turns.specs.Dealing.{hearing_of};
 
-use crate::dealt::Dealt;
+use crate::turn_record::TurnRecord;
 use control_entries::Request;
 use relay_core::{Relay, Says, Told};
 use relay_outside::{Config, InEnd, OutEnd};
@@ -21,14 +21,14 @@ pub(crate) fn put_control<I: InEnd, O: OutEnd, X: Says>(
     config: &Config,
     now: u64,
     request: &Request,
-    dealt: &Dealt,
+    turn_record: &TurnRecord,
 )
     requires table { IsHandOf turns.now hand.old × IsMain hand.old }
     requires turn { HasTurn hand.old turn }
-    requires step { Relates I.told I.faults O.told O.faults (taken_of turn) (control_made config.now (board_history (made_by hand.old) (front_of turn)) now (hearing_of request.now dealt.now)) (state_of turn) }
-    requires said { X.made ≡ control_made config.now (board_history (made_by hand.old) (front_of turn)) now (hearing_of request.now dealt.now) }
+    requires step { Relates I.told I.faults O.told O.faults (taken_of turn) (control_made config.now (board_history (made_by hand.old) (front_of turn)) now (hearing_of request.now turn_record.now)) (state_of turn) }
+    requires said { X.made ≡ control_made config.now (board_history (made_by hand.old) (front_of turn)) now (hearing_of request.now turn_record.now) }
     ensures same { IsSameHand hand.old hand.new }
-    ensures entry { EndsTurn (place_of turn) (front_of turn) (control_made config.now (board_history (made_by hand.old) (front_of turn)) now (hearing_of request.now dealt.now)) tt hand.old hand.new }
+    ensures entry { EndsTurn (place_of turn) (front_of turn) (control_made config.now (board_history (made_by hand.old) (front_of turn)) now (hearing_of request.now turn_record.now)) tt hand.old hand.new }
 {
     turns.put::<Told<X>>(hand, turn);
 }

@@ -16,7 +16,7 @@ pub(crate) fn send<N: ControlLink>(link: &mut N, to: Addr, bytes: &[u8]) -> Resu
     link.send(to, bytes)
 }
 
-/// Answers that memory was refused, without taking any.
+/// Replies that memory ran out, without taking any.
 pub(crate) fn send_shortage<N: ControlLink>(
     link: &mut N,
     to: Addr,

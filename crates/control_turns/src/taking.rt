@@ -40,7 +40,7 @@ pub enum ControlTurn {
     ReplyFault,
 }
 
-/// Answers a datagram that was taken, where it has a frame.
+/// Replies to a datagram that was taken, if it has a frame.
 fn respond<N: ControlLink, P: PortMaker, K: KeySource, R: Wait>(
     rt: &R,
     alloc: Global,
@@ -85,7 +85,7 @@ fn respond<N: ControlLink, P: PortMaker, K: KeySource, R: Wait>(
     }
 }
 
-/// Takes one datagram from the link into the room, of 16,385 bytes, and answers it, in one turn of the board.
+/// Takes one datagram from the link into the room, of 16,385 bytes, and replies to it, in one turn of the board.
 ///
 /// A datagram without a frame gets no reply. Every other gets exactly one, to its source: the one that is kept for its cookie, or
 /// else the one that is due, which is then kept, also where its send fails. `now` is in milliseconds; a moment before that of the

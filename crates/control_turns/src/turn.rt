@@ -14,7 +14,7 @@ use crate::dealing::deal_part;
 use crate::putting::put_control;
 use call_cell::Gone;
 use control_entries::Request;
-use nested_steps::{BoardTurn, Nest};
+use nested_steps::{BoardEntryId, BoardTurn};
 use relay_core::Relay;
 use relay_outside::{Config, ControlLink, Failed, KeySource, PortMaker};
 use std::alloc::Global;
@@ -22,11 +22,11 @@ use std::marker::Brand;
 use std::sync::Wait;
 use turn_table::{Hand, Turns};
 
-/// Answers one datagram, in one turn of the board, which the main hand holds from the look for a kept reply to the send of the
-/// reply. What the send answered is answered; the command and its kept reply stand all the same.
+/// Replies to one datagram, in one turn of the board, which the main hand holds from the look for a kept reply to the send of the
+/// reply. Returns the result of the send; the command and its kept reply stand all the same.
 ///
 /// A kept reply is sent again and nothing is done. Else the command is carried out: an offer leases pairs, opens their ports and
-/// draws its keys, and all of it is undone after a fault; what ends closes its ports. Running out of memory is answered as such, and
+/// draws its keys, and all of it is undone after a fault; what ends closes its ports. Where memory runs out, the reply says so, and
 /// then nothing is done. `now` is in milliseconds; a moment before that of the board's last entry counts as that one. `gone` is
 /// empty before and after.
 pub fn answer_datagram<N: ControlLink, P: PortMaker, K: KeySource, R: Wait>(
@@ -60,7 +60,7 @@ pub fn answer_datagram<N: ControlLink, P: PortMaker, K: KeySource, R: Wait>(
     let board_turn = BoardTurn {
         turns,
         config,
-        nest: Nest {
+        entry_id: BoardEntryId {
             number,
             moment: now,
         },
@@ -77,6 +77,14 @@ pub fn answer_datagram<N: ControlLink, P: PortMaker, K: KeySource, R: Wait>(
         gone,
         request,
     );
-    put_control::<P::In, P::Out, Brand>(turns, hand, turn, config, now, request, &answered.dealt);
+    put_control::<P::In, P::Out, Brand>(
+        turns,
+        hand,
+        turn,
+        config,
+        now,
+        request,
+        &answered.turn_record,
+    );
     answered.sent
 }

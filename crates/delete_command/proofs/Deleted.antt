@@ -19,10 +19,10 @@ use Rattle.relay_core.specs.declared.part.Part.{Part}
 use Rattle.relay_core.specs.Entries.{board_history}
 use Rattle.relay_core.specs.Made.{Made}
 use Rattle.relay_core.specs.Turning.{made_by}
-use Rattle.nested_steps.specs.declared.nest.Nest.{Nest}
+use Rattle.nested_steps.specs.declared.board_turn.BoardEntryId.{BoardEntryId}
 use Rattle.board_turns.specs.Acting.{DoesAct}
 use Rattle.control_entries.specs.declared.request.Request.{Request}
-use Rattle.control_entries.specs.declared.gave.Gave.TheVariants.{Nothing}
+use Rattle.control_entries.specs.declared.device_answers.DeviceAnswers.TheVariants.{Nothing}
 use Rattle.control_entries.specs.Controls.{entry_with}
 use Rattle.control_entries.specs.Carrying.{hearing_as, Carries}
 use Rattle.control_entries.specs.Telling.{IsAnew, IsAsking}
@@ -39,20 +39,20 @@ deleting_entry config moment request pairs of = entry_with moment (hearing_as re
 
 module _ {M I O T : Type 0} {g : _} where
   -- its turn did what is due
-  pub deleted_carries : (config : Config) (old new : Hand M (Part I O) Made T g) (nest : Nest) (request : Request) (pairs : Option Entries) (chosen : List (Option CryptoLine))
+  pub deleted_carries : (config : Config) (old new : Hand M (Part I O) Made T g) (entry_id : BoardEntryId) (request : Request) (pairs : Option Entries) (chosen : List (Option CryptoLine))
       (id : List ℕ) (tag : Option (List ℕ)) (fatal : Bool) (of : Call) (text : Room ℕ) (board : Board) (told : Option (List PortCall))
-      → IsAnew (board_history (made_by old) nest.number) nest.moment request → IsAsking request pairs (Delete id tag fatal)
-      → find_call (board_history (made_by old) nest.number) id ≡ Some of → names_side (rounds (board_history (made_by old) nest.number) of.number) tag ≡ true
-      → DoesAct config old new nest (deleting_entry config nest.moment request pairs of) board told
+      → IsAnew (board_history (made_by old) entry_id.number) entry_id.moment request → IsAsking request pairs (Delete id tag fatal)
+      → find_call (board_history (made_by old) entry_id.number) id ≡ Some of → names_side (rounds (board_history (made_by old) entry_id.number) of.number) tag ≡ true
+      → DoesAct config old new entry_id (deleting_entry config entry_id.moment request pairs of) board told
       → text.list ≡ reply_datagram config request.cookie.now reply.Done → chosen ≡ []
-      → Carries config old new nest (hearing_as request pairs chosen Nothing) (Some text) board told
-  deleted_carries config old new nest request pairs chosen id tag fatal of text board told anew asking found names does bytes none =
-      let h = board_history (made_by old) nest.number in
+      → Carries config old new entry_id (hearing_as request pairs chosen Nothing) (Some text) board told
+  deleted_carries config old new entry_id request pairs chosen id tag fatal of text board told anew asking found names does bytes none =
+      let h = board_history (made_by old) entry_id.number in
       let c = asking_with request pairs in
       let due = deleting_due config request pairs of in
-      let is = deleted_due config h nest.moment c id tag fatal of (asks_delete config h nest.moment request pairs id tag fatal anew asking) found names in
-      subst (λ (lines : List (Option CryptoLine)). Carries config old new nest (hearing_as request pairs lines Nothing) (Some text) board told) (sym none)
-      (carries_due config old new nest (hearing_as request pairs [] Nothing) due (Some text) board told is
-      (due_fits config h nest.moment c due is anew.framed anew.length_is (λ read. asking.reads) (λ heard. absurd (let wrong : false ≡ true = heard in cc))
-      (record { no_opens = refl; no_draws = refl; none_failed = refl }, refl) (λ starved none. refl))
+      let is = deleted_due config h entry_id.moment c id tag fatal of (asks_delete config h entry_id.moment request pairs id tag fatal anew asking) found names in
+      subst (λ (lines : List (Option CryptoLine)). Carries config old new entry_id (hearing_as request pairs lines Nothing) (Some text) board told) (sym none)
+      (carries_due config old new entry_id (hearing_as request pairs [] Nothing) due (Some text) board told is
+      (due_fits config h entry_id.moment c due is anew.framed anew.length_is (λ read. asking.reads) (λ heard. absurd (let wrong : false ≡ true = heard in cc))
+      (record { no_opens = refl; no_draws = refl; none_failed = refl }, refl) (λ out_of_memory none. refl))
       does (refl, bytes))

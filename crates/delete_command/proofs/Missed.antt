@@ -21,18 +21,18 @@ use Rattle.relay_core.specs.declared.part.Part.{Part}
 use Rattle.relay_core.specs.Entries.{board_history}
 use Rattle.relay_core.specs.Made.{Made}
 use Rattle.relay_core.specs.Turning.{made_by}
-use Rattle.nested_steps.specs.declared.nest.Nest.{Nest}
+use Rattle.nested_steps.specs.declared.board_turn.BoardEntryId.{BoardEntryId}
 use Rattle.board_turns.specs.Acting.{InTurn}
 use Rattle.control_entries.specs.declared.request.Request.{Request}
-use Rattle.control_entries.specs.declared.gave.Gave.TheVariants.{Nothing}
-use Rattle.control_entries.specs.declared.done.Done.{Done}
+use Rattle.control_entries.specs.declared.device_answers.DeviceAnswers.TheVariants.{Nothing}
+use Rattle.control_entries.specs.declared.command_outcome.CommandOutcome.{CommandOutcome}
 use Rattle.control_entries.specs.Controls.{unanswered}
 use Rattle.control_entries.specs.Carrying.{hearing_as, hearing_by, Carries}
 use Rattle.control_entries.specs.Telling.{IsAnew, IsAsking, Tells, missing_reply}
 use Rattle.control_entries.proofs.Asking.{asks_so}
 use Rattle.control_entries.proofs.Tellings.{tells_carries}
 
--- the datagram of a delete, before it is answered
+-- the datagram of a delete, before its reply
 abbrev pub asking_with : Request → Option Entries → Control
 asking_with request pairs = unanswered (hearing_as request pairs [] Nothing)
 
@@ -41,7 +41,7 @@ pub asks_delete : (config : Config) (h : List BoardEntry) (moment : ℕ) (reques
     → IsAnew h moment request → IsAsking request pairs (Delete id tag fatal) → Asks config h moment (asking_with request pairs) (Ok (Delete id tag fatal))
 asks_delete config h moment request pairs id tag fatal anew asking = record {
   nothing_kept = anew.not_kept;
-  not_starved = refl;
+  not_out_of_memory = refl;
   is_asked = ap (λ (long : Bool). asked config long pairs) asking.short ∙ asks_so config false pairs (Delete id tag fatal) asking.command refl;
 }
 
@@ -61,41 +61,41 @@ stranger_due config h now c id tag true of asks found names = delete_stranger_du
 stranger_due config h now c id tag false of asks found names = delete_stranger_warned config h now c id tag false of asks found names refl
 
 module _ {M I O T : Type 0} {g : _} where
-  missed : (config : Config) (turns : Turns M (Part I O) Made T) (hand : Hand M (Part I O) Made T g) (nest : Nest) (request : Request) (pairs : Option Entries)
-      (code : ErrorCode) (fatal : Bool) (done : Done) (board : Board) (told : Option (List PortCall))
-      → InTurn config turns hand nest board told → IsAnew (board_history (made_by hand) nest.number) nest.moment request
+  missed : (config : Config) (turns : Turns M (Part I O) Made T) (hand : Hand M (Part I O) Made T g) (entry_id : BoardEntryId) (request : Request) (pairs : Option Entries)
+      (code : ErrorCode) (fatal : Bool) (done : CommandOutcome) (board : Board) (told : Option (List PortCall))
+      → InTurn config turns hand entry_id board told → IsAnew (board_history (made_by hand) entry_id.number) entry_id.moment request
       → (request.too_long ≡ false → Reads request.body.now pairs) → is_found_late code ≡ false
-      → IsDue config (board_history (made_by hand) nest.number) nest.moment (asking_with request pairs) (missing_due config (asking_with request pairs) code fatal)
+      → IsDue config (board_history (made_by hand) entry_id.number) entry_id.moment (asking_with request pairs) (missing_due config (asking_with request pairs) code fatal)
       → Tells [] (reply_datagram config request.cookie.now (missing_reply fatal code)) done
-      → Carries config hand hand nest (hearing_by request pairs done) done.reply board told
-  missed config turns hand nest request pairs code true done board told turn anew reads early is tells =
-      tells_carries config turns hand nest request pairs [] (missing_due config (asking_with request pairs) code true) done board told turn anew reads is refl refl
+      → Carries config hand hand entry_id (hearing_by request pairs done) done.reply board told
+  missed config turns hand entry_id request pairs code true done board told turn anew reads early is tells =
+      tells_carries config turns hand entry_id request pairs [] (missing_due config (asking_with request pairs) code true) done board told turn anew reads is refl refl
       (λ heard. absurd (let late : is_found_late code ≡ true = heard in cc)) tells
-  missed config turns hand nest request pairs code false done board told turn anew reads early is tells =
-      tells_carries config turns hand nest request pairs [] (missing_due config (asking_with request pairs) code false) done board told turn anew reads is refl refl
+  missed config turns hand entry_id request pairs code false done board told turn anew reads early is tells =
+      tells_carries config turns hand entry_id request pairs [] (missing_due config (asking_with request pairs) code false) done board told turn anew reads is refl refl
       (λ heard. absurd (let wrong : false ≡ true = heard in cc)) tells
 
   -- no live call has the call-id
-  pub unknown_carries : (config : Config) (turns : Turns M (Part I O) Made T) (hand : Hand M (Part I O) Made T g) (nest : Nest) (request : Request) (pairs : Option Entries)
-      (id : List ℕ) (tag : Option (List ℕ)) (fatal : Bool) (done : Done) (board : Board) (told : Option (List PortCall))
-      → InTurn config turns hand nest board told → IsAnew (board_history (made_by hand) nest.number) nest.moment request
-      → IsAsking request pairs (Delete id tag fatal) → find_call (board_history (made_by hand) nest.number) id ≡ None
+  pub unknown_carries : (config : Config) (turns : Turns M (Part I O) Made T) (hand : Hand M (Part I O) Made T g) (entry_id : BoardEntryId) (request : Request) (pairs : Option Entries)
+      (id : List ℕ) (tag : Option (List ℕ)) (fatal : Bool) (done : CommandOutcome) (board : Board) (told : Option (List PortCall))
+      → InTurn config turns hand entry_id board told → IsAnew (board_history (made_by hand) entry_id.number) entry_id.moment request
+      → IsAsking request pairs (Delete id tag fatal) → find_call (board_history (made_by hand) entry_id.number) id ≡ None
       → Tells [] (reply_datagram config request.cookie.now (missing_reply fatal E9)) done
-      → Carries config hand hand nest (hearing_by request pairs done) done.reply board told
-  unknown_carries config turns hand nest request pairs id tag fatal done board told turn anew asking none tells =
-      let h = board_history (made_by hand) nest.number in
-      missed config turns hand nest request pairs E9 fatal done board told turn anew (λ short. asking.reads) refl
-      (unknown_due config h nest.moment (asking_with request pairs) id tag fatal (asks_delete config h nest.moment request pairs id tag fatal anew asking) none) tells
+      → Carries config hand hand entry_id (hearing_by request pairs done) done.reply board told
+  unknown_carries config turns hand entry_id request pairs id tag fatal done board told turn anew asking none tells =
+      let h = board_history (made_by hand) entry_id.number in
+      missed config turns hand entry_id request pairs E9 fatal done board told turn anew (λ short. asking.reads) refl
+      (unknown_due config h entry_id.moment (asking_with request pairs) id tag fatal (asks_delete config h entry_id.moment request pairs id tag fatal anew asking) none) tells
 
   -- the tag is of no side of the call
-  pub stranger_carries : (config : Config) (turns : Turns M (Part I O) Made T) (hand : Hand M (Part I O) Made T g) (nest : Nest) (request : Request) (pairs : Option Entries)
-      (id : List ℕ) (tag : Option (List ℕ)) (fatal : Bool) (of : Call) (done : Done) (board : Board) (told : Option (List PortCall))
-      → InTurn config turns hand nest board told → IsAnew (board_history (made_by hand) nest.number) nest.moment request
-      → IsAsking request pairs (Delete id tag fatal) → find_call (board_history (made_by hand) nest.number) id ≡ Some of
-      → names_side (rounds (board_history (made_by hand) nest.number) of.number) tag ≡ false
+  pub stranger_carries : (config : Config) (turns : Turns M (Part I O) Made T) (hand : Hand M (Part I O) Made T g) (entry_id : BoardEntryId) (request : Request) (pairs : Option Entries)
+      (id : List ℕ) (tag : Option (List ℕ)) (fatal : Bool) (of : Call) (done : CommandOutcome) (board : Board) (told : Option (List PortCall))
+      → InTurn config turns hand entry_id board told → IsAnew (board_history (made_by hand) entry_id.number) entry_id.moment request
+      → IsAsking request pairs (Delete id tag fatal) → find_call (board_history (made_by hand) entry_id.number) id ≡ Some of
+      → names_side (rounds (board_history (made_by hand) entry_id.number) of.number) tag ≡ false
       → Tells [] (reply_datagram config request.cookie.now (missing_reply fatal E10)) done
-      → Carries config hand hand nest (hearing_by request pairs done) done.reply board told
-  stranger_carries config turns hand nest request pairs id tag fatal of done board told turn anew asking found names tells =
-      let h = board_history (made_by hand) nest.number in
-      missed config turns hand nest request pairs E10 fatal done board told turn anew (λ short. asking.reads) refl
-      (stranger_due config h nest.moment (asking_with request pairs) id tag fatal of (asks_delete config h nest.moment request pairs id tag fatal anew asking) found names) tells
+      → Carries config hand hand entry_id (hearing_by request pairs done) done.reply board told
+  stranger_carries config turns hand entry_id request pairs id tag fatal of done board told turn anew asking found names tells =
+      let h = board_history (made_by hand) entry_id.number in
+      missed config turns hand entry_id request pairs E10 fatal done board told turn anew (λ short. asking.reads) refl
+      (stranger_due config h entry_id.moment (asking_with request pairs) id tag fatal of (asks_delete config h entry_id.moment request pairs id tag fatal anew asking) found names) tells

@@ -22,13 +22,13 @@ ghost use Rattle.board_turns.specs.Ties.{Ties};
 use board_turns::delete_call;
 use call_board::Board;
 use call_cell::Gone;
-use control_entries::{Done, Gave, Request, missing, short};
+use control_entries::{CommandOutcome, DeviceAnswers, Request, missing, short};
 use control_replies::done_datagram;
 use nested_steps::BoardTurn;
 use ng_bencode::Text;
 use ng_command::DeleteIn;
 use ng_reply::ErrorCode;
-use offer_answer::Heard;
+use offer_answer::ChosenLines;
 use port_pool::Side;
 use relay_core::Relay;
 use relay_outside::{Config, PortMaker};
@@ -73,21 +73,21 @@ pub fn delete<P: PortMaker, R: Wait>(
     gone: &mut Gone<P::Out>,
     request: &Request,
     input: &DeleteIn,
-) -> Done
-    requires turn { InTurn turn.now.config.now turn.now.turns.now hand.old turn.now.nest board.old (P.told ports.old) }
-    requires anew { IsAnew (board_history (made_by hand.old) turn.now.nest.number) turn.now.nest.moment request.now }
+) -> CommandOutcome
+    requires turn { InTurn turn.now.config.now turn.now.turns.now hand.old turn.now.entry_id board.old (P.told ports.old) }
+    requires anew { IsAnew (board_history (made_by hand.old) turn.now.entry_id.number) turn.now.entry_id.moment request.now }
     requires empty { gone.old ≡ [] }
     requires asked { (pairs : Option Entries) × IsAsking request.now pairs (Delete input.now.call_id.list (list_of input.now.from_tag) input.now.fatal) }
     ensures same { IsSameHand hand.old hand.new × SameTurns hand.old hand.new }
     ensures may { MayNest turn.now.config.now turn.now.turns.now hand.new }
     ensures carries { (pairs : Option Entries) → IsAsking request.now pairs (Delete input.now.call_id.list (list_of input.now.from_tag) input.now.fatal) →
-        Carries turn.now.config.now hand.old hand.new turn.now.nest (hearing_by request.now pairs result) result.reply board.new (P.told ports.new) }
+        Carries turn.now.config.now hand.old hand.new turn.now.entry_id (hearing_by request.now pairs result) result.reply board.new (P.told ports.new) }
     ensures replies { KeepsReplies board.old board.new }
     ensures empty { gone.new ≡ [] }
     ensures ties { Ties turn.now.config.now (P.told ports.old) (P.told ports.new) (entries hand.old) (entries hand.new) }
     ensures later { P.faults ports.old ≤ P.faults ports.new }
     ensures closes { Gained (P.told ports.old) (P.told ports.new) OpensNone }
-    ensures unasked { IsUnasked result.gave }
+    ensures unasked { IsUnasked result.device_answers }
 {
     let Some(call) = board.find_call(input.call_id.as_slice()) else {
         return missing(alloc, request.cookie, input.fatal, ErrorCode::E9);
@@ -99,9 +99,9 @@ pub fn delete<P: PortMaker, R: Wait>(
         return short();
     };
     delete_call(rt, turn, hand, board, ports, gone, call);
-    Done {
-        heard: Heard::none(),
-        gave: Gave::Nothing,
+    CommandOutcome {
+        chosen_lines: ChosenLines::none(),
+        device_answers: DeviceAnswers::Nothing,
         reply: Some(reply),
     }
 }

@@ -70,7 +70,7 @@ begins l address flags stands =
     learners l.signalled address l.flags flags l.learned None (ap (λ (x : Signalling). x.address) (sym s)) (ap (λ (x : Signalling). x.flags) (sym s))
     (sym stands.learned_is)
 
--- a learner that heard a source
+-- a learner with a received source
 pub learns : (old new : Learner) (source : Addr) → ((steps : List Step) → StandsFor old steps → StandsFor new (Heard source ∷ steps))
     → new ≡ learner old.signalled old.flags (taught old.flags old.learned source)
 learns old new source does =
@@ -86,7 +86,7 @@ cut : (b : Bool) (steps : List Step) (known : Option Addr) → learned steps ≡
 cut true steps known q = refl
 cut false steps known q = q
 
--- a learner that was signalled anew
+-- a learner that was signalled again
 pub signals : (old new : Learner) (address : Addr) (flags : Flags)
     → ((steps : List Step) → StandsFor old steps → StandsFor new (Signalled address flags ∷ steps))
     → new ≡ learner address flags (cond (not (same_addr old.signalled address)) None old.learned)

@@ -1,4 +1,4 @@
--- What is learned from what was signalled and heard at one leg and half, the latest first.
+-- What is learned from what was signalled and received at one leg and half, the latest first.
 use Rattle.std.specs.Prelude.{Bool, true, false, not, ◌&&◌, List, [], ◌∷◌, ◌++◌, Option, Some, None, find, if◌then◌else◌}
 use Rattle.relay_outside.specs.declared.address.Addr.{Addr}
 use Rattle.relay_outside.specs.declared.settings.Flags.{Flags}

@@ -35,7 +35,7 @@ below_top [] e i = elim i [ ]
 below_top (x ∷ l) e (here q) = let same = ap (λ (y : Entry). y.number) q in omega (arith, same)
 below_top (x ∷ l) e (there i) = let low = below_top l e i in omega (arith, low)
 
--- the board's whole history is the same with rows behind it that are none of its own
+-- the board's whole history is the same with rows after it that are none of its own
 pub lanes_board : {T : Type 0} (rows others : List (table.Entry Made T)) → ((row : table.Entry Made T) → table_lists.In row others → is_boards row.event.event ≡ false)
     → board_of (list_of (rows ++ others)) ≡ board_of (list_of rows)
 lanes_board {T} rows others none =

@@ -127,7 +127,7 @@ relayed_visit p config range v passed =
 capped_sum : (m a b c old more new : ℕ) → old ≡ min a m → more ≡ min b m → new ≡ min (old + more) m → c ≡ a + b → new ≡ min c m
 capped_sum m a b c old more new was came is both = omega arith
 
--- the rows of these visits stand behind a list
+-- the rows of these visits stand after a list
 module _ (config : Config) (range : Option (ℕ × ℕ)) (l : List Entry) (vs : List Visit) (passed : ArePassed range vs) where
   longer : (q : Event → Bool) → counted q (l ++ list_of (all_rows config vs)) ≡ counted q l + counted q (list_of (all_rows config vs))
   longer q = counted_append q l (list_of (all_rows config vs))

@@ -27,7 +27,7 @@ abbrev pub take_entry : Config → (pair : ℕ) → Half → (number : ℕ) → 
 take_entry config pair half number taken =
     record { place = box_of config pair; number = number; moment = 0; board = 0; event = Box (box.Take half taken) }
 
--- one take of it was made, of which this is answered: behind all that the list has of the box, and Closed exactly where the box has no
+-- one take of it was made, with this result: after all that the list has of the box, and Closed exactly where the box has no
 -- holder
 pub record Took (config : Config) (l : List Entry) (pair : ℕ) (half : Half) (answer : Received) (new : List Entry) : Type 0 where
   pub number : ℕ
@@ -82,7 +82,7 @@ AreApart r s = r.0 ≡ s.0 → r.1.take ≡ s.1.take → ⊥
 abbrev pub KeepsOthers : Config → List Entry → ℕ × Receipt → List Entry → Type 0
 KeepsOthers config l one new = (r : ℕ × Receipt) → AreApart one r → IsIn config l r → IsIn config new r
 
--- a receipt that is answered is of another take than all receipts of this list
+-- a receipt that is returned is of another take than all receipts of this list
 abbrev pub IsNew : Config → List Entry → Received → Type 0
 IsNew config l (answer.Got r) = (s : ℕ × Receipt) → IsIn config l s → AreApart (pair_of r, packet_of r) s
 IsNew config l _ = Unit {0}

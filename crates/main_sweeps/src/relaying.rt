@@ -17,7 +17,7 @@ use std::sync::Wait;
 use turn_table::{Hand, Turns};
 
 /// Relays the packet of a receipt in the cell of its leg, handed the moment `now` in milliseconds, by the main hand, which holds no
-/// turn. With the outcome a copy of the bytes that were sent is answered, none where none were; `Err`: there was no memory for it.
+/// turn. Returns with the outcome a copy of the bytes that were sent, empty if none were; `Err`: out of memory for it.
 /// Where no lane has a hand, the outcome and the bytes are those that the cell's history in the hand's list demands. It may wait, where
 /// a lane has the cell's turn.
 pub fn relay_between<I: InEnd, O: OutEnd, R: Wait>(

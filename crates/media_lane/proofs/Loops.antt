@@ -1,4 +1,4 @@
--- One sweep of a lane behind others.
+-- One sweep of a lane after others.
 use Rattle.std.proofs.Common.{◌≡◌, refl, sym, ◌∙◌, ap, subst, ℕ, ◌+◌, ◌-◌, ◌^◌, ◌<◌, Bool, min, List, [], ◌∷◌, ◌++◌, Option, filter, length, length-append, append_assoc, append-nil, arith}
 use Rattle.relay_outside.specs.declared.settings.Config.{Config}
 use Rattle.turn_table.specs.declared.hands.Hand.{Hand}

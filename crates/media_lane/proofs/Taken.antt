@@ -119,7 +119,7 @@ module _ {I O : Type 0} (it : I → EndTold InCall) (ic : I → ℕ) (ot : O →
       step = gave.step;
     }
 
-    -- the answer of a call that tried once
+    -- the result of a call that tried once
     pub receives : TriedOnce (box_of config pair) 0 old new → (result : Received) → Tells result pair number half taken → Receives it ic ot oc config pair half result old new
     receives found (answer.Got r) tells = made_of _ found (answer.Got r) tells
     receives found answer.Nothing tells = made_of _ found answer.Nothing tells
@@ -152,7 +152,7 @@ module _ {I O : Type 0} (it : I → EndTold InCall) (ic : I → ℕ) (ot : O →
         (ap (λ (t : Taken). Box (box.Take half t)) f.2 ∙ ap (λ (h : Half). Box (box.Take h (box.Datagram p.holder p.source p.bytes))) (sym f.1))
         refl (sym f.0) row_above (cell_of p.holder p.source p.bytes f.2))
 
--- a receipt that is answered is of that packet
+-- a receipt that is returned is of that packet
 pub has_receipt : (config : Config) (l : List Entry) (pair number : ℕ) (half : Half) (taken : Taken) → ((p : cells.Receipt) → packet_by number half taken ≡ Some p → IsReceiptOf config l pair p)
     → (result : Received) → Tells result pair number half taken → HasReceipt config l result
 has_receipt config l pair number half taken each (answer.Got r) tells =

@@ -1,4 +1,4 @@
--- What the loop of a lane adds to the list of its hand: sweeps, one behind the other.
+-- What the loop of a lane adds to the list of its hand: sweeps, one after the other.
 use Rattle.std.specs.Prelude.{◌≡◌, ◌+◌, ◌-◌, ◌^◌, ℕ, min, List, [], ◌∷◌, ◌++◌, Option}
 use Rattle.relay_outside.specs.declared.settings.Config.{Config}
 use Rattle.rtp_packet.specs.declared.head.Half.{Half}
@@ -20,7 +20,7 @@ pub record AddsTotals (old more new : Totals) : Type 0 where
   pub lost : new.lost ≡ sum_of old.lost more.lost
 
 -- One sweep of a lane, by its visits: each half of each of the lane's own pairs was visited once, in any order, and no other. Each datagram
--- was relayed directly behind its take, handed a moment of the clock's range
+-- was relayed right after its take, handed a moment of the clock's range
 pub record IsSweep (config : Config) (index lanes : ℕ) (range : Option (ℕ × ℕ)) (visits : List Visit) : Type 0 where
   pub passed : ArePassed range visits
   pub own_once : (pair : ℕ) (half : Half) → times pair half visits ≡ one_if (is_own config index lanes pair)
@@ -36,7 +36,7 @@ visits_of [] = []
 visits_of (visits ∷ before) = visits_of before ++ visits
 
 module _ {M S : Type 0} {g : _} where
-  -- These sweeps were made, one behind the other, and nothing else was done. The totals are the counts over all that was added
+  -- These sweeps were made, one after the other, and nothing else was done. The totals are the counts over all that was added
   pub record MakesSweeps (config : Config) (index lanes : ℕ) (range : Option (ℕ × ℕ)) (old new : Hand M S Made (Unit {0}) g) (totals : Totals) : Type 0 where
     pub sweeps : List (List Visit)
     pub are_sweeps : AreSweeps config index lanes range sweeps

@@ -60,7 +60,7 @@ AreSent (outcomes.Refused cause) sending bytes = bytes ≡ []
 
 module _ {I O : Type 0} (in_told : I → EndTold InCall) (in_faults : I → ℕ) (out_told : O → EndTold OutCall) (out_faults : O → ℕ) {M : Type 0} {g : _} where
   -- The hand relayed this packet in its leg's cell, handed this moment, and did nothing else: a step from the state that its turn
-  -- gave, which sent these bytes. It tried the marks of places so.
+  -- gave, which sent these bytes. It tried the marks of places in this way.
   pub record MakesRelay (Tried : Type 0) (p : cells.Receipt) (now : ℕ) (outcome : Outcome) (bytes : List ℕ) (old new : Hand M (Part I O) Made (Unit {0}) g) : Type 0 where
     pub number : ℕ
     pub moment : ℕ
@@ -73,11 +73,11 @@ module _ {I O : Type 0} (in_told : I → EndTold InCall) (in_faults : I → ℕ)
     pub are_sent : (config : Config) (h : List CellEntry) → CellFor config before h
         → AreSent outcome (deed config (since_end h) p (sent_ok outcome)).sending bytes
 
-  -- it relayed so, and the one compare-exchange of the cell's mark found it free
+  -- it relayed with this result, and the one compare-exchange of the cell's mark found it free
   abbrev pub Relays : cells.Receipt → ℕ → Outcome → List ℕ → Hand M (Part I O) Made (Unit {0}) g → Hand M (Part I O) Made (Unit {0}) g → Type 0
   Relays p now outcome bytes old new = MakesRelay (TriedOnce p.holder.cell 0 old new) p now outcome bytes old new
 
-  -- it relayed so, and tried the cell's mark until it was free
+  -- it relayed with this result, and tried the cell's mark until it was free
   abbrev pub RelaysAtLast : cells.Receipt → ℕ → Outcome → List ℕ → Hand M (Part I O) Made (Unit {0}) g → Hand M (Part I O) Made (Unit {0}) g → Type 0
   RelaysAtLast p now outcome bytes old new = MakesRelay (TriedUntilFree p.holder.cell old new) p now outcome bytes old new
 

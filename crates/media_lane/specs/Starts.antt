@@ -12,7 +12,7 @@ use Rattle.relay_core.specs.declared.part.Part.TheVariants as part
 use Rattle.relay_core.specs.Standing.{IsCellPart}
 use Rattle.relay_core.specs.Beginning.{AreParts}
 
--- a box where there are so many cells, closed or held by a leg of one of them
+-- a box of a table with `cells` cells, closed or held by a leg of one of them
 pub record HasCells {I : Type 0} (cells : ℕ) (box : PairBox I) : Type 0 where
   pub cells_are : cells_of box ≡ cells
   pub held_by : (leg : Holder) → holder_in box ≡ Some leg → (1 ≤ leg.cell) × (leg.cell ≤ cells)
@@ -26,7 +26,7 @@ module _ {I O : Type 0} where
   IsPair (part.Pair box) = Unit {0}
   IsPair _ = ⊥
 
-  -- As many places as the parts of this configuration, and each of its kind: behind the board's a cell for each call that may be live,
+  -- As many places as the parts of this configuration, and each of its kind: after the board's a cell for each call that may be live,
   -- and then the box of each port pair. What happened at them before is left open.
   pub record HasLaneStarts (config : Config) (starts : List (Part I O)) : Type 0 where
     pub as_many : length starts ≡ config.max_sessions + 1 + pair_count config
@@ -45,7 +45,7 @@ module _ {I O : Type 0} where
   box_of_prop cells (part.Cell cell) prop = λ p q. absurd p
   box_of_prop cells (part.Pair box) prop = prop box
 
--- the parts of a configuration begin so
+-- the parts of each configuration begin as lanes need them
 abbrev pub PartsBeginLanes : Type 0 → Type 0 → Type 0
 PartsBeginLanes I O = (config : Config) (parts : List (Part I O)) → AreParts config parts → HasLaneStarts config parts
 

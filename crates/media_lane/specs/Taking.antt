@@ -31,7 +31,7 @@ use Rattle.media_lane.specs.Receipts.{IsReceiptOf}
 abbrev pub take_made : Half → Taken → Made
 take_made half taken = record { handed = 0; moment = 0; board = 0; before = []; event = Box (box.Take half taken); left = nothing_left }
 
--- the same by the answer of a box and the bytes of the buffer after it
+-- the same by the result of a take of a box and the bytes of the buffer after it
 abbrev pub box_take_made : Half → BoxTake → List ℕ → Made
 box_take_made half given buf = take_made half (taking.taken_of given buf)
 
@@ -55,14 +55,14 @@ abbrev pub IsShort : Taken → Type 0
 IsShort (box.Datagram holder source bytes) = length bytes ≤ 2000
 IsShort _ = Unit {0}
 
--- a receipt that was answered is one of the list
+-- a receipt that was returned is one of the list
 abbrev pub HasReceipt : Config → List Entry → Received → Type 0
 HasReceipt config l (answer.Got r) = IsReceiptOf config l (pair_of r) (packet_of r)
 HasReceipt config l _ = Unit {0}
 
 module _ {I O : Type 0} (in_told : I → EndTold InCall) (in_faults : I → ℕ) (out_told : O → EndTold OutCall) (out_faults : O → ℕ) {M : Type 0} {g : _} where
   -- The hand made one take of this half at the box of this pair, and nothing else: a step from the state that its turn gave. It tried
-  -- the marks of places so.
+  -- the marks of places in this way.
   pub record MakesTake (Tried : Type 0) (config : Config) (pair : ℕ) (half : Half) (answer : Received) (old new : Hand M (Part I O) Made (Unit {0}) g) : Type 0 where
     pub number : ℕ
     pub taken : Taken

@@ -1,7 +1,7 @@
 use crate::receipt::Receipt;
 use call_cell::Outcome;
 
-/// What a try to receive answers.
+/// The result of a try to receive.
 #[derive(Drop)]
 pub enum Received {
     /// A datagram of at most 2,000 bytes was taken.
@@ -19,7 +19,7 @@ pub enum Received {
     TakeFault,
 }
 
-/// What a try to relay answers.
+/// The result of a try to relay.
 #[derive(Drop)]
 pub enum Relayed {
     /// The packet was relayed, with this outcome. Its receipt is spent.

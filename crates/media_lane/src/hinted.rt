@@ -78,7 +78,7 @@ impl<I: InEnd, O: OutEnd> Lane<I, O> {
     }
 
     /// Visits the halves with these ports in turn, up to the first port that isn't of an own pair or whose half was visited before.
-    /// Answers whether there was no such port, and halves may be left.
+    /// Returns whether there was no such port and halves may be left.
     fn visit_ports<W: Wait, G: Gate, C: Clock>(
         &mut self,
         rt: &W,
@@ -104,7 +104,7 @@ impl<I: InEnd, O: OutEnd> Lane<I, O> {
         !order.is_over()
     }
 
-    /// Visits the cold ones among the next own halves. Answers whether halves may be left.
+    /// Visits the cold ones among the next own halves. Returns whether halves may be left.
     fn visit_cold<W: Wait, G: Gate, C: Clock>(
         &mut self,
         rt: &W,

@@ -4,7 +4,7 @@
 //! memory: each makes one compare-exchange, and is busy exactly where another hand has the turn of that very place.
 //! `receive` and `relay` do the same by a hand that may wait, and try the place's mark until it is free.
 //!
-//! Module `receipt` has what a take gave, `answers` what the calls answer, `lane` the lane, `receiving` and `relaying` its two
+//! Module `receipt` has what a take gave, `answers` what the calls return, `lane` the lane, `receiving` and `relaying` its two
 //! steps, `sweeping` a round over its pairs, which may wait and keeps each datagram in the lane's room, `hinted` its part that goes
 //! by the clock's hints, `order` when that visits what, and how long it waits, `visited` the halves that it was at, `looping` sweep
 //! after sweep until the lane is told to end, `puts` the way to put each kind of turn, `laws` what callers know.

@@ -26,7 +26,7 @@ enum Stage {
     Warm,
 }
 
-/// The order of a lane's sweeps: hot halves are those that were hinted of late, and are left to their hints; all others are cold. It
+/// The order of a lane's sweeps: hot halves are those that were hinted recently, and are left to their hints; all others are cold. It
 /// takes no memory, and nothing but time rests on it.
 #[derive(Drop)]
 pub(crate) struct Order {
@@ -106,7 +106,7 @@ impl Order {
         }
     }
 
-    /// Whether this half was hinted of late.
+    /// Whether this half was hinted recently.
     pub(crate) fn is_hot(&self, pair: u32, half: Half) -> bool
         requires { pair < 32768 }
         ensures { result ≡ (is_marked self.now.newer pair half || is_marked self.now.older pair half) }

@@ -13,7 +13,7 @@ use relay_outside::{InEnd, OutEnd};
 use rtp_packet::Half;
 use turn_table::{Hand, Turn, Turns};
 
-/// A datagram was asked of a box, which answered so.
+/// Ends a box's turn, and records a take with its result.
 pub(crate) fn put_take<I: InEnd, O: OutEnd, X: Says>(
     turns: &Turns<Relay<I, O>>,
     hand: &mut Hand<Relay<I, O>>,

@@ -77,7 +77,7 @@ fn take_in_turn<I: InEnd, O: OutEnd>(
     NumberedTake { number, given }
 }
 
-/// What is answered of the take with this number at the box of this pair.
+/// The result of the take with this number at the box of this pair.
 fn received(pair: u32, take: u64, half: Half, given: BoxTake, buf: &[u8; 2001]) -> Received
     requires { IsShort (taken_of given buf.now) }
     ensures { Tells result pair take half (taken_of given buf.now) }

@@ -83,7 +83,7 @@ impl<I: InEnd, O: OutEnd> Lane<I, O> {
         }
     }
 
-    /// Visits a half of an own pair, where the sweep hasn't visited it before. Answers whether it did.
+    /// Visits a half of an own pair, if the sweep hasn't visited it before. Returns whether it did.
     pub(crate) fn visit_once<W: Wait, G: Gate, C: Clock>(
         &mut self,
         rt: &W,

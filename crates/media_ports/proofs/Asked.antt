@@ -1,4 +1,4 @@
--- The openings among several calls, and their answers.
+-- The openings among several calls, and their results.
 use Rattle.std.proofs.Common.{◌≡◌, ◌∙◌, sym, ap, refl, ℕ, zero, suc, ◌+◌, ◌*◌, ◌≤◌, Bool, List, [], ◌∷◌, ◌++◌, Option, length, take, drop, append-nil, arith}
 use Rattle.std.specs.List.{AllZip}
 use Rattle.std.proofs.lemmas.List.Elements.{filter-append, filter_map-append}
@@ -17,7 +17,7 @@ use Rattle.media_ports.proofs.Leased.{length-addresses_of}
 pub opening_answers-append : (xs ys : List PortCall) → opening_answers (xs ++ ys) ≡ opening_answers xs ++ opening_answers ys
 opening_answers-append xs ys = filter_map-append opening_answer xs ys
 
--- openings with some answers, and then with more
+-- openings with some results, and then with more
 pub opens_with_both : (some more : List Bool) (xs ys : List PortCall) → OpensWith some xs → OpensWith more ys → OpensWith (some ++ more) (xs ++ ys)
 opens_with_both some more xs ys these those =
     opening_answers-append xs ys ∙ ap (λ (bs : List Bool). bs ++ opening_answers ys) these ∙ ap (λ (bs : List Bool). some ++ bs) those
@@ -35,7 +35,7 @@ pub gained_no_openings : (first second third : Option (List PortCall)) → Gaine
 gained_no_openings first second third before after =
     gained_both first second third OpensNone OpensNone OpensNone (λ xs ys these those. opens_with_closed [] xs ys these those) before after
 
--- the answers of openings are those that they were given, where there is an address for each
+-- the results of openings are those that they were given, where there is an address for each
 pub openings_answered : (ats : List Addr) (answers : List Bool) → length answers ≤ length ats → OpensWith answers (openings ats answers)
 openings_answered [] [] few = refl
 openings_answered [] (done ∷ answers) few = absurd (omega (arith, few))
@@ -60,7 +60,7 @@ pub opens_these_both : (some more xs ys : List PortCall) → OpensThese some xs 
 opens_these_both some more xs ys these those =
     opening_calls-append xs ys ∙ ap (λ (calls : List PortCall). calls ++ opening_calls ys) these ∙ ap (λ (calls : List PortCall). some ++ calls) those
 
--- calls without an answer of an opening have no opening
+-- calls without a result of an opening have no opening
 none_opened : (calls : List PortCall) → OpensNone calls → opening_calls calls ≡ []
 none_opened [] none = refl
 none_opened (Open at done ∷ calls) none = absurd (let e = none in cc)

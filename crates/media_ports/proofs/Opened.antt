@@ -8,7 +8,7 @@ use Rattle.relay_outside.specs.declared.ports.PortCall.{PortCall}
 use Rattle.relay_outside.specs.declared.ports.PortCall.TheVariants.{Open}
 use Rattle.relay_outside.specs.Ports.{IsOpen, ClosesNot}
 
--- the last of these is the one in the middle, or stands behind it
+-- the last of these is the one in the middle, or stands after it
 at_end : {A : Type 0} (xs before after : List A) (y z : A) → xs ++ y ∷ [] ≡ before ++ z ∷ after →
     ((y ≡ z) × (xs ≡ before)) ⊎ ((rest : List A) × (after ≡ rest ++ y ∷ []) × (xs ≡ before ++ z ∷ rest))
 at_end [] [] after y z e = inl (let same : y ≡ z = cc in same, refl)

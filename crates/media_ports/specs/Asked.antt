@@ -8,16 +8,16 @@ use Rattle.rtp_packet.specs.declared.head.Half.TheVariants.{Rtp, Rtcp}
 use Rattle.media_ports.specs.Addresses.{port_address}
 use Rattle.media_ports.specs.Calls.{openings}
 
--- the answer of an opening
+-- the result of an opening
 abbrev pub opening_answer : PortCall → Option Bool
 opening_answer (Open at done) = Some done
 opening_answer (Close at taken sent) = None
 
--- the answers of the openings among these calls, in order
+-- the results of the openings among these calls, in order
 abbrev pub opening_answers : List PortCall → List Bool
 opening_answers calls = filter_map opening_answer calls
 
--- ports are opened with these answers, in order, beside any that are closed
+-- ports are opened with these results, in order; others may be closed in between
 abbrev pub OpensWith : List Bool → List PortCall → Type 0
 OpensWith answers calls = opening_answers calls ≡ answers
 
@@ -42,8 +42,8 @@ opening_calls calls = filter is_opening calls
 abbrev pub OpensThese : (opens : List PortCall) → List PortCall → Type 0
 OpensThese opens calls = opening_calls calls ≡ opens
 
--- Ports are opened with these answers, beside any that are closed: those of these pairs, from the front, pair by pair and that for RTP
--- before that for RTCP, as many as there are answers
+-- Ports are opened with these results, and others may be closed in between: those of these pairs, from the front, pair by pair and that for
+-- RTP before that for RTCP, as many as there are results
 pub record OpensAt (config : Config) (pairs : List ℕ) (answers : List Bool) (calls : List PortCall) : Type 0 where
   pub answered : OpensWith answers calls
   pub in_order : OpensThese (openings (pair_addresses config pairs) answers) calls

@@ -12,7 +12,7 @@ use Rattle.port_pool.specs.declared.pairs.Lease.{Lease}
 use Rattle.media_ports.specs.Addresses.{port_at, addresses_of}
 use Rattle.media_ports.specs.Ends.{EndsTold}
 
--- openings of these addresses in order, with these answers: as many as there are answers
+-- openings of these addresses in order, with these results: as many as there are results
 abbrev pub openings : List Addr → List Bool → List PortCall
 openings [] answers = []
 openings (at ∷ ats) [] = []
@@ -22,7 +22,7 @@ openings (at ∷ ats) (done ∷ answers) = Open at done ∷ openings ats answers
 abbrev pub OpensPairs : Ip → List Lease → List PortCall → Type 0
 OpensPairs interface leases calls = calls ≡ openings (addresses_of interface leases) (replicate (2 * length leases) true)
 
--- so many addresses are opened, in order, and the opening of the next one fails
+-- `opened` addresses are opened, in order, and the opening of the next one fails
 abbrev pub OpensHalf : List Addr → ℕ → List PortCall → Type 0
 OpensHalf ats opened calls = calls ≡ openings ats (replicate opened true ++ false ∷ [])
 
@@ -36,7 +36,7 @@ abbrev pub ClosesUncalled : Addr → PortCall → Type 0
 ClosesUncalled at (Open there done) = ⊥
 ClosesUncalled at (Close there taken sent) = (there ≡ at) × StartsEmpty taken × StartsEmpty sent
 
--- so many addresses are opened, in order, and the opening of the next one fails; then those that were opened are closed
+-- `opened` addresses are opened, in order, and the opening of the next one fails; then those that were opened are closed
 -- in the order of their openings, and their ends were not called
 pub record OpensUpTo (ats : List Addr) (opened : ℕ) (calls : List PortCall) : Type 0 where
   pub closes : List PortCall

@@ -8,7 +8,7 @@ pub record KeyBytes : Type 0 where
   pub list : List (List ℕ)
   pub room : ℕ
 
--- one more, behind
+-- one more, at the end
 abbrev pub with_key : KeyBytes → List ℕ → KeyBytes
 with_key drawn key = record { list = drawn.list ++ key ∷ []; room = drawn.room }
 

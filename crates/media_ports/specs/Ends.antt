@@ -15,7 +15,7 @@ pub record EndsList (I O : Type 0) : Type 0 where
   pub list : List (PairEnds I O)
   pub room : ℕ
 
--- one more, behind
+-- one more, at the end
 abbrev pub with_ends : {I O : Type 0} → EndsList I O → PairEnds I O → EndsList I O
 with_ends opened ends = record { list = opened.list ++ ends ∷ []; room = opened.room }
 

@@ -68,7 +68,7 @@ below_it l e place (suc k) low =
     only f (here q) number = let z = ap (λ (x : Entry). x.number) q in omega (arith, z, number, low)
     only f (there i) number = elim i [ ]
 
--- behind an entry that is above all of its place stands what was before it
+-- after an entry that is above all of its place stands what was before it
 last_is : (l : List Entry) (e : Entry) (n : ℕ) → IsAbove l e.place e.number → e.number < n → history (l ++ e ∷ []) e.place n ≡ e ∷ history l e.place e.number
 last_is l e n above low =
     let all : List Entry = l ++ e ∷ [] in
@@ -146,7 +146,7 @@ closed l longer place s n above =
     ap (λ (es : List Entry). holder (filter_map box_event es)) (last_history l longer (record { place = place; event = Box Close }) n s above)
     ∙ ap (λ (v : Event). holder (cons_option (box_in v) (box_history l place s.entry.number))) (ap (λ (o : Owed). o.event) s.owes)
 
--- the history of a cell has the step behind what it had
+-- the history of a cell has the step after what it had
 pub cell_more : (l longer : List Entry) (place : ℕ) (event : CellEvent) → (s : IsLast l (in_cell_of place event) longer) → (n : ℕ) → IsAbove longer place n
     → cell_history longer place n ≡ (record { moment = s.entry.moment; event = event }) ∷ cell_history l place s.entry.number
 cell_more l longer place event s n above =

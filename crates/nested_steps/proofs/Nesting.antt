@@ -25,7 +25,7 @@ use Rattle.relay_core.proofs.Turns.{nothing_more}
 use Rattle.nested_steps.specs.Nesting.{MayNest, leaving, AddsRow}
 
 module _ {I O : Type 0} where
-  -- so many places there are
+  -- how many places there are
   pub parts_count : (config : Config) (parts : List (Part I O)) → AreParts config parts → length parts ≡ 1 + (config.max_sessions + pair_count config)
   parts_count config parts are =
       let all = ap length are.parts_are in

@@ -12,7 +12,7 @@ ghost use Rattle.relay_core.specs.Turning.{GainsNested, made_by};
 ghost use Rattle.nested_steps.specs.Nesting.{MayNest, nested, leaving, ends_left, AddsRow, IsShut, IsOpen, closing_of, Opens, Shuts};
 ghost use Rattle.nested_steps.specs.Taken.{CanOpen, CanShut, FitEnds, HasEnds};
 
-use crate::nest::BoardTurn;
+use crate::board_turn::BoardTurn;
 use crate::puts::{put_closing, put_opening};
 use port_pool::Holder;
 use relay_core::{Part, Relay};
@@ -70,14 +70,14 @@ pub fn open_box<I: InEnd, O: OutEnd, R: Wait>(
     requires ends { IsOpenedFor (port_address turn.now.config.now holder.pair Rtp) (I.told rtp_end) × IsOpenedFor (port_address turn.now.config.now holder.pair Rtcp) (I.told rtcp_end) }
     ensures same { IsSameHand hand.old hand.new × SameTurns hand.old hand.new }
     ensures may { MayNest turn.now.config.now turn.now.turns.now hand.new }
-    ensures gained { GainsNested turn.now.nest.number turn.now.nest.moment (opening turn.now.config.now holder ∷ []) hand.old hand.new }
-    ensures ends { Opens I.told I.faults O.told O.faults hand.old (box_of turn.now.config.now holder.pair) (nested turn.now.nest.number turn.now.nest.moment 0 (Box (Open holder))) (rtp_end, rtcp_end) }
+    ensures gained { GainsNested turn.now.entry_id.number turn.now.entry_id.moment (opening turn.now.config.now holder ∷ []) hand.old hand.new }
+    ensures ends { Opens I.told I.faults O.told O.faults hand.old (box_of turn.now.config.now holder.pair) (nested turn.now.entry_id.number turn.now.entry_id.moment 0 (Box (Open holder))) (rtp_end, rtcp_end) }
 {
     let mut step = turn
         .turns
         .turn(rt, hand, box_place(turn.config, holder.pair));
     open_part(step.state(), holder, rtp_end, rtcp_end);
-    put_opening::<I, O, Brand>(turn.turns, hand, step, turn.nest, holder);
+    put_opening::<I, O, Brand>(turn.turns, hand, step, turn.entry_id, holder);
 }
 
 /// Shuts the box of a pair and gives its ends back, that for RTP first: those that were opened for the pair's ports. The box is open.
@@ -92,13 +92,13 @@ pub fn shut_box<I: InEnd, O: OutEnd, R: Wait>(
     requires open { IsOpen (made_by hand.old) (box_of turn.now.config.now pair) }
     ensures same { IsSameHand hand.old hand.new × SameTurns hand.old hand.new }
     ensures may { MayNest turn.now.config.now turn.now.turns.now hand.new }
-    ensures gained { GainsNested turn.now.nest.number turn.now.nest.moment (closing_of turn.now.config.now pair ∷ []) hand.old hand.new }
+    ensures gained { GainsNested turn.now.entry_id.number turn.now.entry_id.moment (closing_of turn.now.config.now pair ∷ []) hand.old hand.new }
     ensures row { AddsRow (box_of turn.now.config.now pair) (Box Close) (ends_left I.told result) hand.old hand.new }
     ensures home { AreOfPair I.told (port_address turn.now.config.now pair Rtp) result.0 result.1 }
-    ensures ends { Shuts I.told I.faults O.told O.faults hand.old (box_of turn.now.config.now pair) (leaving turn.now.nest.number turn.now.nest.moment 0 (Box Close) (ends_left I.told result)) result }
+    ensures ends { Shuts I.told I.faults O.told O.faults hand.old (box_of turn.now.config.now pair) (leaving turn.now.entry_id.number turn.now.entry_id.moment 0 (Box Close) (ends_left I.told result)) result }
 {
     let mut step = turn.turns.turn(rt, hand, box_place(turn.config, pair));
     let ends = shut_part(step.state());
-    put_closing::<I, O, Brand>(turn.turns, hand, step, turn.nest, &ends);
+    put_closing::<I, O, Brand>(turn.turns, hand, step, turn.entry_id, &ends);
     ends
 }

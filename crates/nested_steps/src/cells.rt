@@ -13,7 +13,7 @@ ghost use Rattle.nested_steps.specs.Nesting.{MayNest, nested, leaving, gone_left
 ghost use Rattle.nested_steps.specs.InCells.{HasNewKeys, in_cell_of, moment_in, Ends, Expires, Reads, EndsPart, ExpiresPart, ReadsPart, TakesReading};
 ghost use Rattle.nested_steps.specs.Leaving.{AllWent};
 
-use crate::nest::BoardTurn;
+use crate::board_turn::BoardTurn;
 use crate::puts::{put_end, put_expiry, put_reading};
 use call_cell::{Gone, LegReports};
 use relay_core::{Part, Relay};
@@ -83,7 +83,7 @@ pub fn end_cell<I: InEnd, O: OutEnd, R: Wait>(
     requires empty { gone.old ≡ [] }
     ensures same { IsSameHand hand.old hand.new × SameTurns hand.old hand.new }
     ensures may { MayNest turn.now.config.now turn.now.turns.now hand.new }
-    ensures gained { GainsNested turn.now.nest.number turn.now.nest.moment (in_cell_of cell End ∷ []) hand.old hand.new }
+    ensures gained { GainsNested turn.now.entry_id.number turn.now.entry_id.moment (in_cell_of cell End ∷ []) hand.old hand.new }
     ensures row { AddsRow cell (Cell End) (gone_left O.told gone.new) hand.old hand.new }
     ensures ended { Ends I.told I.faults O.told O.faults turn.now.config.now hand.old cell gone.new }
     ensures went { AllWent turn.now.config.now (made_by hand.old) cell gone.new }
@@ -91,7 +91,7 @@ pub fn end_cell<I: InEnd, O: OutEnd, R: Wait>(
 {
     let mut step = turn.turns.turn(rt, hand, cell_place(turn.config, cell));
     end_part(step.state(), gone);
-    put_end::<I, O, Brand>(turn.turns, hand, step, turn.nest, gone);
+    put_end::<I, O, Brand>(turn.turns, hand, step, turn.entry_id, gone);
 }
 
 /// Whether the call of a cell is due to end at the moment of the board's entry. Nothing changes but the cell's last moment.
@@ -107,12 +107,12 @@ pub fn expire_cell<I: InEnd, O: OutEnd, R: Wait>(
     requires keys { HasNewKeys (made_by hand.old) cell }
     ensures same { IsSameHand hand.old hand.new × SameTurns hand.old hand.new }
     ensures may { MayNest turn.now.config.now turn.now.turns.now hand.new }
-    ensures gained { GainsNested turn.now.nest.number turn.now.nest.moment (in_cell_of cell (Expire result) ∷ []) hand.old hand.new }
-    ensures asked { Expires I.told I.faults O.told O.faults turn.now.config.now hand.old cell turn.now.nest.moment result }
+    ensures gained { GainsNested turn.now.entry_id.number turn.now.entry_id.moment (in_cell_of cell (Expire result) ∷ []) hand.old hand.new }
+    ensures asked { Expires I.told I.faults O.told O.faults turn.now.config.now hand.old cell turn.now.entry_id.moment result }
 {
     let mut step = turn.turns.turn(rt, hand, cell_place(turn.config, cell));
-    let due = expire_part(step.state(), turn.nest.moment);
-    put_expiry::<I, O, Brand>(turn.turns, hand, step, turn.nest, due);
+    let due = expire_part(step.state(), turn.entry_id.moment);
+    put_expiry::<I, O, Brand>(turn.turns, hand, step, turn.entry_id, due);
     due
 }
 
@@ -130,11 +130,11 @@ pub fn read_cell<I: InEnd, O: OutEnd, R: Wait>(
     requires keys { HasNewKeys (made_by hand.old) cell }
     ensures same { IsSameHand hand.old hand.new × SameTurns hand.old hand.new }
     ensures may { MayNest turn.now.config.now turn.now.turns.now hand.new }
-    ensures gained { GainsNested turn.now.nest.number turn.now.nest.moment (in_cell_of cell (Read out.new) ∷ []) hand.old hand.new }
+    ensures gained { GainsNested turn.now.entry_id.number turn.now.entry_id.moment (in_cell_of cell (Read out.new) ∷ []) hand.old hand.new }
     ensures told { Reads I.told I.faults O.told O.faults turn.now.config.now hand.old cell out.new }
     ensures counts { (report : LegReport) → In report out.new → CountsFit report }
 {
     let mut step = turn.turns.turn(rt, hand, cell_place(turn.config, cell));
     read_part(step.state(), out);
-    put_reading::<I, O, Brand>(turn.turns, hand, step, turn.nest, out);
+    put_reading::<I, O, Brand>(turn.turns, hand, step, turn.entry_id, out);
 }

@@ -9,10 +9,10 @@ ghost use Rattle.relay_core.specs.Entries.{Box, Cell};
 ghost use Rattle.relay_core.specs.Steps.{Relates};
 ghost use Rattle.nested_steps.specs.Nesting.{nested, leaving, ends_left, gone_left};
 ghost use Rattle.nested_steps.specs.InCells.{moment_in, preparing};
-ghost use Rattle.nested_steps.specs.Bringing.{brought_keys, brought_dropped};
+ghost use Rattle.nested_steps.specs.Bringing.{offered_keys, offered_drops};
 
-use crate::brought::Brought;
-use crate::nest::Nest;
+use crate::board_turn::BoardEntryId;
+use crate::offered_changes::OfferedChanges;
 use call_cell::{Gone, LegReports, Prepare};
 use port_pool::{Holder, Signal};
 use relay_core::{Relay, Says, Told};
@@ -25,15 +25,15 @@ pub(crate) fn put_opening<I: InEnd, O: OutEnd, X: Says>(
     turns: &Turns<Relay<I, O>>,
     hand: &mut Hand<Relay<I, O>>,
     turn: Turn<Relay<I, O>>,
-    nest: Nest,
+    entry_id: BoardEntryId,
     holder: Holder,
 )
     requires table { IsHandOf turns.now hand.old × IsMain hand.old }
     requires turn { HasTurn hand.old turn }
-    requires step { Relates I.told I.faults O.told O.faults (taken_of turn) (nested nest.number nest.moment 0 (Box (Open holder))) (state_of turn) }
-    requires said { X.made ≡ nested nest.number nest.moment 0 (Box (Open holder)) }
+    requires step { Relates I.told I.faults O.told O.faults (taken_of turn) (nested entry_id.number entry_id.moment 0 (Box (Open holder))) (state_of turn) }
+    requires said { X.made ≡ nested entry_id.number entry_id.moment 0 (Box (Open holder)) }
     ensures same { IsSameHand hand.old hand.new }
-    ensures entry { EndsTurn (place_of turn) (front_of turn) (nested nest.number nest.moment 0 (Box (Open holder))) tt hand.old hand.new }
+    ensures entry { EndsTurn (place_of turn) (front_of turn) (nested entry_id.number entry_id.moment 0 (Box (Open holder))) tt hand.old hand.new }
 {
     turns.put::<Told<X>>(hand, turn);
 }
@@ -43,15 +43,15 @@ pub(crate) fn put_closing<I: InEnd, O: OutEnd, X: Says>(
     turns: &Turns<Relay<I, O>>,
     hand: &mut Hand<Relay<I, O>>,
     turn: Turn<Relay<I, O>>,
-    nest: Nest,
+    entry_id: BoardEntryId,
     ends: &(I, I),
 )
     requires table { IsHandOf turns.now hand.old × IsMain hand.old }
     requires turn { HasTurn hand.old turn }
-    requires step { Relates I.told I.faults O.told O.faults (taken_of turn) (leaving nest.number nest.moment 0 (Box Close) (ends_left I.told ends.now)) (state_of turn) }
-    requires said { X.made ≡ leaving nest.number nest.moment 0 (Box Close) (ends_left I.told ends.now) }
+    requires step { Relates I.told I.faults O.told O.faults (taken_of turn) (leaving entry_id.number entry_id.moment 0 (Box Close) (ends_left I.told ends.now)) (state_of turn) }
+    requires said { X.made ≡ leaving entry_id.number entry_id.moment 0 (Box Close) (ends_left I.told ends.now) }
     ensures same { IsSameHand hand.old hand.new }
-    ensures entry { EndsTurn (place_of turn) (front_of turn) (leaving nest.number nest.moment 0 (Box Close) (ends_left I.told ends.now)) tt hand.old hand.new }
+    ensures entry { EndsTurn (place_of turn) (front_of turn) (leaving entry_id.number entry_id.moment 0 (Box Close) (ends_left I.told ends.now)) tt hand.old hand.new }
 {
     turns.put::<Told<X>>(hand, turn);
 }
@@ -61,15 +61,15 @@ pub(crate) fn put_end<I: InEnd, O: OutEnd, X: Says>(
     turns: &Turns<Relay<I, O>>,
     hand: &mut Hand<Relay<I, O>>,
     turn: Turn<Relay<I, O>>,
-    nest: Nest,
+    entry_id: BoardEntryId,
     gone: &Gone<O>,
 )
     requires table { IsHandOf turns.now hand.old × IsMain hand.old }
     requires turn { HasTurn hand.old turn }
-    requires step { Relates I.told I.faults O.told O.faults (taken_of turn) (leaving nest.number nest.moment (moment_in (taken_of turn)) (Cell End) (gone_left O.told gone.now)) (state_of turn) }
-    requires said { X.made ≡ leaving nest.number nest.moment (moment_in (taken_of turn)) (Cell End) (gone_left O.told gone.now) }
+    requires step { Relates I.told I.faults O.told O.faults (taken_of turn) (leaving entry_id.number entry_id.moment (moment_in (taken_of turn)) (Cell End) (gone_left O.told gone.now)) (state_of turn) }
+    requires said { X.made ≡ leaving entry_id.number entry_id.moment (moment_in (taken_of turn)) (Cell End) (gone_left O.told gone.now) }
     ensures same { IsSameHand hand.old hand.new }
-    ensures entry { EndsTurn (place_of turn) (front_of turn) (leaving nest.number nest.moment (moment_in (taken_of turn)) (Cell End) (gone_left O.told gone.now)) tt hand.old hand.new }
+    ensures entry { EndsTurn (place_of turn) (front_of turn) (leaving entry_id.number entry_id.moment (moment_in (taken_of turn)) (Cell End) (gone_left O.told gone.now)) tt hand.old hand.new }
 {
     turns.put::<Told<X>>(hand, turn);
 }
@@ -79,15 +79,15 @@ pub(crate) fn put_expiry<I: InEnd, O: OutEnd, X: Says>(
     turns: &Turns<Relay<I, O>>,
     hand: &mut Hand<Relay<I, O>>,
     turn: Turn<Relay<I, O>>,
-    nest: Nest,
+    entry_id: BoardEntryId,
     due: bool,
 )
     requires table { IsHandOf turns.now hand.old × IsMain hand.old }
     requires turn { HasTurn hand.old turn }
-    requires step { Relates I.told I.faults O.told O.faults (taken_of turn) (nested nest.number nest.moment (max nest.moment (moment_in (taken_of turn))) (Cell (Expire due))) (state_of turn) }
-    requires said { X.made ≡ nested nest.number nest.moment (max nest.moment (moment_in (taken_of turn))) (Cell (Expire due)) }
+    requires step { Relates I.told I.faults O.told O.faults (taken_of turn) (nested entry_id.number entry_id.moment (max entry_id.moment (moment_in (taken_of turn))) (Cell (Expire due))) (state_of turn) }
+    requires said { X.made ≡ nested entry_id.number entry_id.moment (max entry_id.moment (moment_in (taken_of turn))) (Cell (Expire due)) }
     ensures same { IsSameHand hand.old hand.new }
-    ensures entry { EndsTurn (place_of turn) (front_of turn) (nested nest.number nest.moment (max nest.moment (moment_in (taken_of turn))) (Cell (Expire due))) tt hand.old hand.new }
+    ensures entry { EndsTurn (place_of turn) (front_of turn) (nested entry_id.number entry_id.moment (max entry_id.moment (moment_in (taken_of turn))) (Cell (Expire due))) tt hand.old hand.new }
 {
     turns.put::<Told<X>>(hand, turn);
 }
@@ -97,15 +97,15 @@ pub(crate) fn put_reading<I: InEnd, O: OutEnd, X: Says>(
     turns: &Turns<Relay<I, O>>,
     hand: &mut Hand<Relay<I, O>>,
     turn: Turn<Relay<I, O>>,
-    nest: Nest,
+    entry_id: BoardEntryId,
     out: &LegReports,
 )
     requires table { IsHandOf turns.now hand.old × IsMain hand.old }
     requires turn { HasTurn hand.old turn }
-    requires step { Relates I.told I.faults O.told O.faults (taken_of turn) (nested nest.number nest.moment (moment_in (taken_of turn)) (Cell (Read out.now))) (state_of turn) }
-    requires said { X.made ≡ nested nest.number nest.moment (moment_in (taken_of turn)) (Cell (Read out.now)) }
+    requires step { Relates I.told I.faults O.told O.faults (taken_of turn) (nested entry_id.number entry_id.moment (moment_in (taken_of turn)) (Cell (Read out.now))) (state_of turn) }
+    requires said { X.made ≡ nested entry_id.number entry_id.moment (moment_in (taken_of turn)) (Cell (Read out.now)) }
     ensures same { IsSameHand hand.old hand.new }
-    ensures entry { EndsTurn (place_of turn) (front_of turn) (nested nest.number nest.moment (moment_in (taken_of turn)) (Cell (Read out.now))) tt hand.old hand.new }
+    ensures entry { EndsTurn (place_of turn) (front_of turn) (nested entry_id.number entry_id.moment (moment_in (taken_of turn)) (Cell (Read out.now))) tt hand.old hand.new }
 {
     turns.put::<Told<X>>(hand, turn);
 }
@@ -115,20 +115,20 @@ pub(crate) fn put_prepare<I: InEnd, O: OutEnd, X: Says>(
     turns: &Turns<Relay<I, O>>,
     hand: &mut Hand<Relay<I, O>>,
     turn: Turn<Relay<I, O>>,
-    nest: Nest,
+    entry_id: BoardEntryId,
     call: u64,
     legs: &Snapshot<Prepare<O>>,
-    brought: &Brought,
+    changes: &OfferedChanges,
     gone: &Gone<O>,
 )
     requires table { IsHandOf turns.now hand.old × IsMain hand.old }
     requires turn { HasTurn hand.old turn }
     requires step { Relates I.told I.faults O.told O.faults (taken_of turn)
-        (leaving nest.number nest.moment (max nest.moment (moment_in (taken_of turn))) (Cell (preparing call (added legs.now.value) (brought_keys brought.now) (brought_dropped brought.now))) (gone_left O.told gone.now)) (state_of turn) }
-    requires said { X.made ≡ leaving nest.number nest.moment (max nest.moment (moment_in (taken_of turn))) (Cell (preparing call (added legs.now.value) (brought_keys brought.now) (brought_dropped brought.now))) (gone_left O.told gone.now) }
+        (leaving entry_id.number entry_id.moment (max entry_id.moment (moment_in (taken_of turn))) (Cell (preparing call (added legs.now.value) (offered_keys changes.now) (offered_drops changes.now))) (gone_left O.told gone.now)) (state_of turn) }
+    requires said { X.made ≡ leaving entry_id.number entry_id.moment (max entry_id.moment (moment_in (taken_of turn))) (Cell (preparing call (added legs.now.value) (offered_keys changes.now) (offered_drops changes.now))) (gone_left O.told gone.now) }
     ensures same { IsSameHand hand.old hand.new }
     ensures entry { EndsTurn (place_of turn) (front_of turn)
-        (leaving nest.number nest.moment (max nest.moment (moment_in (taken_of turn))) (Cell (preparing call (added legs.now.value) (brought_keys brought.now) (brought_dropped brought.now))) (gone_left O.told gone.now)) tt hand.old hand.new }
+        (leaving entry_id.number entry_id.moment (max entry_id.moment (moment_in (taken_of turn))) (Cell (preparing call (added legs.now.value) (offered_keys changes.now) (offered_drops changes.now))) (gone_left O.told gone.now)) tt hand.old hand.new }
 {
     turns.put::<Told<X>>(hand, turn);
 }
@@ -138,18 +138,18 @@ pub(crate) fn put_commit<I: InEnd, O: OutEnd, X: Says>(
     turns: &Turns<Relay<I, O>>,
     hand: &mut Hand<Relay<I, O>>,
     turn: Turn<Relay<I, O>>,
-    nest: Nest,
+    entry_id: BoardEntryId,
     signal: &Signal,
     gone: &Gone<O>,
 )
     requires table { IsHandOf turns.now hand.old × IsMain hand.old }
     requires turn { HasTurn hand.old turn }
     requires step { Relates I.told I.faults O.told O.faults (taken_of turn)
-        (leaving nest.number nest.moment (max nest.moment (moment_in (taken_of turn))) (Cell (Commit signal.now)) (gone_left O.told gone.now)) (state_of turn) }
-    requires said { X.made ≡ leaving nest.number nest.moment (max nest.moment (moment_in (taken_of turn))) (Cell (Commit signal.now)) (gone_left O.told gone.now) }
+        (leaving entry_id.number entry_id.moment (max entry_id.moment (moment_in (taken_of turn))) (Cell (Commit signal.now)) (gone_left O.told gone.now)) (state_of turn) }
+    requires said { X.made ≡ leaving entry_id.number entry_id.moment (max entry_id.moment (moment_in (taken_of turn))) (Cell (Commit signal.now)) (gone_left O.told gone.now) }
     ensures same { IsSameHand hand.old hand.new }
     ensures entry { EndsTurn (place_of turn) (front_of turn)
-        (leaving nest.number nest.moment (max nest.moment (moment_in (taken_of turn))) (Cell (Commit signal.now)) (gone_left O.told gone.now)) tt hand.old hand.new }
+        (leaving entry_id.number entry_id.moment (max entry_id.moment (moment_in (taken_of turn))) (Cell (Commit signal.now)) (gone_left O.told gone.now)) tt hand.old hand.new }
 {
     turns.put::<Told<X>>(hand, turn);
 }

@@ -8,13 +8,13 @@ ghost use Rattle.relay_core.specs.Standing.{GoneHome};
 ghost use Rattle.relay_core.specs.Steps.{Relates, AreOpened};
 ghost use Rattle.relay_core.specs.Turning.{GainsNested, made_by};
 ghost use Rattle.nested_steps.specs.Nesting.{MayNest, leaving, gone_left, AddsRow};
-ghost use Rattle.nested_steps.specs.Bringing.{brought_keys, brought_dropped};
+ghost use Rattle.nested_steps.specs.Bringing.{offered_keys, offered_drops};
 ghost use Rattle.nested_steps.specs.InCells.{HasNewKeys, in_cell_of, moment_in, preparing, CanPrepare, CanCommit, HasSpace, TakesOffer, OpenedFor, TakesAnswer, PreparesPart, CommitsPart, Prepares, Commits};
 ghost use Rattle.nested_steps.specs.Leaving.{DroppedWent, RejectedWent};
 
-use crate::brought::Brought;
+use crate::board_turn::BoardTurn;
 use crate::cells::cell_place;
-use crate::nest::BoardTurn;
+use crate::offered_changes::OfferedChanges;
 use crate::puts::{put_commit, put_prepare};
 use call_cell::{Gone, InContexts, Prepare};
 use port_pool::Signal;
@@ -29,17 +29,17 @@ fn prepare_part<I: InEnd, O: OutEnd>(
     part: &mut Part<I, O>,
     call: u64,
     signal: Prepare<O>,
-    brought: &Brought,
+    changes: &OfferedChanges,
     gone: &mut Gone<O>,
     now: u64,
 )
-    requires takes { TakesOffer part.old signal call (brought_keys brought.now) (brought_dropped brought.now) }
+    requires takes { TakesOffer part.old signal call (offered_keys changes.now) (offered_drops changes.now) }
     requires ready { IsReady signal }
     requires opened { OpenedFor O.told part.old signal }
     requires empty { gone.old ≡ [] }
     ensures step { (number : ℕ) → Relates I.told I.faults O.told O.faults part.old
-        (leaving number now (max now (moment_in part.old)) (Cell (preparing call (added signal) (brought_keys brought.now) (brought_dropped brought.now))) (gone_left O.told gone.new)) part.new }
-    ensures prepares { PreparesPart part.old part.new signal call (brought_keys brought.now) (brought_dropped brought.now) now gone.new }
+        (leaving number now (max now (moment_in part.old)) (Cell (preparing call (added signal) (offered_keys changes.now) (offered_drops changes.now))) (gone_left O.told gone.new)) part.new }
+    ensures prepares { PreparesPart part.old part.new signal call (offered_keys changes.now) (offered_drops changes.now) now gone.new }
 {
     match part {
         Part::Cell(cell) => cell.prepare(call, signal, gone, now),
@@ -68,7 +68,7 @@ fn commit_part<I: InEnd, O: OutEnd>(
     }
 }
 
-/// Takes into a cell what an offer brings to the call with this number: its legs and keys, which `brought` tells too. The legs
+/// Takes into a cell what an offer brings to the call with this number: its legs and keys, which `offered_changes` tells too. The legs
 /// of the sections that it drops go to `gone`, which is empty. The out ends of its legs were opened for the ports of their pairs, and not
 /// called since. Cells are numbered from 1.
 pub fn prepare_cell<I: InEnd, O: OutEnd, R: Wait>(
@@ -78,31 +78,45 @@ pub fn prepare_cell<I: InEnd, O: OutEnd, R: Wait>(
     cell: u32,
     call: u64,
     signal: Prepare<O>,
-    brought: &Brought,
+    changes: &OfferedChanges,
     gone: &mut Gone<O>,
 )
     requires may { MayNest turn.now.config.now turn.now.turns.now hand.old }
     requires cell { (1 ≤ cell) × (cell ≤ turn.now.config.now.max_sessions) }
     requires keys { HasNewKeys (made_by hand.old) cell }
-    requires tells { PrepareFor signal (brought_keys brought.now) (brought_dropped brought.now) }
-    requires comes { CanPrepare turn.now.config.now (made_by hand.old) cell signal call (brought_keys brought.now) (brought_dropped brought.now) }
+    requires tells { PrepareFor signal (offered_keys changes.now) (offered_drops changes.now) }
+    requires comes { CanPrepare turn.now.config.now (made_by hand.old) cell signal call (offered_keys changes.now) (offered_drops changes.now) }
     requires ready { IsReady signal }
     requires opened { AreOpened O.told turn.now.config.now signal }
     requires empty { gone.old ≡ [] }
     ensures same { IsSameHand hand.old hand.new × SameTurns hand.old hand.new }
     ensures may { MayNest turn.now.config.now turn.now.turns.now hand.new }
-    ensures gained { GainsNested turn.now.nest.number turn.now.nest.moment
-        (in_cell_of cell (preparing call (added signal) (brought_keys brought.now) (brought_dropped brought.now)) ∷ []) hand.old hand.new }
-    ensures row { AddsRow cell (Cell (preparing call (added signal) (brought_keys brought.now) (brought_dropped brought.now))) (gone_left O.told gone.new) hand.old hand.new }
-    ensures prepared { Prepares I.told I.faults O.told O.faults turn.now.config.now hand.old cell signal call (brought_keys brought.now) (brought_dropped brought.now) turn.now.nest.moment gone.new }
-    ensures went { DroppedWent turn.now.config.now (made_by hand.old) cell (brought_dropped brought.now) gone.new }
+    ensures gained { GainsNested turn.now.entry_id.number turn.now.entry_id.moment
+        (in_cell_of cell (preparing call (added signal) (offered_keys changes.now) (offered_drops changes.now)) ∷ []) hand.old hand.new }
+    ensures row { AddsRow cell (Cell (preparing call (added signal) (offered_keys changes.now) (offered_drops changes.now))) (gone_left O.told gone.new) hand.old hand.new }
+    ensures prepared { Prepares I.told I.faults O.told O.faults turn.now.config.now hand.old cell signal call (offered_keys changes.now) (offered_drops changes.now) turn.now.entry_id.moment gone.new }
+    ensures went { DroppedWent turn.now.config.now (made_by hand.old) cell (offered_drops changes.now) gone.new }
     ensures home { GoneHome O.told turn.now.config.now gone.new }
 {
     let legs = Snapshot::of(&signal);
     let mut step = turn.turns.turn(rt, hand, cell_place(turn.config, cell));
-    prepare_part(step.state(), call, signal, brought, gone, turn.nest.moment);
+    prepare_part(
+        step.state(),
+        call,
+        signal,
+        changes,
+        gone,
+        turn.entry_id.moment,
+    );
     put_prepare::<I, O, Brand>(
-        turn.turns, hand, step, turn.nest, call, &legs, brought, gone,
+        turn.turns,
+        hand,
+        step,
+        turn.entry_id,
+        call,
+        &legs,
+        changes,
+        gone,
     );
 }
 
@@ -125,13 +139,13 @@ pub fn commit_cell<I: InEnd, O: OutEnd, R: Wait>(
     requires empty { gone.old ≡ [] }
     ensures same { IsSameHand hand.old hand.new × SameTurns hand.old hand.new }
     ensures may { MayNest turn.now.config.now turn.now.turns.now hand.new }
-    ensures gained { GainsNested turn.now.nest.number turn.now.nest.moment (in_cell_of cell (Commit signal.now) ∷ []) hand.old hand.new }
+    ensures gained { GainsNested turn.now.entry_id.number turn.now.entry_id.moment (in_cell_of cell (Commit signal.now) ∷ []) hand.old hand.new }
     ensures row { AddsRow cell (Cell (Commit signal.now)) (gone_left O.told gone.new) hand.old hand.new }
-    ensures committed { Commits I.told I.faults O.told O.faults turn.now.config.now hand.old cell signal.now turn.now.nest.moment gone.new }
+    ensures committed { Commits I.told I.faults O.told O.faults turn.now.config.now hand.old cell signal.now turn.now.entry_id.moment gone.new }
     ensures went { RejectedWent turn.now.config.now (made_by hand.old) cell signal.now gone.new }
     ensures home { GoneHome O.told turn.now.config.now gone.new }
 {
     let mut step = turn.turns.turn(rt, hand, cell_place(turn.config, cell));
-    commit_part(step.state(), signal, contexts, gone, turn.nest.moment);
-    put_commit::<I, O, Brand>(turn.turns, hand, step, turn.nest, signal, gone);
+    commit_part(step.state(), signal, contexts, gone, turn.entry_id.moment);
+    put_commit::<I, O, Brand>(turn.turns, hand, step, turn.entry_id, signal, gone);
 }

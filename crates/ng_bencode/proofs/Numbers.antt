@@ -18,7 +18,7 @@ use Rattle.ng_bencode.specs.Spells.{string}
 
 -- ---- the first place of a byte
 
--- two texts with a stop behind a front that is free of it have the same front
+-- two texts with a stop after a front that is free of it have the same front
 pub same_front : (stop : ℕ) (a b x y : List ℕ) → IsFreeOf stop a → IsFreeOf stop b → a ++ stop ∷ x ≡ b ++ stop ∷ y → (a ≡ b) × (x ≡ y)
 same_front stop [] [] x y free other e = (refl, cc)
 same_front stop [] (c ∷ b) x y free other e = let hit : stop ≡ c = cc in absurd (other.0 (sym hit))

@@ -23,7 +23,7 @@ impl<T> Row<T> {
         }
     }
 
-    /// Makes room for `more` items. Its items stay, whatever the answer.
+    /// Makes room for `more` items. Its items stay, also when it fails.
     pub fn reserve(&mut self, more: usize) -> Result<(), OutOfMemory>
         ensures list { list_in self.new ≡ list_in self.old }
         ensures room { OnOk result (more ≤ spare_in self.new) }

@@ -35,7 +35,7 @@ pub(crate) fn read_end(bytes: &[u8]) -> Option<&[u8]>
     Some(&bytes[1..])
 }
 
-/// What stands before and behind the first `stop`. `None`: there is none.
+/// What stands before and after the first `stop`. `None`: there is none.
 pub fn read_until(bytes: &[u8], stop: u8) -> Option<(&[u8], &[u8])>
     ensures found { IfSome result (λ parts. bytes.now ≡ parts.0.now ++ stop ∷ parts.1.now) }
     ensures first { IfSome result (λ parts. IsFreeOf stop parts.0.now) }

@@ -41,7 +41,7 @@ impl Text {
         Ok(text)
     }
 
-    /// Makes room for `more` bytes. Its bytes stay, whatever the answer.
+    /// Makes room for `more` bytes. Its bytes stay, also when it fails.
     pub fn reserve(&mut self, more: usize) -> Result<(), OutOfMemory>
         ensures list { self.new.list ≡ self.old.list }
         ensures room { OnOk result (more ≤ self.new.spare) }

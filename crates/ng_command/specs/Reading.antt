@@ -32,7 +32,7 @@ told_by (Ok kind) pairs = or_fault (fault_of kind pairs) (meaning kind pairs)
 abbrev pub told : Entries → Result Said CommandFault
 told pairs = told_by (kind_named (text_at pairs (codes "command"))) pairs
 
--- the answer agrees with what is told; want of memory may stand in its place
+-- the result agrees with what is told, or is out of memory
 abbrev pub Agrees : Result Said CommandFault → Result Command CommandFault → Type 0
 Agrees expected (Ok command) = expected ≡ Ok (said command)
 Agrees expected (Err OutOfMemory) = Unit {0}
@@ -42,8 +42,8 @@ Agrees expected (Err Unrecognized) = expected ≡ Err Unrecognized
 Agrees expected (Err (Key key)) = expected ≡ Err (Key key)
 Agrees expected (Err (Unsupported key)) = expected ≡ Err (Unsupported key)
 
--- The body of a datagram is read so. `Malformed` comes exactly where the body spells no dictionary, and
--- every other answer but want of memory is what the dictionary tells.
+-- The body of a datagram is read with this result. `Malformed` comes exactly where the body spells no dictionary, and
+-- every other result but out of memory is what the dictionary tells.
 abbrev pub IsRead : List ℕ → Result Command CommandFault → Type 0
 IsRead body (Err Malformed) = (pairs : Entries) → Spells body (Dict pairs) → ⊥
 IsRead body (Err OutOfMemory) = Unit {0}

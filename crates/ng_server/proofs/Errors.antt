@@ -1,4 +1,4 @@
--- What a datagram that is answered with an error leaves as it was.
+-- What a datagram with an error as its reply leaves as it was.
 use Rattle.std.proofs.Common.{◌≡◌, refl, List, true}
 use Rattle.relay_outside.specs.declared.settings.Config.{Config}
 use Rattle.call_board.specs.Acts as act
@@ -9,7 +9,7 @@ use Rattle.ng_server.specs.Errors.{is_idle, LeavesAll}
 
 same_idle : (a : Act) → is_idle a ≡ true → idle.is_idle a ≡ true
 same_idle act.Repeated is = refl
-same_idle act.Starved is = refl
+same_idle act.OutOfMemory is = refl
 same_idle (act.Failed code) is = refl
 same_idle (act.Queried of) is = refl
 same_idle act.Told is = refl

@@ -1,4 +1,4 @@
--- What a datagram that is answered with an error leaves as it was.
+-- What a datagram with an error as its reply leaves as it was.
 use Rattle.std.specs.Prelude.{◌≡◌, ℕ, Bool, true, false, List, ◌∷◌, ◌++◌}
 use Rattle.relay_outside.specs.declared.settings.Config.{Config}
 use Rattle.histories.specs.Words.{In}
@@ -7,11 +7,11 @@ use Rattle.call_board.specs.Acts.{Act, BoardEntry}
 use Rattle.call_board.specs.Calls.{live, rounds}
 use Rattle.call_board.specs.Pairs.{held, free, drawn}
 
--- an error that comes before anything is leased, want of memory among them, and what else changes nothing: a repeat, a ping, a
+-- an error that comes before anything is leased, out of memory among them, and what else changes nothing: a repeat, a ping, a
 -- delete that finds no call
 abbrev pub is_idle : Act → Bool
 is_idle act.Repeated = true
-is_idle act.Starved = true
+is_idle act.OutOfMemory = true
 is_idle (act.Failed code) = true
 is_idle (act.Queried of) = true
 is_idle act.Told = true

@@ -78,11 +78,11 @@ impl<P: PortMaker> Server<P> {
         &self.turns
     }
 
-    /// Takes one datagram from the link into the desk, and answers it, in one turn of the board.
+    /// Takes one datagram from the link into the desk, and replies to it, in one turn of the board.
     ///
     /// A datagram without a frame gets no reply. Every other gets exactly one, to its source: the one that is kept for its cookie,
     /// or else the one that is due, which is then kept, also where its send fails. An offer leases pairs and opens their ports, and
-    /// all of it is undone after a fault; what ends closes its ports. Running out of memory is answered as such, and then nothing is done.
+    /// all of it is undone after a fault; what ends closes its ports. Where memory runs out, the reply says so, and nothing is done.
     /// `now` is in milliseconds; a moment before that of the board's last entry counts as that one. It may wait for the board's turn, and
     /// for those of boxes and cells.
     pub fn control_turn<N: ControlLink, K: KeySource, R: Wait>(
@@ -146,7 +146,7 @@ impl<P: PortMaker> Server<P> {
         stop_turn(rt, &self.turns, hand, &self.config, ports, &mut desk.gone)
     }
 
-    /// Makes a tick in one turn of the board: asks each live call, in order of their creation, whether it is due, ends each that is, and answers
+    /// Makes a tick in one turn of the board: asks each live call, in order of their creation, whether it is due, ends each that is, and returns
     /// how many it ended.
     ///
     /// An answered call is due when its last answer and its last accepted packet are both at least the configuration's `timeout_ms` ago, and a
@@ -184,8 +184,8 @@ impl<P: PortMaker> Server<P> {
 
     /// Closes the table by the hand that has all its parts, and returns what its places hold, in order. It takes no memory.
     ///
-    /// The hand's list is then that of all steps of all places, and it is legal, and so safe, with what each relay noted,
-    /// protected and sent told beside its outcome.
+    /// The hand's list is then that of all steps of all places. With what each relay noted, protected and sent added to its outcome
+    /// it is legal, and so safe.
     pub fn close(self, hand: Hand<Relay<P::In, P::Out>>) -> Vec<Part<P::In, P::Out>>
         requires table { IsHandOf self.turns hand }
         requires all { parts hand ≡ 1024 }

@@ -1,4 +1,4 @@
--- What is heard in an answer's description, section by section, and what the answer commits.
+-- The crypto lines that are chosen in an answer's description, section by section, and what the answer commits.
 use Rattle.std.proofs.Common.{◌≡◌, ◌<◌, ◌≤◌, ◌-◌, ◌+◌, ◌==◌, ℕ, Bool, true, false, not, ◌&&◌, ◌||◌, List, [], ◌∷◌, ◌++◌, length, map, Option, Some, None, is_none, refl, sym, ap, ◌∙◌, subst, if◌then◌else◌, unwrap_or, option_map, slice_get, arith, append-nil}
 use Rattle.std.proofs.lemmas.List.{append_assoc}
 use Rattle.std.specs.List.{list_any}

@@ -1,4 +1,4 @@
--- What is heard in a description, section by section.
+-- The crypto lines that are chosen in a description, section by section.
 use Rattle.std.proofs.Common.{◌≡◌, ◌<◌, ◌≤◌, ℕ, List, length, take, Option, Some, None, sym, ap, ◌∙◌, subst, slice_index_or, arith}
 use Rattle.std.proofs.lemmas.List.{get_or-take, length-take-le}
 use Rattle.std.proofs.lemmas.Option.{slice_get-get_or}

@@ -1,4 +1,4 @@
--- What is heard in an offer's description, section by section.
+-- The crypto lines that are chosen in an offer's description, section by section.
 use Rattle.std.proofs.Common.{◌≡◌, nat_lt, append-nil, ◌==◌, ℕ, zero, suc, ◌+◌, ◌-◌, ◌<◌, ◌≤◌, inl, inr, Bool, true, false, not, ◌&&◌, ◌||◌, List, [], ◌∷◌, ◌++◌, length, Option, Some, None, is_none, refl, sym, ap, ◌∙◌, subst, if◌then◌else◌, filter, flat_map, map, unwrap_or, option_map, slice_get, slice_index_or, arith}
 use Rattle.std.specs.List.{list_any}
 use Rattle.std.proofs.lemmas.Option.{slice_get_cases}
@@ -265,7 +265,7 @@ has-none k (suc n) i l = go (k == i) refl (has-none (suc k) n i (omega (arith, l
     go true e more = absurd (omega (arith, l, here_it_is e))
     go false e more = rw e more
 
--- the answers for the eight sections, in order, tell which are dropped
+-- the results for the eight sections, in order, tell which are dropped
 pub eight-dropped : (rounds : List Round) (ask : OfferAsk) (section : ℕ) {a b c d e f g h : Bool} →
     a ≡ is_dropped rounds ask 0 → b ≡ is_dropped rounds ask 1 → c ≡ is_dropped rounds ask 2 → d ≡ is_dropped rounds ask 3 →
     e ≡ is_dropped rounds ask 4 → f ≡ is_dropped rounds ask 5 → g ≡ is_dropped rounds ask 6 → h ≡ is_dropped rounds ask 7 →

@@ -62,7 +62,7 @@ rejected-is config rounds offer ask section made kept b o m s e =
     ∙ ap (λ x. not (is_active_in (offered_sdp rounds) section && x && kept.has_pairs)) e
     ∙ ap (λ x. not (is_active_in (offered_sdp rounds) section && is_active_in ask.sdp section && x)) s.pairs_are
 
--- The line that answers the chosen one.
+-- The line in answer to the chosen one.
 
 -- the key of a usable line has a tag that can be written
 first-tag : (lines : List (List ℕ)) (key : CryptoLine) → IsFirstOf IsAny lines (Some key) → IsTag key.tag

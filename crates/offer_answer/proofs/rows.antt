@@ -2,4 +2,4 @@ mod Calls
 mod Plain
 mod Secure
 mod Texts
-mod Heard
+mod ChosenLines

@@ -25,7 +25,7 @@ pub record IsLast (rounds : List Round) (offer : MadeOffer) (last : LastOffer) :
   pub offer_is : last_offer rounds ≡ Some offer
   pub kept : LastFor offer last
 
--- the answer's description has these lines, and its crypto lines are heard
+-- the answer's description has these lines, and its crypto lines are the chosen ones
 pub record HearsAnswer (lines : List (List ℕ)) (rounds : List Round) (ask : AnswerAsk) : Type 0 where
   pub lines_are : lines_of ask.sdp ≡ lines
   pub heard : AnswerHeard rounds ask

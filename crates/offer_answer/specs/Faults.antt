@@ -1,4 +1,4 @@
--- Why an offer or an answer is refused, and which crypto lines are heard in its description.
+-- Why an offer or an answer is refused, and which crypto lines are chosen in its description.
 use Rattle.std.specs.Prelude.{◌≡◌, ℕ, ◌<◌, List, length, Bool, false, true, not, ◌&&◌, ◌==◌, nat_lt, Option, Some, None, is_none, if◌then◌else◌}
 use Rattle.std.specs.List.{list_any}
 use Rattle.std.specs.Str.{bytes_eq}

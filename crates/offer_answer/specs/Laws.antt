@@ -74,7 +74,7 @@ pub record IsOfferRound (rounds : List Round) (ask : OfferAsk) (legs : List Hold
   pub leased : map leg_place legs ≡ map new_leg_place (demand rounds ask).pairs
   pub drawn : map key_place keys ≡ (demand rounds ask).keys
 
--- an answer without a fault, with the crypto lines that are heard in it
+-- an answer without a fault, with the crypto lines that are chosen in it
 pub record IsAnswerRound (rounds : List Round) (ask : AnswerAsk) : Type 0 where
   pub no_fault : answer_fault rounds ask ≡ None
   pub heard : AnswerHeard rounds ask

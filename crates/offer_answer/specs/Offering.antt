@@ -25,7 +25,7 @@ use Rattle.offer_answer.specs.declared.plan.Plan.{Plan}
 use Rattle.offer_answer.specs.declared.fault.OaFault.{OaFault}
 use Rattle.offer_answer.specs.declared.fault.OaFault.TheVariants as faults
 
--- the offer's description has these lines, and its crypto lines are heard
+-- the offer's description has these lines, and its crypto lines are the chosen ones
 pub record HearsOffer (lines : List (List ℕ)) (ask : OfferAsk) : Type 0 where
   pub lines_are : lines_of ask.sdp ≡ lines
   pub heard : OfferHeard ask

@@ -47,12 +47,12 @@ pub record AnswerPlan (config : Config) (rounds : List Round) (ask : AnswerAsk) 
   pub signal_is : plan.signal ≡ signal rounds ask
   pub text_is : edited lines plan.edit ≡ answer_text config rounds ask
 
--- what an offer is answered: its first fault or its plan, or that memory was refused
+-- the result of planning an offer: its first fault, its plan, or out of memory
 abbrev pub OfferAnswered : Config → List Round → OfferAsk → Result Plan OaFault → Type 0
 OfferAnswered config rounds ask (Err fault) = fault ≢ faults.OutOfMemory → offer_fault rounds ask ≡ code_of fault
 OfferAnswered config rounds ask (Ok plan) = (offer_fault rounds ask ≡ None) × OfferPlan config rounds ask plan
 
--- what an answer is answered
+-- the result of planning an answer
 abbrev pub AnswerAnswered : Config → List Round → AnswerAsk → List (List ℕ) → Result Plan OaFault → Type 0
 AnswerAnswered config rounds ask lines (Err fault) = fault ≢ faults.OutOfMemory → answer_fault rounds ask ≡ code_of fault
 AnswerAnswered config rounds ask lines (Ok plan) = (answer_fault rounds ask ≡ None) × AnswerPlan config rounds ask lines plan

@@ -21,7 +21,7 @@ use Rattle.offer_answer.specs.declared.last_offer.MadeSection.{MadeSection}
 use Rattle.offer_answer.specs.declared.last_offer.LastOffer.{LastOffer}
 use Rattle.offer_answer.specs.declared.last_offer.OfferedNext.{OfferedNext}
 
--- an edit with the interface's address and what the options say, with room for so many sections and none of them yet
+-- an edit with the interface's address and what the options say, with room for `count` sections and none of them yet
 pub record IsReserved (interface : Ip) (options : Options) (count : ℕ) (edit : Edit) : Type 0 where
   pub address_is : edit.address ≡ host_of_ip interface
   pub origin_is : edit.replace_origin ≡ options.replace_origin
@@ -113,7 +113,7 @@ pub record KeepsWidth (old new : LastOffer) : Type 0 where
 abbrev pub greatest_tag : ℕ
 greatest_tag = 999999999
 
--- the line that carries the leg's key and answers a chosen one, with its tag
+-- the line that carries the leg's key in answer to a chosen one, with its tag
 abbrev pub line_back : Leg → CryptoLine → Option CryptoLine
 line_back leg line =
     option_map (λ (key : DrawnKey). record { tag = min line.tag greatest_tag; suite = key.suite; key = key.bytes }) (key_for leg line.suite)

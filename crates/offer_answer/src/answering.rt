@@ -1,4 +1,4 @@
-//! What an answer is answered, and what it commits.
+//! How an answer is judged, and what it commits.
 
 ghost use Rattle.std.specs.Prelude.{◌≡◌, ◌&&◌, ◌==◌, List, Some, None, IfOk, IfErr};
 ghost use Rattle.std.specs.List.{list_any};
@@ -106,7 +106,7 @@ fn fault_of_answer_to(
     None
 }
 
-/// The last offer, which an answer answers, or the first fault of the answer.
+/// The last offer, to which an answer belongs, or the first fault of the answer.
 fn answered_offer<'a>(
     dialog: &'a Dialog,
     input: &AnswerIn,

@@ -25,9 +25,9 @@ use std::alloc::Global;
 /// How many sections a dialog has at most.
 pub(crate) const MOST_SECTIONS: usize = 8;
 
-/// What the accepted offers and answers of a call come to: all that the next one is judged by.
+/// The state that the accepted offers and answers of a call lead to: all that the next one is judged by.
 ///
-/// Contracts see it as a summary of lists of rounds: it stands for each list that comes to this.
+/// Contracts see it as a summary of lists of rounds: it stands for each list that leads to this state.
 #[derive(Drop)]
 pub struct Dialog {
     /// The tag of the side that makes the first offer.

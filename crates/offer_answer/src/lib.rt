@@ -5,16 +5,16 @@
 //! (`Sections`), the profiles of legs (`Profiles`), their keys and crypto lines (`Keys`), and over `Demands`, `Signals`, `Texts`
 //! and `Faults`. `specs/Laws.antt` has what holds of every plan, which `law` proves.
 //!
-//! A `Dialog` keeps what the rounds come to (`specs/Dialogs.antt`), and `offer` makes the plan of an offer from it, or tells its
+//! A `Dialog` keeps the state that the rounds lead to (`specs/Dialogs.antt`), and `offer` makes the plan of an offer from it, or tells its
 //! first fault (`specs/Offering.antt`).
 #![tactic(auto)]
 
 mod answered;
 mod answering;
+mod chosen_lines;
 mod dialog;
 mod fault;
 mod filling;
-mod heard;
 mod last_offer;
 mod law;
 mod leg;
@@ -29,9 +29,9 @@ mod writing;
 mod writing_back;
 
 pub use answering::answer;
+pub use chosen_lines::ChosenLines;
 pub use dialog::Dialog;
 pub use fault::OaFault;
-pub use heard::Heard;
 pub use law::{
     offers_drop_what_goes, signals_name_drawn_keys, signals_reject_what_goes, signals_secure_legs,
 };

@@ -1,4 +1,4 @@
-//! What an offer is answered, and what it demands.
+//! How an offer is judged, and what it demands.
 
 ghost use Rattle.std.specs.Prelude.{◌≡◌, ◌<◌, ◌&&◌, ◌++◌, ◌∷◌, [], ◌≤◌, ℕ, List, Bool, Option, Some, None, length, map, filter, OnOk, IfOk, if◌then◌else◌, slice_index_or, false};
 ghost use Rattle.std.specs.List.{list_any};

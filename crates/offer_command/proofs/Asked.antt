@@ -21,7 +21,7 @@ use Rattle.call_board.specs.declared.board_plan.BoardPlan.{BoardPlan}
 use Rattle.call_board.proofs.Done.{Asks}
 use Rattle.call_board.proofs.Dues.{target_in, target_is}
 use Rattle.control_entries.specs.declared.request.Request.{Request}
-use Rattle.control_entries.specs.declared.gave.Gave.{Gave}
+use Rattle.control_entries.specs.declared.device_answers.DeviceAnswers.{DeviceAnswers}
 use Rattle.control_entries.specs.Controls.{unanswered}
 use Rattle.control_entries.specs.Giving.{given_by}
 use Rattle.control_entries.specs.Carrying.{hearing_as}
@@ -37,27 +37,27 @@ pub is_asked : (config : Config) (h : List BoardEntry) (moment : ℕ) (request :
 is_asked config h moment request pairs input c =
     ap (λ (long : Bool). asked config long pairs) c.asking.short ∙ asks_so config false pairs (says_of input) c.asking.command c.fine
 
-pub asks_offer : (config : Config) (h : List BoardEntry) (moment : ℕ) (request : Request) (pairs : Option Entries) (input : OfferIn) (chosen : List (Option CryptoLine)) (gave : Gave)
-    → AsksFor config h moment request pairs input → (given_by gave).starved ≡ false → Asks config h moment (unanswered (hearing_as request pairs chosen gave)) (Ok (says_of input))
-asks_offer config h moment request pairs input chosen gave c fed =
-    record { nothing_kept = c.anew.not_kept; not_starved = fed; is_asked = is_asked config h moment request pairs input c }
+pub asks_offer : (config : Config) (h : List BoardEntry) (moment : ℕ) (request : Request) (pairs : Option Entries) (input : OfferIn) (chosen : List (Option CryptoLine)) (device_answers : DeviceAnswers)
+    → AsksFor config h moment request pairs input → (given_by device_answers).out_of_memory ≡ false → Asks config h moment (unanswered (hearing_as request pairs chosen device_answers)) (Ok (says_of input))
+asks_offer config h moment request pairs input chosen device_answers c fed =
+    record { nothing_kept = c.anew.not_kept; not_out_of_memory = fed; is_asked = is_asked config h moment request pairs input c }
 
-pub hears_offer : (config : Config) (h : List BoardEntry) (moment : ℕ) (request : Request) (pairs : Option Entries) (input : OfferIn) (chosen : List (Option CryptoLine)) (gave : Gave)
+pub hears_offer : (config : Config) (h : List BoardEntry) (moment : ℕ) (request : Request) (pairs : Option Entries) (input : OfferIn) (chosen : List (Option CryptoLine)) (device_answers : DeviceAnswers)
     → AsksFor config h moment request pairs input → OfferHeard (ask_of input chosen)
-    → Hears h (unanswered (hearing_as request pairs chosen gave)) (asked config request.too_long pairs)
-hears_offer config h moment request pairs input chosen gave c heard =
-    subst (λ (r : Result Said ErrorCode). Hears h (unanswered (hearing_as request pairs chosen gave)) r) (sym (is_asked config h moment request pairs input c)) heard
+    → Hears h (unanswered (hearing_as request pairs chosen device_answers)) (asked config request.too_long pairs)
+hears_offer config h moment request pairs input chosen device_answers c heard =
+    subst (λ (r : Result Said ErrorCode). Hears h (unanswered (hearing_as request pairs chosen device_answers)) r) (sym (is_asked config h moment request pairs input c)) heard
 
 rounds_in : (h : List BoardEntry) (id : List ℕ) (o : Option Call) → rounds_of_call h o ≡ (target_in h id o).rounds
 rounds_in h id None = refl
 rounds_in h id (Some of) = refl
 
 -- what it demands is what the offer demands of the call that the board plans it for
-pub demands_offer : (config : Config) (h : List BoardEntry) (moment : ℕ) (request : Request) (pairs : Option Entries) (input : OfferIn) (chosen : List (Option CryptoLine)) (gave : Gave)
-    → AsksFor config h moment request pairs input → demanded config h (unanswered (hearing_as request pairs chosen gave)) ≡ demand_of config h input.call_id.list (ask_of input chosen)
-demands_offer config h moment request pairs input chosen gave c =
+pub demands_offer : (config : Config) (h : List BoardEntry) (moment : ℕ) (request : Request) (pairs : Option Entries) (input : OfferIn) (chosen : List (Option CryptoLine)) (device_answers : DeviceAnswers)
+    → AsksFor config h moment request pairs input → demanded config h (unanswered (hearing_as request pairs chosen device_answers)) ≡ demand_of config h input.call_id.list (ask_of input chosen)
+demands_offer config h moment request pairs input chosen device_answers c =
     let id = input.call_id.list in
-    ap (demanded_by h (unanswered (hearing_as request pairs chosen gave))) (is_asked config h moment request pairs input c)
+    ap (demanded_by h (unanswered (hearing_as request pairs chosen device_answers))) (is_asked config h moment request pairs input c)
     ∙ ap (λ (rs : List Round). plan.demand rs (ask_of input chosen)) (rounds_in h id (find_call h id) ∙ ap (λ (t : Target). t.rounds) (sym (target_is config h id)))
 
 -- a planned one may be carried out
@@ -74,7 +74,7 @@ may_offer config h moment request pairs input chosen p c heard plans =
       none_kept = c.anew.not_kept;
     }) plans
 
--- What the outside answered to its opens.
+-- What the port maker returned to its opens.
 
 pub none_fails : (n : ℕ) → list_any not (replicate n true) ≡ false
 none_fails zero = refl

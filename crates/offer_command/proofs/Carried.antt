@@ -33,13 +33,13 @@ use Rattle.relay_core.specs.declared.part.Part.{Part}
 use Rattle.relay_core.specs.Entries.{board_history}
 use Rattle.relay_core.specs.Made.{Made}
 use Rattle.relay_core.specs.Turning.{made_by}
-use Rattle.nested_steps.specs.declared.nest.Nest.{Nest}
+use Rattle.nested_steps.specs.declared.board_turn.BoardEntryId.{BoardEntryId}
 use Rattle.board_turns.specs.Acting.{InTurn, DoesAct}
 use Rattle.control_entries.specs.declared.request.Request.{Request}
-use Rattle.control_entries.specs.declared.gave.Gave.{Gave}
-use Rattle.control_entries.specs.declared.gave.Gave.TheVariants as gave
-use Rattle.control_entries.specs.declared.gave.Gave.TheVariants.{Nothing}
-use Rattle.control_entries.specs.declared.done.Done.{Done}
+use Rattle.control_entries.specs.declared.device_answers.DeviceAnswers.{DeviceAnswers}
+use Rattle.control_entries.specs.declared.device_answers.DeviceAnswers.TheVariants as device_answers
+use Rattle.control_entries.specs.declared.device_answers.DeviceAnswers.TheVariants.{Nothing}
+use Rattle.control_entries.specs.declared.command_outcome.CommandOutcome.{CommandOutcome}
 use Rattle.control_entries.specs.Controls.{Hearing, unanswered, entry_with}
 use Rattle.control_entries.specs.Giving.{given_by}
 use Rattle.control_entries.specs.Carrying.{hearing_as, hearing_by, Carries}
@@ -56,15 +56,15 @@ use Rattle.offer_leases.specs.Leasing.{pairs_of_plan, keys_of_plan}
 use Rattle.offer_leases.specs.Undoing.{ComesEarly, keys_before}
 use Rattle.offer_turns.specs.Offers.{offer_of, demand_of, target_of, pairs_for, text_of, undone_leases}
 use Rattle.offer_turns.proofs.Targets.{pairs_count, keys_count}
-use Rattle.offer_command.specs.Commands.{AsksFor, Gives, IsReply, ask_of, says_of, undone_code, undone_gave}
+use Rattle.offer_command.specs.Commands.{AsksFor, Gives, IsReply, ask_of, says_of, undone_code, undone_answers}
 use Rattle.offer_command.proofs.Asked.{asks_offer, hears_offer, demands_offer, none_fails, one_fails}
 
 module _ {M I O T : Type 0} {g : _} where
   -- the turn with another state of the board that shows the same
-  pub turn_on : (config : Config) (turns : Turns M (Part I O) Made T) (hand : Hand M (Part I O) Made T g) (nest : Nest) (board new : Board) (told : Option (List PortCall))
-      → InTurn config turns hand nest board told → Shows config new (at_moment (view_of config (board_history (made_by hand) nest.number)) nest.moment)
-      → InTurn config turns hand nest new told
-  turn_on config turns hand nest board new told turn shows = record {
+  pub turn_on : (config : Config) (turns : Turns M (Part I O) Made T) (hand : Hand M (Part I O) Made T g) (entry_id : BoardEntryId) (board new : Board) (told : Option (List PortCall))
+      → InTurn config turns hand entry_id board told → Shows config new (at_moment (view_of config (board_history (made_by hand) entry_id.number)) entry_id.moment)
+      → InTurn config turns hand entry_id new told
+  turn_on config turns hand entry_id board new told turn shows = record {
     may = turn.may;
     above = turn.above;
     low = turn.low;
@@ -75,110 +75,110 @@ module _ {M I O T : Type 0} {g : _} where
   }
 
   -- a reply that was made
-  made_so : (config : Config) (old new : Hand M (Part I O) Made T g) (nest : Nest) (x : Hearing) (bytes : List ℕ) (reply : Option (Room ℕ)) (board : Board) (told : Option (List PortCall))
-      → IsReply bytes reply → ((text : Room ℕ) → text.list ≡ bytes → Carries config old new nest x (Some text) board told) → Carries config old new nest x reply board told
-  made_so config old new nest x bytes None board told is carries = absurd is
-  made_so config old new nest x bytes (Some text) board told is carries = carries text is
+  made_so : (config : Config) (old new : Hand M (Part I O) Made T g) (entry_id : BoardEntryId) (x : Hearing) (bytes : List ℕ) (reply : Option (Room ℕ)) (board : Board) (told : Option (List PortCall))
+      → IsReply bytes reply → ((text : Room ℕ) → text.list ≡ bytes → Carries config old new entry_id x (Some text) board told) → Carries config old new entry_id x reply board told
+  made_so config old new entry_id x bytes None board told is carries = absurd is
+  made_so config old new entry_id x bytes (Some text) board told is carries = carries text is
 
-  pub gives_carries : (config : Config) (old new : Hand M (Part I O) Made T g) (nest : Nest) (request : Request) (pairs : Option Entries) (chosen : List (Option CryptoLine)) (gave : Gave) (reply : Reply)
-      (done : Done) (board : Board) (told : Option (List PortCall))
-      → Gives request.cookie.now chosen gave reply done
-      → ((text : Room ℕ) → text.list ≡ reply_datagram config request.cookie.now reply → Carries config old new nest (hearing_as request pairs chosen gave) (Some text) board told)
-      → Carries config old new nest (hearing_by request pairs done) done.reply board told
-  gives_carries config old new nest request pairs chosen gave reply done board told gives carries =
-      subst (λ (lines : List (Option CryptoLine)). Carries config old new nest (hearing_as request pairs lines done.gave) done.reply board told) (sym gives.heard_is)
-      (subst (λ (given : Gave). Carries config old new nest (hearing_as request pairs chosen given) done.reply board told) (sym gives.gave_is)
-      (made_so config old new nest (hearing_as request pairs chosen gave) (reply_datagram config request.cookie.now reply) done.reply board told (gives.replies config) carries))
+  pub gives_carries : (config : Config) (old new : Hand M (Part I O) Made T g) (entry_id : BoardEntryId) (request : Request) (pairs : Option Entries) (chosen : List (Option CryptoLine)) (device_answers : DeviceAnswers) (reply : Reply)
+      (done : CommandOutcome) (board : Board) (told : Option (List PortCall))
+      → Gives request.cookie.now chosen device_answers reply done
+      → ((text : Room ℕ) → text.list ≡ reply_datagram config request.cookie.now reply → Carries config old new entry_id (hearing_as request pairs chosen device_answers) (Some text) board told)
+      → Carries config old new entry_id (hearing_by request pairs done) done.reply board told
+  gives_carries config old new entry_id request pairs chosen device_answers reply done board told gives carries =
+      subst (λ (lines : List (Option CryptoLine)). Carries config old new entry_id (hearing_as request pairs lines done.device_answers) done.reply board told) (sym gives.chosen_are)
+      (subst (λ (given : DeviceAnswers). Carries config old new entry_id (hearing_as request pairs chosen given) done.reply board told) (sym gives.answers_are)
+      (made_so config old new entry_id (hearing_as request pairs chosen device_answers) (reply_datagram config request.cookie.now reply) done.reply board told (gives.replies config) carries))
 
   -- it is accepted
-  pub offered_carries : (config : Config) (old new : Hand M (Part I O) Made T g) (nest : Nest) (request : Request) (pairs : Option Entries) (input : OfferIn) (chosen : List (Option CryptoLine)) (p : BoardPlan)
+  pub offered_carries : (config : Config) (old new : Hand M (Part I O) Made T g) (entry_id : BoardEntryId) (request : Request) (pairs : Option Entries) (input : OfferIn) (chosen : List (Option CryptoLine)) (p : BoardPlan)
       (drawn : KeyBytes) (text : Room ℕ) (board : Board) (told : Option (List PortCall))
-      → AsksFor config (board_history (made_by old) nest.number) nest.moment request pairs input → OfferHeard (ask_of input chosen)
-      → PlansOffer config (view_of config (board_history (made_by old) nest.number)) input.call_id.list (ask_of input chosen) (Ok p)
+      → AsksFor config (board_history (made_by old) entry_id.number) entry_id.moment request pairs input → OfferHeard (ask_of input chosen)
+      → PlansOffer config (view_of config (board_history (made_by old) entry_id.number)) input.call_id.list (ask_of input chosen) (Ok p)
       → length drawn.list ≡ key_count p.plan
-      → ((e : BoardEntry) → FitsBoard config (board_history (made_by old) nest.number) e
-      → act.act e ≡ act.Offered (offer_of config (board_history (made_by old) nest.number) input.call_id.list (ask_of input chosen) drawn.list) → e.moment ≡ nest.moment
-      → DoesAct config old new nest e board told)
-      → text.list ≡ reply_datagram config request.cookie.now (Described (text_of config (board_history (made_by old) nest.number) input.call_id.list
-      (offer_of config (board_history (made_by old) nest.number) input.call_id.list (ask_of input chosen) drawn.list)))
-      → Carries config old new nest (hearing_as request pairs chosen (gave.Offered (2 * pair_count p.plan) drawn)) (Some text) board told
-  offered_carries config old new nest request pairs input chosen p drawn text board told c heard plans count does bytes =
-      let h = board_history (made_by old) nest.number in
+      → ((e : BoardEntry) → FitsBoard config (board_history (made_by old) entry_id.number) e
+      → act.act e ≡ act.Offered (offer_of config (board_history (made_by old) entry_id.number) input.call_id.list (ask_of input chosen) drawn.list) → e.moment ≡ entry_id.moment
+      → DoesAct config old new entry_id e board told)
+      → text.list ≡ reply_datagram config request.cookie.now (Described (text_of config (board_history (made_by old) entry_id.number) input.call_id.list
+      (offer_of config (board_history (made_by old) entry_id.number) input.call_id.list (ask_of input chosen) drawn.list)))
+      → Carries config old new entry_id (hearing_as request pairs chosen (device_answers.Offered (2 * pair_count p.plan) drawn)) (Some text) board told
+  offered_carries config old new entry_id request pairs input chosen p drawn text board told c heard plans count does bytes =
+      let h = board_history (made_by old) entry_id.number in
       let id = input.call_id.list in
       let ask = ask_of input chosen in
-      let given = gave.Offered (2 * pair_count p.plan) drawn in
+      let given = device_answers.Offered (2 * pair_count p.plan) drawn in
       let x = hearing_as request pairs chosen given in
       let t = target_of config h id in
       let o = offer_of config h id ask drawn.list in
       let due = spelled config request.cookie.now (offering config t.rounds o) in
-      let is = offered_due config h nest.moment (unanswered x) id ask t.of t.begins t.rounds (pairs_for config h id ask) (asks_offer config h nest.moment request pairs input chosen given c refl) refl
+      let is = offered_due config h entry_id.moment (unanswered x) id ask t.of t.begins t.rounds (pairs_for config h id ask) (asks_offer config h entry_id.moment request pairs input chosen given c refl) refl
       (plan_leases config h (unanswered x) id ask p plans) (none_fails (2 * pair_count p.plan)) refl in
-      let fits = due_fits config h nest.moment (unanswered x) due is c.anew.framed c.anew.length_is (λ read. c.asking.reads)
-      (λ h. hears_offer config (board_history (made_by old) nest.number) nest.moment request pairs input chosen given c heard)
-      (subst (λ (d : Demand). GivesFor d (given_by given) (act.Offered o)) (sym (demands_offer config h nest.moment request pairs input chosen given c)) (
+      let fits = due_fits config h entry_id.moment (unanswered x) due is c.anew.framed c.anew.length_is (λ read. c.asking.reads)
+      (λ h. hears_offer config (board_history (made_by old) entry_id.number) entry_id.moment request pairs input chosen given c heard)
+      (subst (λ (d : Demand). GivesFor d (given_by given) (act.Offered o)) (sym (demands_offer config h entry_id.moment request pairs input chosen given c)) (
         record { all_opened = ap (λ (n : ℕ). replicate (2 * n) true) (pairs_count config h id ask p plans.1) },
         record { all_drawn = count ∙ keys_count config h id ask p plans.1; none_failed = refl },
         refl,
       ))
       (λ s t. refl) in
-      carries_due config old new nest x due (Some text) board told is fits (does (entry_with nest.moment x due) fits refl refl) (refl, bytes)
+      carries_due config old new entry_id x due (Some text) board told is fits (does (entry_with entry_id.moment x due) fits refl refl) (refl, bytes)
 
   -- a port could not be opened
-  ports_carries : (config : Config) (old new : Hand M (Part I O) Made T g) (nest : Nest) (request : Request) (pairs : Option Entries) (input : OfferIn) (chosen : List (Option CryptoLine)) (p : BoardPlan)
+  ports_carries : (config : Config) (old new : Hand M (Part I O) Made T g) (entry_id : BoardEntryId) (request : Request) (pairs : Option Entries) (input : OfferIn) (chosen : List (Option CryptoLine)) (p : BoardPlan)
       (opened : ℕ) (text : Room ℕ) (board : Board) (told : Option (List PortCall))
-      → AsksFor config (board_history (made_by old) nest.number) nest.moment request pairs input → OfferHeard (ask_of input chosen)
-      → PlansOffer config (view_of config (board_history (made_by old) nest.number)) input.call_id.list (ask_of input chosen) (Ok p)
+      → AsksFor config (board_history (made_by old) entry_id.number) entry_id.moment request pairs input → OfferHeard (ask_of input chosen)
+      → PlansOffer config (view_of config (board_history (made_by old) entry_id.number)) input.call_id.list (ask_of input chosen) (Ok p)
       → ComesEarly (pairs_of_plan p) (keys_of_plan p) (Port opened)
-      → ((e : BoardEntry) (code : ErrorCode) → act.act e ≡ act.Undone code (undone_leases config (board_history (made_by old) nest.number) input.call_id.list (ask_of input chosen)) []
-      → DoesAct config old new nest e board told)
+      → ((e : BoardEntry) (code : ErrorCode) → act.act e ≡ act.Undone code (undone_leases config (board_history (made_by old) entry_id.number) input.call_id.list (ask_of input chosen)) []
+      → DoesAct config old new entry_id e board told)
       → text.list ≡ reply_datagram config request.cookie.now (Fault E15)
-      → Carries config old new nest (hearing_as request pairs chosen (gave.PortFault opened)) (Some text) board told
-  ports_carries config old new nest request pairs input chosen p opened text board told c heard plans early undoes bytes =
-      let h = board_history (made_by old) nest.number in
+      → Carries config old new entry_id (hearing_as request pairs chosen (device_answers.PortFault opened)) (Some text) board told
+  ports_carries config old new entry_id request pairs input chosen p opened text board told c heard plans early undoes bytes =
+      let h = board_history (made_by old) entry_id.number in
       let id = input.call_id.list in
       let ask = ask_of input chosen in
-      let given = gave.PortFault opened in
+      let given = device_answers.PortFault opened in
       let x = hearing_as request pairs chosen given in
       let t = target_of config h id in
       let a = act.Undone E15 (undone_leases config h id ask) [] in
       let due = with_reply config (unanswered x) (Fault E15) a in
-      let is = offer_ports_due config h nest.moment (unanswered x) id ask t.of t.begins t.rounds (pairs_for config h id ask) (asks_offer config h nest.moment request pairs input chosen given c refl) refl
+      let is = offer_ports_due config h entry_id.moment (unanswered x) id ask t.of t.begins t.rounds (pairs_for config h id ask) (asks_offer config h entry_id.moment request pairs input chosen given c refl) refl
       (plan_leases config h (unanswered x) id ask p plans) (one_fails opened) in
-      let fits = due_fits config h nest.moment (unanswered x) due is c.anew.framed c.anew.length_is (λ read. c.asking.reads)
-      (λ h. hears_offer config (board_history (made_by old) nest.number) nest.moment request pairs input chosen given c heard)
-      (subst (λ (d : Demand). GivesFor d (given_by given) a) (sym (demands_offer config h nest.moment request pairs input chosen given c)) (
+      let fits = due_fits config h entry_id.moment (unanswered x) due is c.anew.framed c.anew.length_is (λ read. c.asking.reads)
+      (λ h. hears_offer config (board_history (made_by old) entry_id.number) entry_id.moment request pairs input chosen given c heard)
+      (subst (λ (d : Demand). GivesFor d (given_by given) a) (sym (demands_offer config h entry_id.moment request pairs input chosen given c)) (
         subst (λ (b : Bool). GivesUndone (demand_of config h id ask) (given_by given) b) (sym (one_fails opened))
             (record { opened = opened; some_are_left = subst (λ (n : ℕ). opened < 2 * n) (pairs_count config h id ask p plans.1) early; then_fails = refl }, refl, refl),
         refl,
       ))
       (λ s t. refl) in
-      carries_due config old new nest x due (Some text) board told is fits (undoes (entry_with nest.moment x due) E15 refl) (refl, bytes)
+      carries_due config old new entry_id x due (Some text) board told is fits (undoes (entry_with entry_id.moment x due) E15 refl) (refl, bytes)
 
   -- a draw failed
-  keys_carries : (config : Config) (old new : Hand M (Part I O) Made T g) (nest : Nest) (request : Request) (pairs : Option Entries) (input : OfferIn) (chosen : List (Option CryptoLine)) (p : BoardPlan)
+  keys_carries : (config : Config) (old new : Hand M (Part I O) Made T g) (entry_id : BoardEntryId) (request : Request) (pairs : Option Entries) (input : OfferIn) (chosen : List (Option CryptoLine)) (p : BoardPlan)
       (drawn : KeyBytes) (text : Room ℕ) (board : Board) (told : Option (List PortCall))
-      → AsksFor config (board_history (made_by old) nest.number) nest.moment request pairs input → OfferHeard (ask_of input chosen)
-      → PlansOffer config (view_of config (board_history (made_by old) nest.number)) input.call_id.list (ask_of input chosen) (Ok p)
+      → AsksFor config (board_history (made_by old) entry_id.number) entry_id.moment request pairs input → OfferHeard (ask_of input chosen)
+      → PlansOffer config (view_of config (board_history (made_by old) entry_id.number)) input.call_id.list (ask_of input chosen) (Ok p)
       → ComesEarly (pairs_of_plan p) (keys_of_plan p) (Key drawn)
-      → ((e : BoardEntry) (code : ErrorCode) → act.act e ≡ act.Undone code (undone_leases config (board_history (made_by old) nest.number) input.call_id.list (ask_of input chosen)) drawn.list
-      → DoesAct config old new nest e board told)
+      → ((e : BoardEntry) (code : ErrorCode) → act.act e ≡ act.Undone code (undone_leases config (board_history (made_by old) entry_id.number) input.call_id.list (ask_of input chosen)) drawn.list
+      → DoesAct config old new entry_id e board told)
       → text.list ≡ reply_datagram config request.cookie.now (Fault E16)
-      → Carries config old new nest (hearing_as request pairs chosen (gave.KeyFault (2 * pair_count p.plan) drawn)) (Some text) board told
-  keys_carries config old new nest request pairs input chosen p drawn text board told c heard plans early undoes bytes =
-      let h = board_history (made_by old) nest.number in
+      → Carries config old new entry_id (hearing_as request pairs chosen (device_answers.KeyFault (2 * pair_count p.plan) drawn)) (Some text) board told
+  keys_carries config old new entry_id request pairs input chosen p drawn text board told c heard plans early undoes bytes =
+      let h = board_history (made_by old) entry_id.number in
       let id = input.call_id.list in
       let ask = ask_of input chosen in
-      let given = gave.KeyFault (2 * pair_count p.plan) drawn in
+      let given = device_answers.KeyFault (2 * pair_count p.plan) drawn in
       let x = hearing_as request pairs chosen given in
       let t = target_of config h id in
       let a = act.Undone E16 (undone_leases config h id ask) drawn.list in
       let due = with_reply config (unanswered x) (Fault E16) a in
       let all = none_fails (2 * pair_count p.plan) in
-      let is = offer_keys_due config h nest.moment (unanswered x) id ask t.of t.begins t.rounds (pairs_for config h id ask) (asks_offer config h nest.moment request pairs input chosen given c refl) refl
+      let is = offer_keys_due config h entry_id.moment (unanswered x) id ask t.of t.begins t.rounds (pairs_for config h id ask) (asks_offer config h entry_id.moment request pairs input chosen given c refl) refl
       (plan_leases config h (unanswered x) id ask p plans) all refl in
-      let fits = due_fits config h nest.moment (unanswered x) due is c.anew.framed c.anew.length_is (λ read. c.asking.reads)
-      (λ h. hears_offer config (board_history (made_by old) nest.number) nest.moment request pairs input chosen given c heard)
-      (subst (λ (d : Demand). GivesFor d (given_by given) a) (sym (demands_offer config h nest.moment request pairs input chosen given c)) (
+      let fits = due_fits config h entry_id.moment (unanswered x) due is c.anew.framed c.anew.length_is (λ read. c.asking.reads)
+      (λ h. hears_offer config (board_history (made_by old) entry_id.number) entry_id.moment request pairs input chosen given c heard)
+      (subst (λ (d : Demand). GivesFor d (given_by given) a) (sym (demands_offer config h entry_id.moment request pairs input chosen given c)) (
         subst (λ (b : Bool). GivesUndone (demand_of config h id ask) (given_by given) b) (sym all) (
           record { all_opened = ap (λ (n : ℕ). replicate (2 * n) true) (pairs_count config h id ask p plans.1) },
           record { some_are_left = subst (λ (n : ℕ). length drawn.list < n) (keys_count config h id ask p plans.1) early; then_fails = refl },
@@ -186,72 +186,72 @@ module _ {M I O T : Type 0} {g : _} where
         refl,
       ))
       (λ s t. refl) in
-      carries_due config old new nest x due (Some text) board told is fits (undoes (entry_with nest.moment x due) E16 refl) (refl, bytes)
+      carries_due config old new entry_id x due (Some text) board told is fits (undoes (entry_with entry_id.moment x due) E16 refl) (refl, bytes)
 
   -- it is undone
-  pub undone_carries : (config : Config) (old new : Hand M (Part I O) Made T g) (nest : Nest) (request : Request) (pairs : Option Entries) (input : OfferIn) (chosen : List (Option CryptoLine)) (p : BoardPlan)
+  pub undone_carries : (config : Config) (old new : Hand M (Part I O) Made T g) (entry_id : BoardEntryId) (request : Request) (pairs : Option Entries) (input : OfferIn) (chosen : List (Option CryptoLine)) (p : BoardPlan)
       (fault : LeaseFault) (text : Room ℕ) (board : Board) (told : Option (List PortCall))
-      → AsksFor config (board_history (made_by old) nest.number) nest.moment request pairs input → OfferHeard (ask_of input chosen)
-      → PlansOffer config (view_of config (board_history (made_by old) nest.number)) input.call_id.list (ask_of input chosen) (Ok p)
+      → AsksFor config (board_history (made_by old) entry_id.number) entry_id.moment request pairs input → OfferHeard (ask_of input chosen)
+      → PlansOffer config (view_of config (board_history (made_by old) entry_id.number)) input.call_id.list (ask_of input chosen) (Ok p)
       → ComesEarly (pairs_of_plan p) (keys_of_plan p) fault
-      → ((e : BoardEntry) (code : ErrorCode) → act.act e ≡ act.Undone code (undone_leases config (board_history (made_by old) nest.number) input.call_id.list (ask_of input chosen)) (keys_before fault)
-      → DoesAct config old new nest e board told)
+      → ((e : BoardEntry) (code : ErrorCode) → act.act e ≡ act.Undone code (undone_leases config (board_history (made_by old) entry_id.number) input.call_id.list (ask_of input chosen)) (keys_before fault)
+      → DoesAct config old new entry_id e board told)
       → text.list ≡ reply_datagram config request.cookie.now (Fault (undone_code fault))
-      → Carries config old new nest (hearing_as request pairs chosen (undone_gave (2 * pair_count p.plan) fault)) (Some text) board told
-  undone_carries config old new nest request pairs input chosen p (Port opened) text board told c heard plans early undoes bytes =
-      ports_carries config old new nest request pairs input chosen p opened text board told c heard plans early undoes bytes
-  undone_carries config old new nest request pairs input chosen p (Key drawn) text board told c heard plans early undoes bytes =
-      keys_carries config old new nest request pairs input chosen p drawn text board told c heard plans early undoes bytes
+      → Carries config old new entry_id (hearing_as request pairs chosen (undone_answers (2 * pair_count p.plan) fault)) (Some text) board told
+  undone_carries config old new entry_id request pairs input chosen p (Port opened) text board told c heard plans early undoes bytes =
+      ports_carries config old new entry_id request pairs input chosen p opened text board told c heard plans early undoes bytes
+  undone_carries config old new entry_id request pairs input chosen p (Key drawn) text board told c heard plans early undoes bytes =
+      keys_carries config old new entry_id request pairs input chosen p drawn text board told c heard plans early undoes bytes
 
-  -- the board refuses it, or memory is short
-  refuses_case : (config : Config) (turns : Turns M (Part I O) Made T) (hand : Hand M (Part I O) Made T g) (nest : Nest) (request : Request) (pairs : Option Entries) (input : OfferIn) (chosen : List (Option CryptoLine))
-      (fault : BoardFault) (code : Option ErrorCode) (done : Done) (board : Board) (told : Option (List PortCall))
-      → InTurn config turns hand nest board told → AsksFor config (board_history (made_by hand) nest.number) nest.moment request pairs input → OfferHeard (ask_of input chosen)
-      → PlansOffer config (view_of config (board_history (made_by hand) nest.number)) input.call_id.list (ask_of input chosen) (Err fault)
+  -- the board refuses it, or memory ran out
+  refuses_case : (config : Config) (turns : Turns M (Part I O) Made T) (hand : Hand M (Part I O) Made T g) (entry_id : BoardEntryId) (request : Request) (pairs : Option Entries) (input : OfferIn) (chosen : List (Option CryptoLine))
+      (fault : BoardFault) (code : Option ErrorCode) (done : CommandOutcome) (board : Board) (told : Option (List PortCall))
+      → InTurn config turns hand entry_id board told → AsksFor config (board_history (made_by hand) entry_id.number) entry_id.moment request pairs input → OfferHeard (ask_of input chosen)
+      → PlansOffer config (view_of config (board_history (made_by hand) entry_id.number)) input.call_id.list (ask_of input chosen) (Err fault)
       → code_of fault ≡ code → Refuses request.cookie.now chosen code done
-      → Carries config hand hand nest (hearing_by request pairs done) done.reply board told
-  refuses_case config turns hand nest request pairs input chosen fault None done board told turn c heard planned is refuses =
-      is_short_carries config turns hand nest request pairs done board told turn c.anew refuses
-  refuses_case config turns hand nest request pairs input chosen fault (Some code) done board told turn c heard planned is refuses =
-      let h = board_history (made_by hand) nest.number in
+      → Carries config hand hand entry_id (hearing_by request pairs done) done.reply board told
+  refuses_case config turns hand entry_id request pairs input chosen fault None done board told turn c heard planned is refuses =
+      is_short_carries config turns hand entry_id request pairs done board told turn c.anew refuses
+  refuses_case config turns hand entry_id request pairs input chosen fault (Some code) done board told turn c heard planned is refuses =
+      let h = board_history (made_by hand) entry_id.number in
       let id = input.call_id.list in
       let ask = ask_of input chosen in
       let control = unanswered (hearing_as request pairs chosen Nothing) in
-      tells_carries config turns hand nest request pairs chosen (with_reply config control (Fault code) (act.Failed code)) done board told turn c.anew (λ short. c.asking.reads)
-      (offer_failed_due config h nest.moment control id ask code (asks_offer config h nest.moment request pairs input chosen Nothing c refl) refl
+      tells_carries config turns hand entry_id request pairs chosen (with_reply config control (Fault code) (act.Failed code)) done board told turn c.anew (λ short. c.asking.reads)
+      (offer_failed_due config h entry_id.moment control id ask code (asks_offer config h entry_id.moment request pairs input chosen Nothing c refl) refl
       (offer_fails config h control.given id ask fault code planned is)) refl refl
-      (λ late. hears_offer config h nest.moment request pairs input chosen Nothing c heard) (refuses config)
+      (λ late. hears_offer config h entry_id.moment request pairs input chosen Nothing c heard) (refuses config)
 
-  pub refuses_carries : (config : Config) (turns : Turns M (Part I O) Made T) (hand : Hand M (Part I O) Made T g) (nest : Nest) (request : Request) (pairs : Option Entries) (input : OfferIn) (chosen : List (Option CryptoLine))
-      (fault : BoardFault) (done : Done) (board : Board) (told : Option (List PortCall))
-      → InTurn config turns hand nest board told → AsksFor config (board_history (made_by hand) nest.number) nest.moment request pairs input → OfferHeard (ask_of input chosen)
-      → PlansOffer config (view_of config (board_history (made_by hand) nest.number)) input.call_id.list (ask_of input chosen) (Err fault)
+  pub refuses_carries : (config : Config) (turns : Turns M (Part I O) Made T) (hand : Hand M (Part I O) Made T g) (entry_id : BoardEntryId) (request : Request) (pairs : Option Entries) (input : OfferIn) (chosen : List (Option CryptoLine))
+      (fault : BoardFault) (done : CommandOutcome) (board : Board) (told : Option (List PortCall))
+      → InTurn config turns hand entry_id board told → AsksFor config (board_history (made_by hand) entry_id.number) entry_id.moment request pairs input → OfferHeard (ask_of input chosen)
+      → PlansOffer config (view_of config (board_history (made_by hand) entry_id.number)) input.call_id.list (ask_of input chosen) (Err fault)
       → Refuses request.cookie.now chosen (code_of fault) done
-      → Carries config hand hand nest (hearing_by request pairs done) done.reply board told
-  refuses_carries config turns hand nest request pairs input chosen fault done board told turn c heard planned refuses =
-      refuses_case config turns hand nest request pairs input chosen fault (code_of fault) done board told turn c heard planned refl refuses
+      → Carries config hand hand entry_id (hearing_by request pairs done) done.reply board told
+  refuses_carries config turns hand entry_id request pairs input chosen fault done board told turn c heard planned refuses =
+      refuses_case config turns hand entry_id request pairs input chosen fault (code_of fault) done board told turn c heard planned refl refuses
 
   -- its description has an error
-  error_carries : (config : Config) (turns : Turns M (Part I O) Made T) (hand : Hand M (Part I O) Made T g) (nest : Nest) (request : Request) (pairs : Option Entries) (input : OfferIn) (chosen : List (Option CryptoLine))
-      (code : ErrorCode) (done : Done) (board : Board) (told : Option (List PortCall))
-      → InTurn config turns hand nest board told → IsAnew (board_history (made_by hand) nest.number) nest.moment request → IsAsking request pairs (says_of input)
+  error_carries : (config : Config) (turns : Turns M (Part I O) Made T) (hand : Hand M (Part I O) Made T g) (entry_id : BoardEntryId) (request : Request) (pairs : Option Entries) (input : OfferIn) (chosen : List (Option CryptoLine))
+      (code : ErrorCode) (done : CommandOutcome) (board : Board) (told : Option (List PortCall))
+      → InTurn config turns hand entry_id board told → IsAnew (board_history (made_by hand) entry_id.number) entry_id.moment request → IsAsking request pairs (says_of input)
       → sdp_error config input.sdp.list ≡ Some code → Tells chosen (reply_datagram config request.cookie.now (Fault code)) done
-      → Carries config hand hand nest (hearing_by request pairs done) done.reply board told
-  error_carries config turns hand nest request pairs input chosen code done board told turn anew asking faulty tells =
-      let h = board_history (made_by hand) nest.number in
+      → Carries config hand hand entry_id (hearing_by request pairs done) done.reply board told
+  error_carries config turns hand entry_id request pairs input chosen code done board told turn anew asking faulty tells =
+      let h = board_history (made_by hand) entry_id.number in
       let control = unanswered (hearing_as request pairs chosen Nothing) in
       let is : asked config request.too_long pairs ≡ Err code =
       ap (λ (long : Bool). asked config long pairs) asking.short ∙ asks_misdescribed config false pairs (says_of input) code asking.command faulty in
-      tells_carries config turns hand nest request pairs chosen (with_reply config control (Fault code) (act.Failed code)) done board told turn anew (λ short. asking.reads)
-      (failed_due config h nest.moment control code (record { nothing_kept = anew.not_kept; not_starved = refl; is_asked = is })) refl refl
+      tells_carries config turns hand entry_id request pairs chosen (with_reply config control (Fault code) (act.Failed code)) done board told turn anew (λ short. asking.reads)
+      (failed_due config h entry_id.moment control code (record { nothing_kept = anew.not_kept; not_out_of_memory = refl; is_asked = is })) refl refl
       (λ late. subst (λ (r : Result Said ErrorCode). Hears h control r) (sym is) tt) tells
 
-  pub misdescribed_carries : (config : Config) (turns : Turns M (Part I O) Made T) (hand : Hand M (Part I O) Made T g) (nest : Nest) (request : Request) (pairs : Option Entries) (input : OfferIn)
-      (fault : DescriptionFault) (done : Done) (board : Board) (told : Option (List PortCall))
-      → InTurn config turns hand nest board told → IsAnew (board_history (made_by hand) nest.number) nest.moment request → IsAsking request pairs (says_of input)
+  pub misdescribed_carries : (config : Config) (turns : Turns M (Part I O) Made T) (hand : Hand M (Part I O) Made T g) (entry_id : BoardEntryId) (request : Request) (pairs : Option Entries) (input : OfferIn)
+      (fault : DescriptionFault) (done : CommandOutcome) (board : Board) (told : Option (List PortCall))
+      → InTurn config turns hand entry_id board told → IsAnew (board_history (made_by hand) entry_id.number) entry_id.moment request → IsAsking request pairs (says_of input)
       → IsErrorOf (sdp_error config input.sdp.list) fault → Refuses request.cookie.now [] (error_in fault) done
-      → Carries config hand hand nest (hearing_by request pairs done) done.reply board told
-  misdescribed_carries config turns hand nest request pairs input (faults.Error code) done board told turn anew asking faulty refuses =
-      error_carries config turns hand nest request pairs input [] code done board told turn anew asking faulty (refuses config)
-  misdescribed_carries config turns hand nest request pairs input faults.OutOfMemory done board told turn anew asking faulty refuses =
-      is_short_carries config turns hand nest request pairs done board told turn anew refuses
+      → Carries config hand hand entry_id (hearing_by request pairs done) done.reply board told
+  misdescribed_carries config turns hand entry_id request pairs input (faults.Error code) done board told turn anew asking faulty refuses =
+      error_carries config turns hand entry_id request pairs input [] code done board told turn anew asking faulty (refuses config)
+  misdescribed_carries config turns hand entry_id request pairs input faults.OutOfMemory done board told turn anew asking faulty refuses =
+      is_short_carries config turns hand entry_id request pairs done board told turn anew refuses

@@ -15,9 +15,9 @@ use Rattle.call_board.specs.Asked.{sdp_error}
 use Rattle.call_board.specs.Replies.{Reply, reply_datagram}
 use Rattle.offer_leases.specs.declared.fault.LeaseFault.{LeaseFault}
 use Rattle.offer_leases.specs.declared.fault.LeaseFault.TheVariants.{Port, Key}
-use Rattle.control_entries.specs.declared.done.Done.{Done}
-use Rattle.control_entries.specs.declared.gave.Gave.{Gave}
-use Rattle.control_entries.specs.declared.gave.Gave.TheVariants.{PortFault, KeyFault}
+use Rattle.control_entries.specs.declared.command_outcome.CommandOutcome.{CommandOutcome}
+use Rattle.control_entries.specs.declared.device_answers.DeviceAnswers.{DeviceAnswers}
+use Rattle.control_entries.specs.declared.device_answers.DeviceAnswers.TheVariants.{PortFault, KeyFault}
 use Rattle.control_entries.specs.declared.request.Request.{Request}
 use Rattle.control_entries.specs.Telling.{IsAnew, IsAsking}
 
@@ -42,10 +42,10 @@ abbrev pub IsReply : List ℕ → Option (Room ℕ) → Type 0
 IsReply bytes None = ⊥
 IsReply bytes (Some text) = text.list ≡ bytes
 
--- where these crypto lines were chosen, the outside gave this, and the reply is made
-pub record Gives (cookie : List ℕ) (chosen : List (Option CryptoLine)) (gave : Gave) (reply : Reply) (done : Done) : Type 0 where
-  pub heard_is : done.heard ≡ chosen
-  pub gave_is : done.gave ≡ gave
+-- where these crypto lines were chosen, the devices returned this, and the reply is made
+pub record Gives (cookie : List ℕ) (chosen : List (Option CryptoLine)) (device_answers : DeviceAnswers) (reply : Reply) (done : CommandOutcome) : Type 0 where
+  pub chosen_are : done.chosen_lines ≡ chosen
+  pub answers_are : done.device_answers ≡ device_answers
   pub replies : (config : Config) → IsReply (reply_datagram config cookie reply) done.reply
 
 -- the error of an offer that is undone
@@ -53,7 +53,7 @@ abbrev pub undone_code : LeaseFault → ErrorCode
 undone_code (Port opened) = E15
 undone_code (Key drawn) = E16
 
--- what the outside gave for one that opens so many ports
-abbrev pub undone_gave : (ports : ℕ) → LeaseFault → Gave
-undone_gave ports (Port opened) = PortFault opened
-undone_gave ports (Key drawn) = KeyFault ports drawn
+-- what the devices returned for one that opens `ports` ports
+abbrev pub undone_answers : (ports : ℕ) → LeaseFault → DeviceAnswers
+undone_answers ports (Port opened) = PortFault opened
+undone_answers ports (Key drawn) = KeyFault ports drawn

@@ -18,11 +18,11 @@ use crate::memory::{OfferMemory, offer_memory};
 use crate::replying::{accepted, undone};
 use call_board::Board;
 use call_cell::Gone;
-use control_entries::{Done, Request, misdescribed, short, unplanned};
+use control_entries::{CommandOutcome, Request, misdescribed, short, unplanned};
 use control_reading::read_description;
 use nested_steps::BoardTurn;
 use ng_command::OfferIn;
-use offer_answer::Heard;
+use offer_answer::ChosenLines;
 use offer_turns::{PlannedOffer, offer_act};
 use relay_core::Relay;
 use relay_outside::{KeySource, PortMaker};
@@ -43,31 +43,31 @@ pub fn offer<P: PortMaker, K: KeySource, R: Wait>(
     gone: &mut Gone<P::Out>,
     request: &Request,
     input: &OfferIn,
-) -> Done
-    requires turn { InTurn turn.now.config.now turn.now.turns.now hand.old turn.now.nest board.old (P.told ports.old) }
-    requires anew { IsAnew (board_history (made_by hand.old) turn.now.nest.number) turn.now.nest.moment request.now }
+) -> CommandOutcome
+    requires turn { InTurn turn.now.config.now turn.now.turns.now hand.old turn.now.entry_id board.old (P.told ports.old) }
+    requires anew { IsAnew (board_history (made_by hand.old) turn.now.entry_id.number) turn.now.entry_id.moment request.now }
     requires empty { gone.old ≡ [] }
     requires small { length input.now.sdp.list < 2 ^ 31 }
     requires asked { (pairs : Option Entries) × IsAsking request.now pairs (Offer input.now.call_id.list input.now.from_tag.list input.now.sdp.list input.now.options) }
     ensures same { IsSameHand hand.old hand.new × SameTurns hand.old hand.new }
     ensures may { MayNest turn.now.config.now turn.now.turns.now hand.new }
     ensures carries { (pairs : Option Entries) → IsAsking request.now pairs (Offer input.now.call_id.list input.now.from_tag.list input.now.sdp.list input.now.options) →
-        Carries turn.now.config.now hand.old hand.new turn.now.nest (hearing_by request.now pairs result) result.reply board.new (P.told ports.new) }
+        Carries turn.now.config.now hand.old hand.new turn.now.entry_id (hearing_by request.now pairs result) result.reply board.new (P.told ports.new) }
     ensures replies { KeepsReplies board.old board.new }
     ensures empty { gone.new ≡ [] }
     ensures ties { Ties turn.now.config.now (P.told ports.old) (P.told ports.new) (entries hand.old) (entries hand.new) }
     ensures later { (P.faults ports.old ≤ P.faults ports.new) × (K.faults keys.old ≤ K.faults keys.new) }
-    ensures given { let h = board_history (made_by hand.old) turn.now.nest.number in
-        IsGivenBy turn.now.config.now (free turn.now.config.now h) (given_by result.gave) (P.faults ports.old) (P.faults ports.new) (K.faults keys.old) (K.faults keys.new) (P.told ports.old) (P.told ports.new) (K.told keys.old) (K.told keys.new) }
+    ensures given { let h = board_history (made_by hand.old) turn.now.entry_id.number in
+        IsGivenBy turn.now.config.now (free turn.now.config.now h) (given_by result.device_answers) (P.faults ports.old) (P.faults ports.new) (K.faults keys.old) (K.faults keys.new) (P.told ports.old) (P.told ports.new) (K.told keys.old) (K.told keys.new) }
 {
     let sdp = match read_description(alloc, turn.config, input.sdp.as_slice()) {
         Ok(sdp) => sdp,
         Err(fault) => return misdescribed(alloc, request.cookie, fault),
     };
-    let heard = Heard::of_offer(&sdp);
+    let chosen_lines = ChosenLines::of_offer(&sdp);
     let plan = match board.plan_offer(alloc, input, &sdp) {
         Ok(plan) => plan,
-        Err(fault) => return unplanned(alloc, request.cookie, fault, heard),
+        Err(fault) => return unplanned(alloc, request.cookie, fault, chosen_lines),
     };
     let Ok(memory) = offer_memory(alloc, request.cookie, plan.planned()) else {
         return short();
@@ -81,7 +81,7 @@ pub fn offer<P: PortMaker, K: KeySource, R: Wait>(
     };
     let offered = match offer_act(rt, turn, hand, board, ports, keys, gone, offer) {
         Ok(offered) => offered,
-        Err(fault) => return undone(request.cookie, fault, opens, heard, reply),
+        Err(fault) => return undone(request.cookie, fault, opens, chosen_lines, reply),
     };
-    accepted(request.cookie, offered, opens, heard, reply)
+    accepted(request.cookie, offered, opens, chosen_lines, reply)
 }

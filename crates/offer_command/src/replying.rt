@@ -3,14 +3,14 @@ ghost use Rattle.std.specs.Prelude.{◌≡◌, ◌<◌, ◌≤◌, ◌^◌, [], 
 ghost use Rattle.cookie_cache.specs.Keepings.{IsCookie};
 ghost use Rattle.call_board.specs.Replies.{Described, Fault};
 ghost use Rattle.control_replies.specs.Rooms.{described_len};
-ghost use Rattle.control_entries.specs.declared.gave.Gave.TheVariants as gave;
-ghost use Rattle.offer_command.specs.Commands.{Gives, undone_code, undone_gave};
+ghost use Rattle.control_entries.specs.declared.device_answers.DeviceAnswers.TheVariants as device_answers;
+ghost use Rattle.offer_command.specs.Commands.{Gives, undone_code, undone_answers};
 
-use control_entries::{Done, Gave};
+use control_entries::{CommandOutcome, DeviceAnswers};
 use control_replies::{write_described, write_error};
 use ng_bencode::Text;
 use ng_reply::ErrorCode;
-use offer_answer::Heard;
+use offer_answer::ChosenLines;
 use offer_leases::LeaseFault;
 use offer_turns::AcceptedOffer;
 
@@ -19,31 +19,31 @@ pub(crate) fn accepted(
     cookie: &[u8],
     offered: AcceptedOffer,
     opened: usize,
-    heard: Heard,
+    chosen_lines: ChosenLines,
     reply: Text,
-) -> Done
+) -> CommandOutcome
     requires small { length offered.text.list < 2 ^ 40 }
     requires empty { reply.list ≡ [] }
     requires room { described_len cookie.now offered.text.list ≤ reply.spare }
-    ensures { Gives cookie.now heard (gave.Offered opened offered.drawn) (Described offered.text.list) result }
+    ensures { Gives cookie.now chosen_lines (device_answers.Offered opened offered.drawn) (Described offered.text.list) result }
 {
     let AcceptedOffer { drawn, text } = offered;
     let mut reply = reply;
     write_described(cookie, text.as_slice(), &mut reply);
-    Done {
-        heard,
-        gave: Gave::Offered(opened, drawn),
+    CommandOutcome {
+        chosen_lines,
+        device_answers: DeviceAnswers::Offered(opened, drawn),
         reply: Some(reply),
     }
 }
 
-/// The error of an offer that is undone, and what the outside gave for it, where it opens this many ports.
-fn undone_by(fault: LeaseFault, ports: usize) -> (ErrorCode, Gave)
-    ensures { result ≡ (undone_code fault, undone_gave ports fault) }
+/// The error of an offer that is undone, and what the devices returned for it, where it opens this many ports.
+fn undone_by(fault: LeaseFault, ports: usize) -> (ErrorCode, DeviceAnswers)
+    ensures { result ≡ (undone_code fault, undone_answers ports fault) }
 {
     match fault {
-        LeaseFault::Port { opened } => (ErrorCode::E15, Gave::PortFault(opened)),
-        LeaseFault::Key { drawn } => (ErrorCode::E16, Gave::KeyFault(ports, drawn)),
+        LeaseFault::Port { opened } => (ErrorCode::E15, DeviceAnswers::PortFault(opened)),
+        LeaseFault::Key { drawn } => (ErrorCode::E16, DeviceAnswers::KeyFault(ports, drawn)),
     }
 }
 
@@ -52,20 +52,20 @@ pub(crate) fn undone(
     cookie: &[u8],
     fault: LeaseFault,
     ports: usize,
-    heard: Heard,
+    chosen_lines: ChosenLines,
     reply: Text,
-) -> Done
+) -> CommandOutcome
     requires cookie { IsCookie cookie.now }
     requires empty { reply.list ≡ [] }
     requires room { 512 ≤ reply.spare }
-    ensures { Gives cookie.now heard (undone_gave ports fault) (Fault (undone_code fault)) result }
+    ensures { Gives cookie.now chosen_lines (undone_answers ports fault) (Fault (undone_code fault)) result }
 {
     let mut reply = reply;
-    let (code, gave) = undone_by(fault, ports);
+    let (code, device_answers) = undone_by(fault, ports);
     write_error(cookie, code, &mut reply);
-    Done {
-        heard,
-        gave,
+    CommandOutcome {
+        chosen_lines,
+        device_answers,
         reply: Some(reply),
     }
 }

@@ -22,7 +22,7 @@ pub record AreFronts (config : Config) (free : List ℕ) (pairs : ℕ) (leases :
   pub many : length leases ≡ pairs
 
 module _ (config : Config) (free : List ℕ) (pairs : ℕ) (leases : List Lease) (are : AreFronts config free pairs leases) where
-  -- openings of their ports, as many as there are answers, and then calls that open none
+  -- openings of their ports, as many as there are results, and then calls that open none
   fronts_opened : (answers : List Bool) (closes calls : List PortCall) → length answers ≤ 2 * pairs → calls ≡ openings (addresses_of config.interface leases) answers ++ closes →
       OpensNone closes → OpensAt config free answers calls
   fronts_opened answers closes calls few opens none =

@@ -32,7 +32,7 @@ pub leases_left : (config : Config) (h : List BoardEntry) (pair count : ℕ) →
 leases_left config h pair count fits short few =
     let most = few_leases config h pair fits in omega (arith, most, short, few)
 
--- nor were so many keys drawn
+-- nor do an offer's draws reach the end of theirs
 pub draws_left : (config : Config) (h : List BoardEntry) (count : ℕ) → IsFitting config h → length h ≤ 2 ^ 56 → count ≤ 24 * 2 → length (drawn h) + count ≤ 2 ^ 63
 draws_left config h count fits short few =
     let most = few_drawn config h fits in omega (arith, most, short, few)

@@ -53,7 +53,7 @@ taken_closed config board told p leases can is =
     (front_others config can.view (pairs_of_plan p) can.held can.apart))
     can.opens)
 
--- their ports are open beside those that were
+-- their ports are open besides those that were
 pub taken_open : (config : Config) (board : Board) (told new : Option (List PortCall)) (p : BoardPlan) (leases : List Lease) (held now : List ℕ) → (can : CanLease config board told p) →
     leases ≡ leases_of config can.view (pairs_of_plan p) → Gained told new (OpensPairs config.interface leases) → TellsHeld config told held → HasBoth held (pairs_in leases) now → TellsHeld config new now
 taken_open config board told new p leases held now can is opens tells both =
@@ -72,7 +72,7 @@ pub taken_of_pairs : (config : Config) (board : Board) (told : Option (List Port
 taken_of_pairs config board told p leases can is =
     subst (AreLeased config) (sym is) (front_leased config can.view (pairs_of_plan p) can.are_free)
 
--- so many keys may be numbered once the pairs are leased
+-- `count` keys may be numbered once the pairs are leased
 pub taken_draws : (config : Config) (board after : Board) (told : Option (List PortCall)) (p : BoardPlan) (count : ℕ) → (can : CanLease config board told p) →
     Shows config after (with_leases can.view (pairs_of_plan p)) → count ≤ keys_of_plan p → (config : Config) × (v : View) × Shows config after v × (v.drawn + count ≤ 2 ^ 63)
 taken_draws config board after told p count can shows few =

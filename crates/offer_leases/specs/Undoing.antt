@@ -17,14 +17,14 @@ abbrev pub keys_before : LeaseFault → List (List ℕ)
 keys_before (Port opened) = []
 keys_before (Key drawn) = drawn.list
 
--- the answers of the openings up to the fault, of an offer of that many pairs: those of the ports that were opened, and the one that
+-- the results of the openings up to the fault, of an offer of that many pairs: those of the ports that were opened, and the one that
 -- failed; or those of all its ports, where a draw failed
 abbrev pub opens_before : (pairs : ℕ) → LeaseFault → List Bool
 opens_before pairs (Port opened) = replicate opened true ++ false ∷ []
 opens_before pairs (Key drawn) = replicate (2 * pairs) true
 
 -- what the board keeps once an offer that leased that many pairs and drew that many keys is undone: the keys are used up, the
--- pairs wait behind all that were free
+-- pairs wait after all that were free
 abbrev pub with_undone : View → (pairs keys : ℕ) → View
 with_undone v pairs keys = with_returned (with_taken v pairs keys) (take pairs v.free)
 
@@ -49,7 +49,7 @@ abbrev pub DrawsBefore : LeaseFault → Option (List KeyCall) → Option (List K
 DrawsBefore (Port opened) old new = new ≡ old
 DrawsBefore (Key drawn) old new = Gained old new (DrawsUpTo drawn.list)
 
--- the fault is answered only where the count of the port maker's faults rose, or that of the key source's
+-- the fault is returned only where the count of the port maker's faults rose, or that of the key source's
 abbrev pub HasRisen : LeaseFault → (ports ports_now keys keys_now : ℕ) → Type 0
 HasRisen (Port opened) ports ports_now keys keys_now = Rose ports ports_now
 HasRisen (Key drawn) ports ports_now keys keys_now = Rose keys keys_now

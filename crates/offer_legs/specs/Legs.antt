@@ -13,7 +13,7 @@ pub record LegList : Type 0 where
   pub list : List Holder
   pub room : ℕ
 
--- one more, behind
+-- one more, at the end
 abbrev pub with_leg : LegList → Holder → LegList
 with_leg legs leg = record { list = legs.list ++ leg ∷ []; room = legs.room }
 

@@ -51,8 +51,8 @@ fn open_leg<I: InEnd, O: OutEnd, R: Wait>(
     requires room { (0 < leg_room prepare.old) × (length legs.old.list < legs.old.room) }
     ensures same { IsSameHand hand.old hand.new × SameTurns hand.old hand.new }
     ensures may { MayNest turn.now.config.now turn.now.turns.now hand.new }
-    ensures gained { GainsNested turn.now.nest.number turn.now.nest.moment (opening turn.now.config.now holder ∷ []) hand.old hand.new }
-    ensures opened { IsOpened I.told I.faults O.told O.faults turn.now.config.now turn.now.nest.number turn.now.nest.moment hand.old holder ends }
+    ensures gained { GainsNested turn.now.entry_id.number turn.now.entry_id.moment (opening turn.now.config.now holder ∷ []) hand.old hand.new }
+    ensures opened { IsOpened I.told I.faults O.told O.faults turn.now.config.now turn.now.entry_id.number turn.now.entry_id.moment hand.old holder ends }
     ensures added { added prepare.new ≡ added prepare.old ++ holder ∷ [] }
     ensures parts { parts_added prepare.new ≡ parts_added prepare.old ++ leg_parts lease ends ∷ [] }
     ensures stands { (keys : List NewKey) (dropped : List ℕ) → PrepareFor prepare.old keys dropped → PrepareFor prepare.new keys dropped }
@@ -100,8 +100,8 @@ pub fn open_legs<I: InEnd, O: OutEnd, R: Wait>(
     // Their boxes are opened, in order, with these ends.
     ensures same { IsSameHand hand.old hand.new × SameTurns hand.old hand.new }
     ensures may { MayNest turn.now.config.now turn.now.turns.now hand.new }
-    ensures gained { GainsNested turn.now.nest.number turn.now.nest.moment (map (opening turn.now.config.now) legs.new.list) hand.old hand.new }
-    ensures opened { AllZip (IsOpened I.told I.faults O.told O.faults turn.now.config.now turn.now.nest.number turn.now.nest.moment hand.old) legs.new.list opened.list }
+    ensures gained { GainsNested turn.now.entry_id.number turn.now.entry_id.moment (map (opening turn.now.config.now) legs.new.list) hand.old hand.new }
+    ensures opened { AllZip (IsOpened I.told I.faults O.told O.faults turn.now.config.now turn.now.entry_id.number turn.now.entry_id.moment hand.old) legs.new.list opened.list }
 
     // They are prepared, in order, with their leases and these ends.
     ensures added { added prepare.new ≡ added prepare.old ++ legs.new.list }

@@ -67,7 +67,7 @@ can_offer config h now source cookie body too_long pairs chosen id from_tag sdp 
     o draws = offer_of config h id ask draws
 
     given : List (List ℕ) → Given
-    given draws = record { starved = false; opens = replicate (2 * length (demand_of config h id ask).pairs) true; draws = draws; draw_failed = false; report = None }
+    given draws = record { out_of_memory = false; opens = replicate (2 * length (demand_of config h id ask).pairs) true; draws = draws; draw_failed = false; report = None }
 
     control : List (List ℕ) → Control
     control draws = record {
@@ -102,7 +102,7 @@ can_offer config h now source cookie body too_long pairs chosen id from_tag sdp 
       hears = λ is. subst (λ (r : Result Said ErrorCode). Hears h (control draws) r) (sym a.asks) a.heard;
       gives = subst (λ (d : Demand). GivesFor d (given draws) (act.Offered (o draws))) (sym (same draws))
           (record { all_opened = refl }, record { all_drawn = count ∙ keys_count config h id ask p plans.1; none_failed = refl }, refl);
-      reports = λ starved. absurd (let e = starved in cc);
+      reports = λ out_of_memory. absurd (let e = out_of_memory in cc);
       answers = sym (ap (answering_unless config h (control draws)) a.none_kept ∙ ap (spelled config cookie) (answer draws));
     }
 

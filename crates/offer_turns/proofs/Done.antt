@@ -38,7 +38,7 @@ use Rattle.relay_core.proofs.Shut.{closed_open}
 use Rattle.media_ports.specs.Held.{TellsHeld}
 use Rattle.nested_steps.specs.Leaving.{AreLeasesOf}
 use Rattle.nested_steps.specs.Nesting.{IsOpen}
-use Rattle.nested_steps.specs.declared.nest.Nest.{Nest}
+use Rattle.nested_steps.specs.declared.board_turn.BoardEntryId.{BoardEntryId}
 use Rattle.nested_steps.proofs.Nesting.{gains_more}
 use Rattle.board_turns.specs.Acting.{DoesAct, acted}
 use Rattle.board_turns.specs.Closing.{CanClose, leases_of, closings_of, pairs_left}
@@ -183,30 +183,30 @@ shows_acted config h id ask draws moment count keys board e pairs acts now legs_
 -- What the turn did.
 
 module _ {M I O T : Type 0} {g : _} where
-  pub does_offer : (config : Config) (old mid new : Hand M (Part I O) Made T g) (nest : Nest) (e : BoardEntry) (board : Board) (told : Option (List PortCall)) (id : List ℕ)
+  pub does_offer : (config : Config) (old mid new : Hand M (Part I O) Made T g) (entry_id : BoardEntryId) (e : BoardEntry) (board : Board) (told : Option (List PortCall)) (id : List ℕ)
       (ask : OfferAsk) (draws : List (List ℕ)) (count keys : ℕ) (gone : List (pairs.Lease × O × O)) → Orderly config (made_by old) →
-      FitsBoard config (board_history (made_by old) nest.number) e → act.act e ≡ act.Offered (offer_of config (board_history (made_by old) nest.number) id ask draws) → e.moment ≡ nest.moment →
-      length (pairs_for config (board_history (made_by old) nest.number) id ask) ≡ count → length (offer_of config (board_history (made_by old) nest.number) id ask draws).keys ≡ keys →
-      AreLeasesOf config gone (dropped_legs (board_history (made_by old) nest.number) (offer_of config (board_history (made_by old) nest.number) id ask draws)) →
-      GainsNested nest.number nest.moment (bringing_of config (offer_of config (board_history (made_by old) nest.number) id ask draws)) old mid →
-      GainsNested nest.number nest.moment (closings_of config gone) mid new →
-      Shows config board (with_returned (with_offer (offer_of config (board_history (made_by old) nest.number) id ask draws) nest.moment
-      (leased_view config (board_history (made_by old) nest.number) nest.moment count keys)) (pairs_in (leases_of gone))) →
-      TellsHeld config told (pairs_left (pairs_in (leases_of gone)) (leg_pairs (offer_of config (board_history (made_by old) nest.number) id ask draws).legs
-      ++ leg_pairs (held (board_history (made_by old) nest.number)))) →
-      DoesAct config old new nest e board told
-  does_offer config old mid new nest e board told id ask draws count keys gone orderly fits acts now legs_count keys_count went brings closes shows opens = record {
-    gained = subst (λ (ws : List Owed). GainsNested nest.number nest.moment ws old new)
+      FitsBoard config (board_history (made_by old) entry_id.number) e → act.act e ≡ act.Offered (offer_of config (board_history (made_by old) entry_id.number) id ask draws) → e.moment ≡ entry_id.moment →
+      length (pairs_for config (board_history (made_by old) entry_id.number) id ask) ≡ count → length (offer_of config (board_history (made_by old) entry_id.number) id ask draws).keys ≡ keys →
+      AreLeasesOf config gone (dropped_legs (board_history (made_by old) entry_id.number) (offer_of config (board_history (made_by old) entry_id.number) id ask draws)) →
+      GainsNested entry_id.number entry_id.moment (bringing_of config (offer_of config (board_history (made_by old) entry_id.number) id ask draws)) old mid →
+      GainsNested entry_id.number entry_id.moment (closings_of config gone) mid new →
+      Shows config board (with_returned (with_offer (offer_of config (board_history (made_by old) entry_id.number) id ask draws) entry_id.moment
+      (leased_view config (board_history (made_by old) entry_id.number) entry_id.moment count keys)) (pairs_in (leases_of gone))) →
+      TellsHeld config told (pairs_left (pairs_in (leases_of gone)) (leg_pairs (offer_of config (board_history (made_by old) entry_id.number) id ask draws).legs
+      ++ leg_pairs (held (board_history (made_by old) entry_id.number)))) →
+      DoesAct config old new entry_id e board told
+  does_offer config old mid new entry_id e board told id ask draws count keys gone orderly fits acts now legs_count keys_count went brings closes shows opens = record {
+    gained = subst (λ (ws : List Owed). GainsNested entry_id.number entry_id.moment ws old new)
         (ap (λ (ws : List Owed). bringing_of config o ++ ws) (closings_are config gone (dropped_legs h o) went) ∙ sym (script_is config h e o acts))
-        (gains_more nest.number nest.moment (bringing_of config o) (closings_of config gone) old mid new brings closes);
-    shows = shows_acted config h id ask draws nest.moment count keys board e (pairs_in (leases_of gone)) acts now legs_count keys_count closed shows;
+        (gains_more entry_id.number entry_id.moment (bringing_of config o) (closings_of config gone) old mid new brings closes);
+    shows = shows_acted config h id ask draws entry_id.moment count keys board e (pairs_in (leases_of gone)) acts now legs_count keys_count closed shows;
     opens = told_alike config told (pairs_left (pairs_in (leases_of gone)) (leg_pairs o.legs ++ leg_pairs (held h))) (leg_pairs (held (e ∷ h)))
         (λ q. ap (λ (ps : List ℕ). has (pairs_left ps (leg_pairs o.legs ++ leg_pairs (held h))) q) closed
-        ∙ held_after config h e o (good_history config (made_by old) orderly nest.number) fits acts q) opens;
+        ∙ held_after config h e o (good_history config (made_by old) orderly entry_id.number) fits acts q) opens;
   }
     where
       h : List BoardEntry
-      h = board_history (made_by old) nest.number
+      h = board_history (made_by old) entry_id.number
 
       o : Offer
       o = offer_of config h id ask draws

@@ -35,7 +35,7 @@ use Rattle.relay_core.proofs.Turns.{filter_none}
 use Rattle.nested_steps.specs.Leaving.{legs_in, AreLeasesOf, DroppedWent}
 use Rattle.nested_steps.proofs.After.{still}
 use Rattle.offer_turns.specs.Offers.{IsDue, target_of, offer_of, dropped_legs, bringing_of}
-use Rattle.offer_turns.proofs.Brought.{cell_elsewhere}
+use Rattle.offer_turns.proofs.OfferedChanges.{cell_elsewhere}
 
 -- The entry is the turn of a datagram.
 

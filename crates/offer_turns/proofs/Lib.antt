@@ -1,6 +1,6 @@
 pub mod Targets
 pub mod Leased
-pub mod Brought
+pub mod OfferedChanges
 pub mod Dropped
 pub mod Kept
 pub mod Taken

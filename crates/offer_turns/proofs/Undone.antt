@@ -23,7 +23,7 @@ use Rattle.relay_core.specs.Scripts.{Owed, script, script_of_act}
 use Rattle.relay_core.specs.Turning.{GainsNested, made_by}
 use Rattle.relay_core.specs.declared.part.Part.{Part}
 use Rattle.media_ports.specs.Held.{TellsHeld}
-use Rattle.nested_steps.specs.declared.nest.Nest.{Nest}
+use Rattle.nested_steps.specs.declared.board_turn.BoardEntryId.{BoardEntryId}
 use Rattle.nested_steps.proofs.Nesting.{gains_nothing}
 use Rattle.board_turns.specs.Acting.{DoesAct, acted}
 use Rattle.board_turns.specs.Ending.{leg_pairs}
@@ -52,24 +52,24 @@ script_case config h now (Tick calls) code leases draws is = absurd (let e = is 
 script_case config h now (Stop calls) code leases draws is = absurd (let e = is in cc)
 
 module _ {M I O T : Type 0} {g : _} where
-  pub does_undone : (config : Config) (hand : Hand M (Part I O) Made T g) (nest : Nest) (e : BoardEntry) (board : Board) (told : Option (List PortCall)) (id : List ℕ) (ask : OfferAsk) (code : ErrorCode)
-      (draws : List (List ℕ)) (count : ℕ) → act.act e ≡ act.Undone code (undone_leases config (board_history (made_by hand) nest.number) id ask) draws →
-      pairs_for config (board_history (made_by hand) nest.number) id ask ≡ take count (free config (board_history (made_by hand) nest.number)) →
-      length (take count (free config (board_history (made_by hand) nest.number))) ≡ count →
-      Shows config board (with_undone (at_moment (view_of config (board_history (made_by hand) nest.number)) nest.moment) count (length draws)) →
-      TellsHeld config told (leg_pairs (held (board_history (made_by hand) nest.number))) → DoesAct config hand hand nest e board told
-  does_undone config hand nest e board told id ask code draws count acts pairs_are enough shows opens = record {
-    gained = subst (λ (ws : List Owed). GainsNested nest.number nest.moment ws hand hand)
-        (sym (script_case config h e.moment e.event code (undone_leases config h id ask) draws acts)) (gains_nothing nest.number nest.moment hand);
+  pub does_undone : (config : Config) (hand : Hand M (Part I O) Made T g) (entry_id : BoardEntryId) (e : BoardEntry) (board : Board) (told : Option (List PortCall)) (id : List ℕ) (ask : OfferAsk) (code : ErrorCode)
+      (draws : List (List ℕ)) (count : ℕ) → act.act e ≡ act.Undone code (undone_leases config (board_history (made_by hand) entry_id.number) id ask) draws →
+      pairs_for config (board_history (made_by hand) entry_id.number) id ask ≡ take count (free config (board_history (made_by hand) entry_id.number)) →
+      length (take count (free config (board_history (made_by hand) entry_id.number))) ≡ count →
+      Shows config board (with_undone (at_moment (view_of config (board_history (made_by hand) entry_id.number)) entry_id.moment) count (length draws)) →
+      TellsHeld config told (leg_pairs (held (board_history (made_by hand) entry_id.number))) → DoesAct config hand hand entry_id e board told
+  does_undone config hand entry_id e board told id ask code draws count acts pairs_are enough shows opens = record {
+    gained = subst (λ (ws : List Owed). GainsNested entry_id.number entry_id.moment ws hand hand)
+        (sym (script_case config h e.moment e.event code (undone_leases config h id ask) draws acts)) (gains_nothing entry_id.number entry_id.moment hand);
     shows = subst (λ (w : View). Shows config board w) (sym same) shows;
     opens = subst (λ (legs : List Holder). TellsHeld config told (leg_pairs legs)) (sym (held_case h e.moment e.event code (undone_leases config h id ask) draws acts)) opens;
   }
     where
       h : List BoardEntry
-      h = board_history (made_by hand) nest.number
+      h = board_history (made_by hand) entry_id.number
 
       v : View
-      v = at_moment (view_of config h) nest.moment
+      v = at_moment (view_of config h) entry_id.moment
 
       leases_count : length (undone_leases config h id ask) ≡ count
       leases_count = length-map (pairs_for config h id ask) (lease_of h) ∙ ap length pairs_are ∙ enough

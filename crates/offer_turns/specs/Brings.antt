@@ -5,8 +5,8 @@ use Rattle.offer_answer.specs.declared.plan.Plan.{Plan}
 use Rattle.offer_answer.specs.Offering.{pair_count, key_count}
 use Rattle.call_cell.specs.declared.prepare.Prepare as prepared
 use Rattle.call_cell.specs.Preparing.{IsReady, PrepareFor, added, parts_added, leg_room, key_room}
-use Rattle.nested_steps.specs.declared.brought.Brought.{Brought}
-use Rattle.nested_steps.specs.Bringing.{brought_keys, brought_dropped, more_keys, more_dropped}
+use Rattle.nested_steps.specs.declared.offered_changes.OfferedChanges.{OfferedChanges}
+use Rattle.nested_steps.specs.Bringing.{offered_keys, offered_drops, more_keys, more_dropped}
 use Rattle.offer_legs.specs.Legs.{LegList}
 use Rattle.offer_turns.specs.declared.room.OfferRoom.{OfferRoom}
 
@@ -20,11 +20,11 @@ pub record HasLegRoom {O : Type 0} (plan : Plan) (prepare : prepared.Prepare O) 
   pub ready : IsReady prepare
 
 -- no key and no dropped section is told yet, and there is room for what the plan demands
-pub record HasToldRoom (plan : Plan) (brought : Brought) : Type 0 where
-  pub no_keys : brought_keys brought ≡ []
-  pub none_dropped : brought_dropped brought ≡ []
-  pub keys : key_count plan ≤ more_keys brought
-  pub dropped : 8 ≤ more_dropped brought
+pub record HasToldRoom (plan : Plan) (changes : OfferedChanges) : Type 0 where
+  pub no_keys : offered_keys changes ≡ []
+  pub none_dropped : offered_drops changes ≡ []
+  pub keys : key_count plan ≤ more_keys changes
+  pub dropped : 8 ≤ more_dropped changes
 
 -- no leg is told yet, and there is room for what the plan demands
 pub record HasListRoom (plan : Plan) (legs : LegList) : Type 0 where
@@ -40,7 +40,7 @@ pub record HasOfferRoom {I O : Type 0} (plan : Plan) (room : OfferRoom I O) : Ty
   pub opened : (room.opened.list ≡ []) × (pair_count plan ≤ room.opened.room)
   pub drawn : (room.drawn.list ≡ []) × (key_count plan ≤ room.drawn.room)
   pub prepare : HasLegRoom plan room.bring.prepare
-  pub brought : HasToldRoom plan room.bring.brought
+  pub changes : HasToldRoom plan room.bring.changes
   pub legs : HasListRoom plan room.bring.legs
   pub numbers : (room.numbers.items ≡ []) × (pair_count plan ≤ vec_capacity room.numbers)
   pub text : (room.text.list ≡ []) × (plan.reply_len ≤ room.text.spare)

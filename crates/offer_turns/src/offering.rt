@@ -55,7 +55,7 @@ pub struct PlannedOffer<'a, 's, I, O> {
     pub plan: BoardPlan,
     /// Its description.
     pub sdp: &'a Sdp<'s>,
-    /// All memory that it takes beside the board's.
+    /// All memory that it takes besides the board's.
     pub room: OfferRoom<I, O>,
 }
 
@@ -75,8 +75,8 @@ pub fn offer_act<P: PortMaker, K: KeySource, R: Wait>(
     gone: &mut Gone<P::Out>,
     offer: PlannedOffer<P::In, P::Out>,
 ) -> Result<AcceptedOffer, LeaseFault>
-    requires turn { InTurn turn.now.config.now turn.now.turns.now hand.old turn.now.nest board.old (P.told ports.old) }
-    requires due { (id : List ℕ) × (ask : OfferAsk) × CanOffer turn.now.config.now (board_history (made_by hand.old) turn.now.nest.number) id ask offer.sdp.now offer.plan }
+    requires turn { InTurn turn.now.config.now turn.now.turns.now hand.old turn.now.entry_id board.old (P.told ports.old) }
+    requires due { (id : List ℕ) × (ask : OfferAsk) × CanOffer turn.now.config.now (board_history (made_by hand.old) turn.now.entry_id.number) id ask offer.sdp.now offer.plan }
     requires planned { HasRoom board.old offer.plan }
     requires made { WritesFrom offer.plan.plan offer.sdp.now }
     requires room { HasOfferRoom offer.plan.plan offer.room }
@@ -89,24 +89,24 @@ pub fn offer_act<P: PortMaker, K: KeySource, R: Wait>(
     ensures later { (P.faults ports.old ≤ P.faults ports.new) × (K.faults keys.old ≤ K.faults keys.new) }
 
     // An accepted offer does what its entry owes, and its description is the one that is due.
-    ensures does { IfOk result (λ accepted. (id : List ℕ) (ask : OfferAsk) → CanOffer turn.now.config.now (board_history (made_by hand.old) turn.now.nest.number) id ask offer.entry.sdp.now offer.entry.plan →
-        (e : BoardEntry) → FitsBoard turn.now.config.now (board_history (made_by hand.old) turn.now.nest.number) e →
-        act e ≡ Offered (offer_of turn.now.config.now (board_history (made_by hand.old) turn.now.nest.number) id ask accepted.drawn.list) → e.moment ≡ turn.now.nest.moment →
-        DoesAct turn.now.config.now hand.old hand.new turn.now.nest e board.new (P.told ports.new)) }
-    ensures text { IfOk result (λ accepted. (id : List ℕ) (ask : OfferAsk) → CanOffer turn.now.config.now (board_history (made_by hand.old) turn.now.nest.number) id ask offer.entry.sdp.now offer.entry.plan →
-        accepted.text.list ≡ text_of turn.now.config.now (board_history (made_by hand.old) turn.now.nest.number) id (offer_of turn.now.config.now (board_history (made_by hand.old) turn.now.nest.number) id ask accepted.drawn.list)) }
+    ensures does { IfOk result (λ accepted. (id : List ℕ) (ask : OfferAsk) → CanOffer turn.now.config.now (board_history (made_by hand.old) turn.now.entry_id.number) id ask offer.entry.sdp.now offer.entry.plan →
+        (e : BoardEntry) → FitsBoard turn.now.config.now (board_history (made_by hand.old) turn.now.entry_id.number) e →
+        act e ≡ Offered (offer_of turn.now.config.now (board_history (made_by hand.old) turn.now.entry_id.number) id ask accepted.drawn.list) → e.moment ≡ turn.now.entry_id.moment →
+        DoesAct turn.now.config.now hand.old hand.new turn.now.entry_id e board.new (P.told ports.new)) }
+    ensures text { IfOk result (λ accepted. (id : List ℕ) (ask : OfferAsk) → CanOffer turn.now.config.now (board_history (made_by hand.old) turn.now.entry_id.number) id ask offer.entry.sdp.now offer.entry.plan →
+        accepted.text.list ≡ text_of turn.now.config.now (board_history (made_by hand.old) turn.now.entry_id.number) id (offer_of turn.now.config.now (board_history (made_by hand.old) turn.now.entry_id.number) id ask accepted.drawn.list)) }
     ensures within { IfOk result (λ accepted. length accepted.text.list ≤ offer.entry.plan.plan.reply_len) }
     ensures count { IfOk result (λ accepted. length accepted.drawn.list ≡ key_count offer.entry.plan.plan) }
-    ensures opens { let h = board_history (made_by hand.old) turn.now.nest.number in
+    ensures opens { let h = board_history (made_by hand.old) turn.now.entry_id.number in
         IfOk result (λ accepted. Gained (P.told ports.old) (P.told ports.new) (OpensAt turn.now.config.now (free turn.now.config.now h) (replicate (2 * pair_count offer.entry.plan.plan) true))) }
     ensures draws { IfOk result (λ accepted. Gained (K.told keys.old) (K.told keys.new) (DrawsAll accepted.drawn.list)) }
 
     // One that is undone does what its entry owes.
-    ensures undoes { IfErr result (λ fault. (id : List ℕ) (ask : OfferAsk) → CanOffer turn.now.config.now (board_history (made_by hand.old) turn.now.nest.number) id ask offer.entry.sdp.now offer.entry.plan →
-        (e : BoardEntry) (code : ErrorCode) → act e ≡ Undone code (undone_leases turn.now.config.now (board_history (made_by hand.old) turn.now.nest.number) id ask) (keys_before fault) →
-        DoesAct turn.now.config.now hand.old hand.new turn.now.nest e board.new (P.told ports.new)) }
+    ensures undoes { IfErr result (λ fault. (id : List ℕ) (ask : OfferAsk) → CanOffer turn.now.config.now (board_history (made_by hand.old) turn.now.entry_id.number) id ask offer.entry.sdp.now offer.entry.plan →
+        (e : BoardEntry) (code : ErrorCode) → act e ≡ Undone code (undone_leases turn.now.config.now (board_history (made_by hand.old) turn.now.entry_id.number) id ask) (keys_before fault) →
+        DoesAct turn.now.config.now hand.old hand.new turn.now.entry_id e board.new (P.told ports.new)) }
     ensures early { IfErr result (ComesEarly (pairs_of_plan offer.entry.plan) (keys_of_plan offer.entry.plan)) }
-    ensures opens_before { let h = board_history (made_by hand.old) turn.now.nest.number in
+    ensures opens_before { let h = board_history (made_by hand.old) turn.now.entry_id.number in
         IfErr result (λ fault. Gained (P.told ports.old) (P.told ports.new) (OpensAt turn.now.config.now (free turn.now.config.now h) (opens_before (pair_count offer.entry.plan.plan) fault))) }
     ensures draws_before { IfErr result (λ fault. DrawsBefore fault (K.told keys.old) (K.told keys.new)) }
     ensures cause { IfErr result (λ fault. HasRisen fault (P.faults ports.old) (P.faults ports.new) (K.faults keys.old) (K.faults keys.new)) }
@@ -147,7 +147,7 @@ pub fn offer_act<P: PortMaker, K: KeySource, R: Wait>(
         numbers.as_slice(),
         first_key,
         &drawn,
-        turn.nest.moment,
+        turn.entry_id.moment,
         &mut text,
     );
     close_legs(rt, turn, hand, board, ports, gone);

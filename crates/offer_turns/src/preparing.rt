@@ -14,7 +14,7 @@ ghost use Rattle.relay_core.specs.Legal.{Orderly};
 ghost use Rattle.relay_core.specs.Standing.{GoneHome};
 ghost use Rattle.relay_core.specs.Turning.{GainsNested, IsAbove, made_by};
 ghost use Rattle.nested_steps.specs.Nesting.{MayNest};
-ghost use Rattle.nested_steps.specs.Bringing.{brought_keys, brought_dropped};
+ghost use Rattle.nested_steps.specs.Bringing.{offered_keys, offered_drops};
 ghost use Rattle.nested_steps.specs.Leaving.{AreLeasesOf};
 ghost use Rattle.board_turns.specs.Ties.{LegsLeave};
 ghost use Rattle.offer_legs.specs.Filling.{SameLegs};
@@ -24,7 +24,7 @@ ghost use Rattle.offer_turns.specs.Brings.{HasLegRoom, HasToldRoom, HasListRoom}
 use call_board::BoardPlan;
 use call_cell::{Gone, Prepare};
 use media_ports::{DrawnList, OpenedPairs};
-use nested_steps::{BoardTurn, Brought, prepare_cell};
+use nested_steps::{BoardTurn, OfferedChanges, prepare_cell};
 use offer_answer::Plan;
 use offer_legs::{OfferedLegs, add_drops, add_keys, open_legs};
 use port_pool::Leases;
@@ -46,19 +46,19 @@ fn bring_keys<O>(
     first_key: u64,
     drawn: &DrawnList,
     prepare: &mut Prepare<O>,
-    brought: &mut Brought,
+    changes: &mut OfferedChanges,
 )
     requires keys { length drawn.now.list ≡ key_count plan.now }
     requires first { first_key ≤ 2 ^ 63 }
     requires room { key_count plan.now ≤ key_room prepare.old }
-    requires told { HasToldRoom plan.now brought.old }
-    ensures keys { (asked : Demand) → PlanFor plan.now asked → brought_keys brought.new ≡ new_keys first_key drawn.now.list asked.keys }
-    ensures dropped { (rounds : List Round) (ask : OfferAsk) → PlanFor plan.now (demand rounds ask) → brought_dropped brought.new ≡ (demand rounds ask).dropped }
-    ensures stands { (asked : Demand) → PlanFor plan.now asked → PrepareFor prepare.old [] [] → PrepareFor prepare.new (brought_keys brought.new) (brought_dropped brought.new) }
+    requires told { HasToldRoom plan.now changes.old }
+    ensures keys { (asked : Demand) → PlanFor plan.now asked → offered_keys changes.new ≡ new_keys first_key drawn.now.list asked.keys }
+    ensures dropped { (rounds : List Round) (ask : OfferAsk) → PlanFor plan.now (demand rounds ask) → offered_drops changes.new ≡ (demand rounds ask).dropped }
+    ensures stands { (asked : Demand) → PlanFor plan.now asked → PrepareFor prepare.old [] [] → PrepareFor prepare.new (offered_keys changes.new) (offered_drops changes.new) }
     ensures legs { SameLegs prepare.old prepare.new }
 {
-    add_keys(plan, first_key, drawn, prepare, brought);
-    add_drops(plan, prepare, brought);
+    add_keys(plan, first_key, drawn, prepare, changes);
+    add_drops(plan, prepare, changes);
 }
 
 /// The room for what an offer brings to its call.
@@ -67,7 +67,7 @@ pub(crate) struct BringRoom<O> {
     /// The legs and keys, as the cell takes them.
     pub prepare: Prepare<O>,
     /// The keys and the dropped sections, as contracts tell them.
-    pub brought: Brought,
+    pub changes: OfferedChanges,
     /// The legs, as contracts tell them.
     pub legs: OfferedLegs,
 }
@@ -80,7 +80,7 @@ impl<O> BringRoom<O> {
     {
         let BringRoom {
             prepare,
-            brought: _,
+            changes: _,
             legs: _,
         } = self;
         prepare.destroy_empty();
@@ -111,30 +111,30 @@ pub(crate) fn prepare_offer<I: InEnd, O: OutEnd, R: Wait>(
     gone: &mut Gone<O>,
 )
     requires may { MayNest turn.now.config.now turn.now.turns.now hand.old }
-    requires above { IsAbove (made_by hand.old) 0 turn.now.nest.number }
+    requires above { IsAbove (made_by hand.old) 0 turn.now.entry_id.number }
     requires orderly { Orderly turn.now.config.now (made_by hand.old) }
-    requires due { (id : List ℕ) × (ask : OfferAsk) × IsDue turn.now.config.now (board_history (made_by hand.old) turn.now.nest.number) id ask keyed.now.plan.now keyed.now.drawn.now.list }
-    requires leases { leases.list ≡ leases_of turn.now.config.now (view_of turn.now.config.now (board_history (made_by hand.old) turn.now.nest.number)) (pair_count keyed.now.plan.now.plan) }
+    requires due { (id : List ℕ) × (ask : OfferAsk) × IsDue turn.now.config.now (board_history (made_by hand.old) turn.now.entry_id.number) id ask keyed.now.plan.now keyed.now.drawn.now.list }
+    requires leases { leases.list ≡ leases_of turn.now.config.now (view_of turn.now.config.now (board_history (made_by hand.old) turn.now.entry_id.number)) (pair_count keyed.now.plan.now.plan) }
     requires count { length leases.list ≡ pair_count keyed.now.plan.now.plan }
     requires opened { length opened.list ≡ pair_count keyed.now.plan.now.plan }
     requires ends { AreOpened I.told O.told turn.now.config.now.interface leases.list opened.list }
-    requires first { keyed.now.first_key ≡ next_key (board_history (made_by hand.old) turn.now.nest.number) }
+    requires first { keyed.now.first_key ≡ next_key (board_history (made_by hand.old) turn.now.entry_id.number) }
     requires low { keyed.now.first_key ≤ 2 ^ 63 }
     requires keys { length keyed.now.drawn.now.list ≡ key_count keyed.now.plan.now.plan }
-    requires room { HasLegRoom keyed.now.plan.now.plan room.prepare × HasToldRoom keyed.now.plan.now.plan room.brought × HasListRoom keyed.now.plan.now.plan room.legs }
+    requires room { HasLegRoom keyed.now.plan.now.plan room.prepare × HasToldRoom keyed.now.plan.now.plan room.changes × HasListRoom keyed.now.plan.now.plan room.legs }
     requires empty { gone.old ≡ [] }
     ensures same { IsSameHand hand.old hand.new × SameTurns hand.old hand.new }
     ensures may { MayNest turn.now.config.now turn.now.turns.now hand.new }
-    ensures gained { (id : List ℕ) (ask : OfferAsk) → IsDue turn.now.config.now (board_history (made_by hand.old) turn.now.nest.number) id ask keyed.now.plan.now keyed.now.drawn.now.list →
-        GainsNested turn.now.nest.number turn.now.nest.moment (bringing_of turn.now.config.now (offer_of turn.now.config.now (board_history (made_by hand.old) turn.now.nest.number) id ask keyed.now.drawn.now.list)) hand.old hand.new }
-    ensures went { (id : List ℕ) (ask : OfferAsk) → IsDue turn.now.config.now (board_history (made_by hand.old) turn.now.nest.number) id ask keyed.now.plan.now keyed.now.drawn.now.list →
-        AreLeasesOf turn.now.config.now gone.new (dropped_legs (board_history (made_by hand.old) turn.now.nest.number) (offer_of turn.now.config.now (board_history (made_by hand.old) turn.now.nest.number) id ask keyed.now.drawn.now.list)) }
+    ensures gained { (id : List ℕ) (ask : OfferAsk) → IsDue turn.now.config.now (board_history (made_by hand.old) turn.now.entry_id.number) id ask keyed.now.plan.now keyed.now.drawn.now.list →
+        GainsNested turn.now.entry_id.number turn.now.entry_id.moment (bringing_of turn.now.config.now (offer_of turn.now.config.now (board_history (made_by hand.old) turn.now.entry_id.number) id ask keyed.now.drawn.now.list)) hand.old hand.new }
+    ensures went { (id : List ℕ) (ask : OfferAsk) → IsDue turn.now.config.now (board_history (made_by hand.old) turn.now.entry_id.number) id ask keyed.now.plan.now keyed.now.drawn.now.list →
+        AreLeasesOf turn.now.config.now gone.new (dropped_legs (board_history (made_by hand.old) turn.now.entry_id.number) (offer_of turn.now.config.now (board_history (made_by hand.old) turn.now.entry_id.number) id ask keyed.now.drawn.now.list)) }
     ensures home { GoneHome O.told turn.now.config.now gone.new }
     ensures leave { LegsLeave O.told gone.new (entries hand.old) (entries hand.new) }
 {
     let BringRoom {
         mut prepare,
-        mut brought,
+        mut changes,
         mut legs,
     } = room;
     let last = last_port(turn.config);
@@ -157,7 +157,7 @@ pub(crate) fn prepare_offer<I: InEnd, O: OutEnd, R: Wait>(
         keyed.first_key,
         keyed.drawn,
         &mut prepare,
-        &mut brought,
+        &mut changes,
     );
-    prepare_cell(rt, turn, hand, of_cell, of_call, prepare, &brought, gone);
+    prepare_cell(rt, turn, hand, of_cell, of_call, prepare, &changes, gone);
 }

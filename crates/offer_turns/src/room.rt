@@ -1,12 +1,12 @@
 //! The memory of an accepted offer.
 ghost use Rattle.std.specs.Prelude.{◌≡◌, ◌≤◌, [], IfOk, vec_capacity};
-ghost use Rattle.nested_steps.specs.Bringing.{brought_keys, brought_dropped, more_keys, more_dropped};
+ghost use Rattle.nested_steps.specs.Bringing.{offered_keys, offered_drops, more_keys, more_dropped};
 ghost use Rattle.offer_turns.specs.Brings.{HasOfferRoom};
 
 use crate::preparing::BringRoom;
 use call_cell::Prepare;
 use media_ports::{DrawnList, OpenedPairs};
-use nested_steps::Brought;
+use nested_steps::OfferedChanges;
 use offer_answer::Plan;
 use offer_legs::OfferedLegs;
 use relay_outside::OutOfMemory;
@@ -16,8 +16,8 @@ use std::alloc::Global;
 /// How many sections an offer may drop: as many as a call may have.
 const MOST_DROPPED: usize = 8;
 
-/// All memory that an accepted offer takes beside the board's. It is made before the first pair is leased, so that nothing
-/// which comes after that can be short of memory.
+/// All memory that an accepted offer takes besides the board's. It is made before the first pair is leased, so that nothing
+/// after that can run out of memory.
 #[derive(Drop)]
 pub struct OfferRoom<I, O> {
     /// The ends of its opened ports.
@@ -37,16 +37,16 @@ fn reserve_lists(
     alloc: Global,
     pairs: usize,
     keys: usize,
-) -> Result<(Brought, OfferedLegs, DrawnList), OutOfMemory>
-    ensures told { IfOk result (λ lists. (brought_keys lists.0 ≡ []) × (brought_dropped lists.0 ≡ [])) }
+) -> Result<(OfferedChanges, OfferedLegs, DrawnList), OutOfMemory>
+    ensures told { IfOk result (λ lists. (offered_keys lists.0 ≡ []) × (offered_drops lists.0 ≡ [])) }
     ensures more { IfOk result (λ lists. (more_keys lists.0 ≡ keys) × (more_dropped lists.0 ≡ 8)) }
     ensures legs { IfOk result (λ lists. lists.1 ≡ record { list = []; room = pairs }) }
     ensures drawn { IfOk result (λ lists. lists.2 ≡ record { list = []; room = keys }) }
 {
-    let brought = Brought::reserve(alloc, keys, MOST_DROPPED)?;
+    let changes = OfferedChanges::reserve(alloc, keys, MOST_DROPPED)?;
     let legs = OfferedLegs::with_room(alloc, pairs)?;
     let drawn = DrawnList::with_room(alloc, keys)?;
-    Ok((brought, legs, drawn))
+    Ok((changes, legs, drawn))
 }
 
 /// Room for this many ports, and for a description of this many bytes.
@@ -70,7 +70,7 @@ impl<I, O> OfferRoom<I, O> {
         ensures { IfOk result (HasOfferRoom plan.now) }
     {
         let (pairs, keys) = (plan.pairs(), plan.keys());
-        let (brought, legs, drawn) = reserve_lists(alloc, pairs, keys)?;
+        let (changes, legs, drawn) = reserve_lists(alloc, pairs, keys)?;
         let (numbers, text) = reserve_text(alloc, pairs, plan.reply_len())?;
         let opened = OpenedPairs::with_room(alloc, pairs)?;
         match Prepare::reserve(alloc, pairs, keys) {
@@ -79,7 +79,7 @@ impl<I, O> OfferRoom<I, O> {
                 drawn,
                 bring: BringRoom {
                     prepare,
-                    brought,
+                    changes,
                     legs,
                 },
                 numbers,

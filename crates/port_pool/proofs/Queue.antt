@@ -6,7 +6,7 @@ use Rattle.std.proofs.lemmas.Map.Steps.{length-le_from_distinct_below}
 use Rattle.histories.specs.Words.{has, numbers}
 use Rattle.port_pool.specs.Pools.{AreFree}
 
--- the two facts of a pair that stands neither in front nor behind
+-- the two facts of a pair that stands neither at the front nor in the rest
 first_differs : (b rest : Bool) → cond b true rest ≡ false → (b ≡ false) × (rest ≡ false)
 first_differs true rest h = cc
 first_differs false rest h = (refl, h)
@@ -50,7 +50,7 @@ still_out [] p q differs h = rw differs refl
 still_out (r ∷ pairs) p q differs h =
     still_out_by (r == q) (has pairs q) (has (pairs ++ p ∷ []) q) (first_differs (r == q) (has pairs q) h).0 (still_out pairs p q differs) h
 
--- a pair that comes back stands behind all others
+-- a pair that comes back stands after all others
 pub one_behind : (count : ℕ) (pairs : List ℕ) (p : ℕ) → AreFree count pairs → p < count → has pairs p ≡ false → AreFree count (pairs ++ p ∷ [])
 one_behind count [] p free within out = (within, refl, tt)
 one_behind count (q ∷ pairs) p free within out =
@@ -78,7 +78,7 @@ numbers_from n zero = ap (λ m. m ∷ []) (let e : n ≡ n + 0 = omega arith in 
 numbers_from n (suc count) =
     ap (λ ps. n ∷ ps) (numbers_from (suc n) count ∙ ap (λ m. numbers (suc n) count ++ m ∷ []) (let e : suc n + count ≡ n + suc count = omega arith in e))
 
--- one number more, behind
+-- one number more, at the end
 pub numbers_more : (count : ℕ) → numbers 0 (count + 1) ≡ numbers 0 count ++ count ∷ []
 numbers_more count =
     ap (numbers 0) (let e : count + 1 ≡ suc count = omega arith in e) ∙ numbers_from 0 count ∙ ap (λ m. numbers 0 count ++ m ∷ []) (let e : 0 + count ≡ count = omega arith in e)

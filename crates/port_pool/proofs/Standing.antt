@@ -47,7 +47,7 @@ leased_stands config pair rest leases pool stands within =
       leases_are = λ other inside. leased_by pool.generations leases pair other (pair == other) refl there (stands.leases_are pair within) (stands.leases_are other inside);
     }
 
--- a return: the pair stands behind the others that are free
+-- a return: the pair stands after the others that are free
 pub returned_stands : (config : Config) (free : List ℕ) (leases : ℕ → ℕ) (pool : Pairs) (pair : ℕ) → StandsFor config free leases pool
     → StandsFor config (free ++ pair ∷ []) leases (after_return pool pair)
 returned_stands config free leases pool pair stands = record {

@@ -24,7 +24,7 @@ holder (Open leg ∷ h) = Some leg
 holder (Close ∷ h) = None
 holder (Take half taken ∷ h) = holder h
 
--- a take is answered Closed exactly where there is no holder, and gives a datagram to the holder alone
+-- a take returns Closed exactly where there is no holder, and gives a datagram to the holder alone
 abbrev pub FitsTaken : Option Holder → Taken → Type 0
 FitsTaken None taken = taken ≡ Closed
 FitsTaken (Some leg) Closed = ⊥

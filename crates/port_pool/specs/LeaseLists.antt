@@ -7,6 +7,6 @@ pub record LeaseList : Type 0 where
   pub list : List Lease
   pub room : ℕ
 
--- one more, behind
+-- one more, at the end
 abbrev pub with_lease : LeaseList → Lease → LeaseList
 with_lease leases lease = record { list = leases.list ++ lease ∷ []; room = leases.room }

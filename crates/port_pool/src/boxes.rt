@@ -10,7 +10,7 @@ use rtp_packet::Half;
 /// How many bytes the longest datagram that is relayed may have.
 const MOST: usize = 2000;
 
-/// What a take of a box answers.
+/// The result of a take of a box.
 #[derive(Clone, Copy, PartialEq, Eq, Debug)]
 pub enum BoxTake {
     /// The box is closed; no end was asked.

@@ -12,7 +12,7 @@ pub enum Side {
 pub struct Holder {
     /// The cell of the call, from 1.
     pub cell: u32,
-    /// The call's number. No two calls have one.
+    /// The call's number; no two calls share a number.
     pub call: u64,
     /// The section of the description, from 0.
     pub section: u8,

@@ -48,7 +48,7 @@ impl Model for LegReports {
 }
 
 impl LegReports {
-    /// No report yet, with room for 16.
+    /// An empty list with capacity for 16 reports.
     pub fn new(alloc: Global) -> Result<LegReports, OutOfMemory>
         ensures { IfOk result (λ told. told ≡ []) }
     {

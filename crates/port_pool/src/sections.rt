@@ -26,7 +26,7 @@ impl Model for Signal {
 }
 
 impl Signal {
-    /// A signal without a section yet, with room for 8.
+    /// A signal without sections, with capacity for 8.
     pub fn new(alloc: Global) -> Result<Signal, OutOfMemory>
         ensures { IfOk result (λ signal. signal ≡ []) }
     {

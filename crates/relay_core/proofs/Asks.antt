@@ -202,7 +202,7 @@ command_offers config h c p (said.Delete id from_tag fatal) asks q = absurd (non
 command_offers config h c p (said.Query id) asks q = absurd (none_some (query_neither h c.given (find_call h id)).0 q)
 command_offers config h c p (said.Listing limit) asks q = absurd (none_some refl q)
 
--- the answer of a datagram
+-- the reply to a datagram
 pub record SaysAnswer (config : Config) (h : List BoardEntry) (c : Control) (p : Call × AnswerAsk) : Type 0 where
   pub id : List ℕ
   pub from_tag : List ℕ
@@ -247,19 +247,19 @@ asked_answers : (config : Config) (h : List BoardEntry) (c : Control) (p : Call 
 asked_answers config h c p (Err code) asks q = absurd (none_some refl q)
 asked_answers config h c p (Ok says) asks q = command_answers config h c p says asks q
 
--- what a datagram did that was neither repeated nor starved is the answer to what it asks
-starved_is : {X : Type 0} (f : Act → Option X) (x : X) (config : Config) (h : List BoardEntry) (c : Control) → f act.Starved ≡ None → (starved : Bool)
-    → f (cond starved (record { bytes = reply_datagram config c.cookie (Fault E17); act = act.Starved }) (spelled config c.cookie (answering config h c))).act ≡ Some x
+-- what a datagram did that was neither repeated nor out of memory follows from what it asks
+out_of_memory_is : {X : Type 0} (f : Act → Option X) (x : X) (config : Config) (h : List BoardEntry) (c : Control) → f act.OutOfMemory ≡ None → (out_of_memory : Bool)
+    → f (cond out_of_memory (record { bytes = reply_datagram config c.cookie (Fault E17); act = act.OutOfMemory }) (spelled config c.cookie (answering config h c))).act ≡ Some x
     → f (answering config h c).act ≡ Some x
-starved_is f x config h c none true q = absurd (none_some none q)
-starved_is f x config h c none false q = q
+out_of_memory_is f x config h c none true q = absurd (none_some none q)
+out_of_memory_is f x config h c none false q = q
 
-kept_is : {X : Type 0} (f : Act → Option X) (x : X) (config : Config) (h : List BoardEntry) (c : Control) → f act.Starved ≡ None → f act.Repeated ≡ None → (o : Option (List ℕ))
+kept_is : {X : Type 0} (f : Act → Option X) (x : X) (config : Config) (h : List BoardEntry) (c : Control) → f act.OutOfMemory ≡ None → f act.Repeated ≡ None → (o : Option (List ℕ))
     → f (answering_unless config h c o).act ≡ Some x → f (answering config h c).act ≡ Some x
 kept_is f x config h c none also (Some bytes) q = absurd (none_some also q)
-kept_is f x config h c none also None q = starved_is f x config h c none c.given.starved q
+kept_is f x config h c none also None q = out_of_memory_is f x config h c none c.given.out_of_memory q
 
-asks_it : {X : Type 0} (f : Act → Option X) (x : X) (config : Config) (h : List BoardEntry) (now : ℕ) (c : Control) → FitsControl config h now c → f act.Starved ≡ None
+asks_it : {X : Type 0} (f : Act → Option X) (x : X) (config : Config) (h : List BoardEntry) (now : ℕ) (c : Control) → FitsControl config h now c → f act.OutOfMemory ≡ None
     → f act.Repeated ≡ None → f c.act ≡ Some x → f (answering config h c).act ≡ Some x
 asks_it f x config h now c fits none also q =
     kept_is f x config h c none also (kept h c.source c.cookie now) (ap f (sym (ap (λ (a : Answered). a.act) fits.answers)) ∙ q)
@@ -300,7 +300,7 @@ offered_fault config (Ok says) id from_tag sdp options q =
     let u = unless_none (description_error config says) says (said.Offer id from_tag sdp options) q in
     ap (description_error config) (sym u.1) ∙ u.0
 
--- an offer that is heard has at most 8 sections
+-- an offer in which crypto lines are chosen has at most 8 sections
 pub offers_few : (config : Config) (too_long : Bool) (pairs : Option Entries) (id from_tag sdp : List ℕ) (options : Options)
     → asked config too_long pairs ≡ Ok (said.Offer id from_tag sdp options) → section_count sdp ≤ most_sections
 unfolding asked

@@ -55,7 +55,7 @@ more_by : (h : List BoardEntry) (x : BoardEntry) (number : ℕ) (a : Act) → ac
 more_by h x number (act.Offered p) q = more_offer h x number p q (p.of.number == number) refl
 more_by h x number (act.Answered a) q = more_answer h x number a q (a.of.number == number) refl
 more_by h x number act.Repeated q = none (ap (λ (d : Act). round_of number d ++ rounds h number) q)
-more_by h x number act.Starved q = none (ap (λ (d : Act). round_of number d ++ rounds h number) q)
+more_by h x number act.OutOfMemory q = none (ap (λ (d : Act). round_of number d ++ rounds h number) q)
 more_by h x number (act.Failed code) q = none (ap (λ (d : Act). round_of number d ++ rounds h number) q)
 more_by h x number (act.Undone code leases draws) q = none (ap (λ (d : Act). round_of number d ++ rounds h number) q)
 more_by h x number (act.Deleted of) q = none (ap (λ (d : Act). round_of number d ++ rounds h number) q)

@@ -166,7 +166,7 @@ module _ {T I O : Type 0} (it : I → EndTold InCall) (ic : I → ℕ) (ot : O �
         subst (λ (place : ℕ). IsPlaced config place e.moment e.event) h.at
         (subst (λ (x : Entry). IsPlaced config x.place x.moment x.event) r.is (row_placed r.row r.is_in))
 
-    -- with the row behind it
+    -- followed by the row
     pub next_is : (row : table.Entry Made T) → (p : Place row)
         → onto (take (suc row.number) p.history_of.past) [] ≡ entry_of row ∷ history (list_of rows) row.place row.number
     next_is row p =
@@ -335,7 +335,7 @@ module _ {T I O : Type 0} (it : I → EndTold InCall) (ic : I → ℕ) (ot : O �
   pub sound_timed : (config : Config) → AreParts config starts → IsSound config rows → AreTimed rows
   sound_timed config are sound row i = (row_right config are (sound.orderly closed_numbered) (sound.recorded closed_numbered) row i).1
 
--- What the close answers says so of the rows.
+-- What the close returns says so of the rows.
 module _ {T I O : Type 0} (it : I → EndTold InCall) (ic : I → ℕ) (ot : O → EndTold OutCall) (oc : O → ℕ) where
   abbrev pub AreClosed : List (Part I O) → List (table.Entry Made T) → List (Part I O) → Type 0
   AreClosed starts rows states =
@@ -348,7 +348,7 @@ module _ {T I O : Type 0} (it : I → EndTold InCall) (ic : I → ℕ) (ot : O �
       let w = closed k a q in
       record { past = w.0; last = w.1; leaves = w.3; is = w.4 }
 
-  -- the parts that the close answers stand for all that the rows have of their places
+  -- the parts that the close returns stand for all that the rows have of their places
   pub closed_parts : (config : Config) (starts : List (Part I O)) (rows : List (table.Entry Made T)) (states : List (Part I O)) → AreParts config starts
       → InRange starts rows → AreClosed starts rows states → length states ≡ length starts → Orderly config (list_of rows) → IsRecorded rows
       → AreStanding config states (list_of rows)

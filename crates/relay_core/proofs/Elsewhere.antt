@@ -20,7 +20,7 @@ use Rattle.call_board.proofs.Calls.{found_live, offered_live}
 use Rattle.call_board.proofs.Cells.{live_cell}
 use Rattle.relay_core.specs.Entries.{is_nested, is_nested_cell}
 use Rattle.relay_core.specs.Legal.{StandsAt}
-use Rattle.relay_core.specs.Scripts.{Owed, opening, closing, in_cell, closings, ending, expiring, reading, reading_starved, script_of_act, script}
+use Rattle.relay_core.specs.Scripts.{Owed, opening, closing, in_cell, closings, ending, expiring, reading, reading_out_of_memory, script_of_act, script}
 
 -- a nested event, at the place of a cell or of a box
 abbrev pub IsElsewhere : Config → Owed → Type 0
@@ -45,15 +45,15 @@ at_reading config h (Some c) None w good alive i = elim i [ ]
 at_reading config h (Some c) (Some told) w good alive (here p) = subst (IsElsewhere config) (sym p) (at_cell config h c (Read told) good (alive c refl) refl)
 at_reading config h (Some c) (Some told) w good alive (there j) = elim j [ ]
 
-at_starved : (config : Config) (h : List BoardEntry) (c : Control) (r : Result Said ErrorCode) (w : Owed) → IsFitting config h
-    → In w (reading_starved h c r) → IsElsewhere config w
-at_starved config h c (Ok (Query id)) w good i = at_reading config h (find_call h id) c.given.report w good (λ d q. found_live h id d q) i
-at_starved config h c (Ok Ping) w good i = elim i [ ]
-at_starved config h c (Ok (Offer id from sdp options)) w good i = elim i [ ]
-at_starved config h c (Ok (Answer id from to sdp options)) w good i = elim i [ ]
-at_starved config h c (Ok (Delete id from fatal)) w good i = elim i [ ]
-at_starved config h c (Ok (Listing limit)) w good i = elim i [ ]
-at_starved config h c (Err code) w good i = elim i [ ]
+at_out_of_memory : (config : Config) (h : List BoardEntry) (c : Control) (r : Result Said ErrorCode) (w : Owed) → IsFitting config h
+    → In w (reading_out_of_memory h c r) → IsElsewhere config w
+at_out_of_memory config h c (Ok (Query id)) w good i = at_reading config h (find_call h id) c.given.report w good (λ d q. found_live h id d q) i
+at_out_of_memory config h c (Ok Ping) w good i = elim i [ ]
+at_out_of_memory config h c (Ok (Offer id from sdp options)) w good i = elim i [ ]
+at_out_of_memory config h c (Ok (Answer id from to sdp options)) w good i = elim i [ ]
+at_out_of_memory config h c (Ok (Delete id from fatal)) w good i = elim i [ ]
+at_out_of_memory config h c (Ok (Listing limit)) w good i = elim i [ ]
+at_out_of_memory config h c (Err code) w good i = elim i [ ]
 
 at_offer : (config : Config) (h : List BoardEntry) (e : BoardEntry) (o : act.Offer) (w : Owed) → IsFitting config h → FitsBoard config h e
     → act.act e ≡ act.Offered o
@@ -70,7 +70,7 @@ turn moment c = record { moment = moment; event = Turn c }
 at_act : (config : Config) (h : List BoardEntry) (moment : ℕ) (c : Control) (w : Owed) → IsFitting config h → FitsBoard config h (turn moment c)
     → (a : Act) → c.act ≡ a → In w (script_of_act config h (turn moment c) c a) → IsElsewhere config w
 at_act config h moment c w good fits act.Repeated q i = elim i [ ]
-at_act config h moment c w good fits act.Starved q i = at_starved config h c (asked config c.too_long c.pairs) w good i
+at_act config h moment c w good fits act.OutOfMemory q i = at_out_of_memory config h c (asked config c.too_long c.pairs) w good i
 at_act config h moment c w good fits (act.Failed code) q i = elim i [ ]
 at_act config h moment c w good fits (act.Undone code leases draws) q i = elim i [ ]
 at_act config h moment c w good fits (act.Offered o) q i =

@@ -157,7 +157,7 @@ answer_case config h p ok None q answered =
     (λ port f. let s = send_failed config h p ok port f in let clash : Some s.sending ≡ None = sym s.is_sending ∙ q in cc)
     ∙ sym answered
 
--- the outcome of a relay tells what its send answered
+-- the outcome of a relay tells what its send returned
 answer_told : (config : Config) (h : List CellEntry) (r : Relayed) → r.deed ≡ deed config h r.packet r.sent_ok → IsAnswered r.deed.sending r.sent_ok
     → sent_ok r.deed.outcome ≡ r.sent_ok
 answer_told config h r does answered =

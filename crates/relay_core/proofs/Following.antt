@@ -87,7 +87,7 @@ offers_by : (x : BoardEntry) (place : ℕ) (a : Act) → act.act x ≡ a → Off
 offers_by x place (act.Offered p) q = offer_case x place p q (p.of.cell == place) refl
 offers_by x place (act.Answered a) q = no_offer x place (ap is_offer q)
 offers_by x place act.Repeated q = no_offer x place (ap is_offer q)
-offers_by x place act.Starved q = no_offer x place (ap is_offer q)
+offers_by x place act.OutOfMemory q = no_offer x place (ap is_offer q)
 offers_by x place (act.Failed code) q = no_offer x place (ap is_offer q)
 offers_by x place (act.Undone code leases draws) q = no_offer x place (ap is_offer q)
 offers_by x place (act.Deleted of) q = no_offer x place (ap is_offer q)
@@ -98,7 +98,7 @@ answers_by : (x : BoardEntry) (place : ℕ) (a : Act) → act.act x ≡ a → An
 answers_by x place (act.Answered p) q = answer_case x place p q (p.of.cell == place) refl
 answers_by x place (act.Offered a) q = no_answer x place (ap is_answer q)
 answers_by x place act.Repeated q = no_answer x place (ap is_answer q)
-answers_by x place act.Starved q = no_answer x place (ap is_answer q)
+answers_by x place act.OutOfMemory q = no_answer x place (ap is_answer q)
 answers_by x place (act.Failed code) q = no_answer x place (ap is_answer q)
 answers_by x place (act.Undone code leases draws) q = no_answer x place (ap is_answer q)
 answers_by x place (act.Deleted of) q = no_answer x place (ap is_answer q)
@@ -133,7 +133,7 @@ begins_offered of (act.Offered p) i = go p.begins refl i
     go false q j = elim j [ ]
 begins_offered of (act.Answered a) i = elim i [ ]
 begins_offered of act.Repeated i = elim i [ ]
-begins_offered of act.Starved i = elim i [ ]
+begins_offered of act.OutOfMemory i = elim i [ ]
 begins_offered of (act.Failed code) i = elim i [ ]
 begins_offered of (act.Undone code leases draws) i = elim i [ ]
 begins_offered of (act.Deleted d) i = elim i [ ]

@@ -36,7 +36,7 @@ use Rattle.relay_core.proofs.Own.{IsOwn, own_history}
 -- What the places begin as.
 
 module _ {I O : Type 0} where
-  -- a box behind so many parts, where the first of the boxes has the place k
+  -- a box after `cells` parts, where the first of the boxes has the place k
   record IsBoxBehind (config : Config) (k cells j : ℕ) (x : Part I O) : Type 0 where
     index : ℕ
     behind : j ≡ cells + index
@@ -264,7 +264,7 @@ module _ {I O : Type 0} where
   cell_is config (part.Board b) h k is for q = absurd is
   cell_is config (part.Pair b) h k is for q = absurd is
 
-  -- the state is a cell that stands for a history of at most so many entries
+  -- the state is a cell that stands for a history of at most n entries
   abbrev pub IsShort : Config → Part I O → ℕ → Type 0
   IsShort config (part.Cell c) n = (h : List CellEntry) × (length h ≤ n) × CellFor config c h
   IsShort config _ n = ⊥

@@ -1,4 +1,4 @@
--- A hand's list with that of a lane behind it.
+-- A hand's list followed by that of a lane.
 use Rattle.std.proofs.Common.{◌≡◌, ◌∙◌, sym, ap, subst, refl, ℕ, ◌+◌, ◌≤◌, ◌⊎◌, inl, inr, List, [], ◌∷◌, ◌++◌, true, false, length, filter, length-append, arith}
 use Rattle.std.proofs.lemmas.List.{map-append}
 use Rattle.relay_outside.specs.declared.settings.Config.{Config}
@@ -155,7 +155,7 @@ module _ {T : Type 0} where
   handed_case config rows others o lanes numbered handed row t b p q (inr i) s =
       absurd (let k = lane_handed row.event.event (lanes row i) in cc)
 
-  -- takes and relays behind them are handed no board entry's moment
+  -- takes and relays after them are handed no board entry's moment
   pub handed_joined : (config : Config) (rows others : List (table.Entry Made T)) → Orderly config (list_of rows)
       → ((row : table.Entry Made T) → table_lists.In row others → IsOfLane row.event.event)
       → Numbered (list_of rows ++ list_of others) → IsHanded rows → IsHanded (rows ++ others)
@@ -167,7 +167,7 @@ module _ {T : Type 0} where
   lane_entries (r ∷ others) lanes e (here q) = subst (λ (x : Entry). IsOfLane x.event) (sym q) (lanes r (table_lists.here refl))
   lane_entries (r ∷ others) lanes e (there i) = lane_entries others (λ row j. lanes row (table_lists.there j)) e i
 
-  -- what is known of the main hand's rows is known of them with a lane's behind
+  -- what is known of the main hand's rows is known of them followed by a lane's
   pub joined : (config : Config) (rows others : List (table.Entry Made T)) → IsSound config rows → IsLane config others → IsSound config (rows ++ others)
   joined config rows others sound lane = record {
     orderly = λ numbered.

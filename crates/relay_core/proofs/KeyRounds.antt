@@ -53,7 +53,7 @@ round_by : (call : ℕ) (a : Act) → RoundOf call a
 round_by call (act.Offered o) = offer_round call o (o.of.number == call) refl
 round_by call (act.Answered o) = answer_round call o (o.of.number == call) refl
 round_by call act.Repeated = no_round refl
-round_by call act.Starved = no_round refl
+round_by call act.OutOfMemory = no_round refl
 round_by call (act.Failed code) = no_round refl
 round_by call (act.Undone code leases draws) = no_round refl
 round_by call (act.Deleted of) = no_round refl

@@ -1,4 +1,4 @@
--- Each entry of the board that fits has its turn: its script can be laid out behind any orderly list. So each fitting history of
+-- Each entry of the board that fits has its turn: its script can be laid out after any orderly list. So each fitting history of
 -- the board is that of an orderly list.
 use Rattle.std.proofs.Common.{◌≡◌, ◌∙◌, sym, ap, subst, refl, ℕ, suc, ◌+◌, ◌<◌, ◌≤◌, List, [], ◌∷◌, ◌++◌, map, filter, ◌==◌, arith}
 use Rattle.relay_outside.specs.declared.settings.Config.{Config}

@@ -37,7 +37,7 @@ leases_offered : {leg : Holder} (a : Act) → In leg (legs_of_act a) → (o : ac
 leases_offered (act.Offered o) i = (o, refl, i)
 leases_offered (act.Answered a) i = elim i [ ]
 leases_offered act.Repeated i = elim i [ ]
-leases_offered act.Starved i = elim i [ ]
+leases_offered act.OutOfMemory i = elim i [ ]
 leases_offered (act.Failed code) i = elim i [ ]
 leases_offered (act.Undone code leases draws) i = elim i [ ]
 leases_offered (act.Deleted d) i = elim i [ ]

@@ -19,7 +19,7 @@ Numbered l = (e : Entry) → In e l → length (filter (is_at e.place e.number) 
 
 -- Where an entry stands.
 
--- an entry since the last End, behind these newer ones: what has a greater number is one of them
+-- an entry since the last End, older than these newer ones: what has a greater number is one of them
 pub record Behind (l : List Entry) (place n : ℕ) (newer : List CellEntry) (c : CellEntry) : Type 0 where
   pub entry : Entry
   pub is_in : In entry l

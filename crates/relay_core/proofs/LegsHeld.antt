@@ -157,7 +157,7 @@ by_act : (config : Config) (h : List BoardEntry) (x : BoardEntry) (number : ℕ)
 by_act config h x number good fits none rest (act.Offered p) q = by_offer config h x number p good fits q none rest (p.of.number == number) refl
 by_act config h x number good fits none rest (act.Answered a) q = by_answer config h x number a fits q none rest (a.of.number == number) refl
 by_act config h x number good fits none rest act.Repeated q = by_other h x number act.Repeated q none refl (λ leg. refl) refl rest
-by_act config h x number good fits none rest act.Starved q = by_other h x number act.Starved q none refl (λ leg. refl) refl rest
+by_act config h x number good fits none rest act.OutOfMemory q = by_other h x number act.OutOfMemory q none refl (λ leg. refl) refl rest
 by_act config h x number good fits none rest (act.Failed code) q = by_other h x number (act.Failed code) q none refl (λ leg. refl) refl rest
 by_act config h x number good fits none rest (act.Undone code leases draws) q =
     by_other h x number (act.Undone code leases draws) q none refl (λ leg. refl) refl rest

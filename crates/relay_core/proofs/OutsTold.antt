@@ -110,7 +110,7 @@ grew_told {C} before now call all told grew =
 
 -- Legs that are apart.
 
--- in two lists one behind the other, of which no two elements are the same leg
+-- in two lists one after the other, of which no two elements are the same leg
 split_apart : (ks ns : List Holder) → ((i j : ℕ) (d : Holder) → i < j → j < length (ks ++ ns) → same_leg (get_or (ks ++ ns) i d) (get_or (ks ++ ns) j d) ≡ true → ⊥)
     → {k n : Holder} → In k ks → In n ns → same_leg k n ≡ true → ⊥
 split_apart [] ns apart i j q = elim i [ ]

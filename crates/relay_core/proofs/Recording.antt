@@ -52,7 +52,7 @@ module _ {T : Type 0} where
   behind_case rows ns none recorded row t (inl i) = recorded row i t ∙ sym (unseen_rows rows ns none row.number)
   behind_case rows ns none recorded row t (inr i) = absurd (let k : false ≡ true = sym (none row i) ∙ t in cc)
 
-  -- rows behind that are none of the board's change nothing
+  -- rows after it that are none of the board's change nothing
   pub recorded_behind : (rows ns : List (table.Entry Made T)) → ((row : table.Entry Made T) → table_lists.In row ns → is_boards row.event.event ≡ false)
       → IsRecorded rows → IsRecorded (rows ++ ns)
   recorded_behind rows ns none recorded row i t = behind_case rows ns none recorded row t (row_part rows ns i)

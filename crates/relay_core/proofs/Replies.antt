@@ -92,7 +92,7 @@ repeated config l o e c reply i q k =
 abbrev Tells : Config → (cookie reply : List ℕ) → Act → Type 0
 Tells config cookie reply (act.Failed code) = reply ≡ reply_datagram config cookie (Fault code)
 Tells config cookie reply (act.Undone code leases draws) = reply ≡ reply_datagram config cookie (Fault code)
-Tells config cookie reply act.Starved = reply ≡ reply_datagram config cookie (Fault E17)
+Tells config cookie reply act.OutOfMemory = reply ≡ reply_datagram config cookie (Fault E17)
 Tells config cookie reply _ = Unit {0}
 
 abbrev TellsIt : Config → (cookie : List ℕ) → Answered → Type 0
@@ -125,10 +125,10 @@ found_tells config cookie h given id ask None = unless_tells config cookie h giv
 found_tells config cookie h given id ask (Some of) =
     unless_tells config cookie h given ask of false (rounds h of.number) (plan.offer_fault (rounds h of.number) ask)
 
-starved_tells : (config : Config) (cookie : List ℕ) (a : Answered) → TellsIt config cookie a → (starved : Bool)
-    → TellsIt config cookie (cond starved (record { bytes = reply_datagram config cookie (Fault E17); act = act.Starved }) a)
-starved_tells config cookie a told true = refl
-starved_tells config cookie a told false = told
+out_of_memory_tells : (config : Config) (cookie : List ℕ) (a : Answered) → TellsIt config cookie a → (out_of_memory : Bool)
+    → TellsIt config cookie (cond out_of_memory (record { bytes = reply_datagram config cookie (Fault E17); act = act.OutOfMemory }) a)
+out_of_memory_tells config cookie a told true = refl
+out_of_memory_tells config cookie a told false = told
 
 -- the turn of an offer that isn't kept
 offer_tells : (config : Config) (h : List BoardEntry) (now : ℕ) (c : Control) (id from_tag sdp : List ℕ) (options : Options) → FitsControl config h now c
@@ -136,10 +136,10 @@ offer_tells : (config : Config) (h : List BoardEntry) (now : ℕ) (c : Control) 
 offer_tells config h now c id from_tag sdp options fits none is_asked =
     let ask = offer_ask from_tag sdp options c.chosen in
     let unkept = fits.answers ∙ ap (answering_unless config h c) none in
-    let asking = ap (λ r. cond c.given.starved (record { bytes = reply_datagram config c.cookie (Fault E17); act = act.Starved }) (spelled config c.cookie (answering_asked config h c r))) is_asked in
+    let asking = ap (λ r. cond c.given.out_of_memory (record { bytes = reply_datagram config c.cookie (Fault E17); act = act.OutOfMemory }) (spelled config c.cookie (answering_asked config h c r))) is_asked in
     subst (TellsIt config c.cookie) (sym (unkept ∙ asking))
-    (starved_tells config c.cookie (spelled config c.cookie (offer_to config h c.given id ask (find_call h id)))
-    (found_tells config c.cookie h c.given id ask (find_call h id)) c.given.starved)
+    (out_of_memory_tells config c.cookie (spelled config c.cookie (offer_to config h c.given id ask (find_call h id)))
+    (found_tells config c.cookie h c.given id ask (find_call h id)) c.given.out_of_memory)
 
 offer_reply : (config : Config) (h : List BoardEntry) (c : Control) (id : List ℕ) (ask : OfferAsk) → Tells config c.cookie c.reply c.act
     → OfferEnds config h c id ask → IsOfferReply config h c id ask

@@ -177,7 +177,7 @@ small_answer rounds ask section rest (begins l e) h = absurd (let q = l in cc)
 small_answer rounds ask section rest (goes_on l had e) h = rest had
 small_answer rounds ask section rest (is_over e) h = absurd (no_life (Answered ask ∷ rounds) section e h)
 
--- so there are 8 of them at the most
+-- so there are at most 8 of them
 pub small : (rounds : List Round) → AreRounds rounds → AreFew rounds → (section : ℕ) → has_pairs rounds section ≡ true → section < most_sections
 small [] rs few section h = absurd (let q = h in cc)
 small (Offered ask new keys ∷ rounds) rs few section h =

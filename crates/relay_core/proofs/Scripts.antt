@@ -16,7 +16,7 @@ use Rattle.call_board.specs.Pairs.{signalled_by, calls_in, closed_of}
 use Rattle.call_board.specs.Asked.{asked}
 use Rattle.call_board.specs.Fits.{FitsBoard, named_live}
 use Rattle.relay_core.specs.Entries.{Entry, is_nested, belongs_to, board_entry, board_history}
-use Rattle.relay_core.specs.Scripts.{Owed, owed_by, opening, closing, in_cell, closings, ending, expiring, reading, reading_starved, script_of_act, script}
+use Rattle.relay_core.specs.Scripts.{Owed, owed_by, opening, closing, in_cell, closings, ending, expiring, reading, reading_out_of_memory, script_of_act, script}
 use Rattle.relay_core.specs.Legal.{Orderly}
 use Rattle.relay_core.proofs.Histories.{both, and_true}
 
@@ -50,15 +50,15 @@ owed_read config h e (Some c) None w i = elim i [ ]
 owed_read config h e (Some c) (Some told) w (here q) = reads c told q
 owed_read config h e (Some c) (Some told) w (there i) = elim i [ ]
 
-owed_starved : (config : Config) (h : List BoardEntry) (e : BoardEntry) (c : Control) (r : Result Said ErrorCode) (w : Owed)
-    → In w (reading_starved h c r) → IsOwed config h e w
-owed_starved config h e c (Ok (Query id)) w i = owed_read config h e (find_call h id) c.given.report w i
-owed_starved config h e c (Ok Ping) w i = elim i [ ]
-owed_starved config h e c (Ok (Offer id from sdp options)) w i = elim i [ ]
-owed_starved config h e c (Ok (Answer id from to sdp options)) w i = elim i [ ]
-owed_starved config h e c (Ok (Delete id from fatal)) w i = elim i [ ]
-owed_starved config h e c (Ok (Listing limit)) w i = elim i [ ]
-owed_starved config h e c (Err code) w i = elim i [ ]
+owed_out_of_memory : (config : Config) (h : List BoardEntry) (e : BoardEntry) (c : Control) (r : Result Said ErrorCode) (w : Owed)
+    → In w (reading_out_of_memory h c r) → IsOwed config h e w
+owed_out_of_memory config h e c (Ok (Query id)) w i = owed_read config h e (find_call h id) c.given.report w i
+owed_out_of_memory config h e c (Ok Ping) w i = elim i [ ]
+owed_out_of_memory config h e c (Ok (Offer id from sdp options)) w i = elim i [ ]
+owed_out_of_memory config h e c (Ok (Answer id from to sdp options)) w i = elim i [ ]
+owed_out_of_memory config h e c (Ok (Delete id from fatal)) w i = elim i [ ]
+owed_out_of_memory config h e c (Ok (Listing limit)) w i = elim i [ ]
+owed_out_of_memory config h e c (Err code) w i = elim i [ ]
 
 owed_offer : (config : Config) (h : List BoardEntry) (e : BoardEntry) (o : act.Offer) (w : Owed) → act.act e ≡ act.Offered o
     → In w (map (opening config) o.legs) ⊎ In w (in_cell o.of (Prepare o.of.number o.legs o.keys o.dropped) ∷ closings config h e o.of)
@@ -78,7 +78,7 @@ signals e of a q i = in_left (signalled_by (act.act e)) (ended_by e) (subst (λ 
 owed_act : (config : Config) (h : List BoardEntry) (moment : ℕ) (c : Control) (w : Owed) (a : Act) → c.act ≡ a
     → In w (script_of_act config h (turn moment c) c a) → IsOwed config h (turn moment c) w
 owed_act config h moment c w act.Repeated q i = elim i [ ]
-owed_act config h moment c w act.Starved q i = owed_starved config h (turn moment c) c (asked config c.too_long c.pairs) w i
+owed_act config h moment c w act.OutOfMemory q i = owed_out_of_memory config h (turn moment c) c (asked config c.too_long c.pairs) w i
 owed_act config h moment c w (act.Failed code) q i = elim i [ ]
 owed_act config h moment c w (act.Undone code leases draws) q i = elim i [ ]
 owed_act config h moment c w (act.Offered o) q i =
@@ -160,7 +160,7 @@ ending_act : (config : Config) (h : List BoardEntry) (moment : ℕ) (c : Control
 ending_act config h moment c of w (act.Deleted d) q (here p) i = subst (λ x. In w (ending config h (turn moment c) x)) p i
 ending_act config h moment c of w (act.Deleted d) q (there j) i = elim j [ ]
 ending_act config h moment c of w act.Repeated q j i = elim j [ ]
-ending_act config h moment c of w act.Starved q j i = elim j [ ]
+ending_act config h moment c of w act.OutOfMemory q j i = elim j [ ]
 ending_act config h moment c of w (act.Failed code) q j i = elim j [ ]
 ending_act config h moment c of w (act.Undone code leases draws) q j i = elim j [ ]
 ending_act config h moment c of w (act.Offered o) q j i = elim j [ ]
@@ -203,7 +203,7 @@ signalled_closing config h e leg c (act.Answered a) q (here p) i =
     (λ d v. there (maps (closing config) (closed_of h e a.of) (subst (λ x. In leg (closed_of h e x)) p i)))
 signalled_closing config h e leg c (act.Answered a) q (there j) i = elim j [ ]
 signalled_closing config h e leg c act.Repeated q j i = elim j [ ]
-signalled_closing config h e leg c act.Starved q j i = elim j [ ]
+signalled_closing config h e leg c act.OutOfMemory q j i = elim j [ ]
 signalled_closing config h e leg c (act.Failed code) q j i = elim j [ ]
 signalled_closing config h e leg c (act.Undone code leases draws) q j i = elim j [ ]
 signalled_closing config h e leg c (act.Deleted d) q j i = elim j [ ]

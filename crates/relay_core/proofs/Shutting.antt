@@ -25,7 +25,7 @@ use Rattle.call_board.proofs.Cells.{live_cells_once}
 use Rattle.call_board.proofs.Held.{closed_of_held}
 use Rattle.call_board.proofs.Free.{free_not_held, new_leg_free, new_legs_once, held_once, held_apart}
 use Rattle.relay_core.specs.Entries.{Event, Board, Cell, Box, Entry, is_nested, belongs_to, front, board_history, history, box_in, box_event, box_history, box_of}
-use Rattle.relay_core.specs.Scripts.{Owed, owed_by, opening, closing, in_cell, closings, ending, expiring, reading, reading_starved, script_of_act, script}
+use Rattle.relay_core.specs.Scripts.{Owed, owed_by, opening, closing, in_cell, closings, ending, expiring, reading, reading_out_of_memory, script_of_act, script}
 use Rattle.relay_core.specs.Legal.{Orderly}
 use Rattle.relay_core.specs.Safe.{box_before}
 use Rattle.relay_core.proofs.Histories.{and_true, both, same_at, good_history}
@@ -155,14 +155,14 @@ read_once None told = tt
 read_once (Some c) None = tt
 read_once (Some c) (Some told) = tt
 
-starved_once : (h : List BoardEntry) (c : Control) (r : Result Said ErrorCode) → Once (box_places (reading_starved h c r))
-starved_once h c (Ok (Query id)) = read_once (find_call h id) c.given.report
-starved_once h c (Ok Ping) = tt
-starved_once h c (Ok (Offer id from sdp options)) = tt
-starved_once h c (Ok (Answer id from to sdp options)) = tt
-starved_once h c (Ok (Delete id from fatal)) = tt
-starved_once h c (Ok (Listing limit)) = tt
-starved_once h c (Err code) = tt
+out_of_memory_once : (h : List BoardEntry) (c : Control) (r : Result Said ErrorCode) → Once (box_places (reading_out_of_memory h c r))
+out_of_memory_once h c (Ok (Query id)) = read_once (find_call h id) c.given.report
+out_of_memory_once h c (Ok Ping) = tt
+out_of_memory_once h c (Ok (Offer id from sdp options)) = tt
+out_of_memory_once h c (Ok (Answer id from to sdp options)) = tt
+out_of_memory_once h c (Ok (Delete id from fatal)) = tt
+out_of_memory_once h c (Ok (Listing limit)) = tt
+out_of_memory_once h c (Err code) = tt
 
 abbrev turn : ℕ → Control → BoardEntry
 turn moment c = record { moment = moment; event = Turn c }
@@ -170,7 +170,7 @@ turn moment c = record { moment = moment; event = Turn c }
 act_once : (config : Config) (h : List BoardEntry) (moment : ℕ) (c : Control) → IsFitting config h → FitsBoard config h (turn moment c) → (a : Act) → c.act ≡ a
     → Once (box_places (script_of_act config h (turn moment c) c a))
 act_once config h moment c good fits act.Repeated q = tt
-act_once config h moment c good fits act.Starved q = starved_once h c (asked config c.too_long c.pairs)
+act_once config h moment c good fits act.OutOfMemory q = out_of_memory_once h c (asked config c.too_long c.pairs)
 act_once config h moment c good fits (act.Failed code) q = tt
 act_once config h moment c good fits (act.Undone code leases draws) q = tt
 act_once config h moment c good fits (act.Offered o) q =

@@ -35,7 +35,7 @@ module _ {I O : Type 0} where
   AreBoxes config k [] = Unit {0}
   AreBoxes config k (x ∷ xs) = IsBox config k x × AreBoxes config (suc k) xs
 
-  -- so many cells, or boxes, were added behind
+  -- `count` cells, or boxes, were appended
   pub record AddsCells (config : Config) (old new : List (Part I O)) (count : ℕ) : Type 0 where
     pub added : List (Part I O)
     pub is : new ≡ old ++ added

@@ -30,7 +30,7 @@ module _ {T : Type 0} where
     pub of_lane : (row : table.Entry Made T) → table_lists.In row rows → IsOfLane row.event.event
     pub receiving : TakesOwnPairs config (list_of rows) → IsReceiving config (list_of rows)
 
-  -- The rows of the main hand, with those of lanes behind them: what they have, given that each place and number stands once among
+  -- The rows of the main hand, followed by those of lanes: what they have, given that each place and number stands once among
   -- them and that takes are of their own pairs. Both are known when the table is closed.
   pub record IsSound (config : Config) (rows : List (table.Entry Made T)) : Type 0 where
     pub orderly : Numbered (list_of rows) → Orderly config (list_of rows)

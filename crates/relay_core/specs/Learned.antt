@@ -20,7 +20,7 @@ abbrev pub steps_in : Holder → Half → List CellEntry → List Step
 steps_in leg half [] = []
 steps_in leg half (e ∷ h) = step_by half (committed leg e) (heard leg half e) ++ steps_in leg half h
 
--- what was signalled and heard in the leg's life
+-- what was signalled and received in the leg's life
 abbrev pub steps_of : List CellEntry → Holder → Half → List Step
 steps_of h leg half = steps_in leg half (life h leg)
 

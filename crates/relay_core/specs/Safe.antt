@@ -135,7 +135,7 @@ pub record IsValidOffer (config : Config) (h : List BoardEntry) (c : Control) (n
   pub is_heard : ask.chosen ≡ c.chosen
   pub no_fault : plan.offer_fault (rounds_of_call h (find_call h id)) ask ≡ None
 
--- it is answered well, or with the error of what it is in want of
+-- the reply is a success, or the error of what it lacks
 pub data IsOfferReply (config : Config) (h : List BoardEntry) (c : Control) (id : List ℕ) (ask : OfferAsk) : Type 0 where
   well : (o : act.Offer) → c.act ≡ act.Offered o → o.ask ≡ ask
       → c.reply ≡ (spelled config c.cookie (offering config (rounds_of_call h (find_call h id)) o)).bytes → IsOfferReply config h c id ask
@@ -147,7 +147,7 @@ pub data IsOfferReply (config : Config) (h : List BoardEntry) (c : Control) (id 
       → In false c.given.opens → IsOfferReply config h c id ask
   key_fault : (leases : List act.Lease) → c.reply ≡ reply_datagram config c.cookie (Fault E16) → c.act ≡ act.Undone E16 leases c.given.draws
       → c.given.draw_failed ≡ true → IsOfferReply config h c id ask
-  no_memory : c.reply ≡ reply_datagram config c.cookie (Fault E17) → c.act ≡ act.Starved → IsOfferReply config h c id ask
+  no_memory : c.reply ≡ reply_datagram config c.cookie (Fault E17) → c.act ≡ act.OutOfMemory → IsOfferReply config h c id ask
 
 -- What an orderly list has, whatever the lanes do
 pub record BoardSafe (config : Config) (l : List Entry) : Type 0 where
@@ -191,11 +191,11 @@ pub record Safe (config : Config) (l : List Entry) : Type 0 where
   pub protected_by : (e : Entry) (x : Relayed) (s : Shield) → In e l → e.event ≡ Cell (Relay x) → x.deed.shield ≡ Some s → IsProtectedBy l e x s
   -- nothing leaves in the clear to a side that agreed on encryption
   pub clear : (e : Entry) (x : Relayed) (w : Sending) → In e l → e.event ≡ Cell (Relay x) → x.deed.sending ≡ Some w → x.deed.shield ≡ None → IsClear l e x
-  -- the key that is in force on a leg is there, so that no packet is lost for want of it
+  -- the key that is in force on a leg is there, so that no packet is lost for lack of it
   pub keys_are_there : (e : Entry) (leg : Holder) (s : LegSignal) (number : ℕ) → In e l → In leg (legs (cell_before l e))
       → in_force (cell_before l e) leg ≡ Some s → s.outbound ≡ Some number → HasKey (cell_before l e) leg number
 
--- Two relays of one receipt, with one answer of the send, after one history of their cells since the last End, do the same,
+-- Two relays of one receipt, with one result of the send, after one history of their cells since the last End, do the same,
 -- whatever else happens
 abbrev pub IsIsolated : Config → Type 0
 IsIsolated config = (l k : List Entry) (e f : Entry) (x y : Relayed) → Legal config l → Legal config k → In e l → In f k

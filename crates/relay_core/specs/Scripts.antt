@@ -52,14 +52,14 @@ reading None report = []
 reading (Some c) None = []
 reading (Some c) (Some report) = in_cell c (Read report) ∷ []
 
--- a query that is refused for want of memory may have read its call
-abbrev pub reading_starved : List BoardEntry → Control → Result Said ErrorCode → List Owed
-reading_starved h c (Ok (Query id)) = reading (find_call h id) c.given.report
-reading_starved h c _ = []
+-- a query that ran out of memory may have read its call
+abbrev pub reading_out_of_memory : List BoardEntry → Control → Result Said ErrorCode → List Owed
+reading_out_of_memory h c (Ok (Query id)) = reading (find_call h id) c.given.report
+reading_out_of_memory h c _ = []
 
 abbrev pub script_of_act : Config → List BoardEntry → BoardEntry → Control → Act → List Owed
 script_of_act config h e c act.Repeated = []
-script_of_act config h e c act.Starved = reading_starved h c (asked config c.too_long c.pairs)
+script_of_act config h e c act.OutOfMemory = reading_out_of_memory h c (asked config c.too_long c.pairs)
 script_of_act config h e c (act.Failed code) = []
 script_of_act config h e c (act.Undone code leases draws) = []
 script_of_act config h e c (act.Offered o) =

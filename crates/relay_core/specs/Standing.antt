@@ -57,7 +57,7 @@ module _ {I O : Type 0} where
   IsCellPart (part.Cell cell) = Unit {0}
   IsCellPart _ = ⊥
 
-  -- a box, where there are so many cells
+  -- a box of a table with `cells` cells
   abbrev pub IsBoxPart : ℕ → Part I O → Type 0
   IsBoxPart cells (part.Pair box) = cells_of box ≡ cells
   IsBoxPart cells _ = ⊥
@@ -96,7 +96,7 @@ module _ {I O : Type 0} where
   BoardIs config (part.Board board) h = IsFitting config h × BoardFor config board h
   BoardIs config _ h = ⊥
 
-  -- the state is a box with this holder, where there are so many cells
+  -- the state is a box with this holder, of a table with `cells` cells
   abbrev pub BoxIs : ℕ → Part I O → Option Holder → Type 0
   BoxIs cells (part.Pair box) held = (holder_in box ≡ held) × (cells_of box ≡ cells)
   BoxIs cells _ held = ⊥

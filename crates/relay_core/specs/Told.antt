@@ -98,7 +98,7 @@ module _ {T : Type 0} where
 
 -- By the histories of the cells, of which these are the entries since the last end of a call.
 
--- the call of the out end of a half that a send makes, which was answered so
+-- the call of the out end of a half that a send makes, with this result
 abbrev pub sent_of : Half → Bool → Option Sending → Option OutCall
 sent_of half ok None = None
 sent_of half ok (Some sending) = if is_half half sending.half then Some (out.Send sending.to sending.bytes ok) else None

@@ -23,7 +23,7 @@ use turn_table::{Hand, Turns};
 /// memory.
 ///
 /// The hand's list is then that of all steps of all places. Of a relay it has the packet and the outcome. With what each relay
-/// noted, protected and sent told beside it, it is a legal list, and so a safe one: where the main hand's own entries are
+/// noted, protected and sent added, it is a legal list, and so a safe one: where the main hand's own entries are
 /// orderly and its nested steps were handed their board entry's moment, and where each hand's relays are of takes of its own.
 pub fn close_relay<I: InEnd, O: OutEnd>(
     turns: Turns<Relay<I, O>>,

@@ -17,13 +17,13 @@ pub fn legal_is_safe()
     ensures { (config : Config) (l : List Entry) → Legal config l → Safe config l }
 {}
 
-/// What a relay does depends on its receipt, the answer of its send and the entries of its own cell since the last end of a
+/// What a relay does depends on its receipt, the result of its send and the entries of its own cell since the last end of a
 /// call there, and on nothing else that happens.
 pub fn cells_are_apart()
     ensures { (config : Config) → IsIsolated config }
 {}
 
-/// What an orderly list tells by itself, whatever else stands beside it: it is what the list of the control loop's own hand is to
+/// What an orderly list tells by itself, whatever else happens: it is what the list of the control loop's own hand is to
 /// have between its turns, whatever the lanes do.
 pub fn orderly_is_safe()
     ensures { (config : Config) (l : List Entry) → Orderly config l → BoardSafe config l }

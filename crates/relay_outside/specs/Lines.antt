@@ -28,7 +28,7 @@ line_of (call.Line room (given.Text bytes)) = Some bytes
 line_of (call.Line room given.End) = None
 line_of (call.Line room given.Failed) = None
 
--- the line that a call was given to write, whether it was answered Ok or failed
+-- the line that a call was given to write, whether it returned Ok or failed
 abbrev pub write_of : WriteCall → Option (List ℕ)
 write_of (put.Write line done) = Some line
 

@@ -32,13 +32,13 @@ datagram_of (call.Take room given.End) = None
 datagram_of (call.Take room given.Failed) = None
 datagram_of (call.Send to bytes done) = None
 
--- the target and the bytes of a send, whether it was answered Ok or failed
+-- the target and the bytes of a send, whether it returned Ok or failed
 abbrev pub send_of : LinkCall → Option (Addr × List ℕ)
 send_of (call.Bind at done) = None
 send_of (call.Take room answer) = None
 send_of (call.Send to bytes done) = Some (to, bytes)
 
--- the target and the bytes of a send that was answered Ok
+-- the target and the bytes of a send that returned Ok
 abbrev pub sent_of : LinkCall → Option (Addr × List ℕ)
 sent_of (call.Bind at done) = None
 sent_of (call.Take room answer) = None

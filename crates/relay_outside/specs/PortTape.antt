@@ -84,7 +84,7 @@ abbrev pub out_from : Addr → PortState → OutState
 out_from at port = record { told = opened_for at; failures = uncalled port.sends }
 
 -- an entry that gets back what its ends are left with: the packets that were not given, and the numbers of
--- their failing calls, which count anew at the next opening
+-- their failing calls, which count from the next opening on
 abbrev pub returned : Addr → InState → OutState → PortState
 returned at receiving sending = record {
   at = at;

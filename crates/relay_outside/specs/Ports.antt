@@ -32,7 +32,7 @@ arrival_of (into.Take room (given.Datagram from bytes)) = Some (from, bytes)
 arrival_of (into.Take room given.Nothing) = None
 arrival_of (into.Take room given.Failed) = None
 
--- the target and the bytes of a send that was answered Ok
+-- the target and the bytes of a send that returned Ok
 abbrev pub departure_of : OutCall → Option (Addr × List ℕ)
 departure_of (out.Send to bytes true) = Some (to, bytes)
 departure_of (out.Send to bytes false) = None
@@ -50,7 +50,7 @@ abbrev pub ClosesNot : Addr → PortCall → Type 0
 ClosesNot at (port.Open there done) = Unit {0}
 ClosesNot at (port.Close there taken sent) = there ≡ at → ⊥
 
--- the address is open: an opening of it was answered Ok, and it was not closed since
+-- the address is open: an opening of it returned Ok, and it was not closed since
 pub record IsOpen (calls : List PortCall) (at : Addr) : Type 0 where
   pub before : List PortCall
   pub after : List PortCall

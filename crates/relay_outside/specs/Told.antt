@@ -8,7 +8,7 @@ abbrev pub where_told : {C : Type 0} → Bool → List C → Option (List C)
 where_told true calls = Some calls
 where_told false calls = None
 
--- of a device that still tells: its list is the earlier one with this call behind it.
+-- of a device that still tells: its list is the earlier one with this call appended.
 -- One that stopped says nothing, and never tells again
 abbrev pub Gains : {C : Type 0} → Option (List C) → Option (List C) → C → Type 0
 Gains old None call = Unit {0}
@@ -50,7 +50,7 @@ abbrev pub WhereTold : {C : Type 0} → Option (List C) → (List C → Type 0) 
 WhereTold None P = Unit {0}
 WhereTold (Some calls) P = P calls
 
--- whether the call was answered Ok
+-- whether the call returned Ok
 abbrev pub is_done : {T E : Type 0} → Result T E → Bool
 is_done (Ok value) = true
 is_done (Err error) = false
@@ -59,7 +59,7 @@ is_done (Err error) = false
 abbrev pub Rose : ℕ → ℕ → Type 0
 Rose before now = min (before + 1) (2 ^ 64 - 1) ≤ now
 
--- the count never falls, and a fault is answered only where it rose
+-- the count never falls, and a fault is returned only where it rose
 pub record HasCause {T E : Type 0} (before now : ℕ) (result : Result T E) : Type 0 where
   pub later : before ≤ now
   pub failed : OnErr result (Rose before now)

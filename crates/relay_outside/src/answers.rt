@@ -1,12 +1,12 @@
-/// The answer of a device that met a fault of the outside; its count of faults rose in that call.
+/// The error of a device that met a fault outside the program; its count of faults rose in that call.
 #[derive(Clone, Copy, PartialEq, Eq, Debug)]
 pub struct Failed;
 
-/// The answer of a call whose memory was refused.
+/// Out of memory.
 #[derive(Clone, Copy, PartialEq, Eq, Debug)]
 pub struct OutOfMemory;
 
-/// What a take of the control link answers.
+/// The result of a take of the control link.
 #[derive(Clone, Copy, PartialEq, Eq, Debug)]
 pub enum Taken {
     /// A datagram from this source fills the first `len` bytes of the buffer.
@@ -22,7 +22,7 @@ pub enum Taken {
     End,
 }
 
-/// What a read of a line answers.
+/// The result of a read of a line.
 #[derive(Clone, Copy, PartialEq, Eq, Debug)]
 pub enum LineRead {
     /// A line, without its line feed, fills the first `len` bytes of the buffer.

@@ -19,7 +19,7 @@ impl Model for Copied {
 }
 
 impl Copied {
-    /// A copy of these bytes; `None` where the memory for it was refused.
+    /// A copy of these bytes; `None`: out of memory.
     pub fn of(alloc: Global, bytes: &[u8]) -> Option<Copied>
         ensures { MatchOption result (Unit {0}) (λ copied. copied ≡ bytes.now) }
     {

@@ -3,7 +3,7 @@ pub trait Timer {
     ghost use Rattle.std.specs.Prelude.{ℕ, Option, List};
     ghost use Rattle.relay_outside.specs.Told.{Gains};
 
-    /// The moments that were answered since the timer was made, where it tells them.
+    /// The moments that were returned since the timer was made, where it tells them.
     ghost told: { Self → Option (List ℕ) };
 
     /// The moment of this call.

@@ -1,5 +1,5 @@
 //! The outside of the relay, as traits: sockets, ports, keys, time and lines.
-//! Each trait says what its calls mean by a list of what was called and answered, and by a count of
+//! Each trait says what its calls mean by a list of what was called and returned, and by a count of
 //! faults.
 //! Nothing here opens a socket: `outside_real` has the devices that do.
 #![tactic(auto)]

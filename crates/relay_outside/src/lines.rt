@@ -34,7 +34,7 @@ pub enum WriteCall {
     Write {
         /// The line, with its line feed.
         line: Copied,
-        /// Whether it was answered Ok.
+        /// Whether it returned Ok.
         done: bool,
     },
 }

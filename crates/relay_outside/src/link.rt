@@ -30,7 +30,7 @@ pub enum LinkCall {
     Bind {
         /// The address.
         at: Addr,
-        /// Whether it was answered Ok.
+        /// Whether it returned Ok.
         done: bool,
     },
     /// A datagram was asked for.
@@ -46,7 +46,7 @@ pub enum LinkCall {
         to: Addr,
         /// The bytes.
         bytes: Copied,
-        /// Whether it was answered Ok.
+        /// Whether it returned Ok.
         done: bool,
     },
 }

@@ -39,7 +39,7 @@ pub enum OutCall {
         to: Addr,
         /// The bytes.
         bytes: Copied,
-        /// Whether it was answered Ok.
+        /// Whether it returned Ok.
         done: bool,
     },
 }
@@ -93,7 +93,7 @@ pub enum PortCall {
     Open {
         /// Its local address.
         at: Addr,
-        /// Whether it was answered Ok.
+        /// Whether it returned Ok.
         done: bool,
     },
     /// A port was closed and its ends were given back.

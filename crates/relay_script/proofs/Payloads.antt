@@ -69,7 +69,7 @@ encode_append (x ∷ a) b =
     encode_cons x (a ++ b) ∙ ap (λ t. encode_lower (x ∷ []) ++ t) (encode_append a b)
     ∙ sym (append_assoc (encode_lower (x ∷ [])) (encode_lower a) (encode_lower b)) ∙ ap (λ t. t ++ encode_lower b) (sym (encode_cons x a))
 
--- one more byte behind a line
+-- one more byte after a line
 pub encode_more : (front bytes old line : List ℕ) (i : ℕ) → i < length bytes → old ≡ front ++ encode_lower (take i bytes) → line ≡ old ++ encode_lower (get_or bytes i 0 ∷ []) → line ≡ front ++ encode_lower (take (i + 1) bytes)
 encode_more front bytes old line i low before e =
     let next : take (i + 1) bytes ≡ take i bytes ++ get_or bytes i 0 ∷ [] = rw add-one (take-suc bytes i 0 low) in

@@ -1,4 +1,4 @@
--- Lines as words: what stands before the first space and behind it says which step is asked for.
+-- Lines as words: what stands before the first space and after it says which step is asked for.
 use Rattle.std.proofs.Common.{◌≡◌, ℕ, List, ◌∷◌, ◌++◌, ◌^◌, false, inl, refl, sym, ◌∙◌, ap, subst, arith, Ok, Err, Some, None, Option, Result, IfOk, IfErr}
 use Rattle.std.specs.Prelude.{codes}
 use Rattle.std.specs.Str.{bytes_eq}
@@ -157,7 +157,7 @@ free_word (Relay receipt) = free_by_test 32 (codes "relay") refl
 free_word (Packet port source bytes) = free_by_test 32 (codes "packet") refl
 free_word Tick = free_by_test 32 (codes "tick") refl
 
--- the first word and what is behind it are those of the line
+-- the first word and what is after it are those of the line
 pub words_same : (line name rest : List ℕ) → line ≡ name ++ 32 ∷ rest → IsFreeOf 32 name → (step : Step) → InWords line step → (first_word step ≡ name) × Behind step rest
 words_same line name rest e free step is =
     let same = same_front 32 name (first_word step) rest is.rest free (free_word step) (sym e ∙ is.parts) in

@@ -61,7 +61,7 @@ pub record IsArrival (text : List ℕ) (port : ℕ) (source : Addr) (bytes : Lis
   pub port_number : IsNumber (2 ^ 16) port_text port
   pub arrived : IsDatagram datagram source bytes
 
--- what stands behind the first word and a space; nothing does behind `tick`
+-- what follows the first word and a space; nothing follows `tick`
 abbrev pub Behind : Step → List ℕ → Type 0
 Behind Skip text = ⊥
 Behind (At moment) text = IsNumber (2 ^ 64) text moment
@@ -74,7 +74,7 @@ Behind (Relay receipt) text = IsCount text receipt
 Behind (Packet port source bytes) text = IsArrival text port source bytes
 Behind Tick text = ⊥
 
--- a first word, a space, and what belongs behind it
+-- a first word, a space, and what belongs after it
 pub record InWords (line : List ℕ) (step : Step) : Type 0 where
   pub rest : List ℕ
   pub parts : line ≡ first_word step ++ 32 ∷ rest
@@ -85,7 +85,7 @@ abbrev pub IsSkipped : List ℕ → Type 0
 IsSkipped [] = Unit {0}
 IsSkipped (byte ∷ bytes) = byte ≡ 35
 
--- a line `tick` is this word alone; each other line that asks for something has a word and more behind it
+-- a line `tick` is this word alone; each other line that asks for something has a word and more after it
 abbrev pub SpellsStep : List ℕ → Step → Type 0
 SpellsStep line Skip = IsSkipped line
 SpellsStep line Tick = line ≡ codes "tick"

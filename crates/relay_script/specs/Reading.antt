@@ -12,7 +12,7 @@ use Rattle.relay_script.specs.Steps.{Step, FailSend, meaning}
 use Rattle.relay_script.specs.Fields.{IsNumber, IsCount, Piece, IsPiece, piece_text, piece_byte}
 use Rattle.relay_script.specs.Lines.{first_word, Behind, InWords}
 
--- a fault says this, where it isn't want of memory
+-- a fault says this, unless it is out of memory
 abbrev pub Refuses : ParseFault → Type 0 → Type 0
 Refuses NotInGrammar fact = fact
 Refuses OutOfMemory fact = Unit {0}
@@ -59,7 +59,7 @@ pub record BeginsWith (text : List ℕ) (byte : ℕ) (rest : List ℕ) : Type 0 
 abbrev pub NoPiece : List ℕ → Type 0
 NoPiece text = (piece : Piece) (rest : List ℕ) → IsPiece piece → text ≡ piece_text piece ++ rest → ⊥
 
--- a step with this first word and this behind it
+-- a step with this first word, followed by this
 pub record Fits (name rest : List ℕ) (step : Step) : Type 0 where
   pub word : first_word step ≡ name
   pub behind : Behind step rest
@@ -67,12 +67,12 @@ pub record Fits (name rest : List ℕ) (step : Step) : Type 0 where
 abbrev pub NoStep : (name rest : List ℕ) → Type 0
 NoStep name rest = (step : Step) → first_word step ≡ name → Behind step rest → ⊥
 
--- behind this first word the text asks for this step, or for none
+-- after this first word the text asks for this step, or for none
 abbrev pub Reads : (name rest : List ℕ) → Result code.Step ParseFault → Type 0
 Reads name rest (Ok step) = Fits name rest (meaning step)
 Reads name rest (Err fault) = Refuses fault (NoStep name rest)
 
--- what stands behind `fail send`: `PORT N`
+-- what follows `fail send`: `PORT N`
 pub record IsPortAndCount (text : List ℕ) (port count : ℕ) : Type 0 where
   pub port_text : List ℕ
   pub number : List ℕ

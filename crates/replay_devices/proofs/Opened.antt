@@ -22,7 +22,7 @@ none_at_first at o = never o.before o.opened
 pub first_open : (told : Option (List PortCall)) (at : Addr) → told ≡ Some [] → WhereTold told (λ calls. IsOpen calls at → ⊥)
 first_open told at is = subst (λ (t : Option (List PortCall)). WhereTold t (λ calls. IsOpen calls at → ⊥)) (sym is) (none_at_first at)
 
--- the last of these is the one in the middle, or stands behind it
+-- the last of these is the one in the middle, or stands after it
 at_end : {A : Type 0} (xs before after : List A) (y z : A) → xs ++ y ∷ [] ≡ before ++ z ∷ after →
     (y ≡ z) ⊎ ((rest : List A) × (after ≡ rest ++ y ∷ []))
 at_end [] [] after y z e = inl (let same : y ≡ z = cc in same)

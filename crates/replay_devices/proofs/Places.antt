@@ -1,4 +1,4 @@
--- Lines that are found in a script: the one behind which the keys go on, and the one that has a packet.
+-- Lines that are found in a script: the one after which the keys go on, and the one that has a packet.
 use Rattle.std.proofs.Common.{Bool, ◌≡◌, ◌∙◌, ap, sym, refl, subst, min, ℕ, ◌+◌, List, [], ◌∷◌, Option, Some, None, true, false, length, take, drop, get_or}
 use Rattle.std.specs.Prelude.{filter_map, slice_get, MatchOption, IsSome, Result, Ok}
 use Rattle.std.specs.List.{cons_option}
@@ -28,7 +28,7 @@ key_first : (o : Option (List ℕ)) (all rest : List (List ℕ)) → IsSome o �
 key_first None all rest some is = absurd (false≢true some)
 key_first (Some key) all rest some is = is
 
--- the oldest unused key is that of the first line `key`, and the others are those behind it
+-- the oldest unused key is that of the first line `key`, and the others are those after it
 pub key_used : (steps : List Step) (next step place : ℕ) (found : Step) → BeginsAt place (between steps next step) →
     found ≡ get_or (between steps next step) place found →
     MatchOption (key_of found)

@@ -12,11 +12,11 @@ next_fails numbers = list_any (λ n. n == 1) numbers
 abbrev pub after_call : List ℕ → List ℕ
 after_call numbers = map (λ n. n - 1) numbers
 
--- the same, beside the room for more of them
+-- the same, with the room for more of them
 abbrev pub counted : Room ℕ → Room ℕ
 counted numbers = record { list = after_call numbers.list; spare = numbers.spare }
 
--- the count of faults after a call that was answered Ok or failed
+-- the count of faults after a call that returned Ok or failed
 abbrev pub faults_after : (done : Bool) → ℕ → ℕ
 faults_after true faults = faults
 faults_after false faults = next_count faults

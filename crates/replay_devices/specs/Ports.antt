@@ -20,8 +20,8 @@ abbrev pub is_take_failure : ℕ → Step → Bool
 is_take_failure n (line.Fail kind.Take count) = count == n
 is_take_failure n _ = false
 
--- of lines of which the latest stands first, one makes the next line `take` or `packet` meet a failing take, where so many of
--- them came later than these lines
+-- of lines, the latest first, one makes the next line `take` or `packet` meet a failing take, where `later` lines of these two kinds
+-- came after them
 abbrev pub fails_behind : List Step → ℕ → Bool
 fails_behind [] later = false
 fails_behind (step ∷ past) later =
@@ -48,7 +48,7 @@ pub record OutState : Type 0 where
   pub faults : ℕ
 
 -- the maker of ports: what it tells; the script and the index of the present line; which later opens fail; for each number of a
--- port the index of the first line behind its last open that made ends; the count of faults
+-- port the index of the first line after its last open that made ends; the count of faults
 pub record PortsState : Type 0 where
   pub told : Option (List PortCall)
   pub steps : List Step
@@ -102,7 +102,7 @@ pub record IsNextFailing (port sends : ℕ) (window : List Step) (least : Option
   pub before : (n : ℕ) → sends < n → IfSome least (λ number. n < number) → list_any (fails_send port n) window ≡ false
   pub fails : IfSome least (λ number. (sends < number) × (list_any (fails_send port number) window ≡ true))
 
--- the ends that an open makes: the receiving one gives what the lines behind the present one give, the sending one fails by
+-- the ends that an open makes: the receiving one gives what the lines after the present one give, the sending one fails by
 -- the lines between the last open of this port's number that made ends and the present line
 pub record Opens (maker : PortsState) (at : Addr) (receiving : InState) (sending : OutState) : Type 0 where
   pub receiving_is : receiving ≡ record { told = opened_for at; steps = maker.steps; next = maker.step + 1; faults = 0 }

@@ -72,7 +72,7 @@ sends config (x ∷ past) = sends_after config x (sends config past)
 
 -- Keys.
 
--- the keys that draws have to give, behind those of lines the ones of the stream of a seed
+-- the keys that draws have to give: those of lines, and after them those of the stream of a seed
 abbrev pub due : (seed : ℕ) → List Happening → DueState
 due seed past = record { unused = unused past; seed_words = (stream_of seed).seed_words; streamed = streamed past }
 

@@ -32,7 +32,7 @@ impl Countdowns {
         }
     }
 
-    /// The call of this number from now fails. Without room memory is asked for; where it is refused, nothing
+    /// The call of this number from now fails. Without room it takes memory; if it runs out of memory, nothing
     /// changes.
     pub(crate) fn add(&mut self, number: u32) -> Result<(), OutOfMemory>
         ensures list { IfOk result (λ _. self.new.list ≡ self.old.list ++ number ∷ []) }

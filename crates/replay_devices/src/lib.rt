@@ -2,8 +2,8 @@
 //! which line of the script is made next, and gives and fails by the lines.
 //!
 //! `specs/Lines.antt` says what single lines ask of them; `specs/Link.antt`, `specs/Ports.antt` and `specs/Keys.antt` say what
-//! each of them gives. `Watch` says beside them which of their calls the lines ask to fail, and which keys the draws give, as
-//! `replay_model` defines it (`specs/Watch.antt`).
+//! each of them gives. Independently of them `Watch` says which of their calls the lines ask to fail, and which keys the draws give,
+//! as `replay_model` defines it (`specs/Watch.antt`).
 #![tactic(auto)]
 
 mod countdowns;

@@ -85,7 +85,7 @@ impl Watch {
         }
     }
 
-    /// A key was drawn, which has to be the one that is answered. `None`: 2^64 - 1 keys of the seed's stream were drawn.
+    /// A key was drawn, which has to be the one that is returned. `None`: 2^64 - 1 keys of the seed's stream were drawn.
     pub fn drew(&mut self) -> Option<[u8; 30]>
         ensures drew { IfSome result (λ key. (config : Config) (seed : ℕ) → NotesDraw config seed self.old self.new key) }
         ensures spent { result ≡ None → (config : Config) (seed : ℕ) (past : List Happening) → StandsFor config seed past self.old → (unused past ≡ []) × (2 ^ 64 - 1 ≤ streamed past) }

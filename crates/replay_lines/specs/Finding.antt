@@ -21,7 +21,7 @@ abbrev pub StandsFor : Found → LineCall → Type 0
 StandsFor (found.Step step) made = ReadsStep (meaning step) made
 StandsFor (found.Ending last) made = (count : ℕ) → ReadsEnding count last made
 
--- the same of what was answered; where memory was wanting, the read gave some line
+-- the same of the result; if memory ran out, the read gave some line
 abbrev pub Answers : Result Found OutOfMemory → LineCall → Type 0
 Answers (Ok found) made = StandsFor found made
 Answers (Err fault) made = (line : List ℕ) × (made ≡ read (given.Text line))

@@ -30,20 +30,20 @@ pub record ReadsStep (step : Step) (made : LineCall) : Type 0 where
 abbrev pub ReadsSteps : List Step → List LineCall → Type 0
 ReadsSteps steps calls = AllZip ReadsStep steps calls
 
--- The read gave a line behind so many steps that is not taken: it is outside the grammar, or the steps are as many as a script
+-- After `count` steps the read gave a line that is not taken: it is outside the grammar, or the steps are as many as a script
 -- may have. A line of which the buffer has only the front is outside too: it has more bytes than any line of the grammar
 pub record ReadsOutside (count : ℕ) (made : LineCall) : Type 0 where
   pub line : List ℕ
   pub read_is : made ≡ read (given.Text line)
   pub refused : IsOutside line ⊎ (count ≡ 50000)
 
--- the last read, behind so many steps: it found no more lines, it failed, or it gave a line that is not taken
+-- the last read, after `count` steps: it found no more lines, it failed, or it gave a line that is not taken
 abbrev pub ReadsEnding : ℕ → Ending → LineCall → Type 0
 ReadsEnding count ending.End made = made ≡ read given.End
 ReadsEnding count ending.Fault made = made ≡ read given.Failed
 ReadsEnding count ending.Outside made = ReadsOutside count made
 
--- a script of these steps, 50,000 at the most, and with this ending: a read for each step, and then one more, the last
+-- a script of these steps, at most 50,000, and with this ending: a read for each step, and then one more, the last
 pub record Reads (steps : List Step) (ending : Ending) (calls : List LineCall) : Type 0 where
   pub before : List LineCall
   pub last : LineCall
@@ -58,7 +58,7 @@ ReadsLine [] = Unit {0}
 ReadsLine (made ∷ []) = (line : List ℕ) × (made ≡ read (given.Text line))
 ReadsLine (made ∷ again ∷ calls) = ⊥
 
--- the front of a script, as far as it was read: a read for each step, 50,000 at the most, and at most one line more
+-- the front of a script, as far as it was read: a read for each step, at most 50,000, and at most one line more
 pub record ReadsFront (calls : List LineCall) : Type 0 where
   pub steps : List Step
   pub before : List LineCall

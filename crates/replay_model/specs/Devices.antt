@@ -56,7 +56,7 @@ abbrev pub fails_nth : FailKind → ℕ → Happening → Bool
 fails_nth kind n (Made s) = is_failure kind n s
 fails_nth kind n _ = false
 
--- a line makes the next one of this kind fail, where so many of the kind came later than this past
+-- a line makes the next one of this kind fail, where `later` of the kind came after this past
 abbrev pub fails_behind : FailKind → List Happening → ℕ → Bool
 fails_behind kind [] later = false
 fails_behind kind (x ∷ past) later =
@@ -68,7 +68,7 @@ fails kind past = fails_behind kind past 0
 
 -- Sends of out ends.
 
--- what stands behind the first that passes
+-- what follows the first that passes
 abbrev pub behind : {A : Type 0} → (A → Bool) → List A → List A
 behind p [] = []
 behind p (x ∷ xs) = if p x then xs else behind p xs
@@ -109,7 +109,7 @@ abbrev pub send_fails : Config → List Happening → (pair : ℕ) → Half → 
 send_fails config past pair half =
     list_any (fails_send (half_port config pair half) (next_send past pair half)) (waiting config past pair half)
 
--- what a send by an end answers, where one is made; where none is made, none fails
+-- the result of a send by an end, where one is made; where none is made, none fails
 abbrev pub send_answers : Config → List Happening → Option Sending → Bool
 send_answers config past None = true
 send_answers config past (Some sending) = not (send_fails config past sending.pair sending.half)

@@ -2,7 +2,7 @@
 //! be taken. A `Window` stands for the list of all indices that were noted in it, of which it keeps the last 128; `near`
 //! estimates an index by RFC 3711 section 3.3.1, `fresh` and `note` are the check and the update of section 3.3.2.
 //!
-//! Module `answers` has what a window answers, `window` the window; `specs/Indices.antt` says what the answers mean.
+//! Module `answers` has the results of a window's calls, `window` the window; `specs/Indices.antt` says what they mean.
 #![tactic(auto)]
 
 mod answers;

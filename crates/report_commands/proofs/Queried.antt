@@ -23,22 +23,22 @@ use Rattle.call_board.specs.Fits.{asks_after}
 use Rattle.call_board.specs.Pairs.{held}
 use Rattle.call_board.specs.Replies as replies
 use Rattle.call_board.specs.Replies.{Fault, reply_datagram}
-use Rattle.call_board.proofs.Done.{Asks, with_reply, due_fits, query_unknown_due, queried_due, report_of_call, starved_due}
+use Rattle.call_board.proofs.Done.{Asks, with_reply, due_fits, query_unknown_due, queried_due, report_of_call, out_of_memory_due}
 use Rattle.call_board.proofs.Idle.{idle_changes_nothing, is_idle}
 use Rattle.relay_core.specs.declared.part.Part.{Part}
 use Rattle.relay_core.specs.Entries.{board_history}
 use Rattle.relay_core.specs.Made.{Made}
-use Rattle.relay_core.specs.Scripts.{Owed, in_cell, reading, reading_starved}
+use Rattle.relay_core.specs.Scripts.{Owed, in_cell, reading, reading_out_of_memory}
 use Rattle.relay_core.specs.Turning.{GainsNested, made_by}
 use Rattle.media_ports.specs.Held.{TellsHeld}
-use Rattle.nested_steps.specs.declared.nest.Nest.{Nest}
+use Rattle.nested_steps.specs.declared.board_turn.BoardEntryId.{BoardEntryId}
 use Rattle.board_turns.specs.Acting.{InTurn}
 use Rattle.board_turns.specs.Ending.{leg_pairs}
 use Rattle.control_replies.proofs.Datagrams.{fault_is}
 use Rattle.control_entries.specs.declared.request.Request.{Request}
-use Rattle.control_entries.specs.declared.gave.Gave.{Gave}
-use Rattle.control_entries.specs.declared.gave.Gave.TheVariants as gave
-use Rattle.control_entries.specs.declared.done.Done.{Done}
+use Rattle.control_entries.specs.declared.device_answers.DeviceAnswers.{DeviceAnswers}
+use Rattle.control_entries.specs.declared.device_answers.DeviceAnswers.TheVariants as device_answers
+use Rattle.control_entries.specs.declared.command_outcome.CommandOutcome.{CommandOutcome}
 use Rattle.control_entries.specs.Carrying.{hearing_as, hearing_by, Carries}
 use Rattle.control_entries.specs.Controls.{Hearing, unanswered, with_answer, entry_with}
 use Rattle.control_entries.specs.Giving.{given_by}
@@ -50,18 +50,18 @@ use Rattle.report_commands.specs.Told.{TellsOf, TellsOfBy}
 
 -- What is asked.
 
--- the datagram of a query, before it is answered
-abbrev asking_with : Request → Option Entries → List (Option CryptoLine) → Gave → Control
+-- the datagram of a query, before its reply
+abbrev asking_with : Request → Option Entries → List (Option CryptoLine) → DeviceAnswers → Control
 asking_with request pairs chosen given = unanswered (hearing_as request pairs chosen given)
 
 query_asked : (config : Config) (request : Request) (pairs : Option Entries) (id : List ℕ) → IsAsking request pairs (Query id) → asked config request.too_long pairs ≡ Ok (Query id)
 query_asked config request pairs id asking = ap (λ (long : Bool). asked config long pairs) asking.short ∙ asks_so config false pairs (Query id) asking.command refl
 
-asks_query : (config : Config) (h : List BoardEntry) (moment : ℕ) (request : Request) (pairs : Option Entries) (chosen : List (Option CryptoLine)) (id : List ℕ) (given : Gave)
-    → (given_by given).starved ≡ false → IsAnew h moment request → IsAsking request pairs (Query id)
+asks_query : (config : Config) (h : List BoardEntry) (moment : ℕ) (request : Request) (pairs : Option Entries) (chosen : List (Option CryptoLine)) (id : List ℕ) (given : DeviceAnswers)
+    → (given_by given).out_of_memory ≡ false → IsAnew h moment request → IsAsking request pairs (Query id)
     → Asks config h moment (asking_with request pairs chosen given) (Ok (Query id))
 asks_query config h moment request pairs chosen id given fed anew asking =
-    record { nothing_kept = anew.not_kept; not_starved = fed; is_asked = query_asked config request pairs id asking }
+    record { nothing_kept = anew.not_kept; not_out_of_memory = fed; is_asked = query_asked config request pairs id asking }
 
 reading_holds : (config : Config) (h : List BoardEntry) (moment : ℕ) (x : Hearing) (a : Answered) → is_idle a.act ≡ true → held (entry_with moment x a ∷ h) ≡ held h
 reading_holds config h moment x a idle =
@@ -69,92 +69,92 @@ reading_holds config h moment x a idle =
 
 module _ {M I O T : Type 0} {g : _} where
   -- no live call has the call-id
-  pub unknown_carries : (config : Config) (turns : Turns M (Part I O) Made T) (hand : Hand M (Part I O) Made T g) (nest : Nest) (request : Request) (pairs : Option Entries)
-      (chosen : List (Option CryptoLine)) (id : List ℕ) (done : Done) (board : Board) (told : Option (List PortCall))
-      → InTurn config turns hand nest board told → IsAnew (board_history (made_by hand) nest.number) nest.moment request → IsAsking request pairs (Query id)
-      → find_call (board_history (made_by hand) nest.number) id ≡ None → Tells chosen (reply_datagram config request.cookie.now (Fault E9)) done
-      → Carries config hand hand nest (hearing_by request pairs done) done.reply board told
-  unknown_carries config turns hand nest request pairs chosen id done board told turn anew asking none tells =
-      let h = board_history (made_by hand) nest.number in
-      let c = asking_with request pairs chosen gave.Nothing in
-      tells_carries config turns hand nest request pairs chosen (with_reply config c (Fault E9) (act.Failed E9)) done board told turn anew (λ short. asking.reads)
-      (query_unknown_due config h nest.moment c id (asks_query config h nest.moment request pairs chosen id gave.Nothing refl anew asking) none) refl refl
+  pub unknown_carries : (config : Config) (turns : Turns M (Part I O) Made T) (hand : Hand M (Part I O) Made T g) (entry_id : BoardEntryId) (request : Request) (pairs : Option Entries)
+      (chosen : List (Option CryptoLine)) (id : List ℕ) (done : CommandOutcome) (board : Board) (told : Option (List PortCall))
+      → InTurn config turns hand entry_id board told → IsAnew (board_history (made_by hand) entry_id.number) entry_id.moment request → IsAsking request pairs (Query id)
+      → find_call (board_history (made_by hand) entry_id.number) id ≡ None → Tells chosen (reply_datagram config request.cookie.now (Fault E9)) done
+      → Carries config hand hand entry_id (hearing_by request pairs done) done.reply board told
+  unknown_carries config turns hand entry_id request pairs chosen id done board told turn anew asking none tells =
+      let h = board_history (made_by hand) entry_id.number in
+      let c = asking_with request pairs chosen device_answers.Nothing in
+      tells_carries config turns hand entry_id request pairs chosen (with_reply config c (Fault E9) (act.Failed E9)) done board told turn anew (λ short. asking.reads)
+      (query_unknown_due config h entry_id.moment c id (asks_query config h entry_id.moment request pairs chosen id device_answers.Nothing refl anew asking) none) refl refl
       (λ heard. absurd (let late : false ≡ true = heard in cc)) tells
 
   -- The call is read.
 
-  queried_carries : (config : Config) (turns : Turns M (Part I O) Made T) (old new : Hand M (Part I O) Made T g) (nest : Nest) (request : Request) (pairs : Option Entries)
+  queried_carries : (config : Config) (turns : Turns M (Part I O) Made T) (old new : Hand M (Part I O) Made T g) (entry_id : BoardEntryId) (request : Request) (pairs : Option Entries)
       (id : List ℕ) (of : Call) (reports : List LegReport) (text : Room ℕ) (board : Board) (told : Option (List PortCall))
-      → InTurn config turns old nest board told → IsAnew (board_history (made_by old) nest.number) nest.moment request → IsAsking request pairs (Query id)
-      → find_call (board_history (made_by old) nest.number) id ≡ Some of
-      → GainsNested nest.number nest.moment (in_cell of (Read reports) ∷ []) old new
-      → text.list ≡ reply_datagram config request.cookie.now (replies.Reported (report_of_call (board_history (made_by old) nest.number) of reports))
-      → Carries config old new nest (hearing_as request pairs [] (gave.Report reports)) (Some text) board told
-  queried_carries config turns old new nest request pairs id of reports text board told turn anew asking found gained bytes =
-      let h = board_history (made_by old) nest.number in
-      let x = hearing_as request pairs [] (gave.Report reports) in
+      → InTurn config turns old entry_id board told → IsAnew (board_history (made_by old) entry_id.number) entry_id.moment request → IsAsking request pairs (Query id)
+      → find_call (board_history (made_by old) entry_id.number) id ≡ Some of
+      → GainsNested entry_id.number entry_id.moment (in_cell of (Read reports) ∷ []) old new
+      → text.list ≡ reply_datagram config request.cookie.now (replies.Reported (report_of_call (board_history (made_by old) entry_id.number) of reports))
+      → Carries config old new entry_id (hearing_as request pairs [] (device_answers.Report reports)) (Some text) board told
+  queried_carries config turns old new entry_id request pairs id of reports text board told turn anew asking found gained bytes =
+      let h = board_history (made_by old) entry_id.number in
+      let x = hearing_as request pairs [] (device_answers.Report reports) in
       let c = unanswered x in
       let due = with_reply config c (replies.Reported (report_of_call h of reports)) (act.Queried of) in
-      let is = queried_due config h nest.moment c id of reports (asks_query config h nest.moment request pairs [] id (gave.Report reports) refl anew asking) found refl in
-      carries_due config old new nest x due (Some text) board told is
-      (due_fits config h nest.moment c due is anew.framed anew.length_is (λ read. asking.reads) (λ heard. absurd (let wrong : false ≡ true = heard in cc))
-      (record { no_opens = refl; no_draws = refl; none_failed = refl }, refl) (λ starved none. absurd (let wrong : act.Queried of ≡ act.Starved = starved in cc)))
+      let is = queried_due config h entry_id.moment c id of reports (asks_query config h entry_id.moment request pairs [] id (device_answers.Report reports) refl anew asking) found refl in
+      carries_due config old new entry_id x due (Some text) board told is
+      (due_fits config h entry_id.moment c due is anew.framed anew.length_is (λ read. asking.reads) (λ heard. absurd (let wrong : false ≡ true = heard in cc))
+      (record { no_opens = refl; no_draws = refl; none_failed = refl }, refl) (λ out_of_memory none. absurd (let wrong : act.Queried of ≡ act.OutOfMemory = out_of_memory in cc)))
       (record {
         gained = gained;
         shows = turn.shows;
-        opens = subst (λ (legs : List Holder). TellsHeld config told (leg_pairs legs)) (sym (reading_holds config h nest.moment x due refl)) turn.opens;
+        opens = subst (λ (legs : List Holder). TellsHeld config told (leg_pairs legs)) (sym (reading_holds config h entry_id.moment x due refl)) turn.opens;
       })
       (refl, bytes)
 
-  -- and memory is short after that
-  starved_carries : (config : Config) (turns : Turns M (Part I O) Made T) (old new : Hand M (Part I O) Made T g) (nest : Nest) (request : Request) (pairs : Option Entries)
+  -- and memory runs out after that
+  out_of_memory_carries : (config : Config) (turns : Turns M (Part I O) Made T) (old new : Hand M (Part I O) Made T g) (entry_id : BoardEntryId) (request : Request) (pairs : Option Entries)
       (chosen : List (Option CryptoLine)) (id : List ℕ) (of : Call) (reports : List LegReport) (board : Board) (told : Option (List PortCall))
-      → InTurn config turns old nest board told → IsAnew (board_history (made_by old) nest.number) nest.moment request → IsAsking request pairs (Query id)
-      → find_call (board_history (made_by old) nest.number) id ≡ Some of
-      → GainsNested nest.number nest.moment (in_cell of (Read reports) ∷ []) old new
-      → Carries config old new nest (hearing_as request pairs chosen (gave.ReportStarved reports)) None board told
-  starved_carries config turns old new nest request pairs chosen id of reports board told turn anew asking found gained =
-      let h = board_history (made_by old) nest.number in
-      let x = hearing_as request pairs chosen (gave.ReportStarved reports) in
+      → InTurn config turns old entry_id board told → IsAnew (board_history (made_by old) entry_id.number) entry_id.moment request → IsAsking request pairs (Query id)
+      → find_call (board_history (made_by old) entry_id.number) id ≡ Some of
+      → GainsNested entry_id.number entry_id.moment (in_cell of (Read reports) ∷ []) old new
+      → Carries config old new entry_id (hearing_as request pairs chosen (device_answers.ReportOutOfMemory reports)) None board told
+  out_of_memory_carries config turns old new entry_id request pairs chosen id of reports board told turn anew asking found gained =
+      let h = board_history (made_by old) entry_id.number in
+      let x = hearing_as request pairs chosen (device_answers.ReportOutOfMemory reports) in
       let c = unanswered x in
-      let due = with_reply config c (Fault E17) act.Starved in
-      let is = starved_due config h nest.moment c anew.not_kept refl in
+      let due = with_reply config c (Fault E17) act.OutOfMemory in
+      let is = out_of_memory_due config h entry_id.moment c anew.not_kept refl in
       let asks = query_asked config request pairs id asking in
       let after : asks_after h (asked config request.too_long pairs) ≡ true = ap (asks_after h) asks ∙ ap (λ (o : Option Call). is_some o) found in
-      let owes : reading_starved h (with_answer x due) (asked config request.too_long pairs) ≡ in_cell of (Read reports) ∷ []
-      = ap (reading_starved h (with_answer x due)) asks ∙ ap (λ (o : Option Call). reading o (Some reports)) found in
-      carries_due config old new nest x due None board told is
-      (due_fits config h nest.moment c due is anew.framed anew.length_is (λ read. asking.reads) (λ heard. absurd (let wrong : false ≡ true = heard in cc))
-      (record { no_opens = refl; no_draws = refl; none_failed = refl }) (λ starved none. absurd (let wrong : true ≡ false = sym after ∙ none in cc)))
+      let owes : reading_out_of_memory h (with_answer x due) (asked config request.too_long pairs) ≡ in_cell of (Read reports) ∷ []
+      = ap (reading_out_of_memory h (with_answer x due)) asks ∙ ap (λ (o : Option Call). reading o (Some reports)) found in
+      carries_due config old new entry_id x due None board told is
+      (due_fits config h entry_id.moment c due is anew.framed anew.length_is (λ read. asking.reads) (λ heard. absurd (let wrong : false ≡ true = heard in cc))
+      (record { no_opens = refl; no_draws = refl; none_failed = refl }) (λ out_of_memory none. absurd (let wrong : true ≡ false = sym after ∙ none in cc)))
       (record {
-        gained = subst (λ (owed : List Owed). GainsNested nest.number nest.moment owed old new) (sym owes) gained;
+        gained = subst (λ (owed : List Owed). GainsNested entry_id.number entry_id.moment owed old new) (sym owes) gained;
         shows = turn.shows;
-        opens = subst (λ (legs : List Holder). TellsHeld config told (leg_pairs legs)) (sym (reading_holds config h nest.moment x due refl)) turn.opens;
+        opens = subst (λ (legs : List Holder). TellsHeld config told (leg_pairs legs)) (sym (reading_holds config h entry_id.moment x due refl)) turn.opens;
       })
       (refl, sym (fault_is config request.cookie.now E17))
 
-  told_case : (config : Config) (turns : Turns M (Part I O) Made T) (old new : Hand M (Part I O) Made T g) (nest : Nest) (request : Request) (pairs : Option Entries)
-      (id : List ℕ) (of : Call) (reports : List LegReport) (done : Done) (reply : Option (Room ℕ)) (board : Board) (told : Option (List PortCall))
-      → InTurn config turns old nest board told → IsAnew (board_history (made_by old) nest.number) nest.moment request → IsAsking request pairs (Query id)
-      → find_call (board_history (made_by old) nest.number) id ≡ Some of
-      → GainsNested nest.number nest.moment (in_cell of (Read reports) ∷ []) old new
-      → TellsOfBy reports (reply_datagram config request.cookie.now (replies.Reported (report_of_call (board_history (made_by old) nest.number) of reports))) done reply
-      → Carries config old new nest (hearing_by request pairs done) reply board told
-  told_case config turns old new nest request pairs id of reports done None board told turn anew asking found gained tells =
-      subst (λ (given : Gave). Carries config old new nest (hearing_as request pairs done.heard given) None board told) (sym tells)
-      (starved_carries config turns old new nest request pairs done.heard id of reports board told turn anew asking found gained)
-  told_case config turns old new nest request pairs id of reports done (Some text) board told turn anew asking found gained tells =
-      subst (λ (lines : List (Option CryptoLine)). Carries config old new nest (hearing_as request pairs lines done.gave) (Some text) board told) (sym tells.0)
-      (subst (λ (given : Gave). Carries config old new nest (hearing_as request pairs [] given) (Some text) board told) (sym tells.1)
-      (queried_carries config turns old new nest request pairs id of reports text board told turn anew asking found gained tells.2))
+  told_case : (config : Config) (turns : Turns M (Part I O) Made T) (old new : Hand M (Part I O) Made T g) (entry_id : BoardEntryId) (request : Request) (pairs : Option Entries)
+      (id : List ℕ) (of : Call) (reports : List LegReport) (done : CommandOutcome) (reply : Option (Room ℕ)) (board : Board) (told : Option (List PortCall))
+      → InTurn config turns old entry_id board told → IsAnew (board_history (made_by old) entry_id.number) entry_id.moment request → IsAsking request pairs (Query id)
+      → find_call (board_history (made_by old) entry_id.number) id ≡ Some of
+      → GainsNested entry_id.number entry_id.moment (in_cell of (Read reports) ∷ []) old new
+      → TellsOfBy reports (reply_datagram config request.cookie.now (replies.Reported (report_of_call (board_history (made_by old) entry_id.number) of reports))) done reply
+      → Carries config old new entry_id (hearing_by request pairs done) reply board told
+  told_case config turns old new entry_id request pairs id of reports done None board told turn anew asking found gained tells =
+      subst (λ (given : DeviceAnswers). Carries config old new entry_id (hearing_as request pairs done.chosen_lines given) None board told) (sym tells)
+      (out_of_memory_carries config turns old new entry_id request pairs done.chosen_lines id of reports board told turn anew asking found gained)
+  told_case config turns old new entry_id request pairs id of reports done (Some text) board told turn anew asking found gained tells =
+      subst (λ (lines : List (Option CryptoLine)). Carries config old new entry_id (hearing_as request pairs lines done.device_answers) (Some text) board told) (sym tells.0)
+      (subst (λ (given : DeviceAnswers). Carries config old new entry_id (hearing_as request pairs [] given) (Some text) board told) (sym tells.1)
+      (queried_carries config turns old new entry_id request pairs id of reports text board told turn anew asking found gained tells.2))
 
   -- the call was read, and this is told of it, where memory suffices
-  pub told_carries : (config : Config) (turns : Turns M (Part I O) Made T) (old new : Hand M (Part I O) Made T g) (nest : Nest) (request : Request) (pairs : Option Entries)
-      (id : List ℕ) (of : Call) (reports : List LegReport) (done : Done) (board : Board) (told : Option (List PortCall))
-      → InTurn config turns old nest board told → IsAnew (board_history (made_by old) nest.number) nest.moment request → IsAsking request pairs (Query id)
-      → find_call (board_history (made_by old) nest.number) id ≡ Some of
-      → GainsNested nest.number nest.moment (in_cell of (Read reports) ∷ []) old new
-      → TellsOf reports (reply_datagram config request.cookie.now (replies.Reported (report_of_call (board_history (made_by old) nest.number) of reports))) done
-      → Carries config old new nest (hearing_by request pairs done) done.reply board told
-  told_carries config turns old new nest request pairs id of reports done board told turn anew asking found gained tells =
-      told_case config turns old new nest request pairs id of reports done done.reply board told turn anew asking found gained tells
+  pub told_carries : (config : Config) (turns : Turns M (Part I O) Made T) (old new : Hand M (Part I O) Made T g) (entry_id : BoardEntryId) (request : Request) (pairs : Option Entries)
+      (id : List ℕ) (of : Call) (reports : List LegReport) (done : CommandOutcome) (board : Board) (told : Option (List PortCall))
+      → InTurn config turns old entry_id board told → IsAnew (board_history (made_by old) entry_id.number) entry_id.moment request → IsAsking request pairs (Query id)
+      → find_call (board_history (made_by old) entry_id.number) id ≡ Some of
+      → GainsNested entry_id.number entry_id.moment (in_cell of (Read reports) ∷ []) old new
+      → TellsOf reports (reply_datagram config request.cookie.now (replies.Reported (report_of_call (board_history (made_by old) entry_id.number) of reports))) done
+      → Carries config old new entry_id (hearing_by request pairs done) done.reply board told
+  told_carries config turns old new entry_id request pairs id of reports done board told turn anew asking found gained tells =
+      told_case config turns old new entry_id request pairs id of reports done done.reply board told turn anew asking found gained tells

@@ -4,17 +4,17 @@ use Rattle.ng_bencode.specs.Room.{Room}
 use Rattle.port_pool.specs.declared.reports.LegReport.{LegReport}
 use Rattle.call_board.specs.Reports.{Report}
 use Rattle.call_board.specs.Views.{CallView}
-use Rattle.control_entries.specs.declared.done.Done.{Done}
-use Rattle.control_entries.specs.declared.gave.Gave.TheVariants as gave
+use Rattle.control_entries.specs.declared.command_outcome.CommandOutcome.{CommandOutcome}
+use Rattle.control_entries.specs.declared.device_answers.DeviceAnswers.TheVariants as device_answers
 
 -- what the board keeps of a call, with these reports of its legs
 abbrev pub view_report : CallView → List LegReport → Report
 view_report c told = record { created = c.first; last_signal = c.last; rounds = c.rounds; legs = told }
 
--- a call was read, and these bytes are the reply; or memory was short after it was read
-abbrev pub TellsOfBy : List LegReport → List ℕ → Done → Option (Room ℕ) → Type 0
-TellsOfBy told bytes done None = done.gave ≡ gave.ReportStarved told
-TellsOfBy told bytes done (Some text) = (done.heard ≡ []) × (done.gave ≡ gave.Report told) × (text.list ≡ bytes)
+-- a call was read, and these bytes are the reply; or memory ran out after it was read
+abbrev pub TellsOfBy : List LegReport → List ℕ → CommandOutcome → Option (Room ℕ) → Type 0
+TellsOfBy told bytes done None = done.device_answers ≡ device_answers.ReportOutOfMemory told
+TellsOfBy told bytes done (Some text) = (done.chosen_lines ≡ []) × (done.device_answers ≡ device_answers.Report told) × (text.list ≡ bytes)
 
-abbrev pub TellsOf : List LegReport → List ℕ → Done → Type 0
+abbrev pub TellsOf : List LegReport → List ℕ → CommandOutcome → Type 0
 TellsOf told bytes done = TellsOfBy told bytes done done.reply

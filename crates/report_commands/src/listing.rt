@@ -8,10 +8,10 @@ ghost use Rattle.control_entries.specs.Giving.{IsUnasked};
 ghost use Rattle.control_entries.specs.Telling.{Tells};
 
 use call_board::Board;
-use control_entries::{Done, Request, told};
+use control_entries::{CommandOutcome, Request, told};
 use control_replies::value_datagram;
 use ng_bencode::Text;
-use offer_answer::Heard;
+use offer_answer::ChosenLines;
 use relay_outside::OutOfMemory;
 use std::alloc::Global;
 
@@ -33,14 +33,14 @@ fn list_datagram(
 }
 
 /// Tells the call-ids of the live calls, in order of their creation, up to this many. Nothing is done.
-pub fn list(alloc: Global, board: &Board, request: &Request, limit: u32) -> Done
+pub fn list(alloc: Global, board: &Board, request: &Request, limit: u32) -> CommandOutcome
     requires shown { (config : Config) × (v : View) × Shows config board.now v }
     ensures tells { (config : Config) (v : View) → Shows config board.now v →
         Tells [] (reply_datagram config request.now.cookie.now (Listed (take limit (map (λ (c : CallView). c.of.id) v.calls)))) result }
-    ensures unasked { IsUnasked result.gave }
+    ensures unasked { IsUnasked result.device_answers }
 {
     told(
-        Heard::none(),
+        ChosenLines::none(),
         list_datagram(alloc, board, request.cookie, limit),
     )
 }

@@ -23,13 +23,13 @@ ghost use Rattle.report_commands.specs.Told.{TellsOf, view_report};
 
 use board_turns::query_call;
 use call_board::Board;
-use control_entries::{Done, Gave, Request, refused, short};
+use control_entries::{CommandOutcome, DeviceAnswers, Request, refused, short};
 use control_replies::value_datagram;
 use nested_steps::BoardTurn;
 use ng_bencode::Text;
 use ng_command::QueryIn;
 use ng_reply::ErrorCode;
-use offer_answer::Heard;
+use offer_answer::ChosenLines;
 use port_pool::LegReports;
 use relay_core::Relay;
 use relay_outside::{Config, InEnd, OutEnd, OutOfMemory};
@@ -57,27 +57,27 @@ fn report_datagram(
 }
 
 /// A call was read, and this is the reply, where memory sufficed for it.
-fn reported(reports: LegReports, reply: Result<Text, OutOfMemory>) -> Done
+fn reported(reports: LegReports, reply: Result<Text, OutOfMemory>) -> CommandOutcome
     ensures tells { (bytes : List ℕ) → IfOk reply (λ text. text.list ≡ bytes) → TellsOf reports bytes result }
-    ensures unasked { IsUnasked result.gave }
+    ensures unasked { IsUnasked result.device_answers }
 {
     match reply {
-        Ok(reply) => Done {
-            heard: Heard::none(),
-            gave: Gave::Report(reports),
+        Ok(reply) => CommandOutcome {
+            chosen_lines: ChosenLines::none(),
+            device_answers: DeviceAnswers::Report(reports),
             reply: Some(reply),
         },
-        Err(_) => Done {
-            heard: Heard::none(),
-            gave: Gave::ReportStarved(reports),
+        Err(_) => CommandOutcome {
+            chosen_lines: ChosenLines::none(),
+            device_answers: DeviceAnswers::ReportOutOfMemory(reports),
             reply: None,
         },
     }
 }
 
 /// Tells of the live call of a query, in the board's turn of its datagram, or that no live call has the call-id (`E9`). The call's cell
-/// is read, and nothing is done besides. Where memory is short before the cell is read it is not read, and where it is short after that
-/// nothing is told.
+/// is read, and nothing is done besides. If memory runs out before the cell is read, it is not read; if it runs out after that, nothing
+/// is told.
 pub fn query<I: InEnd, O: OutEnd, R: Wait>(
     rt: &R,
     alloc: Global,
@@ -86,19 +86,19 @@ pub fn query<I: InEnd, O: OutEnd, R: Wait>(
     board: &Board,
     request: &Request,
     input: &QueryIn,
-) -> Done
-    requires turn { (told : Option (List PortCall)) × InTurn turn.now.config.now turn.now.turns.now hand.old turn.now.nest board.now told }
-    requires anew { IsAnew (board_history (made_by hand.old) turn.now.nest.number) turn.now.nest.moment request.now }
+) -> CommandOutcome
+    requires turn { (told : Option (List PortCall)) × InTurn turn.now.config.now turn.now.turns.now hand.old turn.now.entry_id board.now told }
+    requires anew { IsAnew (board_history (made_by hand.old) turn.now.entry_id.number) turn.now.entry_id.moment request.now }
     ensures same { IsSameHand hand.old hand.new × SameTurns hand.old hand.new }
     ensures may { MayNest turn.now.config.now turn.now.turns.now hand.new }
-    ensures carries { (told : Option (List PortCall)) (pairs : Option Entries) → InTurn turn.now.config.now turn.now.turns.now hand.old turn.now.nest board.now told →
+    ensures carries { (told : Option (List PortCall)) (pairs : Option Entries) → InTurn turn.now.config.now turn.now.turns.now hand.old turn.now.entry_id board.now told →
         IsAsking request.now pairs (Query input.now.call_id.list) →
-        Carries turn.now.config.now hand.old hand.new turn.now.nest (hearing_by request.now pairs result) result.reply board.now told }
+        Carries turn.now.config.now hand.old hand.new turn.now.entry_id (hearing_by request.now pairs result) result.reply board.now told }
     ensures ties { (told : Option (List PortCall)) → Ties turn.now.config.now told told (entries hand.old) (entries hand.new) }
-    ensures unasked { IsUnasked result.gave }
+    ensures unasked { IsUnasked result.device_answers }
 {
     let Some(call) = board.find_call(input.call_id.as_slice()) else {
-        return refused(alloc, request.cookie, ErrorCode::E9, Heard::none());
+        return refused(alloc, request.cookie, ErrorCode::E9, ChosenLines::none());
     };
     let Ok(mut reports) = LegReports::new(alloc) else {
         return short();

@@ -21,7 +21,7 @@ rtp_head-within packet found is =
     let size : head_size packet ≡ found.head = ap (λ h. h.head) both.1 in
     record { fixed = omega (arith, size); held = omega (arith, size, held_if packet both.0) }
 
--- two texts of bytes with the same front of so many bytes
+-- two texts of bytes with the same front of `size` bytes
 SameFront : List ℕ → List ℕ → ℕ → Type 0
 SameFront packet other size = (k : ℕ) → k < size → slice_index other k ≡ slice_index packet k
 

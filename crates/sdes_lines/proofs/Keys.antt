@@ -45,7 +45,7 @@ key_in_front text key rest is_key is =
       fits = rw (is, length-append) (omega arith);
     }
 
--- an answer of `decode_slice` is by its tests: `lone` and `rest` are errors of the input, `small` and `few`
+-- a result of `decode_slice` is by its tests: `lone` and `rest` are errors of the input, `small` and `few`
 -- say that the output is too short for the groups and for the bytes
 answered : (lone rest : Option DecodeError) (small few : Bool) (k n : ℕ)
     → or_error lone (cond small (Err OutputSliceTooSmall) (or_error rest (cond few (Err OutputSliceTooSmall) (Ok k)))) ≡ Ok n
@@ -77,7 +77,7 @@ abbrev others : List ℕ → Option DecodeError
 others s = or_else (groups_error standard.decode_table s (groups_before_last (length s)))
     (suffix_error standard.decode_table standard.padding.value false RequireCanonical (4 * groups_before_last (length s)) s)
 
--- an output of so many bytes is too short for the groups before the last, or for the bytes
+-- an output of `room` bytes is too short for the groups before the last, or for the bytes
 abbrev few_groups : List ℕ → ℕ → Bool
 few_groups s room = nat_lt (room / 3) (groups_before_last (length s))
 

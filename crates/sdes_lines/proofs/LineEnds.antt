@@ -10,7 +10,7 @@ use Rattle.sdes_lines.specs.CryptoLine.{IsLineEnd}
 use Rattle.sdes_lines.specs.Reading.{IsNumberThenSpaces}
 use Rattle.sdes_lines.proofs.Digits.{front_digits, prefix-append}
 
--- spaces alone, as a list of so many
+-- spaces alone, as a repeated space
 pub spaces_are : (xs : List ℕ) → All (λ byte. byte ≡ 32) xs → xs ≡ replicate (length xs) 32
 spaces_are [] all = refl
 spaces_are (x ∷ xs) all =
@@ -113,7 +113,7 @@ end_is_power text rest is end =
       ]
     ]
 
--- the digits at the front of a text, one or more, and the spaces behind them
+-- the digits at the front of a text, one or more, and the spaces after them
 pub number_from_parts : (text : List ℕ) (n : ℕ) → n ≡ prefix_len is_ascii_digit text → 0 < length (take n text)
     → All (λ byte. byte ≡ 32) (drop n text) → IsNumberThenSpaces text
 number_from_parts text n is some spaces = record {

@@ -17,7 +17,7 @@ use base64::engine::general_purpose::STANDARD;
 pub fn usable(line: &[u8]) -> Option<CryptoLine>
     ensures sound { IfSome result (λ found. IsUsable line.now found.tag found.suite found.key) }
 
-    // every way to read the line as a usable one is the way that is answered: so tag, suite and key
+    // every way to read the line as a usable one is the one that is returned: so tag, suite and key
     // are determined by the line, and `None` means that it is usable in no way
     ensures complete { (tag : ℕ) (suite : Suite) (key : List ℕ) → IsUsable line.now tag suite key
         → result ≡ Some (record { tag = tag; suite = suite; key = key }) }

@@ -5,7 +5,7 @@ use Rattle.sdp_text.specs.Roles.{is_media}
 use Rattle.sdp_edit.specs.Places.{up_to_media}
 use Rattle.sdp_edit.specs.Choosing.{section_lines, IsFirstOf, IsKeyOf, IsLineOf}
 
--- the section's lines begin behind this `m=` line
+-- the section's lines begin after this `m=` line
 pub section_here : (line : List ℕ) (more : List (List ℕ)) (left : ℕ) → is_media line ≡ true → left ≡ 0
     → section_lines left (line ∷ more) ≡ up_to_media more
 section_here line more left media none = rw (none, media) refl

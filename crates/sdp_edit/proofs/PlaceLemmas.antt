@@ -1,4 +1,4 @@
--- The place behind a line.
+-- The place after a line.
 use Rattle.std.proofs.Common.{◌≡◌, ℕ, ◌+◌, Bool, true, false, ◌||◌, ◌&&◌, List, ◌∷◌, refl, arith, count_by}
 use Rattle.std.proofs.lemmas.List.Sums.{sum_by-cons}
 use Rattle.sdp_text.specs.Roles.{is_media, is_connection, is_origin}

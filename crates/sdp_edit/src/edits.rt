@@ -33,7 +33,7 @@ pub struct Edit {
     pub sections: SectionEdits,
 }
 
-/// A list of section edits beside its spare room.
+/// A list of section edits with its spare room.
 #[derive(Drop)]
 pub struct SectionEdits {
     items: Vec<SectionEdit>,

@@ -20,7 +20,7 @@ cut_here stop text at e h =
 pub cut_nowhere : (stop : ℕ) (text : List ℕ) (at : ℕ) → at ≡ position_or_len (λ b. eqb b stop) text → length text ≤ at → pieces stop text ≡ text ∷ []
 cut_nowhere stop text at e h = slice_split_none (λ b. eqb b stop) text (λ k d inside. fails_before_first (λ b. eqb b stop) text k d (omega arith))
 
--- how many fields there are behind some, where none is empty
+-- how many fields there are after n others, where none is empty
 abbrev pub counted : ℕ → List (List ℕ) → Option ℕ
 counted n texts = cond (are_filled texts) (Some (n + length texts)) None
 
@@ -96,7 +96,7 @@ count_cut field a b r1 r2 x e1 s1 e2 more =
     let second = cut_on 47 x.now b r2 z.0 e2 z.1 in
     ap media_port_pieces (first ∙ ap (λ ps. a ∷ ps) second) ∙ count_long a b z.0.now
 
--- what stands behind the port of an `a=rtcp` line
+-- what follows the port of an `a=rtcp` line
 pub rtcp_cut : (text first : List ℕ) (r : Option (Bor (List ℕ))) (x : Bor (List ℕ)) (port : ℕ) → pieces 32 text ≡ first ∷ pieces_after 32 (option_copied r) → r ≡ Some x → port_number first ≡ Some port → (port ≡ 0 → ⊥) → rtcp text ≡ with_address port (three (fields x.now))
 rtcp_cut text first r x port e s number some =
     let o = pieces_open 32 x.now in

@@ -7,7 +7,7 @@ use Rattle.std.proofs.lemmas.Bool.{cases_lt, le-ltb, lt-ltb}
 use Rattle.sdp_text.specs.Hosts.{joined_groups, group_text, octet_text, digit_from, digit_byte, groups_of_bytes, longest_run, longer, around_run}
 use Rattle.sdp_text.specs.declared.written.Run.{Run}
 
--- the texts behind the first one, each behind the byte
+-- the texts after the first one, each after the byte
 abbrev pub tail_of : ℕ → (ℕ → List ℕ) → List ℕ → List ℕ
 tail_of stop text xs = flat_map (λ x. stop ∷ text x) xs
 

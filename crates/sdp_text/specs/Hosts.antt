@@ -47,7 +47,7 @@ abbrev pub groups : List ℕ → Option (List ℕ)
 groups [] = Some []
 groups (byte ∷ more) = all_some (map group (pieces 58 (byte ∷ more)))
 
--- what stands before the first `::`, and behind it
+-- what stands before the first `::`, and after it
 abbrev pub around_double_colon : List ℕ → Option (List ℕ × List ℕ)
 around_double_colon [] = None
 around_double_colon (a ∷ []) = None

@@ -14,7 +14,7 @@ is_typed (letter ∷ equals ∷ rest) = nat_le 97 letter && nat_le letter 122 &&
 abbrev pub holds_nul_or_cr : List ℕ → Bool
 holds_nul_or_cr line = list_any (λ b. b == 0 || b == 13) line
 
--- behind `o=`: six fields, none of them empty (RFC 8866 section 5.2)
+-- after `o=`: six fields, none of them empty (RFC 8866 section 5.2)
 abbrev pub is_origin_whole : List ℕ → Bool
 is_origin_whole text = length (fields text) == 6 && are_filled (fields text)
 

@@ -46,7 +46,7 @@ pub record IsServed (section : Section) : Type 0 where
   pub address : IsActive section → IsSome section.address
   pub rtcp_address : IsActive section → IsSome section.rtcp_address
 
--- what is kept beside the lines of a description that was read
+-- what is kept besides the lines of a description that was read
 pub record IsRead (lines : List (List ℕ)) (found : List Section) (v6 : Option ℕ) : Type 0 where
   pub sound : fault_in lines ≡ None
   pub sections : found ≡ sections_in lines

@@ -60,7 +60,7 @@ abbrev pub media_fields : List (List ℕ) → Option MediaLine
 media_fields (media ∷ port ∷ proto ∷ format ∷ more) = if are_filled (media ∷ port ∷ proto ∷ format ∷ []) then with_proto (media_port port) proto else None
 media_fields _ = None
 
--- behind `m=`: media, port, protocol and at least one format
+-- after `m=`: media, port, protocol and at least one format
 abbrev pub media : List ℕ → Option MediaLine
 media text = media_fields (fields text)
 
@@ -83,7 +83,7 @@ abbrev pub connection_of : Option (List ℕ × List ℕ × List ℕ) → Option 
 connection_of None = None
 connection_of (Some f) = Some (address_of f.0 f.1 f.2)
 
--- behind `c=`: network, family and address (RFC 8866 section 5.7)
+-- after `c=`: network, family and address (RFC 8866 section 5.7)
 abbrev pub connection : List ℕ → Option Address
 connection text = connection_of (three (fields text))
 
@@ -104,7 +104,7 @@ abbrev pub rtcp_fields : List (List ℕ) → Option RtcpLine
 rtcp_fields [] = None
 rtcp_fields (port ∷ more) = with_port (port_number port) more
 
--- behind `a=rtcp:`: a port from 1 on, alone or with `IN`, a family and an address
+-- after `a=rtcp:`: a port from 1 on, alone or with `IN`, a family and an address
 abbrev pub rtcp : List ℕ → Option RtcpLine
 rtcp text = rtcp_fields (fields text)
 

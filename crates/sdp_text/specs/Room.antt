@@ -1,4 +1,4 @@
--- A list beside the room that is left for more of it.
+-- A list with the room that is left for more of it.
 use Rattle.std.specs.Prelude.{ℕ, List}
 
 -- the items, and how many more go in without taking memory

@@ -7,7 +7,7 @@ use std::marker::Model;
 #[derive(Clone, Copy, Debug, PartialEq, Eq)]
 pub struct OutOfMemory;
 
-/// A list of bytes beside its spare room.
+/// A list of bytes with its spare room.
 #[derive(Drop)]
 pub struct Bytes {
     items: Vec<u8>,

@@ -35,7 +35,7 @@ pub(crate) struct MediaLine {
 #[derive(Clone, Copy)]
 pub(crate) struct RtcpLine {
     pub(crate) port: u16,
-    /// The address, where one stands beside the port.
+    /// The address, if one follows the port.
     pub(crate) address: Option<Address>,
 }
 

@@ -145,7 +145,7 @@ fn longer(first: Run, second: Run) -> Run
     }
 }
 
-// How many groups of zero stand from this group on, where there are `behind` from the next one on.
+// How many groups of zero stand from this group on, where `behind` of them stand from the next one on.
 fn zeros_from(group: u16, behind: usize) -> usize
     requires { behind < 2 ^ 32 }
     ensures { result ≡ (if group == 0 then 1 + behind else 0) }

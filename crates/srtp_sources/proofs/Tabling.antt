@@ -1,4 +1,4 @@
--- What a table's answers and changes mean for the notes that it stands for.
+-- What a table's results and changes mean for the notes that it stands for.
 use Rattle.std.proofs.Common.{◌≡◌, ◌≢◌, ℕ, ◌+◌, ◌<◌, ◌≤◌, ◌⊎◌, inl, inr, Bool, true, false, List, [], ◌∷◌, ◌++◌, length, Some, None, arith, sym, ◌∙◌, ap, subst, refl, take, get_or-take, length-take-le, get_or-set_other, get_or-set_same}
 use Rattle.std.proofs.lemmas.List.{take_more_set}
 use Rattle.std.proofs.lemmas.List.Folds.{list_any_at}

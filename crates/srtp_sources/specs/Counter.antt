@@ -2,7 +2,7 @@
 use Rattle.std.specs.Prelude.{ℕ, ◌*◌, ◌^◌, List, [], ◌∷◌, ◌++◌, bit_xor}
 use Rattle.std.specs.Int.{w128, from_be_bytes}
 
--- the session's salt with two zeros behind it, the SSRC and the packet's index, each at its place: salt * 2 ^ 16 XOR
+-- the session's salt followed by two zeros, the SSRC and the packet's index, each at its place: salt * 2 ^ 16 XOR
 -- SSRC * 2 ^ 64 XOR index * 2 ^ 16
 unfoldable pub packet_counter : List ℕ → ℕ → ℕ → ℕ
 packet_counter salt ssrc index =

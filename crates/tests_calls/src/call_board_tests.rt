@@ -54,7 +54,7 @@ fn board_of(rt: &impl Abort, alloc: Global, config: &Config) -> Board {
     Board::new(alloc, config).expect(rt, "memory")
 }
 
-/// What a first offer of this description is answered.
+/// The plan of a first offer of this description, or its fault.
 fn planned(
     rt: &impl Abort,
     alloc: Global,

@@ -109,7 +109,7 @@ fn asked(rt: &impl Abort, alloc: Global, transport: Option<Proto>) -> OfferIn {
     }
 }
 
-/// What a first offer of this description is answered.
+/// The plan of a first offer of this description, or its fault.
 fn answered(
     rt: &impl Abort,
     alloc: Global,
@@ -312,14 +312,14 @@ fn a_later_offer_carries_the_key_in_force_alone(rt: HostRuntime) {
 #[test]
 fn an_offer_is_heard_section_by_section(rt: HostRuntime) {
     let sdp = read_sdp(&rt, rt.alloc(), SECURE);
-    let heard = Heard::of_offer(&sdp);
+    let heard = ChosenLines::of_offer(&sdp);
     let line = CryptoLine {
         tag: 7,
         suite: Suite::Tag32,
         key: KEYS[0],
     };
     assert!(rt; heard.lines() == [None, Some(line)].as_slice());
-    assert!(rt; Heard::none().lines().is_empty());
+    assert!(rt; ChosenLines::none().lines().is_empty());
 }
 
 #[test]

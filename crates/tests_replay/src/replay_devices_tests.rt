@@ -52,7 +52,7 @@ fn is_datagram(found: Option<(Addr, &[u8])>, bytes: &[u8]) -> bool {
     }
 }
 
-/// What the next take of the link with room for four bytes answers.
+/// The result of the next take of the link with room for four bytes.
 fn taken(link: &mut ReplayLink<'_>) -> Result<Taken, Failed> {
     link.take(&mut [0; 4])
 }
@@ -102,7 +102,7 @@ fn the_second_line_ng_meets_a_failing_take(rt: HostRuntime) {
     assert!(rt; is_datagram(link.last_taken(), b"one"));
 }
 
-/// What the next send of the link answers.
+/// The result of the next send of the link.
 fn sent(link: &mut ReplayLink<'_>, bytes: &[u8]) -> Result<(), Failed> {
     link.send(FOUR, bytes)
 }
@@ -200,7 +200,7 @@ fn an_end_gives_the_later_lines_at_its_port(rt: HostRuntime) {
     assert!(rt; takes_none(&mut receiving, false));
 }
 
-/// Whether the next sends are answered so.
+/// Whether the next sends have these results.
 fn are_sent<O: OutEnd>(end: &mut O, wanted: [bool; 4]) -> bool
     ensures { (O.told end.new).at ≡ (O.told end.old).at }
 {

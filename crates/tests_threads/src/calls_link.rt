@@ -19,7 +19,7 @@ const APART: u16 = 8;
 /// How many packets leave between two commands once a call was answered.
 const PACKETS: u64 = 20;
 
-/// How many takes of the link give nothing between two commands at the most, where no packet leaves.
+/// How many takes of the link give nothing between two commands at most, where no packet leaves.
 const MOST_PAUSES: u32 = 2_000_000;
 
 /// The proxy that asks.
@@ -44,7 +44,7 @@ const ANSWER_AGAIN: &[u8] =
 const DELETE: &[u8] = b"4_0000 d7:call-id4:00007:command6:deletee";
 
 /// The call and the datagram of the command at this place; `None` where none stands there. The commands of a call stand in their
-/// order, with those of the calls before and behind it between them.
+/// order, with those of the calls before and after it between them.
 fn command_at(place: u16) -> Option<(u16, &'static [u8])> {
     let kind = place % COMMANDS;
     let call = (place / COMMANDS).checked_sub(kind * APART)?;
@@ -61,7 +61,7 @@ fn command_at(place: u16) -> Option<(u16, &'static [u8])> {
     }
 }
 
-/// Behind the last command.
+/// The place after the last command.
 const LAST_PLACE: u16 = (CALLS + (COMMANDS - 1) * APART) * COMMANDS;
 
 /// Fills the buffer with a command of the call with this number.
@@ -78,7 +78,7 @@ fn fill_command(buf: &mut [u8], call: u16, command: &[u8]) -> usize
 }
 
 /// A control link that gives the commands of all calls, and then the end. Once a call was answered it gives nothing until more packets
-/// have left, or for so many takes.
+/// have left, or for `MOST_PAUSES` takes.
 #[derive(Drop)]
 pub(crate) struct CallsLink<'a> {
     traffic: &'a Traffic,

@@ -1,14 +1,14 @@
 //! The replies to an offer that is refused.
 
 use call_board::BoardFault;
-use control_entries::{Done, misdescribed, unplanned};
+use control_entries::{CommandOutcome, misdescribed, unplanned};
 use control_reading::DescriptionFault;
 use ng_reply::ErrorCode;
-use offer_answer::Heard;
+use offer_answer::ChosenLines;
 use std::alloc::Global;
 
 /// Whether this is the reply that was made.
-fn is_told(done: &Done, reply: &str) -> bool {
+fn is_told(done: &CommandOutcome, reply: &str) -> bool {
     match &done.reply {
         Some(text) => text.as_slice() == reply.as_bytes(),
         None => false,
@@ -17,7 +17,7 @@ fn is_told(done: &Done, reply: &str) -> bool {
 
 /// Whether the reply to an offer that has this fault is this one.
 fn is_refused(alloc: Global, fault: BoardFault, reply: &str) -> bool {
-    let done = unplanned(alloc, b"5323_1", fault, Heard::none());
+    let done = unplanned(alloc, b"5323_1", fault, ChosenLines::none());
     is_told(&done, reply)
 }
 

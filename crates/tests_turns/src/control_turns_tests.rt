@@ -13,7 +13,7 @@ use std::process::Abort;
 use std::sync::Wait;
 use turn_table::{Hand, Turns};
 
-/// What the proxy asks in turn, and what it is answered.
+/// What the proxy asks in turn, and the replies to it.
 const ASKED: &[(&[u8], &[u8])] = &[
     (OFFER, OFFERED),
     // again, with the same cookie

@@ -4,7 +4,7 @@ ghost use Rattle.port_pool.specs.Ports.{port_at};
 use crate::first_relay::{CONFIG, begin};
 use crate::quiet_devices::{Mute, Quiet};
 use media_ports::address_of;
-use nested_steps::{BoardTurn, Nest, open_box, shut_box};
+use nested_steps::{BoardEntryId, BoardTurn, open_box, shut_box};
 use port_pool::{BoxTake, Holder, Side};
 use relay_core::Part;
 use rtp_packet::Half;
@@ -29,7 +29,7 @@ fn quiet(port: u16) -> Quiet
     }
 }
 
-// What the box of a place answers to a take.
+// The result of a take of the box of a place.
 fn taken(places: &mut [Part<Quiet, Mute>], place: usize) -> Option<BoxTake> {
     let mut buf = [0u8; 2001];
     match places.get_mut(place)? {
@@ -47,7 +47,7 @@ fn a_box_is_opened_for_its_leg(rt: HostRuntime) {
     let turn = BoardTurn {
         turns: &turns,
         config: &CONFIG,
-        nest: Nest {
+        entry_id: BoardEntryId {
             number: 0,
             moment: 5,
         },
@@ -67,7 +67,7 @@ fn a_box_that_is_shut_gives_its_ends_back(rt: HostRuntime) {
     let turn = BoardTurn {
         turns: &turns,
         config: &CONFIG,
-        nest: Nest {
+        entry_id: BoardEntryId {
             number: 0,
             moment: 5,
         },

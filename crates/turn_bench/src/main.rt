@@ -1,4 +1,4 @@
-//! What a turn of the turn table costs, beside a lock of std round the same state. Without words it prints one fixed
+//! What a turn of the turn table costs, compared with a lock of std around the same state. Without words it prints one fixed
 //! line; with words it measures, by threads that each make this many rounds, and prints nanoseconds a round.
 #![tactic(auto)]
 

@@ -1,6 +1,6 @@
 -- The rule that holds between any two atomic steps.
 -- A place k has two words and a slot. Word 16 * k is its mark, 0 or 1. Word 16 * k + 1 is its count, the front. The words up to 16 * (k + 1) are spare.
--- Of each place there is a history, and a cell: 0 where the place is free, or 1 more than the number of the seat that has its turn, beside the phase of that turn.
+-- Of each place there is a history, and a cell: 0 where the place is free, or 1 more than the number of the seat that has its turn, with the phase of that turn.
 -- A seat is a hand as the base crate sees it: its number never changes, and its view, what the hand knows, changes in the hand's own steps alone.
 use Rattle.std.specs.Prelude.{◌≡◌, ◌≢◌, ◌⊎◌, ℕ, suc, ◌+◌, ◌*◌, ◌^◌, ◌<◌, ◌≤◌, min, true, false, List, [], length, slice_index, slice_get, Option, Some, None}
 use mathlib.Core.Option.{some, none}

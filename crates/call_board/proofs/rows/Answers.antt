@@ -1,4 +1,4 @@
--- Worked rows of answers: which reply comes first, and what is done with it.
+-- Worked rows of replies: which reply comes first, and what is done with it.
 use Rattle.std.proofs.Common.{◌≡◌, ap, List, [], ◌∷◌, true, false, cond, Some, None, Err, refl}
 use Rattle.std.specs.Prelude.{codes}
 use Rattle.relay_outside.specs.declared.address.Family.TheVariants.{V6}
@@ -20,8 +20,8 @@ use Rattle.call_board.proofs.rows.Histories.{config, asked, options, from_port, 
 abbrev datagram : Given → Control
 datagram gave = record { source = from_port 2223; cookie = codes "7_o"; body = []; too_long = false; pairs = None; chosen = []; given = gave; reply = []; act = act.Told }
 
-abbrev starved : Given
-starved = record given { starved = true }
+abbrev out_of_memory : Given
+out_of_memory = record given { out_of_memory = true }
 
 abbrev two : List BoardEntry
 two = history_of (begins c1 [] ∷ begins c2 [] ∷ [])
@@ -34,12 +34,12 @@ full = history_of (begins c1 [] ∷ begins c2 [] ∷ begins c3 [] ∷ [])
 
 -- What comes before the command.
 
--- a kept reply is given again, also where memory is short
-kept_first : answering_unless config two (datagram starved) (Some (codes "7_o pong")) ≡ record { bytes = codes "7_o pong"; act = act.Repeated }
+-- a kept reply is sent again, also where memory runs out
+kept_first : answering_unless config two (datagram out_of_memory) (Some (codes "7_o pong")) ≡ record { bytes = codes "7_o pong"; act = act.Repeated }
 kept_first = refl
 
-out_of_memory : answering_unless config two (datagram starved) None ≡ record { bytes = reply_datagram config (codes "7_o") (Fault E17); act = act.Starved }
-out_of_memory = refl
+out_of_memory_reply : answering_unless config two (datagram out_of_memory) None ≡ record { bytes = reply_datagram config (codes "7_o") (Fault E17); act = act.OutOfMemory }
+out_of_memory_reply = refl
 
 faulty_command : answering_asked config two (datagram given) (Err E3) ≡ record { reply = Fault E3; act = act.Failed E3 }
 faulty_command = refl

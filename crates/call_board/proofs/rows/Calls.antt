@@ -29,7 +29,7 @@ after_stop : live (history_of (begins c1 [] ∷ begins c2 [] ∷ stop (c1 ∷ c2
 after_stop = refl
 
 -- a later offer of a call begins none, and nothing but an end takes a call away
-goes_on : live (history_of (begins c1 [] ∷ offers c1 [] (0 ∷ []) ∷ answers c1 (Reject ∷ []) ∷ did (act.Failed E9) ∷ did (act.Undone E15 [] []) ∷ did (act.Queried c1) ∷ did act.Told ∷ did act.Repeated ∷ did act.Starved ∷ [])) ≡ c1 ∷ []
+goes_on : live (history_of (begins c1 [] ∷ offers c1 [] (0 ∷ []) ∷ answers c1 (Reject ∷ []) ∷ did (act.Failed E9) ∷ did (act.Undone E15 [] []) ∷ did (act.Queried c1) ∷ did act.Told ∷ did act.Repeated ∷ did act.OutOfMemory ∷ [])) ≡ c1 ∷ []
 goes_on = refl
 
 -- a call that ended stays away, also where its call-id comes again: that is another call

@@ -50,7 +50,7 @@ answered = record { from_tag = codes "a"; to_tag = codes "b"; sdp = codes "v=0";
 -- Entries.
 
 abbrev pub given : Given
-given = record { starved = false; opens = []; draws = []; draw_failed = false; report = None }
+given = record { out_of_memory = false; opens = []; draws = []; draw_failed = false; report = None }
 
 -- a datagram of a source and a cookie, at a moment, with its reply and what it did
 abbrev pub from : Addr → List ℕ → ℕ → List ℕ → Act → BoardEntry

@@ -62,20 +62,20 @@ a_shorter_cookie = refl
 
 -- Which replies are kept.
 
--- a repeat is not kept anew, so that its minute runs from the first reply
+-- a repeat is not kept again, so that its minute runs from the first reply
 repeat_is_not_kept : kept (history_of (told_at 0 pong ∷ from here cookie 59999 pong act.Repeated ∷ [])) here cookie 60000 ≡ None
 unfolding cache.kept
 repeat_is_not_kept = refl
 
--- want of memory is not kept, so that the command may be tried again
-starved_is_not_kept : kept (from here cookie 0 other act.Starved ∷ []) here cookie 1 ≡ None
+-- an out-of-memory reply is not kept, so that the command may be tried again
+out_of_memory_is_not_kept : kept (from here cookie 0 other act.OutOfMemory ∷ []) here cookie 1 ≡ None
 unfolding cache.kept
-starved_is_not_kept = refl
+out_of_memory_is_not_kept = refl
 
 -- nor does it hide what was kept before
-starved_hides_nothing : kept (history_of (told_at 0 pong ∷ from here cookie 1 other act.Starved ∷ [])) here cookie 2 ≡ Some pong
+out_of_memory_hides_nothing : kept (history_of (told_at 0 pong ∷ from here cookie 1 other act.OutOfMemory ∷ [])) here cookie 2 ≡ Some pong
 unfolding cache.kept
-starved_hides_nothing = refl
+out_of_memory_hides_nothing = refl
 
 -- every other answer is kept, errors and undone offers too
 error_is_kept : kept (from here cookie 0 other (act.Failed E9) ∷ []) here cookie 1 ≡ Some other
@@ -124,7 +124,7 @@ past_the_last : kept (replicate 4096 (from here other_cookie 0 other act.Told) +
 unfolding cache.kept
 past_the_last = refl
 
--- repeats, and answers for want of memory, count for nothing among them
-repeats_do_not_count : kept (replicate 4096 (from here other_cookie 0 other act.Repeated) ++ replicate 100 (from here other_cookie 0 other act.Starved) ++ told_at 0 pong ∷ []) here cookie 1 ≡ Some pong
+-- repeats and out-of-memory replies don't count among them
+repeats_do_not_count : kept (replicate 4096 (from here other_cookie 0 other act.Repeated) ++ replicate 100 (from here other_cookie 0 other act.OutOfMemory) ++ told_at 0 pong ∷ []) here cookie 1 ≡ Some pong
 unfolding cache.kept
 repeats_do_not_count = refl

@@ -44,7 +44,7 @@ held_in_order = refl
 one_pair_twice : Once (map (λ (a : Holder). a.pair) (leg c1 0 B 0 1 ∷ leg c1 0 B 0 1 ∷ [])) → ⊥
 one_pair_twice once = once.0 (here refl)
 
--- Returns: behind the pairs that were never leased, in the order of the last return.
+-- Returns: after the pairs that were never leased, in the order of the last return.
 
 returned_last : free config (history_of (first_two ∷ deletes c1 ∷ [])) ≡ 2 ∷ 3 ∷ 0 ∷ 1 ∷ []
 unfolding pair_count

@@ -50,7 +50,7 @@ unrecognized = record {
   reads = λ read. record { ints = (tt, tt); deep = omega arith; spelled = refl };
   hears = λ heard. absurd (let e : false ≡ true = heard in cc);
   gives = (record { no_opens = refl; no_draws = refl; none_failed = refl }, refl);
-  reports = λ starves. absurd (let e = starves in cc);
+  reports = λ runs_out. absurd (let e = runs_out in cc);
   answers = refl;
 }
 
@@ -63,7 +63,7 @@ call_id_is_missing = record {
   reads = λ read. record { ints = (tt, tt); deep = omega arith; spelled = refl };
   hears = λ heard. absurd (let e : false ≡ true = heard in cc);
   gives = (record { no_opens = refl; no_draws = refl; none_failed = refl }, refl);
-  reports = λ starves. absurd (let e = starves in cc);
+  reports = λ runs_out. absurd (let e = runs_out in cc);
   answers = refl;
 }
 
@@ -81,7 +81,7 @@ listed = record {
   reads = λ read. record { ints = (tt, tt); deep = omega arith; spelled = refl };
   hears = λ heard. absurd (let e : false ≡ true = heard in cc);
   gives = (record { no_opens = refl; no_draws = refl; none_failed = refl }, refl);
-  reports = λ starves. absurd (let e = starves in cc);
+  reports = λ runs_out. absurd (let e = runs_out in cc);
   answers = refl;
 }
 
@@ -100,7 +100,7 @@ queried = record {
   reads = λ read. record { ints = (tt, (tt, tt)); deep = omega arith; spelled = refl };
   hears = λ heard. absurd (let e : false ≡ true = heard in cc);
   gives = (record { no_opens = refl; no_draws = refl; none_failed = refl }, refl);
-  reports = λ starves. absurd (let e = starves in cc);
+  reports = λ runs_out. absurd (let e = runs_out in cc);
   answers = refl;
 }
 
@@ -114,11 +114,11 @@ query_of_none = record {
   reads = λ read. record { ints = (tt, (tt, tt)); deep = omega arith; spelled = refl };
   hears = λ heard. absurd (let e : false ≡ true = heard in cc);
   gives = (record { no_opens = refl; no_draws = refl; none_failed = refl }, refl);
-  reports = λ starves. absurd (let e = starves in cc);
+  reports = λ runs_out. absurd (let e = runs_out in cc);
   answers = refl;
 }
 
--- a query that is short of memory may have read its call, and no other
+-- a query that runs out of memory may have read its call, and no other
 
 reads_its_call : asks_after one_call (Ok (Query (codes "c1"))) ≡ true
 unfolding replies
@@ -127,28 +127,28 @@ reads_its_call = refl
 reads_no_stranger : asks_after [] (Ok (Query (codes "c1"))) ≡ false
 reads_no_stranger = refl
 
-abbrev starved_query : Control
-starved_query = record query {
-  given = record given { starved = true; report = Some [] };
+abbrev out_of_memory_query : Control
+out_of_memory_query = record query {
+  given = record given { out_of_memory = true; report = Some [] };
   reply = codes "4 d12:error-reason13:out of memory6:result5:errore";
-  act = act.Starved;
+  act = act.OutOfMemory;
 }
 
-starved_query_reads : FitsControl config one_call 0 starved_query
+out_of_memory_query_reads : FitsControl config one_call 0 out_of_memory_query
 unfolding replies
-starved_query_reads = record {
+out_of_memory_query_reads = record {
   framed = refl;
   length_is = refl;
   reads = λ read. record { ints = (tt, (tt, tt)); deep = omega arith; spelled = refl };
   hears = λ heard. absurd (let e : false ≡ true = heard in cc);
   gives = record { no_opens = refl; no_draws = refl; none_failed = refl };
-  reports = λ starves strange. absurd (let e : true ≡ false = strange in cc);
+  reports = λ runs_out strange. absurd (let e : true ≡ false = strange in cc);
   answers = refl;
 }
 
-starved_query_of_none : FitsControl config [] 0 starved_query → ⊥
+out_of_memory_query_of_none : FitsControl config [] 0 out_of_memory_query → ⊥
 unfolding replies
-starved_query_of_none fits = let e = fits.reports refl refl in cc
+out_of_memory_query_of_none fits = let e = fits.reports refl refl in cc
 
 -- a delete of an unknown call-id warns and changes nothing
 unknown_is_warned : FitsControl config one_call 0 (plain (codes "9") (codes "d7:call-id1:z7:command6:deletee") (pair (codes "call-id") (codes "z") (pair (codes "command") (codes "delete") no_entries))
@@ -160,7 +160,7 @@ unknown_is_warned = record {
   reads = λ read. record { ints = (tt, (tt, tt)); deep = omega arith; spelled = refl };
   hears = λ heard. absurd (let e : false ≡ true = heard in cc);
   gives = (record { no_opens = refl; no_draws = refl; none_failed = refl }, refl);
-  reports = λ starves. absurd (let e = starves in cc);
+  reports = λ runs_out. absurd (let e = runs_out in cc);
   answers = refl;
 }
 
@@ -177,7 +177,7 @@ no_session = record {
   reads = λ read. offered_fits.reads refl;
   hears = λ heard. offered_fits.hears refl;
   gives = (record { no_opens = refl; no_draws = refl; none_failed = refl }, refl);
-  reports = λ starves. absurd (let e = starves in cc);
+  reports = λ runs_out. absurd (let e = runs_out in cc);
   answers = refl;
 }
 
@@ -190,7 +190,7 @@ no_pair = record {
   reads = λ read. offered_fits.reads refl;
   hears = λ heard. offered_fits.hears refl;
   gives = (record { no_opens = refl; no_draws = refl; none_failed = refl }, refl);
-  reports = λ starves. absurd (let e = starves in cc);
+  reports = λ runs_out. absurd (let e = runs_out in cc);
   answers = refl;
 }
 
@@ -245,7 +245,7 @@ version_6_refused = record {
   reads = λ read. record { ints = (tt, (tt, (tt, (tt, tt)))); deep = omega arith; spelled = refl };
   hears = λ heard. absurd (let e : false ≡ true = heard in cc);
   gives = (record { no_opens = refl; no_draws = refl; none_failed = refl }, refl);
-  reports = λ starves. absurd (let e = starves in cc);
+  reports = λ runs_out. absurd (let e = runs_out in cc);
   answers = refl;
 }
 
@@ -254,8 +254,8 @@ version_6_refused = record {
 long_is_unread : is_read (record ping { too_long = true; act = act.Failed E18 }) ≡ false
 long_is_unread = refl
 
-starved_is_unread : is_read (record ping { given = record given { starved = true }; act = act.Starved }) ≡ false
-starved_is_unread = refl
+out_of_memory_is_unread : is_read (record ping { given = record given { out_of_memory = true }; act = act.OutOfMemory }) ≡ false
+out_of_memory_is_unread = refl
 
 others_are_read : is_read ping ≡ true
 others_are_read = refl
@@ -263,7 +263,7 @@ others_are_read = refl
 heard_acts : map is_heard (act.Failed E8 ∷ act.Failed E13 ∷ act.Failed E14 ∷ act.Undone E15 [] [] ∷ []) ≡ true ∷ true ∷ true ∷ true ∷ []
 heard_acts = refl
 
-unheard_acts : map is_heard (act.Failed E9 ∷ act.Failed E10 ∷ act.Failed E11 ∷ act.Failed E12 ∷ act.Told ∷ act.Starved ∷ act.Repeated ∷ []) ≡ false ∷ false ∷ false ∷ false ∷ false ∷ false ∷ false ∷ []
+unheard_acts : map is_heard (act.Failed E9 ∷ act.Failed E10 ∷ act.Failed E11 ∷ act.Failed E12 ∷ act.Told ∷ act.OutOfMemory ∷ act.Repeated ∷ []) ≡ false ∷ false ∷ false ∷ false ∷ false ∷ false ∷ false ∷ []
 unheard_acts = refl
 
 -- What no turn is.

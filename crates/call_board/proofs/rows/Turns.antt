@@ -58,7 +58,7 @@ ping_fits = record {
   reads = λ read. record { ints = (tt, tt); deep = omega arith; spelled = refl };
   hears = λ heard. absurd (let e : false ≡ true = heard in cc);
   gives = (record { no_opens = refl; no_draws = refl; none_failed = refl }, refl);
-  reports = λ starves. absurd (let e = starves in cc);
+  reports = λ runs_out. absurd (let e = runs_out in cc);
   answers = refl;
 }
 
@@ -119,7 +119,7 @@ offered_fits = record {
   reads = λ read. record { ints = (tt, (tt, (tt, ((tt, (tt, tt)), ((tt, tt), (tt, (tt, tt))))))); deep = omega arith; spelled = refl };
   hears = λ heard. record { count = refl; first = alice_heard };
   gives = (record { all_opened = refl }, record { all_drawn = refl; none_failed = refl }, refl);
-  reports = λ starves. absurd (let e = starves in cc);
+  reports = λ runs_out. absurd (let e = runs_out in cc);
   answers = refl;
 }
 
@@ -143,7 +143,7 @@ again_fits = record {
   reads = λ read. offered_fits.reads refl;
   hears = λ heard. offered_fits.hears refl;
   gives = (record { all_opened = refl }, record { all_drawn = refl; none_failed = refl }, refl);
-  reports = λ starves. absurd (let e = starves in cc);
+  reports = λ runs_out. absurd (let e = runs_out in cc);
   answers = refl;
 }
 
@@ -173,7 +173,7 @@ deleted_fits = record {
   reads = λ read. record { ints = (tt, (tt, tt)); deep = omega arith; spelled = refl };
   hears = λ heard. absurd (let e : false ≡ true = heard in cc);
   gives = (record { no_opens = refl; no_draws = refl; none_failed = refl }, refl);
-  reports = λ starves. absurd (let e = starves in cc);
+  reports = λ runs_out. absurd (let e = runs_out in cc);
   answers = refl;
 }
 
@@ -193,11 +193,11 @@ repeated_fits = record {
   reads = λ read. offered_fits.reads refl;
   hears = λ heard. offered_fits.hears refl;
   gives = (record { no_opens = refl; no_draws = refl; none_failed = refl }, refl);
-  reports = λ starves. absurd (let e = starves in cc);
+  reports = λ runs_out. absurd (let e = runs_out in cc);
   answers = refl;
 }
 
--- Nothing reads its body, so that what is recorded of that is free; the same where memory was short before the body was read.
+-- Nothing reads its body, so that what is recorded of that is free; the same where memory ran out before the body was read.
 
 unread_repeat_fits : FitsControl config before_repeat 60000 (record repeated { pairs = None; chosen = [] })
 unfolding turns
@@ -207,27 +207,27 @@ unread_repeat_fits = record {
   reads = λ read. absurd (let e : false ≡ true = read in cc);
   hears = λ heard. absurd (let e : false ≡ true = heard in cc);
   gives = (record { no_opens = refl; no_draws = refl; none_failed = refl }, refl);
-  reports = λ starves. absurd (let e = starves in cc);
+  reports = λ runs_out. absurd (let e = runs_out in cc);
   answers = refl;
 }
 
-unread_starved_fits : FitsControl config [] 0 (record ping { pairs = None; given = record given { starved = true }; reply = codes "5323_1 d12:error-reason13:out of memory6:result5:errore"; act = act.Starved })
+unread_out_of_memory_fits : FitsControl config [] 0 (record ping { pairs = None; given = record given { out_of_memory = true }; reply = codes "5323_1 d12:error-reason13:out of memory6:result5:errore"; act = act.OutOfMemory })
 unfolding turns
-unread_starved_fits = record {
+unread_out_of_memory_fits = record {
   framed = refl;
   length_is = refl;
   reads = λ read. absurd (let e : false ≡ true = read in cc);
   hears = λ heard. absurd (let e : false ≡ true = heard in cc);
   gives = record { no_opens = refl; no_draws = refl; none_failed = refl };
-  reports = λ starves queries. refl;
+  reports = λ runs_out queries. refl;
   answers = refl;
 }
 
 -- It has no report, since it asks after no call.
 
-starved_report : FitsControl config [] 0 (record ping { given = record given { starved = true; report = Some [] }; reply = codes "5323_1 d12:error-reason13:out of memory6:result5:errore"; act = act.Starved }) → ⊥
+out_of_memory_report : FitsControl config [] 0 (record ping { given = record given { out_of_memory = true; report = Some [] }; reply = codes "5323_1 d12:error-reason13:out of memory6:result5:errore"; act = act.OutOfMemory }) → ⊥
 unfolding turns
-starved_report fits = let e = fits.reports refl refl in cc
+out_of_memory_report fits = let e = fits.reports refl refl in cc
 
 -- A millisecond later it is an offer again, which begins another call in the same cell, with the pairs that were never leased.
 
@@ -254,7 +254,7 @@ anew_fits = record {
   reads = λ read. offered_fits.reads refl;
   hears = λ heard. offered_fits.hears refl;
   gives = (record { all_opened = refl }, record { all_drawn = refl; none_failed = refl }, refl);
-  reports = λ starves. absurd (let e = starves in cc);
+  reports = λ runs_out. absurd (let e = runs_out in cc);
   answers = refl;
 }
 

@@ -83,7 +83,7 @@ all_rejected_not_yet : is_due config (steps [] (now prepared ∷ makes 10 reject
 unfolding is_due
 all_rejected_not_yet = refl
 
--- a later call begins anew
+-- a later call starts over
 later_call_not_yet : is_due config (since_end (steps in_use (makes 2000 End ∷ makes 50000 (Prepare 1 [] [] []) ∷ []))) 100000 ≡ false
 unfolding is_due
 later_call_not_yet = refl
@@ -152,7 +152,7 @@ sections_in_order : map {B = ℕ × Side × ℕ} (λ told. (told.section, told.s
 unfolding reports
 sections_in_order = refl
 
--- Answers of sends.
+-- Results of sends.
 
 -- a send may fail
 

@@ -146,7 +146,7 @@ control_b source = received leg_b Rtcp source (rtcp_of 572662306)
 
 -- Histories.
 
--- an event, or a relay with the answer of its send
+-- an event, or a relay with the result of its send
 pub data Step : Type 0 where
   makes : ℕ → CellEvent → Step
   relays : ℕ → Receipt → Bool → Step

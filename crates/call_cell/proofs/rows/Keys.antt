@@ -1,4 +1,4 @@
--- Worked rows of packets that are protected: under which key and index they leave, and which are lost for want of one.
+-- Worked rows of packets that are protected: under which key and index they leave, and which are lost for lack of one.
 use Rattle.std.proofs.Common.{◌≡◌, ℕ, ◌^◌, ◌-◌, List, [], ◌∷◌, ◌++◌, map, true, Option, Some, None, refl}
 use Rattle.rtp_packet.specs.declared.head.Half.TheVariants.{Rtp, Rtcp}
 use Rattle.rtp_packet.specs.Head.{rtp_head, rtcp_ssrc}
@@ -86,7 +86,7 @@ held_before_used : first (outcomes_of (steps keyed (packets (100 ∷ []) ++ now 
 unfolding deed rtp_head wrapped_under srtp_out.wrapping srtp_out.sent_index near nearest_lifted fresh indices sources has_room
 held_before_used = refl
 
--- The notes of a key outlive what is in force: a new answer with the same key doesn't begin them anew.
+-- The notes of a key outlive what is in force: a new answer with the same key doesn't reset them.
 
 answered_again : first (outcomes_of (steps keyed (packets (100 ∷ []) ++ now (committed side_a (under 0 side_b)) ∷ packets (100 ∷ [])))) ≡ Some (outcomes.Lost lost.IndexUsed)
 unfolding deed rtp_head wrapped_under srtp_out.wrapping srtp_out.sent_index near nearest_lifted fresh indices sources has_room

@@ -124,7 +124,7 @@ control_is_sent : outcomes_of (steps (answered (plain at_a strict) side_b) (pack
 unfolding deed rtp_head rtcp_ssrc
 control_is_sent = refl
 
--- Learning begins anew exactly where the signalled address of the half changes.
+-- Learning starts over exactly where the signalled address of the half changes.
 
 same_address_keeps : learned (steps (answered side_a side_b) (packet (from_a first_place 1) ∷ now (committed (plain at_a strict) (held side_b)) ∷ [])) leg_a Rtp ≡ Some first_place
 unfolding deed rtp_head

@@ -61,7 +61,7 @@ other_key_begins = refl
 other_suite_begins : accepted (steps secured (took 100 ∷ now (committed (sends_under key Tag32 side_a) side_b) ∷ [])) leg_a ≡ []
 other_suite_begins = refl
 
--- a key that goes away and comes back begins anew
+-- a key that goes away and comes back starts over
 back_again_begins : accepted (steps secured (took 100 ∷ now (committed side_a side_b) ∷ now (committed secure side_b) ∷ took 7 ∷ [])) leg_a ≡ index 7 ∷ []
 back_again_begins = refl
 
@@ -95,7 +95,7 @@ later_lease_is_apart = refl
 
 -- How a packet is judged.
 
--- a protected packet of so many bytes behind its head of 12
+-- a protected packet of `size` bytes after its head of 12
 abbrev sealed : ℕ → ℕ → List ℕ
 sealed seq size = 128 ∷ 0 ∷ 0 ∷ seq ∷ 0 ∷ 0 ∷ 0 ∷ 0 ∷ 17 ∷ 17 ∷ 17 ∷ 17 ∷ replicate size 9
 

@@ -23,7 +23,7 @@ abbrev pub the_call : Call
 the_call = record { number = 0; cell = 1; id = id }
 
 abbrev pub nothing_given : Given
-nothing_given = record { starved = false; opens = []; draws = []; draw_failed = false; report = None }
+nothing_given = record { out_of_memory = false; opens = []; draws = []; draw_failed = false; report = None }
 
 -- The offer begins the call, leases two pairs and draws two keys.
 
@@ -38,7 +38,7 @@ offer_turn = record {
   too_long = false;
   pairs = Some offer_pairs;
   chosen = None ∷ [];
-  given = record { starved = false; opens = true ∷ true ∷ true ∷ true ∷ []; draws = first_draw ∷ second_draw ∷ []; draw_failed = false; report = None };
+  given = record { out_of_memory = false; opens = true ∷ true ∷ true ∷ true ∷ []; draws = first_draw ∷ second_draw ∷ []; draw_failed = false; report = None };
   reply = reply_datagram config (codes "1") (Described (plan.offer_text config [] offer (30000 ∷ 30002 ∷ []) keys));
   act = act.Offered accepted_offer;
 }
@@ -62,7 +62,7 @@ offer_fits = record {
   reads = λ read. offer_is_read;
   hears = λ heard. rw offer_is_asked offer_is_heard;
   gives = rw (offer_is_asked, offer_demands) (record { all_opened = refl }, record { all_drawn = refl; none_failed = refl }, refl);
-  reports = λ starves. absurd (let e = starves in cc);
+  reports = λ runs_out. absurd (let e = runs_out in cc);
   answers = offer_is_answered;
 }
 
@@ -85,7 +85,7 @@ repeat_fits = record {
   reads = λ read. offer_is_read;
   hears = λ heard. absurd (let e : false ≡ true = heard in cc);
   gives = (record { no_opens = refl; no_draws = refl; none_failed = refl }, refl);
-  reports = λ starves. absurd (let e = starves in cc);
+  reports = λ runs_out. absurd (let e = runs_out in cc);
   answers = repeat_is_answered;
 }
 
@@ -129,7 +129,7 @@ answer_fits = record {
   reads = λ read. answer_is_read;
   hears = λ heard. rw answer_is_asked answer_is_heard;
   gives = (record { no_opens = refl; no_draws = refl; none_failed = refl }, refl);
-  reports = λ starves. absurd (let e = starves in cc);
+  reports = λ runs_out. absurd (let e = runs_out in cc);
   answers = answer_is_answered;
 }
 
@@ -174,7 +174,7 @@ delete_fits = record {
   reads = λ read. delete_is_read;
   hears = λ heard. absurd (let e : false ≡ true = heard in cc);
   gives = (record { no_opens = refl; no_draws = refl; none_failed = refl }, refl);
-  reports = λ starves. absurd (let e = starves in cc);
+  reports = λ runs_out. absurd (let e = runs_out in cc);
   answers = delete_is_answered;
 }
 
@@ -221,6 +221,6 @@ next_fits = record {
   reads = λ read. next_is_read;
   hears = λ heard. rw next_is_asked next_is_heard;
   gives = rw (next_is_asked, next_demands) (record { all_opened = refl }, record { all_drawn = refl; none_failed = refl }, refl);
-  reports = λ starves. absurd (let e = starves in cc);
+  reports = λ runs_out. absurd (let e = runs_out in cc);
   answers = next_is_answered;
 }

@@ -26,7 +26,7 @@ in_box pair number board event = record { place = 2 + pair; number = number; mom
 
 -- The offer's turn opens two boxes and prepares the cell. Its datagram comes again. The answer's turn commits. Side A's box
 -- takes a packet, which the cell relays, and then side B's box takes one; then side A's box takes one more. A tick asks the
--- cell whether it is due, and the delete's turn ends the call and closes the boxes. The next offer's turn opens them anew. The
+-- cell whether it is due, and the delete's turn ends the call and closes the boxes. The next offer's turn opens them again. The
 -- packet that was left is relayed, and a tick ends that call.
 
 abbrev pub opened_b : Entry

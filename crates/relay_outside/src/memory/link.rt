@@ -137,7 +137,7 @@ impl Tape {
     }
 }
 
-/// The last send that was answered Ok.
+/// The last send that returned Ok.
 fn last_of(calls: &[LinkCall]) -> Option<(Addr, &[u8])>
     ensures { MatchOption result (last_or None (sent calls.now) ≡ None) (λ found. last_or None (sent calls.now) ≡ Some (found.0, found.1.now)) }
 {
@@ -229,7 +229,7 @@ impl MemoryLink {
         self.tape.told.tells()
     }
 
-    /// The last send that was answered Ok: `None` where there was none, or the link tells nothing any more.
+    /// The last send that returned Ok: `None` where there was none, or the link tells nothing any more.
     pub fn last_sent(&self) -> Option<(Addr, &[u8])>
         ensures { MatchOption result (last_sent self.now.told ≡ None) (λ sent. last_sent self.now.told ≡ Some (sent.0, sent.1.now)) }
     {

@@ -12,7 +12,7 @@ const HERE: Addr = Addr {
     port: 6000,
 };
 
-/// The address of the port for RTCP beside it.
+/// The address of the pair's port for RTCP.
 const THERE: Addr = Addr {
     ip: Ip::V4([192, 0, 2, 1]),
     port: 6001,

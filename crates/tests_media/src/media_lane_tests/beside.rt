@@ -1,4 +1,4 @@
-//! What a lane answers while another hand has the turn of a place.
+//! What a lane returns while another hand has the turn of a place.
 ghost use Rattle.std.specs.Prelude.{◌≡◌, ◌≤◌};
 ghost use Rattle.turn_table.specs.Hands.{IsHandOf, HasNoTurn, HasTurn, IsSameHand, EndsTurn, starts, place_of, front_of, state_of, taken_of};
 ghost use Rattle.call_cell.specs.Standing.{receipt_of};
@@ -37,7 +37,7 @@ fn take_from<I: InEnd, O: OutEnd>(
     }
 }
 
-// Puts the turn of a box by a take that it answered so.
+// Ends a box's turn, and records a take with its result.
 fn put_take<I: InEnd, O: OutEnd, X: Says>(
     turns: &Turns<Relay<I, O>>,
     hand: &mut Hand<Relay<I, O>>,

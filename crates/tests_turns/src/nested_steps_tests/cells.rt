@@ -1,13 +1,14 @@
 ghost use Rattle.std.specs.Prelude.{◌≡◌, ◌∷◌, [], IfOk};
 ghost use Rattle.port_pool.specs.Signals.{NewKey};
 ghost use Rattle.call_cell.specs.Preparing.{IsReady, PrepareFor, added};
-ghost use Rattle.nested_steps.specs.Bringing.{brought_keys, brought_dropped};
+ghost use Rattle.nested_steps.specs.Bringing.{offered_keys, offered_drops};
 
 use crate::first_relay::{CONFIG, begin};
 use crate::quiet_devices::Mute;
 use call_cell::{Gone, InContexts, LegReports, Prepare};
 use nested_steps::{
-    BoardTurn, Brought, Nest, commit_cell, end_cell, expire_cell, prepare_cell, read_cell,
+    BoardEntryId, BoardTurn, OfferedChanges, commit_cell, end_cell, expire_cell, prepare_cell,
+    read_cell,
 };
 use port_pool::{Side, Signal};
 use relay_outside::OutOfMemory;
@@ -16,29 +17,29 @@ use srtp_keys::DrawnKey;
 use std::alloc::Global;
 
 // An offer without a leg: a key, and a section that is dropped.
-fn offer(alloc: Global) -> Result<(Prepare<Mute>, Brought), OutOfMemory>
-    ensures tells { IfOk result (λ both. PrepareFor both.0 (brought_keys both.1) (brought_dropped both.1)) }
+fn offer(alloc: Global) -> Result<(Prepare<Mute>, OfferedChanges), OutOfMemory>
+    ensures tells { IfOk result (λ both. PrepareFor both.0 (offered_keys both.1) (offered_drops both.1)) }
     ensures ready { IfOk result (λ both. IsReady both.0 × (added both.0 ≡ [])) }
-    ensures keys { IfOk result (λ both. (key : NewKey) × (brought_keys both.1 ≡ key ∷ [])) }
+    ensures keys { IfOk result (λ both. (key : NewKey) × (offered_keys both.1 ≡ key ∷ [])) }
 {
     let mut signal = Prepare::reserve(alloc, 0, 1)?;
-    let mut brought = Brought::reserve(alloc, 1, 1)?;
+    let mut changes = OfferedChanges::reserve(alloc, 1, 1)?;
     let key = DrawnKey::from_draw(7, [9; 30]);
-    brought.add_key(0, Side::A, &key, Suite::Tag80);
+    changes.add_key(0, Side::A, &key, Suite::Tag80);
     signal.add_key(0, Side::A, key, Suite::Tag80);
-    brought.drop_section(3);
+    changes.drop_section(3);
     signal.drop_section(3);
-    Ok((signal, brought))
+    Ok((signal, changes))
 }
 
-fn at(number: u64, moment: u64) -> Nest {
-    Nest { number, moment }
+fn at(number: u64, moment: u64) -> BoardEntryId {
+    BoardEntryId { number, moment }
 }
 
 #[test]
 fn a_call_is_prepared_asked_and_ended(rt: HostRuntime) {
     let alloc = rt.alloc();
-    let Ok((signal, brought)) = offer(alloc) else {
+    let Ok((signal, changes)) = offer(alloc) else {
         panic!(rt; "no memory");
     };
     let Ok(mut dropped) = Gone::new(alloc) else {
@@ -55,13 +56,13 @@ fn a_call_is_prepared_asked_and_ended(rt: HostRuntime) {
         &BoardTurn {
             turns: &turns,
             config: &CONFIG,
-            nest: at(0, 5),
+            entry_id: at(0, 5),
         },
         &mut hand,
         1,
         0,
         signal,
-        &brought,
+        &changes,
         &mut dropped,
     );
     let young = expire_cell(
@@ -69,7 +70,7 @@ fn a_call_is_prepared_asked_and_ended(rt: HostRuntime) {
         &BoardTurn {
             turns: &turns,
             config: &CONFIG,
-            nest: at(1, 120_004),
+            entry_id: at(1, 120_004),
         },
         &mut hand,
         1,
@@ -79,7 +80,7 @@ fn a_call_is_prepared_asked_and_ended(rt: HostRuntime) {
         &BoardTurn {
             turns: &turns,
             config: &CONFIG,
-            nest: at(2, 120_005),
+            entry_id: at(2, 120_005),
         },
         &mut hand,
         1,
@@ -89,7 +90,7 @@ fn a_call_is_prepared_asked_and_ended(rt: HostRuntime) {
         &BoardTurn {
             turns: &turns,
             config: &CONFIG,
-            nest: at(3, 120_006),
+            entry_id: at(3, 120_006),
         },
         &mut hand,
         1,
@@ -100,7 +101,7 @@ fn a_call_is_prepared_asked_and_ended(rt: HostRuntime) {
         &BoardTurn {
             turns: &turns,
             config: &CONFIG,
-            nest: at(4, 999_999),
+            entry_id: at(4, 999_999),
         },
         &mut hand,
         1,
@@ -137,7 +138,7 @@ fn a_committed_call_is_due_by_its_last_answer(rt: HostRuntime) {
         &BoardTurn {
             turns: &turns,
             config: &CONFIG,
-            nest: at(0, 200_000),
+            entry_id: at(0, 200_000),
         },
         &mut hand,
         2,
@@ -150,7 +151,7 @@ fn a_committed_call_is_due_by_its_last_answer(rt: HostRuntime) {
         &BoardTurn {
             turns: &turns,
             config: &CONFIG,
-            nest: at(1, 259_999),
+            entry_id: at(1, 259_999),
         },
         &mut hand,
         2,
@@ -160,7 +161,7 @@ fn a_committed_call_is_due_by_its_last_answer(rt: HostRuntime) {
         &BoardTurn {
             turns: &turns,
             config: &CONFIG,
-            nest: at(2, 260_000),
+            entry_id: at(2, 260_000),
         },
         &mut hand,
         2,
@@ -183,7 +184,7 @@ fn a_cell_without_a_leg_tells_of_none(rt: HostRuntime) {
         &BoardTurn {
             turns: &turns,
             config: &CONFIG,
-            nest: at(0, 5),
+            entry_id: at(0, 5),
         },
         &mut hand,
         1,

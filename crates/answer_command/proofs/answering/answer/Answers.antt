@@ -15,7 +15,7 @@ use Rattle.relay_core.specs.Turning.{made_by}
 use Rattle.board_turns.specs.Acting.{InTurn}
 use Rattle.board_turns.proofs.Tying.{ties_none}
 use Rattle.control_reading.specs.Bodies.{IsErrorOf}
-use Rattle.control_entries.specs.declared.gave.Gave.TheVariants.{Nothing}
+use Rattle.control_entries.specs.declared.device_answers.DeviceAnswers.TheVariants.{Nothing}
 use Rattle.control_entries.specs.Controls.{entry_with}
 use Rattle.control_entries.specs.Carrying.{hearing_as}
 use Rattle.control_entries.proofs.Tellings.{is_short_carries}
@@ -27,7 +27,7 @@ use Rattle.answer_command.proofs.answering.answer.Goals as goal
 pub returns-in-Err-clause-carries : goal.returns-in-Err-clause-carries
 returns-in-Err-clause-carries g c pairs asking =
     let config = c.args.turn.now.config.now in
-    misdescribed_carries config c.args.turn.now.turns.now c.args.hand.now c.args.turn.now.nest c.args.request.now pairs c.args.input.now c.in-Err.fault c.misdescribed.result c.args.board.now
+    misdescribed_carries config c.args.turn.now.turns.now c.args.hand.now c.args.turn.now.entry_id c.args.request.now pairs c.args.input.now c.in-Err.fault c.misdescribed.result c.args.board.now
     (g.P.PortMaker.told c.args.ports.now) c.requires.turn c.requires.anew asking
     (subst (λ (text : List ℕ). IsErrorOf (sdp_error config text) c.in-Err.fault) c.as_slice.ensures c.in-Err.ensures.error) c.misdescribed.ensures.refuses
 
@@ -37,26 +37,26 @@ returns-in-Err-clause-closes g c = gained_no_opening (g.P.PortMaker.told c.args.
 pub returns-in-Err-plan_answer-clause-carries : goal.returns-in-Err-plan_answer-clause-carries
 returns-in-Err-plan_answer-clause-carries g c pairs asking =
     let config = c.args.turn.now.config.now in
-    let h = board_history (made_by c.args.hand.now) c.args.turn.now.nest.number in
-    let v = at_moment (view_of config h) c.args.turn.now.nest.moment in
+    let h = board_history (made_by c.args.hand.now) c.args.turn.now.entry_id.number in
+    let v = at_moment (view_of config h) c.args.turn.now.entry_id.moment in
     let input = c.args.input.now in
     let id = input.call_id.list in
-    let ask = ask_of input c.hear_answer-heard.result in
+    let ask = ask_of input c.hear_answer-chosen_lines.result in
     let told = g.P.PortMaker.told c.args.ports.now in
     let lines = lines_read input c.as_slice.result.now c.in-Ok.sdp c.in-Ok.ensures.lines c.as_slice.ensures in
-    let asks = asks_for config h c.args.turn.now.nest.moment c.args.request.now pairs input c.as_slice.result.now c.requires.anew asking c.as_slice.ensures c.in-Ok.ensures.sound in
-    refuses_carries config c.args.turn.now.turns.now c.args.hand.now c.args.turn.now.nest c.args.request.now pairs input c.in-Ok.sdp c.hear_answer-heard.result c.in-Err-plan_answer.fault c.unplanned.result
+    let asks = asks_for config h c.args.turn.now.entry_id.moment c.args.request.now pairs input c.as_slice.result.now c.requires.anew asking c.as_slice.ensures c.in-Ok.ensures.sound in
+    refuses_carries config c.args.turn.now.turns.now c.args.hand.now c.args.turn.now.entry_id c.args.request.now pairs input c.in-Ok.sdp c.hear_answer-chosen_lines.result c.in-Err-plan_answer.fault c.unplanned.result
     c.plan_answer.new.self told
-    (subst (λ (b : Board). InTurn config c.args.turn.now.turns.now c.args.hand.now c.args.turn.now.nest b told) (sym c.in-Err-plan_answer.ensures.same) c.requires.turn) asks lines
+    (subst (λ (b : Board). InTurn config c.args.turn.now.turns.now c.args.hand.now c.args.turn.now.entry_id b told) (sym c.in-Err-plan_answer.ensures.same) c.requires.turn) asks lines
     (heard_by h ask (find_call h id)
-    (λ of is. c.hear_answer-heard.ensures.heard config v (call_view h of) ask c.requires.turn.shows
+    (λ of is. c.hear_answer-chosen_lines.ensures.heard config v (call_view h of) ask c.requires.turn.shows
     (ap (λ (i : List ℕ). call_of_id v i) c.as_slice-2.ensures ∙ found_by_id config h id ∙ ap (λ (o : Option Call). option_map (call_view h) o) is) lines refl))
     (c.in-Err-plan_answer.ensures.plans config v c.requires.turn.shows) c.unplanned.ensures.refuses
 
 pub returns-in_default-clause-carries : goal.returns-in_default-clause-carries
 returns-in_default-clause-carries g c pairs asking =
-    is_short_carries c.args.turn.now.config.now c.args.turn.now.turns.now c.args.hand.now c.args.turn.now.nest c.args.request.now pairs c.short.result c.plan_answer.new.self (g.P.PortMaker.told c.args.ports.now)
-    (subst (λ (b : Board). InTurn c.args.turn.now.config.now c.args.turn.now.turns.now c.args.hand.now c.args.turn.now.nest b (g.P.PortMaker.told c.args.ports.now)) (sym c.in-Ok-plan_answer.ensures.same) c.requires.turn)
+    is_short_carries c.args.turn.now.config.now c.args.turn.now.turns.now c.args.hand.now c.args.turn.now.entry_id c.args.request.now pairs c.short.result c.plan_answer.new.self (g.P.PortMaker.told c.args.ports.now)
+    (subst (λ (b : Board). InTurn c.args.turn.now.config.now c.args.turn.now.turns.now c.args.hand.now c.args.turn.now.entry_id b (g.P.PortMaker.told c.args.ports.now)) (sym c.in-Ok-plan_answer.ensures.same) c.requires.turn)
     c.requires.anew c.short.ensures.is_short
 
 pub returns-in_default-clause-closes : goal.returns-in_default-clause-closes
@@ -74,55 +74,55 @@ write_described-requires-clause-small g c =
 pub answer_act-requires-clause-due : goal.answer_act-requires-clause-due
 answer_act-requires-clause-due g c =
     let config = c.args.turn.now.config.now in
-    let h = board_history (made_by c.args.hand.now) c.args.turn.now.nest.number in
-    let v = at_moment (view_of config h) c.args.turn.now.nest.moment in
+    let h = board_history (made_by c.args.hand.now) c.args.turn.now.entry_id.number in
+    let v = at_moment (view_of config h) c.args.turn.now.entry_id.moment in
     let request = c.args.request.now in
     let input = c.args.input.now in
     let id = input.call_id.list in
-    let heard = c.hear_answer-heard.result in
+    let heard = c.hear_answer-chosen_lines.result in
     let ask = ask_of input heard in
     let pairs = c.requires.asked.0 in
     let lines = lines_read input c.as_slice.result.now c.in-Ok.sdp c.in-Ok.ensures.lines c.as_slice.ensures in
-    let asks = asks_for config h c.args.turn.now.nest.moment request pairs input c.as_slice.result.now c.requires.anew c.requires.asked.1 c.as_slice.ensures c.in-Ok.ensures.sound in
+    let asks = asks_for config h c.args.turn.now.entry_id.moment request pairs input c.as_slice.result.now c.requires.anew c.requires.asked.1 c.as_slice.ensures c.in-Ok.ensures.sound in
     let planned : IsPlanned config h input c.in-Ok.sdp heard c.in-Ok-plan_answer.plan = record {
       lines_are = lines;
       heard = heard_by h ask (find_call h id)
-          (λ of is. c.hear_answer-heard.ensures.heard config v (call_view h of) ask c.requires.turn.shows
+          (λ of is. c.hear_answer-chosen_lines.ensures.heard config v (call_view h of) ask c.requires.turn.shows
           (ap (λ (i : List ℕ). call_of_id v i) c.as_slice-2.ensures ∙ found_by_id config h id ∙ ap (λ (o : Option Call). option_map (call_view h) o) is) lines refl);
       plans = c.in-Ok-plan_answer.ensures.plans config v c.requires.turn.shows;
       writes = c.in-Ok-plan_answer.ensures.writes;
     } in
     let d = is_due config h input c.in-Ok.sdp heard c.in-Ok-plan_answer.plan planned in (
-      entry_with c.args.turn.now.nest.moment (hearing_as request pairs heard Nothing) (due_of config h request pairs input c.in-Ok.sdp heard c.in-Ok-plan_answer.plan d),
+      entry_with c.args.turn.now.entry_id.moment (hearing_as request pairs heard Nothing) (due_of config h request pairs input c.in-Ok.sdp heard c.in-Ok-plan_answer.plan d),
       d.of,
       ask,
-      planned_answer config h c.args.turn.now.nest.moment request pairs input c.in-Ok.sdp heard c.in-Ok-plan_answer.plan asks planned,
+      planned_answer config h c.args.turn.now.entry_id.moment request pairs input c.in-Ok.sdp heard c.in-Ok-plan_answer.plan asks planned,
     )
 
 pub returns-clause-carries : goal.returns-clause-carries
 returns-clause-carries g c pairs asking =
     let config = c.args.turn.now.config.now in
-    let h = board_history (made_by c.args.hand.now) c.args.turn.now.nest.number in
-    let v = at_moment (view_of config h) c.args.turn.now.nest.moment in
+    let h = board_history (made_by c.args.hand.now) c.args.turn.now.entry_id.number in
+    let v = at_moment (view_of config h) c.args.turn.now.entry_id.moment in
     let request = c.args.request.now in
     let input = c.args.input.now in
     let id = input.call_id.list in
-    let heard = c.hear_answer-heard.result in
+    let heard = c.hear_answer-chosen_lines.result in
     let ask = ask_of input heard in
     let lines = lines_read input c.as_slice.result.now c.in-Ok.sdp c.in-Ok.ensures.lines c.as_slice.ensures in
-    let asks = asks_for config h c.args.turn.now.nest.moment request pairs input c.as_slice.result.now c.requires.anew asking c.as_slice.ensures c.in-Ok.ensures.sound in
+    let asks = asks_for config h c.args.turn.now.entry_id.moment request pairs input c.as_slice.result.now c.requires.anew asking c.as_slice.ensures c.in-Ok.ensures.sound in
     let planned : IsPlanned config h input c.in-Ok.sdp heard c.in-Ok-plan_answer.plan = record {
       lines_are = lines;
       heard = heard_by h ask (find_call h id)
-          (λ of is. c.hear_answer-heard.ensures.heard config v (call_view h of) ask c.requires.turn.shows
+          (λ of is. c.hear_answer-chosen_lines.ensures.heard config v (call_view h of) ask c.requires.turn.shows
           (ap (λ (i : List ℕ). call_of_id v i) c.as_slice-2.ensures ∙ found_by_id config h id ∙ ap (λ (o : Option Call). option_map (call_view h) o) is) lines refl);
       plans = c.in-Ok-plan_answer.ensures.plans config v c.requires.turn.shows;
       writes = c.in-Ok-plan_answer.ensures.writes;
     } in
     let d = is_due config h input c.in-Ok.sdp heard c.in-Ok-plan_answer.plan planned in
-    let e = entry_with c.args.turn.now.nest.moment (hearing_as request pairs heard Nothing) (due_of config h request pairs input c.in-Ok.sdp heard c.in-Ok-plan_answer.plan d) in
-    let is = planned_answer config h c.args.turn.now.nest.moment request pairs input c.in-Ok.sdp heard c.in-Ok-plan_answer.plan asks planned in
-    answered_carries config c.args.hand.now c.answer_act.new.hand c.args.turn.now.nest request pairs input c.in-Ok.sdp heard c.in-Ok-plan_answer.plan c.write_described.new.out c.answer_act.new.board
+    let e = entry_with c.args.turn.now.entry_id.moment (hearing_as request pairs heard Nothing) (due_of config h request pairs input c.in-Ok.sdp heard c.in-Ok-plan_answer.plan d) in
+    let is = planned_answer config h c.args.turn.now.entry_id.moment request pairs input c.in-Ok.sdp heard c.in-Ok-plan_answer.plan asks planned in
+    answered_carries config c.args.hand.now c.answer_act.new.hand c.args.turn.now.entry_id request pairs input c.in-Ok.sdp heard c.in-Ok-plan_answer.plan c.write_described.new.out c.answer_act.new.board
     (g.P.PortMaker.told c.answer_act.new.ports) asks planned (c.answer_act.ensures.does e d.of ask is)
     (c.write_described.ensures config
     ∙ ap (λ (bytes : List ℕ). reply_datagram config request.cookie.now (Described bytes)) (c.as_slice-3.ensures ∙ c.answer_act.ensures.text e d.of ask is))

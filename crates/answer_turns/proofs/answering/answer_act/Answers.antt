@@ -32,23 +32,23 @@ use Rattle.answer_turns.proofs.answering.answer_act.Goals as goal
 
 pub write_answer-requires-clause-pairs : goal.write_answer-requires-clause-pairs
 write_answer-requires-clause-pairs g c =
-    let h = board_history (made_by c.args.hand.now) c.args.turn.now.nest.number in
+    let h = board_history (made_by c.args.hand.now) c.args.turn.now.entry_id.number in
     no_pairs c.args.turn.now.config.now h c.requires.due.1 c.requires.due.2 c.args.answer.sdp.now c.args.answer.plan c.requires.due.3.plan_for
 
 pub write_answer-requires-clause-keys : goal.write_answer-requires-clause-keys
 write_answer-requires-clause-keys g c =
-    let h = board_history (made_by c.args.hand.now) c.args.turn.now.nest.number in
+    let h = board_history (made_by c.args.hand.now) c.args.turn.now.entry_id.number in
     no_keys c.args.turn.now.config.now h c.requires.due.1 c.requires.due.2 c.args.answer.sdp.now c.args.answer.plan c.requires.due.3.plan_for
 
 pub commit_cell-requires-clause-cell : goal.commit_cell-requires-clause-cell
 commit_cell-requires-clause-cell g c =
     let config = c.args.turn.now.config.now in
     let l = made_by c.args.hand.now in
-    let h = board_history l c.args.turn.now.nest.number in
+    let h = board_history l c.args.turn.now.entry_id.number in
     let of = c.requires.due.1 in
     let d = c.requires.due.3 in
     let at : c.cell-cell.result ≡ of.cell = c.cell-cell.ensures ∙ ap (λ (p : BoardPlan). p.cell) c.write_answer.ensures.rest ∙ d.plan_for.cell_is in
-    let within = live_cell config h of (good_history config l c.requires.turn.orderly c.args.turn.now.nest.number) d.alive in
+    let within = live_cell config h of (good_history config l c.requires.turn.orderly c.args.turn.now.entry_id.number) d.alive in
     (omega (arith, at, within.0), omega (arith, at, within.1))
 
 pub commit_cell-requires-clause-keys : goal.commit_cell-requires-clause-keys
@@ -59,7 +59,7 @@ pub commit_cell-requires-clause-names : goal.commit_cell-requires-clause-names
 commit_cell-requires-clause-names g c n above =
     let config = c.args.turn.now.config.now in
     let l = made_by c.args.hand.now in
-    let h = board_history l c.args.turn.now.nest.number in
+    let h = board_history l c.args.turn.now.entry_id.number in
     let e = c.requires.due.0 in
     let of = c.requires.due.1 in
     let ask = c.requires.due.2 in
@@ -67,7 +67,7 @@ commit_cell-requires-clause-names g c n above =
     let a = answer_of h of ask in
     let at : c.cell-cell.result ≡ of.cell = c.cell-cell.ensures ∙ ap (λ (p : BoardPlan). p.cell) c.write_answer.ensures.rest ∙ d.plan_for.cell_is in
     let said : c.signal.result.now ≡ a.signal = c.signal.ensures ∙ ap (λ p. p.signal) c.planned.ensures ∙ c.write_answer.ensures.signal ∙ d.plan_for.plan_for.signal_is in
-    let names = answer_names config l c.requires.turn.orderly c.args.turn.now.nest.number n e a c.requires.turn.above d.fits d.acts (subst (λ (k : ℕ). IsAbove l k n) at above) in
+    let names = answer_names config l c.requires.turn.orderly c.args.turn.now.entry_id.number n e a c.requires.turn.above d.fits d.acts (subst (λ (k : ℕ). IsAbove l k n) at above) in
     subst (λ (k : ℕ). NamesKeys (since_end (cell_history l k n)) c.signal.result.now) (sym at)
     (subst (λ (s : List SectionSignal). NamesKeys (since_end (cell_history l of.cell n)) s) (sym said) names)
 
@@ -76,14 +76,14 @@ apply-requires g c =
     let config = c.args.turn.now.config.now in
     let l = made_by c.args.hand.now in
     let d = c.requires.due.3 in
-    may_apply config (board_history l c.args.turn.now.nest.number) c.args.turn.now.nest.moment c.requires.due.1 c.requires.due.2 c.args.answer.sdp.now c.args.answer.plan c.write_answer.new.plan
-    (good_history config l c.requires.turn.orderly c.args.turn.now.nest.number) d.alive d.plan_for c.write_answer.ensures.rest c.args.board.now c.requires.turn.shows
+    may_apply config (board_history l c.args.turn.now.entry_id.number) c.args.turn.now.entry_id.moment c.requires.due.1 c.requires.due.2 c.args.answer.sdp.now c.args.answer.plan c.write_answer.new.plan
+    (good_history config l c.requires.turn.orderly c.args.turn.now.entry_id.number) d.alive d.plan_for c.write_answer.ensures.rest c.args.board.now c.requires.turn.shows
 
 pub close_legs-requires-clause-can : goal.close_legs-requires-clause-can
 close_legs-requires-clause-can g c =
     let config = c.args.turn.now.config.now in
-    let n = c.args.turn.now.nest.number in
-    let moment = c.args.turn.now.nest.moment in
+    let n = c.args.turn.now.entry_id.number in
+    let moment = c.args.turn.now.entry_id.moment in
     let l = made_by c.args.hand.now in
     let h = board_history l n in
     let v = at_moment (view_of config h) moment in
@@ -112,8 +112,8 @@ close_legs-requires-clause-can g c =
 pub returns-clause-does : goal.returns-clause-does
 returns-clause-does g c e of ask d =
     let config = c.args.turn.now.config.now in
-    let n = c.args.turn.now.nest.number in
-    let moment = c.args.turn.now.nest.moment in
+    let n = c.args.turn.now.entry_id.number in
+    let moment = c.args.turn.now.entry_id.moment in
     let l = made_by c.args.hand.now in
     let h = board_history l n in
     let v = at_moment (view_of config h) moment in
@@ -132,7 +132,7 @@ returns-clause-does g c e of ask d =
     let next = c.write_answer.ensures.next config _ ask d.plan_for.plan_for in
     let shows = subst (λ (w : View). Shows config c.apply.new.self w) (taken_with config h moment of ask c.args.answer.sdp.now c.args.answer.plan q fits d.alive d.plan_for rest moment)
     (c.apply.ensures.taken config v of (round.Answered ask) c.requires.turn.shows (takes_in config h moment of ask c.args.answer.sdp.now c.args.answer.plan q fits d.alive d.plan_for rest next)) in
-    does_answer config c.args.hand.now c.commit_cell.new.hand c.close_legs.new.hand c.args.turn.now.nest c.close_legs.new.board (g.P.PortMaker.told c.close_legs.new.ports) e of ask c.args.answer.sdp.now
+    does_answer config c.args.hand.now c.commit_cell.new.hand c.close_legs.new.hand c.args.turn.now.entry_id c.close_legs.new.board (g.P.PortMaker.told c.close_legs.new.ports) e of ask c.args.answer.sdp.now
     c.args.answer.plan cell signal gone o d at said are c.commit_cell.ensures.gained c.close_legs.ensures.gained
     (c.close_legs.ensures.returned config (with_more of (round.Answered ask) moment v) shows)
     (c.close_legs.ensures.«open» (leg_pairs (held h)) c.requires.turn.opens)

@@ -30,7 +30,7 @@ loop-leg-init g c =
       may = c.requires.may;
       can = c.requires.can;
       home = c.requires.home;
-      gained = gains_nothing c.args.turn.now.nest.number c.args.turn.now.nest.moment c.args.hand.now;
+      gained = gains_nothing c.args.turn.now.entry_id.number c.args.turn.now.entry_id.moment c.args.hand.now;
       returned = λ config v shows. subst (λ w. Shows config c.args.board.now w) (sym (returned_none v)) shows;
       calls = record { calls_are = refl; begun_is = refl };
       replies = refl;
@@ -55,8 +55,8 @@ close_leg-requires-clause-home g c =
 pub loop-leg-preserved : goal.loop-leg-preserved
 loop-leg-preserved g c =
     let config = c.args.turn.now.config.now in
-    let number = c.args.turn.now.nest.number in
-    let moment = c.args.turn.now.nest.moment in
+    let number = c.args.turn.now.entry_id.number in
+    let moment = c.args.turn.now.entry_id.moment in
     let before = g.P.PortMaker.told c.args.ports.now in
     let told = g.P.PortMaker.told c.loop-leg.ports in
     let after = g.P.PortMaker.told c.close_leg.new.ports in

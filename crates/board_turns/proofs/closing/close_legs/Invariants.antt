@@ -23,7 +23,7 @@ invariant-loop-leg g l =
       may : MayNest l.turn.config.now l.turn.turns.now l.hand;
       can : CanClose l.turn.config.now (made_by l.hand) l.board (told l.ports) l.gone;
       home : GoneHome g.P.Out.OutEnd.told l.turn.config.now l.gone;
-      gained : GainsNested l.turn.nest.number l.turn.nest.moment (closings_of l.turn.config.now closed) l.initial.hand l.hand;
+      gained : GainsNested l.turn.entry_id.number l.turn.entry_id.moment (closings_of l.turn.config.now closed) l.initial.hand l.hand;
       returned : (config : Config) (v : View) → Shows config l.initial.board v → Shows config l.board (with_returned v (pairs_in (leases_of closed)));
       calls : KeepsCalls l.initial.board l.board;
       replies : KeepsReplies l.initial.board l.board;

@@ -20,40 +20,40 @@ use Rattle.board_turns.proofs.deleting.delete_call.Goals as goal
 pub end_call-requires-clause-can : goal.end_call-requires-clause-can
 end_call-requires-clause-can g c =
     let config = c.args.turn.now.config.now in
-    let h = board_history (made_by c.args.hand.now) c.args.turn.now.nest.number in
+    let h = board_history (made_by c.args.hand.now) c.args.turn.now.entry_id.number in
     let of : Call = c.requires.live.0 in
     let told = g.P.PortMaker.told c.args.ports.now in
     let legs = closed_of h (stop_entry h) of in (
       of,
       legs,
       subst (λ (k : ℕ). CanEnd config (made_by c.args.hand.now) c.args.board.now told k of legs) c.requires.live.2
-          (may_delete config c.args.turn.now.turns.now c.args.hand.now c.args.turn.now.nest c.args.board.now told (stop_entry h) of c.requires.turn c.requires.live.1 c.requires.live.1),
+          (may_delete config c.args.turn.now.turns.now c.args.hand.now c.args.turn.now.entry_id c.args.board.now told (stop_entry h) of c.requires.turn c.requires.live.1 c.requires.live.1),
     )
 
 pub returns-clause-closes : goal.returns-clause-closes
 returns-clause-closes g c =
     let config = c.args.turn.now.config.now in
-    let h = board_history (made_by c.args.hand.now) c.args.turn.now.nest.number in
+    let h = board_history (made_by c.args.hand.now) c.args.turn.now.entry_id.number in
     let of : Call = c.requires.live.0 in
     let told = g.P.PortMaker.told c.args.ports.now in
     let legs = closed_of h (stop_entry h) of in
     let can = subst (λ (k : ℕ). CanEnd config (made_by c.args.hand.now) c.args.board.now told k of legs) c.requires.live.2
-    (may_delete config c.args.turn.now.turns.now c.args.hand.now c.args.turn.now.nest c.args.board.now told (stop_entry h) of c.requires.turn c.requires.live.1 c.requires.live.1) in
+    (may_delete config c.args.turn.now.turns.now c.args.hand.now c.args.turn.now.entry_id c.args.board.now told (stop_entry h) of c.requires.turn c.requires.live.1 c.requires.live.1) in
     theirs_open_none g.P.Out.OutEnd.told config legs told (g.P.PortMaker.told c.end_call.new.ports) (c.end_call.ensures.closes of legs can)
 
 pub returns-clause-does : goal.returns-clause-does
 returns-clause-does g c e of is number alive moment =
     let config = c.args.turn.now.config.now in
-    let h = board_history (made_by c.args.hand.now) c.args.turn.now.nest.number in
-    let v = at_moment (view_of config h) c.args.turn.now.nest.moment in
+    let h = board_history (made_by c.args.hand.now) c.args.turn.now.entry_id.number in
+    let v = at_moment (view_of config h) c.args.turn.now.entry_id.moment in
     let told = g.P.PortMaker.told c.args.ports.now in
     let legs = closed_of h e of in
     let ends = subst (λ (calls : List Call). In of calls) (sym (ends_one e of is).ends) (here (refl {a = of})) in
-    let can = may_delete config c.args.turn.now.turns.now c.args.hand.now c.args.turn.now.nest c.args.board.now told e of c.requires.turn alive ends in
+    let can = may_delete config c.args.turn.now.turns.now c.args.hand.now c.args.turn.now.entry_id c.args.board.now told e of c.requires.turn alive ends in
     let can_call = subst (λ (k : ℕ). CanEnd config (made_by c.args.hand.now) c.args.board.now told k of legs) number can in
-    let fits = good_history config (made_by c.args.hand.now) c.requires.turn.orderly c.args.turn.now.nest.number in
+    let fits = good_history config (made_by c.args.hand.now) c.requires.turn.orderly c.args.turn.now.entry_id.number in
     record {
-      gained = subst (λ (owed : List Owed). GainsNested c.args.turn.now.nest.number c.args.turn.now.nest.moment owed c.args.hand.now c.end_call.new.hand) (sym (deleted_owes config h e of is))
+      gained = subst (λ (owed : List Owed). GainsNested c.args.turn.now.entry_id.number c.args.turn.now.entry_id.moment owed c.args.hand.now c.end_call.new.hand) (sym (deleted_owes config h e of is))
           (c.end_call.ensures.gained of legs can_call);
       shows = subst (λ (w : View). Shows config c.end_call.new.board w)
           (ap (λ (k : ℕ). with_end v k legs) (sym number) ∙ sym (deleted_acts h e of v is))

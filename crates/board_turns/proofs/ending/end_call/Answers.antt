@@ -35,7 +35,7 @@ close_legs-requires-clause-can g c =
     let was = c.end_cell.ensures.ended.was in
     let are = went_are c.args.turn.now.config.now l c.args.board.now told c.args.call of legs c.end_call-cell.result was.number c.end_cell.new.gone can is c.end_cell.ensures.went
     (above_rows (entries c.args.hand.now) c.end_call-cell.result was.number was.given.above) in
-    can_close c.args.turn.now.config.now c.args.turn.now.nest.number c.args.turn.now.nest.moment c.args.hand.now c.end_cell.new.hand c.args.board.now c.end_call-cell.new.self told c.args.call of legs
+    can_close c.args.turn.now.config.now c.args.turn.now.entry_id.number c.args.turn.now.entry_id.moment c.args.hand.now c.end_cell.new.hand c.args.board.now c.end_call-cell.new.self told c.args.call of legs
     c.end_call-cell.result c.end_cell.new.gone can is c.end_cell.ensures.gained c.end_call-cell.ensures.shows are
 
 pub returns-clause-gained : goal.returns-clause-gained
@@ -48,12 +48,12 @@ returns-clause-gained g c of legs can =
     let was = c.end_cell.ensures.ended.was in
     let are = went_are config l c.args.board.now told c.args.call of legs cell was.number c.end_cell.new.gone can is c.end_cell.ensures.went
     (above_rows (entries c.args.hand.now) cell was.number was.given.above) in
-    let all = gains_more c.args.turn.now.nest.number c.args.turn.now.nest.moment (in_cell_of cell End ∷ []) (closings_of config c.end_cell.new.gone) c.args.hand.now c.end_cell.new.hand
+    let all = gains_more c.args.turn.now.entry_id.number c.args.turn.now.entry_id.moment (in_cell_of cell End ∷ []) (closings_of config c.end_cell.new.gone) c.args.hand.now c.end_cell.new.hand
     c.close_legs.new.hand c.end_cell.ensures.gained c.close_legs.ensures.gained in
     let same : in_cell_of cell End ∷ closings_of config c.end_cell.new.gone ≡ ending_of config of legs
     = ap (λ (k : ℕ). in_cell_of k End ∷ closings_of config c.end_cell.new.gone) is
     ∙ ap (λ (ws : List Owed). in_cell_of of.cell End ∷ ws) (closings_are config c.end_cell.new.gone legs are) in
-    subst (λ (ws : List Owed). GainsNested c.args.turn.now.nest.number c.args.turn.now.nest.moment ws c.args.hand.now c.close_legs.new.hand) same all
+    subst (λ (ws : List Owed). GainsNested c.args.turn.now.entry_id.number c.args.turn.now.entry_id.moment ws c.args.hand.now c.close_legs.new.hand) same all
 
 pub returns-clause-ended : goal.returns-clause-ended
 returns-clause-ended g c of legs can config v shows apart =

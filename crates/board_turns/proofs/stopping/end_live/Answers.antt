@@ -35,11 +35,11 @@ use Rattle.board_turns.proofs.stopping.end_live.Goals as goal
 
 pub loop-ended-init : goal.loop-ended-init
 loop-ended-init g c =
-    let h = board_history (made_by c.args.hand.now) c.args.turn.now.nest.number in
+    let h = board_history (made_by c.args.hand.now) c.args.turn.now.entry_id.number in
     record {
       same = ((refl, refl, refl, refl), λ j. refl);
       may = c.requires.may;
-      gained = gains_nothing c.args.turn.now.nest.number c.args.turn.now.nest.moment c.args.hand.now;
+      gained = gains_nothing c.args.turn.now.entry_id.number c.args.turn.now.entry_id.moment c.args.hand.now;
       shows = c.requires.board;
       opens = told_alike c.args.turn.now.config.now (g.P.PortMaker.told c.args.ports.now) (leg_pairs (held h)) (pairs_left [] (leg_pairs (held h))) (left_none (leg_pairs (held h))) c.requires.«open»;
       closes = gained_no_opening (g.P.PortMaker.told c.args.ports.now);
@@ -52,8 +52,8 @@ loop-ended-init g c =
 pub call_at-call-requires : goal.call_at-call-requires
 call_at-call-requires g c =
     let config = c.args.turn.now.config.now in
-    let number = c.args.turn.now.nest.number in
-    let moment = c.args.turn.now.nest.moment in
+    let number = c.args.turn.now.entry_id.number in
+    let moment = c.args.turn.now.entry_id.moment in
     let l = made_by c.args.hand.now in
     let h = board_history l number in
     let e = stop_entry h in
@@ -70,8 +70,8 @@ call_at-call-requires g c =
 pub end_call-requires-clause-can : goal.end_call-requires-clause-can
 end_call-requires-clause-can g c =
     let config = c.args.turn.now.config.now in
-    let number = c.args.turn.now.nest.number in
-    let moment = c.args.turn.now.nest.moment in
+    let number = c.args.turn.now.entry_id.number in
+    let moment = c.args.turn.now.entry_id.moment in
     let l = made_by c.args.hand.now in
     let h = board_history l number in
     let e = stop_entry h in
@@ -96,8 +96,8 @@ end_call-requires-clause-can g c =
 pub loop-ended-preserved : goal.loop-ended-preserved
 loop-ended-preserved g c =
     let config = c.args.turn.now.config.now in
-    let number = c.args.turn.now.nest.number in
-    let moment = c.args.turn.now.nest.moment in
+    let number = c.args.turn.now.entry_id.number in
+    let moment = c.args.turn.now.entry_id.moment in
     let l = made_by c.args.hand.now in
     let h = board_history l number in
     let e = stop_entry h in
@@ -151,8 +151,8 @@ loop-ended-preserved g c =
 pub returns-clause-gained : goal.returns-clause-gained
 returns-clause-gained g c =
     let config = c.args.turn.now.config.now in
-    let number = c.args.turn.now.nest.number in
-    let moment = c.args.turn.now.nest.moment in
+    let number = c.args.turn.now.entry_id.number in
+    let moment = c.args.turn.now.entry_id.moment in
     let l = made_by c.args.hand.now in
     let h = board_history l number in
     let e = stop_entry h in
@@ -166,8 +166,8 @@ returns-clause-gained g c =
 pub returns-clause-board : goal.returns-clause-board
 returns-clause-board g c =
     let config = c.args.turn.now.config.now in
-    let number = c.args.turn.now.nest.number in
-    let moment = c.args.turn.now.nest.moment in
+    let number = c.args.turn.now.entry_id.number in
+    let moment = c.args.turn.now.entry_id.moment in
     let l = made_by c.args.hand.now in
     let h = board_history l number in
     let e = stop_entry h in
@@ -181,14 +181,14 @@ returns-clause-board g c =
 
 pub returns-clause-count : goal.returns-clause-count
 returns-clause-count g c =
-    let h = board_history (made_by c.args.hand.now) c.args.turn.now.nest.number in
+    let h = board_history (made_by c.args.hand.now) c.args.turn.now.entry_id.number in
     c.live_count-count.ensures.live c.args.turn.now.config.now (view_of c.args.turn.now.config.now h) c.requires.board ∙ length-map (live h) (call_view h)
 
 pub returns-clause-open : goal.returns-clause-open
 returns-clause-open g c =
     let config = c.args.turn.now.config.now in
-    let number = c.args.turn.now.nest.number in
-    let moment = c.args.turn.now.nest.moment in
+    let number = c.args.turn.now.entry_id.number in
+    let moment = c.args.turn.now.entry_id.moment in
     let l = made_by c.args.hand.now in
     let h = board_history l number in
     let e = stop_entry h in

@@ -18,13 +18,13 @@ use Rattle.board_turns.proofs.stopping.end_live.Given as goal
 
 abbrev pub invariant-loop-ended : goal.invariant-loop-ended
 invariant-loop-ended g l =
-    let h = board_history (made_by l.initial.hand) l.turn.nest.number in
+    let h = board_history (made_by l.initial.hand) l.turn.entry_id.number in
     let e = stop_entry h in
     let gone = take l.ended (live h) in
     record {
       same : IsSameHand l.initial.hand l.hand × SameTurns l.initial.hand l.hand;
       may : MayNest l.turn.config.now l.turn.turns.now l.hand;
-      gained : GainsNested l.turn.nest.number l.turn.nest.moment (flat_map (ending l.turn.config.now h e) gone) l.initial.hand l.hand;
+      gained : GainsNested l.turn.entry_id.number l.turn.entry_id.moment (flat_map (ending l.turn.config.now h e) gone) l.initial.hand l.hand;
       shows : Shows l.turn.config.now l.board (with_ended h e gone (view_of l.turn.config.now h));
       opens : WhereTold (g.P.PortMaker.told l.ports) (λ calls. OpensHeld l.turn.config.now calls (still_held h e gone));
       closes : Gained (g.P.PortMaker.told l.initial.ports) (g.P.PortMaker.told l.ports) OpensNone;

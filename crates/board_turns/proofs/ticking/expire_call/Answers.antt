@@ -42,12 +42,12 @@ pub returns-then-not-expire_cell-clause-gained : goal.returns-then-not-expire_ce
 returns-then-not-expire_cell-clause-gained g c of legs asks =
     let is = cell_there c.args.turn.now.config.now (made_by c.args.hand.now) c.args.board.now (g.P.PortMaker.told c.args.ports.now) c.args.index of legs asks
     c.cell_at-cell.result c.cell_at-cell.ensures in
-    subst (λ (k : ℕ). GainsNested c.args.turn.now.nest.number c.args.turn.now.nest.moment (in_cell_of k (Expire false) ∷ []) c.args.hand.now c.expire_cell.new.hand) is
+    subst (λ (k : ℕ). GainsNested c.args.turn.now.entry_id.number c.args.turn.now.entry_id.moment (in_cell_of k (Expire false) ∷ []) c.args.hand.now c.expire_cell.new.hand) is
     c.if-not-expire_cell.ensures.gained
 
 pub returns-then-not-expire_cell-clause-ties : goal.returns-then-not-expire_cell-clause-ties
 returns-then-not-expire_cell-clause-ties g c =
-    ties_gained c.args.turn.now.config.now (g.P.PortMaker.told c.args.ports.now) c.args.turn.now.nest.number c.args.turn.now.nest.moment (in_cell_of c.cell_at-cell.result (Expire false) ∷ []) c.args.hand.now
+    ties_gained c.args.turn.now.config.now (g.P.PortMaker.told c.args.ports.now) c.args.turn.now.entry_id.number c.args.turn.now.entry_id.moment (in_cell_of c.cell_at-cell.result (Expire false) ∷ []) c.args.hand.now
     c.expire_cell.new.hand c.if-not-expire_cell.ensures.gained (nothing_parts c.cell_at-cell.result false)
 
 pub end_call-requires-clause-can : goal.end_call-requires-clause-can
@@ -59,7 +59,7 @@ end_call-requires-clause-can g c =
     let l = made_by c.args.hand.now in (
       of,
       legs,
-      asked_can c.args.turn.now.config.now c.args.turn.now.nest.number c.args.turn.now.nest.moment c.cell_at-cell.result true c.args.hand.now c.expire_cell.new.hand c.args.board.now told c.call_at-call.result of legs
+      asked_can c.args.turn.now.config.now c.args.turn.now.entry_id.number c.args.turn.now.entry_id.moment c.cell_at-cell.result true c.args.hand.now c.expire_cell.new.hand c.args.board.now told c.call_at-call.result of legs
           asks.can (number_there c.args.turn.now.config.now l c.args.board.now told c.args.index of legs asks c.call_at-call.result c.call_at-call.ensures)
           (cell_there c.args.turn.now.config.now l c.args.board.now told c.args.index of legs asks c.cell_at-cell.result c.cell_at-cell.ensures) c.if-not-expire_cell.ensures.gained,
     )
@@ -70,11 +70,11 @@ returns-clause-gained g c of legs asks =
     let l = made_by c.args.hand.now in
     let call_is = number_there c.args.turn.now.config.now l c.args.board.now told c.args.index of legs asks c.call_at-call.result c.call_at-call.ensures in
     let is = cell_there c.args.turn.now.config.now l c.args.board.now told c.args.index of legs asks c.cell_at-cell.result c.cell_at-cell.ensures in
-    let can = asked_can c.args.turn.now.config.now c.args.turn.now.nest.number c.args.turn.now.nest.moment c.cell_at-cell.result true c.args.hand.now c.expire_cell.new.hand c.args.board.now told
+    let can = asked_can c.args.turn.now.config.now c.args.turn.now.entry_id.number c.args.turn.now.entry_id.moment c.cell_at-cell.result true c.args.hand.now c.expire_cell.new.hand c.args.board.now told
     c.call_at-call.result of legs asks.can call_is is c.if-not-expire_cell.ensures.gained in
-    gains_more c.args.turn.now.nest.number c.args.turn.now.nest.moment (in_cell_of of.cell (Expire true) ∷ []) (ending_of c.args.turn.now.config.now of legs) c.args.hand.now c.expire_cell.new.hand
+    gains_more c.args.turn.now.entry_id.number c.args.turn.now.entry_id.moment (in_cell_of of.cell (Expire true) ∷ []) (ending_of c.args.turn.now.config.now of legs) c.args.hand.now c.expire_cell.new.hand
     c.end_call.new.hand
-    (subst (λ (k : ℕ). GainsNested c.args.turn.now.nest.number c.args.turn.now.nest.moment (in_cell_of k (Expire true) ∷ []) c.args.hand.now c.expire_cell.new.hand) is
+    (subst (λ (k : ℕ). GainsNested c.args.turn.now.entry_id.number c.args.turn.now.entry_id.moment (in_cell_of k (Expire true) ∷ []) c.args.hand.now c.expire_cell.new.hand) is
     c.if-not-expire_cell.ensures.gained)
     (c.end_call.ensures.gained of legs can)
 
@@ -84,7 +84,7 @@ returns-clause-asked g c of legs asks config v shows apart =
     let l = made_by c.args.hand.now in
     let call_is = number_there c.args.turn.now.config.now l c.args.board.now told c.args.index of legs asks c.call_at-call.result c.call_at-call.ensures in
     let is = cell_there c.args.turn.now.config.now l c.args.board.now told c.args.index of legs asks c.cell_at-cell.result c.cell_at-cell.ensures in
-    let can = asked_can c.args.turn.now.config.now c.args.turn.now.nest.number c.args.turn.now.nest.moment c.cell_at-cell.result true c.args.hand.now c.expire_cell.new.hand c.args.board.now told
+    let can = asked_can c.args.turn.now.config.now c.args.turn.now.entry_id.number c.args.turn.now.entry_id.moment c.cell_at-cell.result true c.args.hand.now c.expire_cell.new.hand c.args.board.now told
     c.call_at-call.result of legs asks.can call_is is c.if-not-expire_cell.ensures.gained in
     subst (λ (k : ℕ). Shows config c.end_call.new.board (with_end v k legs)) call_is (c.end_call.ensures.ended of legs can config v shows apart)
 
@@ -94,7 +94,7 @@ returns-clause-open g c of legs asks held opens =
     let l = made_by c.args.hand.now in
     let call_is = number_there c.args.turn.now.config.now l c.args.board.now told c.args.index of legs asks c.call_at-call.result c.call_at-call.ensures in
     let is = cell_there c.args.turn.now.config.now l c.args.board.now told c.args.index of legs asks c.cell_at-cell.result c.cell_at-cell.ensures in
-    let can = asked_can c.args.turn.now.config.now c.args.turn.now.nest.number c.args.turn.now.nest.moment c.cell_at-cell.result true c.args.hand.now c.expire_cell.new.hand c.args.board.now told
+    let can = asked_can c.args.turn.now.config.now c.args.turn.now.entry_id.number c.args.turn.now.entry_id.moment c.cell_at-cell.result true c.args.hand.now c.expire_cell.new.hand c.args.board.now told
     c.call_at-call.result of legs asks.can call_is is c.if-not-expire_cell.ensures.gained in
     c.end_call.ensures.«open» of legs can held opens
 
@@ -107,7 +107,7 @@ returns-clause-closes g c =
     let l = made_by c.args.hand.now in
     let call_is = number_there c.args.turn.now.config.now l c.args.board.now told c.args.index of legs asks c.call_at-call.result c.call_at-call.ensures in
     let is = cell_there c.args.turn.now.config.now l c.args.board.now told c.args.index of legs asks c.cell_at-cell.result c.cell_at-cell.ensures in
-    let can = asked_can c.args.turn.now.config.now c.args.turn.now.nest.number c.args.turn.now.nest.moment c.cell_at-cell.result true c.args.hand.now c.expire_cell.new.hand c.args.board.now told
+    let can = asked_can c.args.turn.now.config.now c.args.turn.now.entry_id.number c.args.turn.now.entry_id.moment c.cell_at-cell.result true c.args.hand.now c.expire_cell.new.hand c.args.board.now told
     c.call_at-call.result of legs asks.can call_is is c.if-not-expire_cell.ensures.gained in
     theirs_open_none g.P.Out.OutEnd.told c.args.turn.now.config.now legs told (g.P.PortMaker.told c.end_call.new.ports) (c.end_call.ensures.closes of legs can)
 
@@ -115,7 +115,7 @@ pub returns-clause-ties : goal.returns-clause-ties
 returns-clause-ties g c =
     let told = g.P.PortMaker.told c.args.ports.now in
     ties_both c.args.turn.now.config.now told told (g.P.PortMaker.told c.end_call.new.ports) (entries c.args.hand.now) (entries c.expire_cell.new.hand) (entries c.end_call.new.hand)
-    (ties_gained c.args.turn.now.config.now told c.args.turn.now.nest.number c.args.turn.now.nest.moment (in_cell_of c.cell_at-cell.result (Expire true) ∷ []) c.args.hand.now c.expire_cell.new.hand
+    (ties_gained c.args.turn.now.config.now told c.args.turn.now.entry_id.number c.args.turn.now.entry_id.moment (in_cell_of c.cell_at-cell.result (Expire true) ∷ []) c.args.hand.now c.expire_cell.new.hand
     c.if-not-expire_cell.ensures.gained (nothing_parts c.cell_at-cell.result true))
     c.end_call.ensures.ties
 
@@ -127,8 +127,8 @@ returns-then-not-expire_cell-clause-due g c of legs asks all =
     let low = asks.can.low in
     let high = asks.can.high in
     let may = c.requires.may in
-    subst (λ (k : ℕ). IsDueBy config l k c.args.turn.now.nest.moment false) is
-    (due_by_whole g.P.In.InEnd.told g.P.In.InEnd.faults g.P.Out.OutEnd.told g.P.Out.OutEnd.faults config c.args.hand.now c.cell_at-cell.result c.args.turn.now.nest.moment false may.parts
+    subst (λ (k : ℕ). IsDueBy config l k c.args.turn.now.entry_id.moment false) is
+    (due_by_whole g.P.In.InEnd.told g.P.In.InEnd.faults g.P.Out.OutEnd.told g.P.Out.OutEnd.faults config c.args.hand.now c.cell_at-cell.result c.args.turn.now.entry_id.moment false may.parts
     may.numbered (omega (arith, is, low)) (omega (arith, is, high)) (subst (λ (k : ℕ). HasNewKeys l k) (sym is) asks.can.keys) all c.if-not-expire_cell.ensures.asked)
 
 pub returns-clause-due : goal.returns-clause-due
@@ -139,6 +139,6 @@ returns-clause-due g c of legs asks all =
     let low = asks.can.low in
     let high = asks.can.high in
     let may = c.requires.may in
-    subst (λ (k : ℕ). IsDueBy config l k c.args.turn.now.nest.moment true) is
-    (due_by_whole g.P.In.InEnd.told g.P.In.InEnd.faults g.P.Out.OutEnd.told g.P.Out.OutEnd.faults config c.args.hand.now c.cell_at-cell.result c.args.turn.now.nest.moment true may.parts
+    subst (λ (k : ℕ). IsDueBy config l k c.args.turn.now.entry_id.moment true) is
+    (due_by_whole g.P.In.InEnd.told g.P.In.InEnd.faults g.P.Out.OutEnd.told g.P.Out.OutEnd.faults config c.args.hand.now c.cell_at-cell.result c.args.turn.now.entry_id.moment true may.parts
     may.numbered (omega (arith, is, low)) (omega (arith, is, high)) (subst (λ (k : ℕ). HasNewKeys l k) (sym is) asks.can.keys) all c.if-not-expire_cell.ensures.asked)

@@ -22,7 +22,7 @@ loop-asked-init g c =
     record {
       same = ((refl, refl, refl, refl), λ j. refl);
       may = c.requires.turn.may;
-      asked = none_asked c.args.turn.now.config.now c.args.turn.now.turns.now c.args.hand.now c.args.turn.now.nest c.args.board.now (g.P.PortMaker.told c.args.ports.now) c.requires.turn;
+      asked = none_asked c.args.turn.now.config.now c.args.turn.now.turns.now c.args.hand.now c.args.turn.now.entry_id c.args.board.now (g.P.PortMaker.told c.args.ports.now) c.requires.turn;
       few = omega arith;
       closes = gained_no_opening (g.P.PortMaker.told c.args.ports.now);
       ties = ties_none c.args.turn.now.config.now (g.P.PortMaker.told c.args.ports.now) (entries c.args.hand.now);
@@ -34,8 +34,8 @@ loop-asked-init g c =
 pub expire_call-requires-clause-can : goal.expire_call-requires-clause-can
 expire_call-requires-clause-can g c =
     let config = c.args.turn.now.config.now in
-    let number = c.args.turn.now.nest.number in
-    let moment = c.args.turn.now.nest.moment in
+    let number = c.args.turn.now.entry_id.number in
+    let moment = c.args.turn.now.entry_id.moment in
     let l = made_by c.args.hand.now in
     let h = board_history l number in
     let count = c.live_count-count.ensures.live config (at_moment (view_of config h) moment) c.requires.turn.shows in
@@ -55,8 +55,8 @@ expire_call-requires-clause-can g c =
 pub loop-asked-preserved : goal.loop-asked-preserved
 loop-asked-preserved g c =
     let config = c.args.turn.now.config.now in
-    let number = c.args.turn.now.nest.number in
-    let moment = c.args.turn.now.nest.moment in
+    let number = c.args.turn.now.entry_id.number in
+    let moment = c.args.turn.now.entry_id.moment in
     let l = made_by c.args.hand.now in
     let h = board_history l number in
     let told = g.P.PortMaker.told c.args.ports.now in
@@ -102,8 +102,8 @@ loop-asked-preserved g c =
 pub returns-clause-ends : goal.returns-clause-ends
 returns-clause-ends g c =
     let config = c.args.turn.now.config.now in
-    let number = c.args.turn.now.nest.number in
-    let moment = c.args.turn.now.nest.moment in
+    let number = c.args.turn.now.entry_id.number in
+    let moment = c.args.turn.now.entry_id.moment in
     let h = board_history (made_by c.args.hand.now) number in
     let count = c.live_count-count.ensures.live config (at_moment (view_of config h) moment) c.requires.turn.shows in
     let long = length-map (live h) (call_view h) in

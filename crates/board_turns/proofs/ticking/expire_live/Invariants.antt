@@ -15,7 +15,7 @@ invariant-loop-asked g l =
     record {
       same : IsSameHand l.initial.hand l.hand × SameTurns l.initial.hand l.hand;
       may : MayNest l.turn.config.now l.turn.turns.now l.hand;
-      asked : Asked l.turn.config.now (board_history (made_by l.initial.hand) l.turn.nest.number) l.turn.nest.number l.turn.nest.moment l.initial.hand l.hand l.board (g.P.PortMaker.told l.ports) l.asked l.ended;
+      asked : Asked l.turn.config.now (board_history (made_by l.initial.hand) l.turn.entry_id.number) l.turn.entry_id.number l.turn.entry_id.moment l.initial.hand l.hand l.board (g.P.PortMaker.told l.ports) l.asked l.ended;
       few : l.ended ≤ l.asked;
       closes : Gained (g.P.PortMaker.told l.initial.ports) (g.P.PortMaker.told l.ports) OpensNone;
       ties : Ties l.turn.config.now (g.P.PortMaker.told l.initial.ports) (g.P.PortMaker.told l.ports) (entries l.initial.hand) (entries l.hand);

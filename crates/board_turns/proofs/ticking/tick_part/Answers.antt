@@ -12,28 +12,28 @@ use Rattle.board_turns.proofs.ticking.tick_part.Goals as goal
 pub expire_live-requires-clause-turn : goal.expire_live-requires-clause-turn
 expire_live-requires-clause-turn g c =
     let config = c.args.turn.now.config.now in
-    let h = board_history (made_by c.args.hand.now) c.args.turn.now.nest.number in
+    let h = board_history (made_by c.args.hand.now) c.args.turn.now.entry_id.number in
     let was = stood config h c.args.part.now c.in-Board.board c.in-Board.is c.requires.board in
     let advanced = c.advance.ensures.moment config (view_of config h) was.1 in
-    let at : c.advance.result ≡ max c.args.turn.now.nest.moment (last_moment h) = advanced.1 in
+    let at : c.advance.result ≡ max c.args.turn.now.entry_id.moment (last_moment h) = advanced.1 in
     record {
       may = c.requires.may;
       above = c.requires.above;
       low = c.requires.low;
       orderly = c.requires.orderly;
       timely = omega (arith, at);
-      shows = at_turn config h c.advance.new.self c.args.turn.now.nest.moment c.advance.result at advanced.0;
+      shows = at_turn config h c.advance.new.self c.args.turn.now.entry_id.moment c.advance.result at advanced.0;
       opens = c.requires.«open»;
     }
 
 pub returns-clause-ends : goal.returns-clause-ends
 returns-clause-ends g c =
     let config = c.args.turn.now.config.now in
-    let h = board_history (made_by c.args.hand.now) c.args.turn.now.nest.number in
+    let h = board_history (made_by c.args.hand.now) c.args.turn.now.entry_id.number in
     let was = stood config h c.args.part.now c.in-Board.board c.in-Board.is c.requires.board in
-    let at : c.advance.result ≡ max c.args.turn.now.nest.moment (last_moment h) = (c.advance.ensures.moment config (view_of config h) was.1).1 in
+    let at : c.advance.result ≡ max c.args.turn.now.entry_id.moment (last_moment h) = (c.advance.ensures.moment config (view_of config h) was.1).1 in
     let ends =
     subst (λ (m : ℕ). (calls : List Call)
-    × EndsDue config h c.args.turn.now.nest.number m c.args.hand.now c.expire_live.new.hand c.expire_live.result (g.P.PortMaker.told c.expire_live.new.ports) calls
+    × EndsDue config h c.args.turn.now.entry_id.number m c.args.hand.now c.expire_live.new.hand c.expire_live.result (g.P.PortMaker.told c.expire_live.new.ports) calls
     × BoardFor config c.expire_live.new.board (tick_at m calls ∷ h)) at c.expire_live.ensures.ends in
     (ends.0, ends.1, ((ends.1.named, was.0), ends.2))

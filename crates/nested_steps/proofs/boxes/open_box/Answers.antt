@@ -20,23 +20,23 @@ pub returns-clause-gained : goal.returns-clause-gained
 returns-clause-gained g c =
     let leg = c.args.holder in
     let given = c.turn-step.ensures.turn.1 in
-    turn_gained c.args.turn.now.nest.number c.args.turn.now.nest.moment 0 (box_of c.args.turn.now.config.now leg.pair) c.box_place.result (Box (Open leg)) nothing_left tt c.args.hand.now c.turn-step.new.hand
+    turn_gained c.args.turn.now.entry_id.number c.args.turn.now.entry_id.moment 0 (box_of c.args.turn.now.config.now leg.pair) c.box_place.result (Box (Open leg)) nothing_left tt c.args.hand.now c.turn-step.new.hand
     c.put_opening.new.hand c.turn-step.result c.box_place.ensures (above_rows _ _ _ given.above) c.turn-step.ensures.same c.turn-step.ensures.turn.0 c.put_opening.ensures.entry
 
 pub returns-clause-may : goal.returns-clause-may
 returns-clause-may g c =
     let leg = c.args.holder in
     let at = c.box_place.ensures in
-    turn_may c.args.turn.now.config.now c.args.turn.now.turns.now c.args.turn.now.nest.number c.args.turn.now.nest.moment 0 (box_of c.args.turn.now.config.now leg.pair) c.box_place.result (Box (Open leg)) nothing_left tt
+    turn_may c.args.turn.now.config.now c.args.turn.now.turns.now c.args.turn.now.entry_id.number c.args.turn.now.entry_id.moment 0 (box_of c.args.turn.now.config.now leg.pair) c.box_place.result (Box (Open leg)) nothing_left tt
     c.args.hand.now c.turn-step.new.hand c.put_opening.new.hand c.turn-step.result c.requires.may (omega (arith, at)) c.turn-step.ensures.same c.turn-step.ensures.turn.0
     c.put_opening.ensures.same c.put_opening.ensures.entry (returns-clause-gained g c)
 
 pub returns-clause-ends : goal.returns-clause-ends
 returns-clause-ends g c =
-    let made = nested c.args.turn.now.nest.number c.args.turn.now.nest.moment 0 (Box (Open c.args.holder)) in
+    let made = nested c.args.turn.now.entry_id.number c.args.turn.now.entry_id.moment 0 (Box (Open c.args.holder)) in
     opened_from g.I.InEnd.told g.I.InEnd.faults g.O.OutEnd.told g.O.OutEnd.faults c.args.hand.now c.box_place.result (box_of c.args.turn.now.config.now c.args.holder.pair) c.turn-step.result.front c.turn-step.result.state
     c.state.result.now c.open_part.new.part made (c.args.rtp_end, c.args.rtcp_end) c.box_place.ensures c.state.ensures.value c.turn-step.ensures.turn.1
-    (c.open_part.ensures.step c.args.turn.now.nest.number c.args.turn.now.nest.moment) c.open_part.ensures.ends
+    (c.open_part.ensures.step c.args.turn.now.entry_id.number c.args.turn.now.entry_id.moment) c.open_part.ensures.ends
 
 pub open_part-requires-clause-ends : goal.open_part-requires-clause-ends
 open_part-requires-clause-ends g c =

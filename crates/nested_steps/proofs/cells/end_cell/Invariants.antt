@@ -6,4 +6,4 @@ use Rattle.nested_steps.specs.InCells.{moment_in}
 use Rattle.nested_steps.proofs.cells.end_cell.Given as goal
 
 abbrev pub ghosts-put_end : goal.ghosts-put_end
-ghosts-put_end g a = record { made = leaving a.nest.number a.nest.moment (moment_in (taken_of a.turn)) (Cell End) (gone_left g.O.OutEnd.told a.gone.now) }
+ghosts-put_end g a = record { made = leaving a.entry_id.number a.entry_id.moment (moment_in (taken_of a.turn)) (Cell End) (gone_left g.O.OutEnd.told a.gone.now) }

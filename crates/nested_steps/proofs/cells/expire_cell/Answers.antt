@@ -17,7 +17,7 @@ expire_part-due-requires g c =
 pub returns-clause-gained : goal.returns-clause-gained
 returns-clause-gained g c =
     let given = c.turn-step.ensures.turn.1 in
-    turn_gained c.args.turn.now.nest.number c.args.turn.now.nest.moment (max c.args.turn.now.nest.moment (moment_in c.turn-step.result.taken.value)) c.args.cell c.cell_place.result
+    turn_gained c.args.turn.now.entry_id.number c.args.turn.now.entry_id.moment (max c.args.turn.now.entry_id.moment (moment_in c.turn-step.result.taken.value)) c.args.cell c.cell_place.result
     (Cell (Expire c.expire_part-due.result)) nothing_left tt c.args.hand.now
     c.turn-step.new.hand c.put_expiry.new.hand c.turn-step.result c.cell_place.ensures (above_rows _ _ _ given.above) c.turn-step.ensures.same
     c.turn-step.ensures.turn.0 c.put_expiry.ensures.entry
@@ -26,14 +26,14 @@ pub returns-clause-may : goal.returns-clause-may
 returns-clause-may g c =
     let at = c.cell_place.ensures in
     let low = c.requires.cell.0 in
-    turn_may c.args.turn.now.config.now c.args.turn.now.turns.now c.args.turn.now.nest.number c.args.turn.now.nest.moment (max c.args.turn.now.nest.moment (moment_in c.turn-step.result.taken.value)) c.args.cell
+    turn_may c.args.turn.now.config.now c.args.turn.now.turns.now c.args.turn.now.entry_id.number c.args.turn.now.entry_id.moment (max c.args.turn.now.entry_id.moment (moment_in c.turn-step.result.taken.value)) c.args.cell
     c.cell_place.result (Cell (Expire c.expire_part-due.result)) nothing_left tt
     c.args.hand.now c.turn-step.new.hand c.put_expiry.new.hand c.turn-step.result c.requires.may (omega (arith, at, low)) c.turn-step.ensures.same c.turn-step.ensures.turn.0
     c.put_expiry.ensures.same c.put_expiry.ensures.entry (returns-clause-gained g c)
 
 pub returns-clause-asked : goal.returns-clause-asked
 returns-clause-asked g c =
-    expires_by g.I.InEnd.told g.I.InEnd.faults g.O.OutEnd.told g.O.OutEnd.faults c.args.turn.now.config.now c.args.hand.now c.args.cell c.turn-step.result.front c.args.turn.now.nest.moment
+    expires_by g.I.InEnd.told g.I.InEnd.faults g.O.OutEnd.told g.O.OutEnd.faults c.args.turn.now.config.now c.args.hand.now c.args.cell c.turn-step.result.front c.args.turn.now.entry_id.moment
     c.state.result.now c.expire_part-due.new.part c.expire_part-due.result
     (cell_given g.I.InEnd.told g.I.InEnd.faults g.O.OutEnd.told g.O.OutEnd.faults c.args.turn.now.config.now c.args.turn.now.turns.now c.args.hand.now c.args.cell c.cell_place.result
     c.turn-step.result.front _ c.state.result.now c.requires.may c.requires.cell.0 c.requires.cell.1 c.requires.keys c.cell_place.ensures c.state.ensures.value

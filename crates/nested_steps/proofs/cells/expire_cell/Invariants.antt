@@ -7,4 +7,4 @@ use Rattle.nested_steps.specs.InCells.{moment_in}
 use Rattle.nested_steps.proofs.cells.expire_cell.Given as goal
 
 abbrev pub ghosts-put_expiry : goal.ghosts-put_expiry
-ghosts-put_expiry g a = record { made = nested a.nest.number a.nest.moment (max a.nest.moment (moment_in (taken_of a.turn))) (Cell (Expire a.due)) }
+ghosts-put_expiry g a = record { made = nested a.entry_id.number a.entry_id.moment (max a.entry_id.moment (moment_in (taken_of a.turn))) (Cell (Expire a.due)) }

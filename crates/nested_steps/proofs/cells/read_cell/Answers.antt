@@ -16,7 +16,7 @@ read_part-requires g c =
 pub returns-clause-gained : goal.returns-clause-gained
 returns-clause-gained g c =
     let given = c.turn-step.ensures.turn.1 in
-    turn_gained c.args.turn.now.nest.number c.args.turn.now.nest.moment (moment_in c.turn-step.result.taken.value) c.args.cell c.cell_place.result (Cell (Read c.read_part.new.out))
+    turn_gained c.args.turn.now.entry_id.number c.args.turn.now.entry_id.moment (moment_in c.turn-step.result.taken.value) c.args.cell c.cell_place.result (Cell (Read c.read_part.new.out))
     nothing_left tt c.args.hand.now c.turn-step.new.hand c.put_reading.new.hand c.turn-step.result c.cell_place.ensures (above_rows _ _ _ given.above)
     c.turn-step.ensures.same c.turn-step.ensures.turn.0 c.put_reading.ensures.entry
 
@@ -24,7 +24,7 @@ pub returns-clause-may : goal.returns-clause-may
 returns-clause-may g c =
     let at = c.cell_place.ensures in
     let low = c.requires.cell.0 in
-    turn_may c.args.turn.now.config.now c.args.turn.now.turns.now c.args.turn.now.nest.number c.args.turn.now.nest.moment (moment_in c.turn-step.result.taken.value) c.args.cell c.cell_place.result
+    turn_may c.args.turn.now.config.now c.args.turn.now.turns.now c.args.turn.now.entry_id.number c.args.turn.now.entry_id.moment (moment_in c.turn-step.result.taken.value) c.args.cell c.cell_place.result
     (Cell (Read c.read_part.new.out)) nothing_left tt
     c.args.hand.now c.turn-step.new.hand c.put_reading.new.hand c.turn-step.result c.requires.may (omega (arith, at, low)) c.turn-step.ensures.same c.turn-step.ensures.turn.0
     c.put_reading.ensures.same c.put_reading.ensures.entry (returns-clause-gained g c)

@@ -25,14 +25,14 @@ commit_part-requires-clause-takes g c =
 pub returns-clause-gained : goal.returns-clause-gained
 returns-clause-gained g c =
     let given = c.turn-step.ensures.turn.1 in
-    turn_gained c.args.turn.now.nest.number c.args.turn.now.nest.moment (max c.args.turn.now.nest.moment (moment_in c.turn-step.result.taken.value)) c.args.cell c.cell_place.result
+    turn_gained c.args.turn.now.entry_id.number c.args.turn.now.entry_id.moment (max c.args.turn.now.entry_id.moment (moment_in c.turn-step.result.taken.value)) c.args.cell c.cell_place.result
     (Cell (Commit c.args.signal.now)) (gone_left g.O.OutEnd.told c.commit_part.new.gone) tt c.args.hand.now
     c.turn-step.new.hand c.put_commit.new.hand c.turn-step.result c.cell_place.ensures (above_rows _ _ _ given.above) c.turn-step.ensures.same
     c.turn-step.ensures.turn.0 c.put_commit.ensures.entry
 
 pub returns-clause-row : goal.returns-clause-row
 returns-clause-row g c =
-    turn_row c.args.turn.now.nest.number c.args.turn.now.nest.moment (max c.args.turn.now.nest.moment (moment_in c.turn-step.result.taken.value)) c.args.cell c.cell_place.result
+    turn_row c.args.turn.now.entry_id.number c.args.turn.now.entry_id.moment (max c.args.turn.now.entry_id.moment (moment_in c.turn-step.result.taken.value)) c.args.cell c.cell_place.result
     (Cell (Commit c.args.signal.now)) (gone_left g.O.OutEnd.told c.commit_part.new.gone) tt c.args.hand.now c.turn-step.new.hand c.put_commit.new.hand c.turn-step.result
     c.cell_place.ensures c.turn-step.ensures.same c.turn-step.ensures.turn.0 c.put_commit.ensures.entry
 
@@ -40,7 +40,7 @@ pub returns-clause-may : goal.returns-clause-may
 returns-clause-may g c =
     let at = c.cell_place.ensures in
     let low = c.requires.cell.0 in
-    turn_may c.args.turn.now.config.now c.args.turn.now.turns.now c.args.turn.now.nest.number c.args.turn.now.nest.moment (max c.args.turn.now.nest.moment (moment_in c.turn-step.result.taken.value)) c.args.cell
+    turn_may c.args.turn.now.config.now c.args.turn.now.turns.now c.args.turn.now.entry_id.number c.args.turn.now.entry_id.moment (max c.args.turn.now.entry_id.moment (moment_in c.turn-step.result.taken.value)) c.args.cell
     c.cell_place.result (Cell (Commit c.args.signal.now)) (gone_left g.O.OutEnd.told c.commit_part.new.gone) tt
     c.args.hand.now c.turn-step.new.hand c.put_commit.new.hand c.turn-step.result c.requires.may (omega (arith, at, low)) c.turn-step.ensures.same c.turn-step.ensures.turn.0
     c.put_commit.ensures.same c.put_commit.ensures.entry (returns-clause-gained g c)
@@ -52,12 +52,12 @@ returns-clause-committed g c =
     c.turn-step.ensures.turn.1 in
     let above = above_rows _ c.args.cell c.turn-step.result.front is.0.above in
     commits_by g.I.InEnd.told g.I.InEnd.faults g.O.OutEnd.told g.O.OutEnd.faults c.args.turn.now.config.now c.args.hand.now c.args.cell c.turn-step.result.front c.args.signal.now
-    c.args.turn.now.nest.moment c.state.result.now c.commit_part.new.part c.commit_part.new.gone is (c.requires.names c.turn-step.result.front above) c.commit_part.ensures.commits
+    c.args.turn.now.entry_id.moment c.state.result.now c.commit_part.new.part c.commit_part.new.gone is (c.requires.names c.turn-step.result.front above) c.commit_part.ensures.commits
 
 pub returns-clause-went : goal.returns-clause-went
-returns-clause-went g c = committed_went g.I.InEnd.told g.I.InEnd.faults g.O.OutEnd.told g.O.OutEnd.faults c.args.turn.now.config.now c.args.hand.now c.args.cell c.args.signal.now c.args.turn.now.nest.moment c.commit_part.new.gone (returns-clause-committed g c)
+returns-clause-went g c = committed_went g.I.InEnd.told g.I.InEnd.faults g.O.OutEnd.told g.O.OutEnd.faults c.args.turn.now.config.now c.args.hand.now c.args.cell c.args.signal.now c.args.turn.now.entry_id.moment c.commit_part.new.gone (returns-clause-committed g c)
 
 pub returns-clause-home : goal.returns-clause-home
 returns-clause-home g c =
-    committed_home g.I.InEnd.told g.I.InEnd.faults g.O.OutEnd.told g.O.OutEnd.faults c.args.turn.now.config.now c.args.turn.now.turns.now c.args.hand.now c.args.cell c.args.signal.now c.args.turn.now.nest.moment c.commit_part.new.gone c.requires.may
+    committed_home g.I.InEnd.told g.I.InEnd.faults g.O.OutEnd.told g.O.OutEnd.faults c.args.turn.now.config.now c.args.turn.now.turns.now c.args.hand.now c.args.cell c.args.signal.now c.args.turn.now.entry_id.moment c.commit_part.new.gone c.requires.may
     c.requires.cell.0 c.requires.cell.1 c.requires.keys (returns-clause-committed g c)

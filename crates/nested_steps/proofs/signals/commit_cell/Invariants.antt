@@ -8,5 +8,5 @@ use Rattle.nested_steps.proofs.signals.commit_cell.Given as goal
 
 abbrev pub ghosts-put_commit : goal.ghosts-put_commit
 ghosts-put_commit g a = record {
-  made = leaving a.nest.number a.nest.moment (max a.nest.moment (moment_in (taken_of a.turn))) (Cell (Commit a.signal.now)) (gone_left g.O.OutEnd.told a.gone.now);
+  made = leaving a.entry_id.number a.entry_id.moment (max a.entry_id.moment (moment_in (taken_of a.turn))) (Cell (Commit a.signal.now)) (gone_left g.O.OutEnd.told a.gone.now);
 }

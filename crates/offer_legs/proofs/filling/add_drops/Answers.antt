@@ -1,7 +1,7 @@
 use Rattle.std.proofs.Common.{◌≡◌, ◌∙◌, ◌++◌, [], ◌∷◌, ℕ, List, ap, subst, filter, arith}
 use Rattle.histories.specs.Words.{has, numbers}
 use Rattle.offer_answer.specs.Plan.{demand}
-use Rattle.nested_steps.specs.Bringing.{brought_dropped}
+use Rattle.nested_steps.specs.Bringing.{offered_drops}
 use Rattle.offer_legs.proofs.Filled.{sections_more, legs_still, demanded_are}
 use Rattle.offer_legs.proofs.filling.add_drops.Goals as goal
 
@@ -26,8 +26,8 @@ loop-section-preserved g c =
 pub returns-clause-sections : goal.returns-clause-sections
 returns-clause-sections g c asked demands =
     let end : c.loop-section.section ≡ 8 = (let a = c.loop-section-test.false in let b = c.loop-section.auto.section-end in omega (arith, a, b)) in
-    subst (λ (n : ℕ). brought_dropped c.loop-section.brought ≡ filter (has asked.dropped) (numbers 0 n)) end (c.loop-section.invariant.sections asked demands)
+    subst (λ (n : ℕ). offered_drops c.loop-section.changes ≡ filter (has asked.dropped) (numbers 0 n)) end (c.loop-section.invariant.sections asked demands)
 
 pub returns-clause-dropped : goal.returns-clause-dropped
 returns-clause-dropped g c rounds ask demands =
-    demanded_are rounds ask (brought_dropped c.loop-section.brought) (returns-clause-sections g c (demand rounds ask) demands)
+    demanded_are rounds ask (offered_drops c.loop-section.changes) (returns-clause-sections g c (demand rounds ask) demands)

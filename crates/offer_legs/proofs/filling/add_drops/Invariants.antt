@@ -4,17 +4,17 @@ use Rattle.port_pool.specs.Signals.{NewKey}
 use Rattle.offer_answer.specs.Rounds.{Demand}
 use Rattle.offer_answer.specs.Offering.{PlanFor}
 use Rattle.call_cell.specs.Preparing.{PrepareFor, key_room}
-use Rattle.nested_steps.specs.Bringing.{brought_keys, brought_dropped, more_keys, more_dropped}
+use Rattle.nested_steps.specs.Bringing.{offered_keys, offered_drops, more_keys, more_dropped}
 use Rattle.offer_legs.specs.Filling.{SameLegs}
 use Rattle.offer_legs.proofs.filling.add_drops.Given as goal
 
 abbrev pub invariant-loop-section : goal.invariant-loop-section
 invariant-loop-section g l = record {
-  sections : (asked : Demand) → PlanFor l.plan asked → brought_dropped l.brought ≡ filter (has asked.dropped) (numbers 0 l.section);
-  stands : (keys : List NewKey) → PrepareFor l.initial.prepare keys (brought_dropped l.initial.brought) → PrepareFor l.prepare keys (brought_dropped l.brought);
-  keys : brought_keys l.brought ≡ brought_keys l.initial.brought;
+  sections : (asked : Demand) → PlanFor l.plan asked → offered_drops l.changes ≡ filter (has asked.dropped) (numbers 0 l.section);
+  stands : (keys : List NewKey) → PrepareFor l.initial.prepare keys (offered_drops l.initial.changes) → PrepareFor l.prepare keys (offered_drops l.changes);
+  keys : offered_keys l.changes ≡ offered_keys l.initial.changes;
   legs : SameLegs l.initial.prepare l.prepare;
   key_room : key_room l.prepare ≡ key_room l.initial.prepare;
-  more_keys : more_keys l.brought ≡ more_keys l.initial.brought;
-  more_dropped : 8 ≤ more_dropped l.brought + l.section;
+  more_keys : more_keys l.changes ≡ more_keys l.initial.changes;
+  more_dropped : 8 ≤ more_dropped l.changes + l.section;
 }

@@ -1,6 +1,6 @@
 use Rattle.std.proofs.Common.{◌∙◌, ◌+◌, ◌++◌, [], ◌∷◌, List, ap, subst, get_or, take, arith}
 use Rattle.offer_answer.specs.Offering.{key_asked}
-use Rattle.nested_steps.specs.Bringing.{brought_keys}
+use Rattle.nested_steps.specs.Bringing.{offered_keys}
 use Rattle.port_pool.specs.Signals.{NewKey}
 use Rattle.call_board.specs.Pairs.{new_keys}
 use Rattle.call_cell.specs.Preparing.{PrepareFor}
@@ -23,7 +23,7 @@ loop-index-preserved g c =
           (step.stands (keys ++ new_keys first (take i draws) asked.keys) dropped (inv.stands asked keys dropped demands stands));
       keys = λ asked demands.
           step.keys ∙ ap (λ (ks : List NewKey). ks ++ key_at (first + i) bytes place ∷ []) (inv.keys asked demands)
-          ∙ keys_more first draws i asked.keys bytes place (brought_keys c.args.brought.now) got (c.key_leg.ensures asked demands);
+          ∙ keys_more first draws i asked.keys bytes place (offered_keys c.args.changes.now) got (c.key_leg.ensures asked demands);
       dropped = step.dropped ∙ inv.dropped;
       legs = legs_still c.args.prepare.now c.loop-index.prepare c.add_one.new.prepare inv.legs step.legs;
       key_room = let a = step.room.0 in let b = inv.key_room in omega (arith, a, b);

@@ -4,7 +4,7 @@ use Rattle.offer_answer.specs.Rounds.{Demand}
 use Rattle.offer_answer.specs.Offering.{PlanFor}
 use Rattle.call_board.specs.Pairs.{new_keys}
 use Rattle.call_cell.specs.Preparing.{PrepareFor, key_room}
-use Rattle.nested_steps.specs.Bringing.{brought_keys, brought_dropped, more_keys, more_dropped}
+use Rattle.nested_steps.specs.Bringing.{offered_keys, offered_drops, more_keys, more_dropped}
 use Rattle.offer_legs.specs.Filling.{SameLegs}
 use Rattle.offer_legs.proofs.filling.add_keys.Given as goal
 
@@ -12,10 +12,10 @@ abbrev pub invariant-loop-index : goal.invariant-loop-index
 invariant-loop-index g l = record {
   stands : (asked : Demand) (keys : List NewKey) (dropped : List ℕ) → PlanFor l.plan asked → PrepareFor l.initial.prepare keys dropped
       → PrepareFor l.prepare (keys ++ new_keys l.first_key (take l.index l.keys) asked.keys) dropped;
-  keys : (asked : Demand) → PlanFor l.plan asked → brought_keys l.brought ≡ brought_keys l.initial.brought ++ new_keys l.first_key (take l.index l.keys) asked.keys;
-  dropped : brought_dropped l.brought ≡ brought_dropped l.initial.brought;
+  keys : (asked : Demand) → PlanFor l.plan asked → offered_keys l.changes ≡ offered_keys l.initial.changes ++ new_keys l.first_key (take l.index l.keys) asked.keys;
+  dropped : offered_drops l.changes ≡ offered_drops l.initial.changes;
   legs : SameLegs l.initial.prepare l.prepare;
   key_room : key_room l.prepare + l.index ≡ key_room l.initial.prepare;
-  more_keys : more_keys l.brought + l.index ≡ more_keys l.initial.brought;
-  more_dropped : more_dropped l.brought ≡ more_dropped l.initial.brought;
+  more_keys : more_keys l.changes + l.index ≡ more_keys l.initial.changes;
+  more_dropped : more_dropped l.changes ≡ more_dropped l.initial.changes;
 }

@@ -26,8 +26,8 @@ loop-index-init g c =
     record {
       same = ((refl, refl, refl, refl), λ j. refl);
       may = c.requires.may;
-      gained = subst (λ (legs : List Holder). GainsNested c.args.turn.now.nest.number c.args.turn.now.nest.moment (map (opening c.args.turn.now.config.now) legs) c.args.hand.now c.args.hand.now) (sym none)
-          (gains_nothing c.args.turn.now.nest.number c.args.turn.now.nest.moment c.args.hand.now);
+      gained = subst (λ (legs : List Holder). GainsNested c.args.turn.now.entry_id.number c.args.turn.now.entry_id.moment (map (opening c.args.turn.now.config.now) legs) c.args.hand.now c.args.hand.now) (sym none)
+          (gains_nothing c.args.turn.now.entry_id.number c.args.turn.now.entry_id.moment c.args.hand.now);
       done = none_done c.args.plan.now.plan c.args.plan.now.call c.args.plan.now.cell _ c.args.leases.list c.args.opened.list c.args.legs.now.list (parts_added c.args.prepare.now) none;
       leased = c.requires.leased.differ;
       shut = c.requires.shut;
@@ -78,8 +78,8 @@ loop-index-preserved g c =
     let inv = c.loop-index.invariant in
     let step = c.open_leg.ensures in
     let config = c.args.turn.now.config.now in
-    let number = c.args.turn.now.nest.number in
-    let moment = c.args.turn.now.nest.moment in
+    let number = c.args.turn.now.entry_id.number in
+    let moment = c.args.turn.now.entry_id.moment in
     let leg = c.pair_leg-section.result in
     let lease = c.unwrap-lease.result in
     let ends = c.unwrap-ends.result in

@@ -17,8 +17,8 @@ abbrev pub invariant-loop-index : goal.invariant-loop-index
 invariant-loop-index g l = record {
   same : IsSameHand l.initial.hand l.hand × SameTurns l.initial.hand l.hand;
   may : MayNest l.turn.config.now l.turn.turns.now l.hand;
-  gained : GainsNested l.turn.nest.number l.turn.nest.moment (map (opening l.turn.config.now) l.legs.list) l.initial.hand l.hand;
-  done : AreDone l.plan.plan l.plan.call l.plan.cell (IsOpened g.I.InEnd.told g.I.InEnd.faults g.O.OutEnd.told g.O.OutEnd.faults l.turn.config.now l.turn.nest.number l.turn.nest.moment l.initial.hand)
+  gained : GainsNested l.turn.entry_id.number l.turn.entry_id.moment (map (opening l.turn.config.now) l.legs.list) l.initial.hand l.hand;
+  done : AreDone l.plan.plan l.plan.call l.plan.cell (IsOpened g.I.InEnd.told g.I.InEnd.faults g.O.OutEnd.told g.O.OutEnd.faults l.turn.config.now l.turn.entry_id.number l.turn.entry_id.moment l.initial.hand)
       l.initial.leases.list l.leases.list l.initial.opened.list l.opened.list l.index l.legs.list (parts_added l.initial.prepare) (parts_added l.prepare);
   leased : AreFree (pair_count l.turn.config.now) (pairs_of l.leases.list);
   shut : AreShut l.turn.config.now (made_by l.hand) (pairs_of l.leases.list);

@@ -2,7 +2,7 @@ use Rattle.std.proofs.Common.{◌≡◌, ◌+◌, ◌*◌, ◌≤◌, ◌++◌, 
 use Rattle.hex.specs.Hex.{encode_lower}
 use Rattle.relay_script.proofs.writing.put_hex.Given as goal
 
--- the digits of the bytes so far are behind the line
+-- the digits of the bytes so far are after the line
 abbrev pub invariant-loop-byte : goal.invariant-loop-byte
 invariant-loop-byte l = record {
   list : l.line.list ≡ l.initial.line.list ++ encode_lower (take l.byte-index l.bytes);

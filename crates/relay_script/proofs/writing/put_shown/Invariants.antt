@@ -2,7 +2,7 @@ use Rattle.std.proofs.Common.{◌≡◌, ◌+◌, ◌*◌, ◌≤◌, ◌++◌, 
 use Rattle.relay_script.specs.Printing.{shown_text}
 use Rattle.relay_script.proofs.writing.put_shown.Given as goal
 
--- the bytes so far are shown behind the line
+-- the bytes so far are shown after the line
 abbrev pub invariant-loop-byte : goal.invariant-loop-byte
 invariant-loop-byte l = record {
   list : l.line.list ≡ l.initial.line.list ++ shown_text (take l.byte-index l.bytes);

@@ -2,7 +2,7 @@ use Rattle.std.proofs.Common.{◌≡◌, ◌≤◌, length, map, take}
 use Rattle.sdp_text.specs.Lines.{without_empty_end}
 use Rattle.sdp_text.proofs.line.filled_len.Given as goal
 
--- the lines behind are empty
+-- the lines after these are empty
 abbrev pub invariant-loop-len : goal.invariant-loop-len
 invariant-loop-len l = record {
   within : l.len ≤ length l.lines;

@@ -2,7 +2,7 @@ use Rattle.std.proofs.Common.{◌≡◌, ◌+◌, ◌≤◌, length, drop, rever
 use Rattle.sdp_text.specs.Parts.{first_connection, first_rtcp, parts_from}
 use Rattle.sdp_text.proofs.part.parts_of.Given as goal
 
--- the sections that begin behind line `number`, the last one first, and the lines before the first of them
+-- the sections that begin after line `number`, the last one first, and the lines before the first of them
 abbrev pub invariant-loop-number : goal.invariant-loop-number
 invariant-loop-number l = record {
   within : l.number ≤ length l.roles;

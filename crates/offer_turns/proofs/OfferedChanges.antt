@@ -29,7 +29,7 @@ use Rattle.offer_legs.specs.Opening.{leased_parts}
 use Rattle.offer_turns.specs.Offers.{IsDue, offer_of, bringing_of}
 use Rattle.offer_turns.proofs.Leased.{ports_of_legs}
 
--- the boxes of legs are behind the cells
+-- the boxes of legs come after the cells
 pub not_cell : (config : Config) (cell : ℕ) (legs : List Holder) → cell ≤ config.max_sessions → (w : Owed) → In w (map (opening config) legs) → w.place ≡ cell → ⊥
 not_cell config cell legs high w i at =
     let m = mapped (opening config) legs i in

@@ -4,10 +4,10 @@ use turn_table::Turns;
 
 /// The entry of the board to which nested steps belong. It is made when the board's turn ends, after them.
 #[derive(Clone, Copy, PartialEq, Eq, Debug)]
-pub struct Nest {
+pub struct BoardEntryId {
     /// Its number: the front of the board's turn.
     pub number: u64,
-    /// Its moment in milliseconds, which offers, answers and questions whether a call is due are handed.
+    /// Its moment in milliseconds, which is handed to offers, answers and questions whether a call is due.
     pub moment: u64,
 }
 
@@ -19,5 +19,5 @@ pub struct BoardTurn<'a, I: InEnd, O: OutEnd> {
     /// The configuration with which the table began.
     pub config: &'a Config,
     /// The turn's entry.
-    pub nest: Nest,
+    pub entry_id: BoardEntryId,
 }

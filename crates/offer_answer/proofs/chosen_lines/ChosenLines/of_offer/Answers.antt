@@ -2,7 +2,7 @@ use Rattle.std.proofs.Common.{ℕ, arith}
 use Rattle.sdp_edit.specs.Choosing.{IsAny}
 use Rattle.offer_answer.specs.Plan.{OfferHeard}
 use Rattle.offer_answer.proofs.HeardLines.{first-heard}
-use Rattle.offer_answer.proofs.heard.Heard.of_offer.Goals as goal
+use Rattle.offer_answer.proofs.chosen_lines.ChosenLines.of_offer.Goals as goal
 
 pub returns : goal.returns
 unfolding OfferHeard

@@ -1,4 +1,4 @@
-//! The crypto lines that are heard in a description.
+//! The crypto lines that are chosen in a description.
 
 ghost use Rattle.std.specs.Prelude.{◌≡◌, ◌<◌, [], List};
 ghost use Rattle.relay_outside.specs.declared.settings.Config.{Config};
@@ -20,14 +20,14 @@ use std::marker::Model;
 ///
 /// Contracts see it as the list of them.
 #[derive(Drop)]
-pub struct Heard {
+pub struct ChosenLines {
     /// The lines that are chosen, section by section, and `None` after them.
     lines: [Option<CryptoLine>; 8],
     /// How many sections there are, at most 8.
     count: usize,
 }
 
-impl Model for Heard {
+impl Model for ChosenLines {
     ghost use Rattle.std.specs.Prelude.{◌≤◌, List, Option, take};
     ghost use Rattle.sdes_lines.specs.declared.crypto_line.CryptoLine.{CryptoLine};
 
@@ -38,19 +38,19 @@ impl Model for Heard {
     ghost invariant = { λ h. h.count ≤ 8 };
 }
 
-impl Heard {
-    /// What is heard where there is no description.
-    pub fn none() -> Heard
+impl ChosenLines {
+    /// No lines, as where there is no description.
+    pub fn none() -> ChosenLines
         ensures { result ≡ [] }
     {
-        Heard {
+        ChosenLines {
             lines: [None; 8],
             count: 0,
         }
     }
 
-    /// What is heard in the description of an offer: the first usable crypto line of each section (RFC 4568 section 5.1.2).
-    pub fn of_offer(sdp: &Sdp) -> Heard
+    /// The lines that are chosen in the description of an offer: the first usable one of each section (RFC 4568 section 5.1.2).
+    pub fn of_offer(sdp: &Sdp) -> ChosenLines
         ensures { (ask : OfferAsk) → lines_of ask.sdp ≡ sdp.now → ask.chosen ≡ result → OfferHeard ask }
     {
         let count = sdp.section_count();
@@ -58,7 +58,7 @@ impl Heard {
         for section in 0..count {
             lines[section] = choose(sdp, section);
         }
-        Heard { lines, count }
+        ChosenLines { lines, count }
     }
 
     /// The lines, section by section.
@@ -81,9 +81,9 @@ impl Dialog {
         }
     }
 
-    /// What is heard in the description of an answer to the last offer: the first usable crypto line of each section whose tag
+    /// The lines that are chosen in the description of an answer to the last offer: the first usable one of each section whose tag
     /// and suite are those of a line that its side was offered (RFC 4568 section 5.1.2). None before the first offer.
-    pub fn hear(&self, sdp: &Sdp) -> Heard
+    pub fn hear(&self, sdp: &Sdp) -> ChosenLines
         ensures { (config : Config) (rounds : List Round) (ask : AnswerAsk) → DialogFor config self.now rounds →
             lines_of ask.sdp ≡ sdp.now → ask.chosen ≡ result → AnswerHeard rounds ask }
     {
@@ -92,6 +92,6 @@ impl Dialog {
         for section in 0..count {
             lines[section] = choose_among(sdp, section, &self.last_lines(section));
         }
-        Heard { lines, count }
+        ChosenLines { lines, count }
     }
 }

@@ -1,15 +1,15 @@
-//! What the outside gave in the turn of a datagram.
+//! What the devices returned in the turn of a datagram.
 
 use media_ports::DrawnList;
 use port_pool::LegReports;
 
-/// What the outside gave in the turn of a datagram. The board's entry records it: a proof takes it from here.
+/// What the devices returned in the turn of a datagram. The board's entry records it: a proof takes it from here.
 #[derive(Drop)]
-pub enum Gave {
-    /// Nothing was asked of it.
+pub enum DeviceAnswers {
+    /// No device was called.
     Nothing,
     /// Out of memory.
-    Starved,
+    OutOfMemory,
     /// This many ports were opened, and the next could not be.
     PortFault(usize),
     /// This many ports were opened, and these keys drawn; the next draw failed.
@@ -18,6 +18,6 @@ pub enum Gave {
     Offered(usize, DrawnList),
     /// The call that was asked after was read: these are the reports of its legs.
     Report(LegReports),
-    /// The call was read, and then memory was short.
-    ReportStarved(LegReports),
+    /// The call was read, and then memory ran out.
+    ReportOutOfMemory(LegReports),
 }

@@ -1,0 +1,14 @@
+use Rattle.std.proofs.Common.{subst, List, Option, map, take}
+use Rattle.sdes_lines.specs.declared.crypto_line.CryptoLine.{CryptoLine}
+use Rattle.call_board.specs.Replies.{Listed, reply_datagram}
+use Rattle.call_board.specs.Views.{View, CallView}
+use Rattle.control_entries.specs.Telling.{Tells}
+use Rattle.report_commands.proofs.listing.list.Goals as goal
+
+pub returns-clause-tells : goal.returns-clause-tells
+returns-clause-tells c config v shows =
+    subst
+    (λ (chosen : List (Option CryptoLine)).
+    Tells chosen (reply_datagram config c.args.request.now.cookie.now (Listed (take c.args.limit (map (λ (call : CallView). call.of.id) v.calls)))) c.told.result)
+    c.none.ensures
+    (c.told.ensures.tells _ (c.list_datagram.ensures config v shows))
