@@ -1,7 +1,7 @@
 """Bridges a plain telephone and an SRTP one over the built program, by an SRTP of its own (Python's cryptography).
 
 Usage: bench/bridge.py [PACKETS]. It starts the program on the loopback, offers and answers a call with RTP/AVP on one side and
-RTP/SAVP on the other, sends so many packets each way, one at a time, and compares each; then a packet with a wrong tag and a
+RTP/SAVP on the other, sends PACKETS packets each way, one at a time, and compares each; then a packet with a wrong tag and a
 replay, which must not come through.
 """
 import base64

@@ -36,6 +36,7 @@ static struct {
     long minutes; /* of a soak */
     long window;  /* packets on their way in a flood */
     long threads; /* of this program, for packets */
+    long insist;  /* milliseconds after which a command is sent again, for 30 seconds; 0: five times, a second each */
     long step;    /* so many calls are opened for each that has packets; the others are closed before: so its ports lie apart */
 } asked = {.port = 2223, .calls = 1, .seconds = 5, .minutes = 10, .window = 32, .threads = 1, .step = 1};
 
@@ -233,7 +234,7 @@ static void read_words(char **words) {
     } known[] = {{"port", &asked.port, 1, 65535},   {"relay", &asked.relay, 1, 65535},     {"pid", &asked.pid, 1, 1 << 30},
                  {"calls", &asked.calls, 0, 2048},  {"secure", &asked.secure, 0, 1},       {"seconds", &asked.seconds, 1, 600},
                  {"minutes", &asked.minutes, 1, 1440}, {"window", &asked.window, 1, 1024}, {"threads", &asked.threads, 1, 8},
-                 {"step", &asked.step, 1, 64}};
+                 {"step", &asked.step, 1, 64},      {"insist", &asked.insist, 0, 1000}};
     for (; *words; words++) {
         size_t i = 0, length = strcspn(*words, "=");
         char *end = NULL;
@@ -248,6 +249,7 @@ int main(int count, char **words) {
     if (count < 2) fail("a mode is missing");
     read_words(words + 2);
     if (!asked.relay) link_open((uint16_t)asked.port);
+    if (asked.insist) link_insist((int)asked.insist);
     if (asked.window < asked.threads) asked.window = asked.threads;
     const char *mode = words[1];
     if (!strcmp(mode, "probe")) return link_is_answered() ? 0 : 1;

@@ -36,6 +36,8 @@ struct call {
 };
 /* The link to the proxy's control port of 127.0.0.1. */
 void link_open(uint16_t port);
+/* From here on a command is sent again each so many milliseconds, for 30 seconds: for a port that others flood. */
+void link_insist(int milliseconds);
 /* Whether a ping is answered in a tenth of a second. */
 bool link_is_answered(void);
 /* Offers and answers the call, and ends it. */

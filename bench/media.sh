@@ -16,7 +16,7 @@ usage: bench/media.sh MODE [NUMBER]...
   soak [MINUTES [CALLS]]       one program alone, ours, a line each minute; 10 minutes, 200 calls
   all                          all but neighbours and soak: some seven minutes
 
-paced and flood have calls of plain RTP, and calls whose answerer speaks SRTP. Each program is started anew for each measurement: ours,
+paced and flood have calls of plain RTP, and calls whose answerer speaks SRTP. Each program is started afresh for each measurement: ours,
 peer, ours, peer. What the words of a line mean is told at the top of bench/media.c. Variables, with what they are where they are not set:
 
   RTPENGINE   our program (crates/rtpengine/out/rtpengine of this clone)

@@ -16,6 +16,7 @@
 
 static int control;
 static unsigned long run, cookies;
+static int patience = 1000, tries = 5; /* milliseconds for a reply, and how often a command is sent */
 static char reply[65536];
 
 void link_open(uint16_t port) {
@@ -23,6 +24,11 @@ void link_open(uint16_t port) {
     control = socket(AF_INET, SOCK_DGRAM | SOCK_NONBLOCK, 0);
     if (control < 0 || connect(control, (struct sockaddr *)&to, sizeof to)) fail("the control link: %s", strerror(errno));
     run = clock_ns(CLOCK_REALTIME) / 1000;
+}
+
+void link_insist(int milliseconds) {
+    patience = milliseconds;
+    tries = 30000 / milliseconds;
 }
 
 /* Sends a body once under the cookie, and takes its reply, if it comes in so many milliseconds. */
@@ -52,8 +58,8 @@ bool link_is_answered(void) {
 
 static void ask(const char *body) {
     unsigned long cookie = ++cookies;
-    for (int tries = 0; tries < 5; tries++) {
-        if (!try(cookie, body, 1000)) continue;
+    for (int i = 0; i < tries; i++) {
+        if (!try(cookie, body, patience)) continue;
         if (!strstr(reply, "6:result2:ok")) fail("to %s the proxy replied %s", body, reply);
         return;
     }

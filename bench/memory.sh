@@ -16,7 +16,7 @@ how many of them were made to fail, each in a run of its own; the lines below it
   hung           it took more than SECONDS_A_RUN
 
 The last line counts them all. Of a test with more allocations than MOST the first half of MOST are tried, a quarter evenly among those
-behind them, and the last quarter. Variables, with what they are where they are not set: MOST (400), SECONDS_A_RUN (20), CC (cc).
+after them, and the last quarter. Variables, with what they are where they are not set: MOST (400), SECONDS_A_RUN (20), CC (cc).
 
 Status: 0, or 1 where a run crashed or hung, 2 for wrong words, 3 where a program can't be had.
 END
@@ -51,7 +51,7 @@ run() {
     return $status
 }
 
-# The numbers of the allocations that are tried, of so many.
+# The numbers of the allocations that are tried, of a count.
 numbers() {
     awk -v count="$1" -v most="$most" 'BEGIN {
         early = int(most / 2); late = int(most / 4); between = most - early - late

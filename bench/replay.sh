@@ -1,7 +1,7 @@
 #!/usr/bin/env bash
 # What a packet of a replayed script costs: a script of one plain call and many packets, less the same script with its packets
 # as comments. Usage: bench/replay.sh [PACKETS [RUNS]], after `rt run` in crates/rtpengine has built the program.
-# A time is the median of so many runs (5 if left out).
+# A time is the median of RUNS runs (5 if left out).
 set -euo pipefail
 top=$(cd "$(dirname "$0")/.." && pwd)
 program=${RTPENGINE:-$top/crates/rtpengine/out/rtpengine}

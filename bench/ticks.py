@@ -1,4 +1,4 @@
-"""What a tick costs with so many live calls: processor time of the thread that answers commands, a second, with and without them.
+"""What a tick costs with CALLS live calls: processor time a second of the thread that replies to commands, with and without them.
 
 Usage: bench/ticks.py [CALLS [SECONDS]], 2,000 calls and 10 seconds if left out; as root for as many calls, since each has eight file
 descriptors. RTPENGINE names the program (crates/rtpengine/out/rtpengine of this clone). It starts the program with one thread for media,

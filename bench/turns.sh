@@ -1,7 +1,7 @@
 #!/usr/bin/env bash
-# What a turn of the turn table costs beside a lock of std round the same state: a line for each case.
+# What a turn of the turn table costs, compared with a lock of std around the same state: a line for each case.
 # Usage: bench/turns.sh [ROUNDS [RUNS]], after `rt run` in crates/turn_bench has built the program.
-# A figure is the median of so many runs (1 if left out), each of which measures turns and then locks.
+# A figure is the median of RUNS runs (1 if left out), each of which measures turns and then locks.
 set -eu
 top=$(cd "$(dirname "$0")/.." && pwd)
 program=$top/crates/turn_bench/out/turn_bench
