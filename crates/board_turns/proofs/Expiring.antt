@@ -181,9 +181,9 @@ below (y ∷ ys) zero x at = omega arith
 below (y ∷ ys) (suc i) x at = let rest = below ys i x at in omega (arith, rest)
 
 module _ (config : Config) (l : List Entry) (board : Board) (told : Option (List PortCall)) (index : ℕ) (of : Call) (legs : List Holder) (asks : CanExpire config l board told index of legs) where
-  pub index_below : index < length board.calls.items
+  pub index_below : index < length board.calls.list
   index_below =
-      let long = calls_long config board.calls.items asks.view.calls asks.shows.calls_for in
+      let long = calls_long config board.calls.list asks.view.calls asks.shows.calls_for in
       let low = below asks.view.calls index asks.seen asks.at in
       omega (arith, long, low)
 

@@ -96,10 +96,10 @@ next_number config h e i of fits at =
 
 -- there is one
 pub one_left : (config : Config) (h : List BoardEntry) (e : BoardEntry) (i : ℕ) (of : Call) (board : Board) → IsFitting config h → slice_get (live h) i ≡ Some of →
-    Shows config board (with_ended h e (take i (live h)) (view_of config h)) → 0 < length board.calls.items
+    Shows config board (with_ended h e (take i (live h)) (view_of config h)) → 0 < length board.calls.list
 one_left config h e i of board fits at shows =
     let v = with_ended h e (take i (live h)) (view_of config h) in
-    let long = calls_long config board.calls.items v.calls shows.calls_for in
+    let long = calls_long config board.calls.list v.calls shows.calls_for in
     let mapped = length-map v.calls (λ (c : CallView). c.of.number) in
     let is : length (map (λ (c : CallView). c.of.number) v.calls) ≡ suc (length (drop (i + 1) (map number_of (live h)))) =
     ap length (left_numbers config h e i fits ∙ drop_next (map number_of (live h)) i of.number (get_map number_of (live h) i of at)) in

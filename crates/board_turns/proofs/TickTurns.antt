@@ -39,7 +39,7 @@ use Rattle.board_turns.proofs.Betweens.{Begins, Ended, begins_whole, nested_hist
 -- Which calls ended, by the board that the turn leaves: the live ones that it no longer has.
 
 abbrev board_numbers : {I O : Type 0} → Part I O → List ℕ
-board_numbers (part.Board b) = map (λ (call : LiveCall). call.number) b.calls.items
+board_numbers (part.Board b) = map (λ (call : LiveCall). call.number) b.calls.list
 board_numbers _ = []
 
 abbrev pub calls_gone : {I O : Type 0} → List BoardEntry → Part I O → List Call
@@ -76,10 +76,10 @@ gone_are config h now calls (part.Board b) fits is stands =
     let e = tick_entry h now calls in
     let left : Call → Bool = λ (c : Call). not (has (map (λ (d : Call). d.number) calls) c.number) in
     let still : live (e ∷ h) ≡ filter left (live h) = live_step h e ∙ nothing_more (filter left (live h)) in
-    let numbers : map (λ (call : LiveCall). call.number) b.calls.items ≡ map (λ (c : Call). c.number) (filter left (live h)) =
-    numbers_shown config b.calls.items (map (call_view (e ∷ h)) (live (e ∷ h))) stands.1.calls_for ∙ views_numbers (e ∷ h) (live (e ∷ h))
+    let numbers : map (λ (call : LiveCall). call.number) b.calls.list ≡ map (λ (c : Call). c.number) (filter left (live h)) =
+    numbers_shown config b.calls.list (map (call_view (e ∷ h)) (live (e ∷ h))) stands.1.calls_for ∙ views_numbers (e ∷ h) (live (e ∷ h))
     ∙ ap (map (λ (c : Call). c.number)) still in
-    filter_alike (λ (c : Call). not (has (map (λ (call : LiveCall). call.number) b.calls.items) c.number)) (λ (c : Call). has (map (λ (d : Call). d.number) calls) c.number) (live h)
+    filter_alike (λ (c : Call). not (has (map (λ (call : LiveCall). call.number) b.calls.list) c.number)) (λ (c : Call). has (map (λ (d : Call). d.number) calls) c.number) (live h)
     (λ c i. ap (λ (ns : List ℕ). not (has ns c.number)) numbers ∙ ap not (kept_is config h left fits c i) ∙ twice (has (map (λ (d : Call). d.number) calls) c.number))
     ∙ sym is
 gone_are config h now calls (part.Cell b) fits is stands = absurd stands

@@ -1,5 +1,5 @@
 -- What the board plans is what is due: the answer to an offer or an answer by its plan, and the legs of an offer by its leases.
-use Rattle.std.proofs.Common.{◌≡◌, ◌≢◌, ◌∙◌, refl, sym, ap, subst, ℕ, ◌+◌, ◌<◌, List, [], ◌∷◌, map, take, length, Bool, true, false, cond, Option, Some, None, Ok, Err, arith}
+use Rattle.std.proofs.Common.{◌≡◌, ◌≢◌, ◌∙◌, refl, sym, ap, subst, ℕ, ◌+◌, ◌<◌, List, [], ◌∷◌, map, filter, take, length, Bool, true, false, cond, Option, Some, None, Ok, Err, arith}
 use Rattle.std.specs.Prelude.{◌&&◌, ◌||◌, nat_le, nat_lt, option_map}
 use Rattle.std.specs.List.{flat_map}
 use Rattle.std.proofs.lemmas.List.{length-map}
@@ -10,7 +10,7 @@ use Rattle.relay_outside.specs.declared.address.Family.TheVariants.{V4, V6}
 use Rattle.ng_command.specs.declared.command.AnswerIn.{AnswerIn}
 use Rattle.ng_reply.specs.declared.code.ErrorCode.{ErrorCode}
 use Rattle.ng_reply.specs.declared.code.ErrorCode.TheVariants.{E9, E13, E14}
-use Rattle.histories.specs.Words.{In}
+use Rattle.histories.specs.Words.{In, first}
 use Rattle.offer_answer.specs.Rounds.{Round, OfferAsk, AnswerAsk, NewLeg}
 use Rattle.offer_answer.specs.Demands.{legs_for, new_active_sections}
 use Rattle.offer_answer.specs.Plan as plan
@@ -22,7 +22,7 @@ use Rattle.call_board.specs.Calls.{begun, live, find_call, new_call, rounds, low
 use Rattle.call_board.specs.Pairs.{family_eq, free, free_in, is_short, is_short_of, lease_of, new_legs}
 use Rattle.call_board.specs.Replies.{Described}
 use Rattle.call_board.specs.Answers.{Answering, failing, leased_pairs, offer_leased, offer_planned, offer_unless, offer_to, answer_unless, answer_to}
-use Rattle.call_board.specs.Views.{View, CallView, call_view, view_of, times_leased, call_of_id, with_calls, goes_on}
+use Rattle.call_board.specs.Views.{View, CallView, call_view, view_of, times_leased, is_of_id, call_of_id, with_calls, goes_on}
 use Rattle.call_board.specs.Boards.{lease_at, leases_of, pairs_in}
 use Rattle.call_board.specs.Planned.{Target, target, target_by, shortage, refusal, fault_or, code_of, BeginsFor, PlansOffer, PlansAnswer, AnswerPlanFor}
 use Rattle.call_board.specs.Applied.{IsNext, taken_in}
@@ -261,8 +261,9 @@ below_limit : (limit count : ℕ) → nat_le limit count ≡ false → count < l
 below_limit limit count h = grind (arith, nat_tests)
 
 -- a call that an offer may begin is the board's next one
-pub next_is : (config : Config) (h : List BoardEntry) (v : View) (id : List ℕ) (ask : OfferAsk) → refusal config (view_of config h) true [] ask ≡ None → v.begun ≡ length (begun h) → IsNext config v (new_call h id)
-next_is config h v id ask fine begun_is =
+pub next_is : (config : Config) (h : List BoardEntry) (v : View) (id : List ℕ) (ask : OfferAsk) → refusal config (view_of config h) true [] ask ≡ None → v.begun ≡ length (begun h) →
+    v.calls ≡ (view_of config h).calls → find_call h id ≡ None → IsNext config v (new_call h id)
+next_is config h v id ask fine begun_is calls_are none =
     let short = no_fault (plan.offer_fault [] ask) (shortage config (view_of config h) true [] ask) fine in
     let room = below_limit config.max_sessions (length (map (call_view h) (live h)))
     (has_room (nat_le config.max_sessions (length (map (call_view h) (live h)))) (nat_lt (length (free config h)) (length (demand [] ask).pairs)) short) in
@@ -271,7 +272,12 @@ next_is config h v id ask fine begun_is =
     let most = lowest_bound cells in
     let calls : length (map (call_view h) (live h)) ≡ length (live h) = length-map (live h) (call_view h) in
     let count : length cells ≡ length (live h) = length-map (live h) (λ (c : Call). c.cell) in
-    record { number_is = sym begun_is; cell_is_one = least; cell_is_there = omega (arith, room, most, calls, count) }
+    record {
+      number_is = sym begun_is;
+      cell_is_one = least;
+      cell_is_there = omega (arith, room, most, calls, count);
+      id_is_new = ap (λ (cs : List CallView). first (filter (is_of_id id) cs)) calls_are ∙ found_by_id config h id ∙ ap (option_map (call_view h)) none;
+    }
 
 -- A live call that an offer goes on with.
 pub record GoesOn (h : List BoardEntry) (id : List ℕ) (t : Target) : Type 0 where

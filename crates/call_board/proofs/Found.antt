@@ -77,15 +77,15 @@ live_is_begun h c i = (rounds_had h c (live_begun h c i)).0
 -- On the board.
 
 live_case : (config : Config) (board : Board) (v : View) (number : ℕ) (c : CallView) → Shows config board v → call_numbered v number ≡ Some c → (b : Bool) →
-    list_any (λ (call : LiveCall). call.number == number) board.calls.items ≡ b → b ≡ true
+    list_any (λ (call : LiveCall). call.number == number) board.calls.list ≡ b → b ≡ true
 live_case config board v number c s found true is = refl
 live_case config board v number c s found false is =
-    let none = none_first config (λ (call : LiveCall). call.number == number) (is_numbered number) board.calls.items v.calls (asks_number config number) s.calls_for is in
+    let none = none_first config (λ (call : LiveCall). call.number == number) (is_numbered number) board.calls.list v.calls (asks_number config number) s.calls_for is in
     let wrong : None ≡ Some c = sym none ∙ found in absurd (cc)
 
 -- a call that is found is live on the board
 pub found_is_live : (config : Config) (board : Board) (v : View) (number : ℕ) (c : CallView) → Shows config board v → call_numbered v number ≡ Some c → IsLive board number
-found_is_live config board v number c s found = live_case config board v number c s found (list_any (λ (call : LiveCall). call.number == number) board.calls.items) refl
+found_is_live config board v number c s found = live_case config board v number c s found (list_any (λ (call : LiveCall). call.number == number) board.calls.list) refl
 
 -- The cells.
 

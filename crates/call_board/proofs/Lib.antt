@@ -6,6 +6,7 @@ pub mod Calls
 pub mod Lowest
 pub mod Cells
 pub mod Ids
+mod Keyed
 pub mod Keys
 pub mod Held
 pub mod Free

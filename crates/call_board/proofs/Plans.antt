@@ -52,11 +52,11 @@ pairs_asked : (p : Plan) (asked : Demand) → PlanFor p asked → pair_count p �
 pairs_asked p asked for = sym (length-map p.legs.items leg_asked) ∙ ap length for.pairs_are
 
 -- the board's tests, and what they say of what it keeps
-is_full_by : (config : Config) (board : Board) (v : View) (b : Bool) → Shows config board v → nat_le board.config.max_sessions (length board.calls.items) ≡ b →
+is_full_by : (config : Config) (board : Board) (v : View) (b : Bool) → Shows config board v → nat_le board.config.max_sessions (length board.calls.list) ≡ b →
     nat_le config.max_sessions (length v.calls) ≡ b
 is_full_by config board v b s e =
     sym (ap (λ (c : Config). nat_le c.max_sessions (length v.calls)) s.config_is)
-    ∙ sym (ap (λ n. nat_le board.config.max_sessions n) (calls_count config board.calls.items v.calls s.calls_for)) ∙ e
+    ∙ sym (ap (λ n. nat_le board.config.max_sessions n) (calls_count config board.calls.list v.calls s.calls_for)) ∙ e
 
 lacks_by : (config : Config) (board : Board) (v : View) (p : Plan) (asked : Demand) (b : Bool) → Shows config board v → PlanFor p asked →
     nat_lt (length board.pool.free) (pair_count p) ≡ b → nat_lt (length v.free) (length asked.pairs) ≡ b
@@ -65,7 +65,7 @@ lacks_by config board v p asked b s for e =
     ∙ sym (ap (λ n. nat_lt (length board.pool.free) n) (pairs_asked p asked for)) ∙ e
 
 pub answers_full : (config : Config) (board : Board) (v : View) (rounds : List Round) (ask : OfferAsk) → Shows config board v → plan.offer_fault rounds ask ≡ None →
-    nat_le board.config.max_sessions (length board.calls.items) ≡ true → refusal config v true rounds ask ≡ Some E14
+    nat_le board.config.max_sessions (length board.calls.list) ≡ true → refusal config v true rounds ask ≡ Some E14
 answers_full config board v rounds ask s fine full =
     refusal_is config v true rounds ask true (nat_lt (length v.free) (length (plan.demand rounds ask).pairs)) fine (is_full_by config board v true s full) refl
 
@@ -76,25 +76,25 @@ both_false true full (inr e) = e
 
 pub answers_short : (config : Config) (board : Board) (v : View) (begins : Bool) (rounds : List Round) (ask : OfferAsk) (p : Plan) → Shows config board v →
     (plan.offer_fault rounds ask ≡ None) × PlanFor p (plan.demand rounds ask) →
-    (begins ≡ false) ⊎ (nat_le board.config.max_sessions (length board.calls.items) ≡ false) →
+    (begins ≡ false) ⊎ (nat_le board.config.max_sessions (length board.calls.list) ≡ false) →
     nat_lt (length board.pool.free) (pair_count p) ≡ true → refusal config v begins rounds ask ≡ Some E13
 answers_short config board v begins rounds ask p s made room short =
     refusal_is config v begins rounds ask false true made.0
     (both_false begins (nat_le config.max_sessions (length v.calls)) (room_by room)) (lacks_by config board v p (plan.demand rounds ask) true s made.1 short)
   where
-    room_by : (begins ≡ false) ⊎ (nat_le board.config.max_sessions (length board.calls.items) ≡ false) → (begins ≡ false) ⊎ (nat_le config.max_sessions (length v.calls) ≡ false)
+    room_by : (begins ≡ false) ⊎ (nat_le board.config.max_sessions (length board.calls.list) ≡ false) → (begins ≡ false) ⊎ (nat_le config.max_sessions (length v.calls) ≡ false)
     room_by (inl e) = inl e
     room_by (inr e) = inr (is_full_by config board v false s e)
 
 pub answers_none : (config : Config) (board : Board) (v : View) (begins : Bool) (rounds : List Round) (ask : OfferAsk) (p : Plan) → Shows config board v →
     (plan.offer_fault rounds ask ≡ None) × PlanFor p (plan.demand rounds ask) →
-    (begins ≡ false) ⊎ (nat_le board.config.max_sessions (length board.calls.items) ≡ false) →
+    (begins ≡ false) ⊎ (nat_le board.config.max_sessions (length board.calls.list) ≡ false) →
     nat_lt (length board.pool.free) (pair_count p) ≡ false → refusal config v begins rounds ask ≡ None
 answers_none config board v begins rounds ask p s made room short =
     refusal_is config v begins rounds ask false false made.0
     (both_false begins (nat_le config.max_sessions (length v.calls)) (room_by room)) (lacks_by config board v p (plan.demand rounds ask) false s made.1 short)
   where
-    room_by : (begins ≡ false) ⊎ (nat_le board.config.max_sessions (length board.calls.items) ≡ false) → (begins ≡ false) ⊎ (nat_le config.max_sessions (length v.calls) ≡ false)
+    room_by : (begins ≡ false) ⊎ (nat_le board.config.max_sessions (length board.calls.list) ≡ false) → (begins ≡ false) ⊎ (nat_le config.max_sessions (length v.calls) ≡ false)
     room_by (inl e) = inl e
     room_by (inr e) = inr (is_full_by config board v false s e)
 
@@ -122,13 +122,13 @@ lowest_place taken cells max count are room =
     (λ lt. ap not (are low true lt ∙ ap (has cells) back ∙ free_here (has cells (lowest_but cells)) cells (lowest_but cells) refl l.fresh)) in
     omega (arith, at, back)
 
-not_full : (config : Config) (board : Board) (v : View) → Shows config board v → nat_le board.config.max_sessions (length board.calls.items) ≡ false → length v.calls < config.max_sessions
+not_full : (config : Config) (board : Board) (v : View) → Shows config board v → nat_le board.config.max_sessions (length board.calls.list) ≡ false → length v.calls < config.max_sessions
 not_full config board v s e = below config.max_sessions (length v.calls) (is_full_by config board v false s e)
   where
     below : (m n : ℕ) → nat_le m n ≡ false → n < m
     below m n e = grind (arith, nat_tests)
 
-pub has_session : (config : Config) (board : Board) (v : View) → Shows config board v → nat_le board.config.max_sessions (length board.calls.items) ≡ false → length v.calls < config.max_sessions
+pub has_session : (config : Config) (board : Board) (v : View) → Shows config board v → nat_le board.config.max_sessions (length board.calls.list) ≡ false → length v.calls < config.max_sessions
 has_session = not_full
 
 pub some_if : (b : Bool) (n : ℕ) → b ≡ true → (if b then Some n else None) ≡ Some n

@@ -38,6 +38,13 @@ id_at config (call ∷ calls) [] i d s below = elim s [ ]
 id_at config (call ∷ calls) (c ∷ cs) zero d s below = ap Some (sym s.0.id_is)
 id_at config (call ∷ calls) (c ∷ cs) (suc i) d s below = id_at config calls cs i d s.1 (omega (arith, below))
 
+-- the call-ids are those that are kept
+pub ids_are : (config : Config) (calls : List LiveCall) (cs : List CallView) → CallsFor config calls cs → map (λ (call : LiveCall). call.id.list) calls ≡ map (λ (c : CallView). c.of.id) cs
+ids_are config [] [] s = refl
+ids_are config [] (c ∷ cs) s = elim s [ ]
+ids_are config (call ∷ calls) [] s = elim s [ ]
+ids_are config (call ∷ calls) (c ∷ cs) s = λ i. s.0.id_is i ∷ ids_are config calls cs s.1 i
+
 -- a question to a live call, and the same one to what is kept of it
 pub record Asks (config : Config) (p : LiveCall → Bool) (q : CallView → Bool) : Type 0 where
   pub alike : (call : LiveCall) (c : CallView) → CallFor config call c → p call ≡ q c
@@ -96,6 +103,18 @@ pub no_call_found : (config : Config) (p : LiveCall → Bool) (q : CallView → 
     position p calls ≡ None → first (filter q cs) ≡ None
 no_call_found config p q calls cs alike s e =
     none_first config p q calls cs alike s (any-position p calls ∙ ap is_some e)
+
+has_case : {C : Type 0} (a b : Bool) (c : C) (cs : List C) (rest : Bool) → a ≡ b → first (cond b (c ∷ cs) cs) ≡ None → (first cs ≡ None → rest ≡ false) → (a || rest) ≡ false
+has_case a true c cs rest same none more = absurd (let f = none in cc)
+has_case a false c cs rest same none more = ap (λ b. b || rest) same ∙ more none
+
+pub none_has : (config : Config) (p : LiveCall → Bool) (q : CallView → Bool) (calls : List LiveCall) (cs : List CallView) → Asks config p q → CallsFor config calls cs →
+    first (filter q cs) ≡ None → list_any p calls ≡ false
+none_has config p q [] [] alike s none = refl
+none_has config p q [] (c ∷ cs) alike s none = elim s [ ]
+none_has config p q (call ∷ calls) [] alike s none = elim s [ ]
+none_has config p q (call ∷ calls) (c ∷ cs) alike s none =
+    has_case (p call) (q c) c (filter q cs) (list_any p calls) (alike.alike call c s.0) none (none_has config p q calls cs alike s.1)
 
 -- a live call has a place
 pub live_has_place : (calls : List LiveCall) (number : ℕ) → list_any (λ (call : LiveCall). call.number == number) calls ≡ true →

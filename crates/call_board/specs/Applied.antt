@@ -1,6 +1,5 @@
 -- What a board becomes by a plan that is taken in.
-use Rattle.std.specs.Prelude.{◌≡◌, ◌<◌, ◌≤◌, ◌^◌, ℕ, true, List, [], ◌∷◌, Option, Some, None}
-use Rattle.std.specs.Vec.{vec_len, vec_capacity}
+use Rattle.std.specs.Prelude.{◌≡◌, ◌<◌, ◌≤◌, ◌^◌, ℕ, true, List, [], ◌∷◌, Option, Some, None, slice_index_or, slice_set}
 use Rattle.relay_outside.specs.declared.settings.Config.{Config}
 use Rattle.offer_answer.specs.Rounds.{Round, Offered, Answered}
 use Rattle.offer_answer.specs.Sides.{is_begun}
@@ -10,9 +9,10 @@ use Rattle.offer_answer.specs.declared.plan.Plan.{Plan}
 use Rattle.call_board.specs.declared.board.Board.{Board}
 use Rattle.call_board.specs.declared.board_plan.BoardPlan.{BoardPlan}
 use Rattle.call_board.specs.declared.board_plan.NewCall.{NewCall}
+use Rattle.call_board.specs.declared.live_call.LiveCall.{LiveCall}
 use Rattle.call_board.specs.Acts.{Call}
-use Rattle.call_board.specs.Views.{CallView, View, with_calls, with_new_call, goes_on, call_numbered}
-use Rattle.call_board.specs.Boards.{IsLive}
+use Rattle.call_board.specs.Views.{CallView, View, with_calls, with_new_call, with_round, goes_on, call_of_id, call_numbered}
+use Rattle.call_board.specs.Boards.{CallFor, IsLive}
 use Rattle.call_board.specs.Planned.{NewFor}
 
 -- the plan is that of this offer, filled, with the legs that were leased for it; or that of this answer
@@ -26,11 +26,12 @@ abbrev pub BeginsBy : Config → List ℕ → Round → NewCall → Type 0
 BeginsBy config id (Offered ask legs keys) new = NewFor config id ask.from_tag new
 BeginsBy config id (Answered ask) new = ⊥
 
--- a call that the board has not begun yet
+-- a call that the board has not begun yet, of a call-id that no live call has
 pub record IsNext (config : Config) (v : View) (of : Call) : Type 0 where
   pub number_is : of.number ≡ v.begun
   pub cell_is_one : 1 ≤ of.cell
   pub cell_is_there : of.cell ≤ config.max_sessions
+  pub id_is_new : call_of_id v of.id ≡ None
 
 -- the plan takes this round in: as the first one of a call that it begins, or as one more of a live call
 abbrev pub TakesIn : Config → View → Call → Round → BoardPlan → Option NewCall → Type 0
@@ -47,4 +48,13 @@ taken_in v of round now p (Some new) = with_new_call v (record { of = of; rounds
 -- the call is live, or there is room for it
 abbrev pub MayApply : Board → BoardPlan → Option NewCall → Type 0
 MayApply board p None = IsLive board p.call
-MayApply board p (Some new) = (vec_len board.calls < vec_capacity board.calls) × (board.begun < 2 ^ 63)
+MayApply board p (Some new) = (0 < board.calls.spare) × (board.begun < 2 ^ 63)
+
+-- the call in this place of the list took one more offer or answer in, by this plan, and the others stay
+pub record WentOn (old new : List LiveCall) (place : ℕ) (plan : Plan) (now : ℕ) : Type 0 where
+  pub before : LiveCall
+  pub after : LiveCall
+  pub before_is : before ≡ slice_index_or old place before
+  pub list_is : new ≡ slice_set old place after
+  pub taken : (config : Config) (c : CallView) (round : Round) → CallFor config before c → is_begun c.rounds ≡ true → IsPlanOf config c.rounds round plan →
+      CallFor config after (with_round round now c)

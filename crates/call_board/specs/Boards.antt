@@ -40,7 +40,7 @@ pub record Shows (config : Config) (board : Board) (v : View) : Type 0 where
   pub moment_is : board.moment ≡ v.moment
   pub begun_is : board.begun ≡ v.begun
   pub drawn_is : board.drawn ≡ v.drawn
-  pub calls_for : CallsFor config board.calls.items v.calls
+  pub calls_for : CallsFor config board.calls.list v.calls
   pub cells_for : CellsFor config board.taken.items v.calls
   pub pool_for : pools.StandsFor config v.free v.leases board.pool
   pub replies_for : caches.StandsFor board.replies v.keepings
@@ -51,7 +51,7 @@ BoardFor config board h = Shows config board (view_of config h)
 
 -- a call of the board has this number
 abbrev pub IsLive : Board → ℕ → Type 0
-IsLive board number = list_any (λ (call : LiveCall). call.number == number) board.calls.items ≡ true
+IsLive board number = list_any (λ (call : LiveCall). call.number == number) board.calls.list ≡ true
 
 -- this is kept of the live call of this number
 pub record ShowsCall (config : Config) (v : View) (number : ℕ) (call : LiveCall) : Type 0 where

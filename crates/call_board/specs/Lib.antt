@@ -8,6 +8,7 @@ pub mod Asked
 pub mod Answers
 pub mod Fits
 pub mod Views
+pub mod Keyed
 pub mod Boards
 pub mod Planned
 pub mod Lending

@@ -1,6 +1,5 @@
 -- What the board plans, by what it keeps.
 use Rattle.std.specs.Prelude.{◌≡◌, ◌≢◌, ◌<◌, ◌≤◌, ℕ, Bool, true, false, ◌&&◌, List, [], map, length, nat_lt, nat_le, Option, Some, None, Result, Ok, Err, if◌then◌else◌}
-use Rattle.std.specs.Vec.{vec_len, vec_capacity}
 use Rattle.relay_outside.specs.declared.settings.Config.{Config}
 use Rattle.ng_reply.specs.declared.code.ErrorCode.{ErrorCode}
 use Rattle.ng_reply.specs.declared.code.ErrorCode.TheVariants.{E8, E9, E10, E11, E12, E13, E14}
@@ -106,7 +105,7 @@ PlansOffer config v id ask result = PlansFor config v (target v id) ask result
 
 abbrev pub CallRoom : Board → Option NewCall → Type 0
 CallRoom board None = Unit {0}
-CallRoom board (Some new) = vec_len board.calls < vec_capacity board.calls
+CallRoom board (Some new) = 0 < board.calls.spare
 
 -- the board has the room that the plan needs when it is leased and applied, and enough pairs
 pub record HasRoom (board : Board) (p : BoardPlan) : Type 0 where

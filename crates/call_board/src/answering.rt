@@ -14,7 +14,6 @@ ghost use Rattle.call_board.specs.Planned.{PlansAnswer};
 use crate::board::Board;
 use crate::board_plan::BoardPlan;
 use crate::fault::BoardFault;
-use crate::live_call::place_of_id;
 use crate::planning::fault_by;
 use ng_command::AnswerIn;
 use offer_answer::{ChosenLines, answer};
@@ -30,13 +29,13 @@ impl Board {
         input: &AnswerIn,
         sdp: &Sdp,
     ) -> Result<BoardPlan, BoardFault>
-        requires within { place < length self.now.calls.items }
-        requires found { position (λ call. bytes_eq call.id.list input.now.call_id.list) self.now.calls.items ≡ Some place }
+        requires within { place < length self.now.calls.list }
+        requires found { position (λ call. bytes_eq call.id.list input.now.call_id.list) self.now.calls.list ≡ Some place }
         ensures plans { (config : Config) (v : View) → Shows config self.now v →
             PlansAnswer config input.now sdp.now (call_of_id v input.now.call_id.list) result }
         ensures writes { IfOk result (λ p. WritesFrom p.plan sdp.now) }
     {
-        let call = &self.calls[place];
+        let call = self.calls.at(place);
         match answer(alloc, &self.config, &call.dialog, input, sdp) {
             Ok(plan) => Ok(BoardPlan {
                 plan,
@@ -77,8 +76,8 @@ impl Board {
             call_of_id v call_id.now ≡ Some c → lines_of ask.sdp ≡ sdp.now → ask.chosen ≡ result → AnswerHeard c.rounds ask }
         ensures nothing { (config : Config) (v : View) → Shows config self.now v → call_of_id v call_id.now ≡ None → result ≡ [] }
     {
-        match place_of_id(self.calls.as_slice(), call_id) {
-            Some(place) => self.calls[place].dialog.hear(sdp),
+        match self.calls.place_of_id(call_id) {
+            Some(place) => self.calls.at(place).dialog.hear(sdp),
             None => ChosenLines::none(),
         }
     }

@@ -1,13 +1,12 @@
 //! Taking in a plan.
 
 ghost use Rattle.std.specs.Prelude.{◌≡◌, ◌<◌, ◌^◌, ℕ, [], ◌∷◌, true, Some};
-ghost use Rattle.std.specs.Vec.{vec_len, vec_capacity};
 ghost use Rattle.relay_outside.specs.declared.settings.Config.{Config};
 ghost use Rattle.offer_answer.specs.Rounds.{Round};
 ghost use Rattle.offer_answer.specs.Sides.{is_begun};
 ghost use Rattle.call_board.specs.Acts.{Call};
-ghost use Rattle.call_board.specs.Views.{View, CallView, with_round, with_calls, with_new_call, goes_on, call_numbered};
-ghost use Rattle.call_board.specs.Boards.{Shows, CallFor, IsLive, KeepsReplies};
+ghost use Rattle.call_board.specs.Views.{View, CallView, with_calls, with_new_call, goes_on, call_numbered};
+ghost use Rattle.call_board.specs.Boards.{Shows, IsLive, KeepsReplies};
 ghost use Rattle.call_board.specs.Applied.{IsPlanOf, BeginsBy, IsNext, TakesIn, taken_in, MayApply};
 
 use crate::board::Board;
@@ -15,17 +14,6 @@ use crate::board_plan::{BoardPlan, NewCall};
 use crate::cell_marks::mark_cell;
 use crate::live_call::LiveCall;
 use offer_answer::Plan;
-
-impl LiveCall {
-    /// Takes in one more offer or answer, at the moment `now`.
-    fn go_on(&mut self, plan: Plan, now: u64)
-        ensures { (config : Config) (c : CallView) (round : Round) → CallFor config self.old c → is_begun c.rounds ≡ true → IsPlanOf config c.rounds round plan →
-            CallFor config self.new (with_round round now c) }
-    {
-        self.dialog.apply(plan);
-        self.last_moment = now;
-    }
-}
 
 impl Board {
     /// Takes in one more offer or answer of a live call.
@@ -36,28 +24,33 @@ impl Board {
             IsPlanOf config c.rounds round plan → Shows config self.new (with_calls v (goes_on call round now v.calls)) }
     {
         let place = self.place(call);
-        self.calls[place].go_on(plan, now);
+        self.calls.go_on(place, plan, now);
     }
 
     /// Takes in the first offer of a call.
     fn begin(&mut self, new: NewCall, plan: Plan, call: u64, cell: u32, now: u64)
-        requires room { vec_len self.old.calls < vec_capacity self.old.calls }
+        requires room { 0 < self.old.calls.spare }
         requires few { self.old.begun < 2 ^ 63 }
         ensures replies { KeepsReplies self.old self.new }
         ensures taken { (config : Config) (v : View) (of : Call) (round : Round) → Shows config self.old v → IsNext config v of → call ≡ of.number → cell ≡ of.cell →
             BeginsBy config of.id round new → IsPlanOf config [] round plan →
             Shows config self.new (with_new_call v (record { of = of; rounds = round ∷ []; first = now; last = now })) }
     {
-        let NewCall { id, mut dialog } = new;
+        let NewCall {
+            id,
+            key,
+            mut dialog,
+        } = new;
         dialog.apply(plan);
-        self.calls.push_reserved(LiveCall {
+        let begun = LiveCall {
             number: call,
             cell,
             id,
             dialog,
             first_moment: now,
             last_moment: now,
-        });
+        };
+        self.calls.push(key, begun);
         mark_cell(self.taken.as_mut_slice(), cell, true);
         self.begun += 1;
     }

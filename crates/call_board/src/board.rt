@@ -5,15 +5,18 @@ ghost use Rattle.relay_outside.specs.declared.settings.Config.{Config};
 ghost use Rattle.cookie_cache.specs.Keepings.{IsCookie};
 ghost use Rattle.cookie_cache.specs.Keepings as keepings;
 ghost use Rattle.cookie_cache.specs.Caches.{HasSparePlace};
+ghost use Rattle.indexmap.specs.IndexMap.{keys, values};
 ghost use Rattle.histories.specs.Words.{has};
 ghost use Rattle.port_pool.specs.Pools.{generation};
 ghost use Rattle.offer_answer.specs.Dialogs.{DialogFor};
 ghost use Rattle.offer_answer.specs.Plan as plan;
 ghost use Rattle.call_board.specs.Views.{View, CallView, at_moment, with_keeping, one_drawn, with_returned, without_call, call_of_id, call_numbered};
-ghost use Rattle.call_board.specs.Boards.{Shows, ShowsCall, BoardFor, IsLive, KeepsCalls, KeepsReplies};
+ghost use Rattle.call_board.specs.Boards.{Shows, ShowsCall, CallsFor, BoardFor, IsLive, KeepsCalls, KeepsReplies};
 
-use crate::live_call::{LiveCall, place_of, place_of_id};
+use crate::live_call::LiveCall;
+use crate::live_calls::LiveCalls;
 use cookie_cache::CookieCache;
+use indexmap::IndexMap;
 use ng_bencode::Text;
 use offer_answer::Dialog;
 use port_pool::{Lease, Pool, Side};
@@ -35,7 +38,7 @@ pub struct Board {
     /// How many keys were drawn: the number of the next one.
     pub(crate) drawn: u64,
     /// The live calls, in order of creation.
-    pub(crate) calls: Vec<LiveCall>,
+    pub(crate) calls: LiveCalls,
     /// For each cell, from 1, whether a live call has it.
     pub(crate) taken: Vec<bool>,
     /// The port pairs.
@@ -59,7 +62,7 @@ impl Board {
             moment: 0,
             begun: 0,
             drawn: 0,
-            calls: Vec::new(alloc),
+            calls: LiveCalls::new(alloc),
             taken,
             pool,
             replies,
@@ -133,10 +136,10 @@ impl Board {
         ensures { (config : Config) (v : View) → Shows config self.now v →
             result ≡ option_map (λ (c : CallView). c.of.number) (call_of_id v call_id.now) }
     {
-        let Some(place) = place_of_id(self.calls.as_slice(), call_id) else {
+        let Some(place) = self.calls.place_of_id(call_id) else {
             return None;
         };
-        Some(self.calls[place].number)
+        Some(self.calls.at(place).number)
     }
 
     /// Takes a lease back: its pair waits after all others that are free. It takes no memory. The lease is the last one of
@@ -159,48 +162,56 @@ impl Board {
         self.pool.free_count()
     }
 
+    /// The live calls, each under the bytes of its call-id, in order of creation.
+    pub fn calls(&self) -> &IndexMap<Vec<u8>, LiveCall>
+        ensures keys { (config : Config) (v : View) → Shows config self.now v → map (λ key. key.items) (keys result.now) ≡ map (λ (c : CallView). c.of.id) v.calls }
+        ensures calls { (config : Config) (v : View) → Shows config self.now v → CallsFor config (values result.now) v.calls }
+    {
+        self.calls.by_id()
+    }
+
     /// How many calls are live.
     pub fn live_count(&self) -> usize
-        ensures count { result ≡ length self.now.calls.items }
+        ensures count { result ≡ length self.now.calls.list }
         ensures live { (config : Config) (v : View) → Shows config self.now v → result ≡ length v.calls }
     {
-        self.calls.as_slice().len()
+        self.calls.len()
     }
 
     /// The number of a live call, by its place in the order of creation, from 0.
     pub fn call_at(&self, index: usize) -> u64
-        requires { index < length self.now.calls.items }
+        requires { index < length self.now.calls.list }
         ensures { (config : Config) (v : View) → Shows config self.now v →
             slice_get (map (λ (c : CallView). c.of.number) v.calls) index ≡ Some result }
     {
-        self.calls[index].number
+        self.calls.at(index).number
     }
 
     /// The cell of a live call, from 1, by the place of the call in the order of creation, from 0.
     pub fn cell_at(&self, index: usize) -> u32
-        requires { index < length self.now.calls.items }
+        requires { index < length self.now.calls.list }
         ensures { (config : Config) (v : View) → Shows config self.now v →
             slice_get (map (λ (c : CallView). c.of.cell) v.calls) index ≡ Some result }
     {
-        self.calls[index].cell
+        self.calls.at(index).cell
     }
 
     /// The call-id of a live call, by the place of the call in the order of creation, from 0.
     pub fn call_id_at(&self, index: usize) -> &[u8]
-        requires { index < length self.now.calls.items }
+        requires { index < length self.now.calls.list }
         ensures { (config : Config) (v : View) → Shows config self.now v →
             slice_get (map (λ (c : CallView). c.of.id) v.calls) index ≡ Some result.now }
     {
-        self.calls[index].id.as_slice()
+        self.calls.at(index).id.as_slice()
     }
 
     /// The place of a live call.
     pub(crate) fn place(&self, call: u64) -> usize
         requires { IsLive self.now call }
-        ensures place { position (λ live. live.number == call) self.now.calls.items ≡ Some result }
-        ensures within { result < length self.now.calls.items }
+        ensures place { position (λ live. live.number == call) self.now.calls.list ≡ Some result }
+        ensures within { result < length self.now.calls.list }
     {
-        let Some(place) = place_of(self.calls.as_slice(), call) else {
+        let Some(place) = self.calls.place_of(call) else {
             unreachable!();
         };
         place
@@ -211,7 +222,7 @@ impl Board {
         requires { IsLive self.now call }
         ensures { (config : Config) (v : View) → Shows config self.now v → ShowsCall config v call result.now }
     {
-        &self.calls[self.place(call)]
+        self.calls.at(self.place(call))
     }
 
     /// The cell of a live call, from 1.

@@ -2,7 +2,6 @@
 
 ghost use Rattle.std.specs.Prelude.{◌≡◌};
 ghost use Rattle.std.specs.Borrow.{sem};
-ghost use Rattle.call_board.specs.Lending.{LendsPlan};
 
 use ng_bencode::Text;
 use offer_answer::{Dialog, Plan};
@@ -13,8 +12,11 @@ use port_pool::Leases;
 pub(crate) struct NewCall {
     /// Its call-id.
     pub id: Text,
+    /// The same bytes, as the key under which it is to be found.
+    pub key: Vec<u8>,
     /// Its dialog, before its first offer.
     pub dialog: Dialog,
+    ghost key_is: { key.items ≡ id.list },
 }
 
 /// The plan of an offer or an answer, with the call that it is of, and with all memory that the board needs to take it in.
@@ -33,6 +35,8 @@ pub struct BoardPlan {
 }
 
 impl BoardPlan {
+    ghost use Rattle.call_board.specs.Lending.{LendsPlan};
+
     /// The plan of the call's dialog.
     pub fn plan(&mut self) -> &mut Plan
         ensures* writes_back { sem 𝓛 (LendsPlan self.entry result) }

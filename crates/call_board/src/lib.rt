@@ -4,7 +4,7 @@
 //! who holds which pair and which pairs are free, `specs/Kept.antt` the replies that are kept, `specs/Answers.antt` which reply a
 //! datagram gets and what it does.
 //!
-//! Module `board` has the board, `live_call` a live call. `planning` plans offers and `answering` answers as a `BoardPlan`,
+//! Module `board` has the board, `live_calls` its live calls, `live_call` one of them. `planning` plans offers and `answering` answers as a `BoardPlan`,
 //! `leasing` leases the pairs that it demands and takes them back, `applying` takes it in, `ending` ends a call.
 //! `specs/Views.antt` says what the board keeps of its history, and what each call changes of that; `specs/Boards.antt` that it
 //! keeps it, `specs/Planned.antt` the result of planning an offer or an answer, `specs/Applied.antt` what a plan makes of the board,
@@ -21,9 +21,11 @@ mod fault;
 mod law;
 mod leasing;
 mod live_call;
+mod live_calls;
 mod planning;
 
 pub use board::Board;
 pub use board_plan::BoardPlan;
 pub use fault::BoardFault;
 pub use law::changes_are_entries;
+pub use live_call::LiveCall;

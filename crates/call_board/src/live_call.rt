@@ -1,40 +1,42 @@
-//! The live calls of a board.
+//! A live call.
 
-ghost use Rattle.std.specs.Prelude.{◌≡◌, ◌==◌, ◌<◌, length, position, IfSome};
-ghost use Rattle.std.specs.Str.{bytes_eq};
+ghost use Rattle.std.specs.Prelude.{◌≡◌, true};
 
 use ng_bencode::Text;
-use offer_answer::Dialog;
+use offer_answer::{Dialog, Plan};
 
 /// A live call.
 #[derive(Drop)]
-pub(crate) struct LiveCall {
+pub struct LiveCall {
     /// Its number: no two calls have one.
-    pub number: u64,
+    pub(crate) number: u64,
     /// Its cell, from 1: no two live calls have one.
-    pub cell: u32,
+    pub(crate) cell: u32,
     /// Its call-id.
-    pub id: Text,
+    pub(crate) id: Text,
     /// The state that its accepted offers and answers lead to.
-    pub dialog: Dialog,
+    pub(crate) dialog: Dialog,
     /// The moment of the first of them, in milliseconds.
-    pub first_moment: u64,
+    pub(crate) first_moment: u64,
     /// The moment of the last of them.
-    pub last_moment: u64,
+    pub(crate) last_moment: u64,
 }
 
-/// The place of the call with this call-id.
-pub(crate) fn place_of_id(calls: &[LiveCall], id: &[u8]) -> Option<usize>
-    ensures place { result ≡ position (λ call. bytes_eq call.id.list id.now) calls.now }
-    ensures within { IfSome result (λ at. at < length calls.now) }
-{
-    calls.iter().position(|call| call.id.as_slice() == id)
-}
+impl LiveCall {
+    ghost use Rattle.relay_outside.specs.declared.settings.Config.{Config};
+    ghost use Rattle.offer_answer.specs.Rounds.{Round};
+    ghost use Rattle.offer_answer.specs.Sides.{is_begun};
+    ghost use Rattle.call_board.specs.Views.{CallView, with_round};
+    ghost use Rattle.call_board.specs.Boards.{CallFor};
+    ghost use Rattle.call_board.specs.Applied.{IsPlanOf};
 
-/// The place of the call with this number.
-pub(crate) fn place_of(calls: &[LiveCall], number: u64) -> Option<usize>
-    ensures place { result ≡ position (λ call. call.number == number) calls.now }
-    ensures within { IfSome result (λ at. at < length calls.now) }
-{
-    calls.iter().position(|call| call.number == number)
+    /// Takes in one more offer or answer, at the moment `now`.
+    pub(crate) fn go_on(&mut self, plan: Plan, now: u64)
+        ensures taken { (config : Config) (c : CallView) (round : Round) → CallFor config self.old c → is_begun c.rounds ≡ true → IsPlanOf config c.rounds round plan →
+            CallFor config self.new (with_round round now c) }
+        ensures id { self.new.id ≡ self.old.id }
+    {
+        self.dialog.apply(plan);
+        self.last_moment = now;
+    }
 }

@@ -14,7 +14,6 @@ ghost use Rattle.call_board.specs.Planned.{RoomFor, PlansOffer, PlansFor, HasRoo
 use crate::board::Board;
 use crate::board_plan::{BoardPlan, NewCall};
 use crate::fault::BoardFault;
-use crate::live_call::place_of_id;
 use ng_bencode::Text;
 use ng_command::OfferIn;
 use offer_answer::{Dialog, OaFault, Plan, offer};
@@ -56,7 +55,10 @@ pub(crate) fn new_call(
     let Ok(id) = Text::copy_of(alloc, call_id.as_slice()) else {
         return Err(OutOfMemory);
     };
-    Ok(NewCall { id, dialog })
+    let Ok(key) = Vec::from_slice(alloc, id.as_slice()) else {
+        return Err(OutOfMemory);
+    };
+    Ok(NewCall { id, key, dialog })
 }
 
 /// The place of the first cell that isn't taken.
@@ -88,9 +90,9 @@ impl Board {
 
     /// Whether as many calls are live as may be.
     fn is_full(&self) -> bool
-        ensures { result ≡ nat_le self.now.config.max_sessions (length self.now.calls.items) }
+        ensures { result ≡ nat_le self.now.config.max_sessions (length self.now.calls.list) }
     {
-        self.config.max_sessions as usize <= self.calls.as_slice().len()
+        self.config.max_sessions as usize <= self.calls.len()
     }
 
     /// The lowest cell that no live call has, from 1. `None`: each cell is taken.
@@ -106,10 +108,10 @@ impl Board {
 
     /// The place of the live call with this call-id.
     pub(crate) fn place_of_call(&self, id: &Text) -> Option<usize>
-        ensures place { result ≡ position (λ call. bytes_eq call.id.list id.now.list) self.now.calls.items }
-        ensures within { IfSome result (λ at. at < length self.now.calls.items) }
+        ensures place { result ≡ position (λ call. bytes_eq call.id.list id.now.list) self.now.calls.list }
+        ensures within { IfSome result (λ at. at < length self.now.calls.list) }
     {
-        place_of_id(self.calls.as_slice(), id.as_slice())
+        self.calls.place_of_id(id.as_slice())
     }
 
     /// The plan of an offer of the live call in this place.
@@ -120,14 +122,14 @@ impl Board {
         input: &OfferIn,
         sdp: &Sdp,
     ) -> Result<BoardPlan, BoardFault>
-        requires within { place < length self.now.calls.items }
-        requires found { position (λ call. bytes_eq call.id.list input.now.call_id.list) self.now.calls.items ≡ Some place }
+        requires within { place < length self.now.calls.list }
+        requires found { position (λ call. bytes_eq call.id.list input.now.call_id.list) self.now.calls.list ≡ Some place }
         ensures plans { (config : Config) (v : View) (ask : OfferAsk) → Shows config self.now v → AsksOffer input.now sdp.now ask →
             PlansOffer config v input.now.call_id.list ask result }
         ensures room { IfOk result (HasRoom self.now) }
         ensures writes { IfOk result (λ p. WritesFrom p.plan sdp.now) }
     {
-        let call = &self.calls[place];
+        let call = self.calls.at(place);
         let plan = match offer(alloc, &self.config, &call.dialog, input, sdp) {
             Ok(plan) => plan,
             Err(fault) => return Err(fault_by(fault)),
@@ -155,7 +157,7 @@ impl Board {
         sdp: &Sdp,
     ) -> Result<BoardPlan, BoardFault>
         ensures shows { (config : Config) (v : View) → Shows config self.old v → Shows config self.new v }
-        ensures live { self.new.calls.items ≡ self.old.calls.items }
+        ensures live { self.new.calls.list ≡ self.old.calls.list }
         ensures begun { self.new.begun ≡ self.old.begun }
         ensures pool { self.new.pool ≡ self.old.pool }
         ensures replies { KeepsReplies self.old self.new }
@@ -183,7 +185,7 @@ impl Board {
         let Some(cell) = self.lowest_cell() else {
             return Err(BoardFault::SessionLimit);
         };
-        if self.calls.reserve(1).is_err() {
+        if self.calls.reserve().is_err() {
             return Err(BoardFault::OutOfMemory);
         }
         Ok(BoardPlan {
@@ -206,7 +208,7 @@ impl Board {
         sdp: &Sdp,
     ) -> Result<BoardPlan, BoardFault>
         ensures shows { (config : Config) (v : View) → Shows config self.old v → Shows config self.new v }
-        ensures live { self.new.calls.items ≡ self.old.calls.items }
+        ensures live { self.new.calls.list ≡ self.old.calls.list }
         ensures begun { self.new.begun ≡ self.old.begun }
         ensures pool { self.new.pool ≡ self.old.pool }
         ensures replies { KeepsReplies self.old self.new }

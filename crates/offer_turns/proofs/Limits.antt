@@ -1,7 +1,7 @@
 -- What an offer that is due demands is within the limits of its board.
 use Rattle.std.proofs.Common.{◌≡◌, ◌∙◌, refl, sym, ap, subst, ℕ, zero, suc, ◌≤◌, ◌<◌, ◌^◌, filter, length-append, List, [], ◌∷◌, length, take, Option, Some, None, arith}
 use Rattle.relay_outside.specs.declared.settings.Config.{Config}
-use Rattle.std.specs.Prelude.{replicate, vec_len, vec_capacity}
+use Rattle.std.specs.Prelude.{replicate}
 use Rattle.std.specs.List.{filter_map, cons_option}
 use Rattle.std.proofs.lemmas.List.{length-replicate}
 use Rattle.sdp_text.specs.Lines.{lines_of}
@@ -70,7 +70,7 @@ apply_case config h id ask p old board v good shows calls_are begun_is short kee
     ∙ found_by_number config h t.of good g.is_live in
     found_is_live config board v p.call (call_view h t.of) shows found
 apply_case config h id ask p old board v good shows calls_are begun_is short keeps call_is (Some new) goes room =
-    (subst (λ calls. vec_len calls < vec_capacity calls) (sym keeps.calls_are) room, may_begin config h board v shows begun_is short)
+    (subst (λ calls. 0 < calls.spare) (sym keeps.calls_are) room, may_begin config h board v shows begun_is short)
 
 -- the board may take its plan in, when its pairs were leased and its keys drawn
 pub may_apply : (config : Config) (h : List BoardEntry) (id : List ℕ) (ask : OfferAsk) (p : BoardPlan) (old board : Board) (v : View) → IsFitting config h → Shows config board v →

@@ -88,15 +88,15 @@ module _ (config : Config) (h : List BoardEntry) (id : List ℕ) (ask : OfferAsk
       IsPlanOf config (target_of config h id).rounds (round.Offered ask (offer_of config h id ask draws).legs (offer_of config h id ask draws).keys) filled.plan
   is_plan filled is = (ports_of_legs config (offer_of config h id ask draws), is, leased)
 
-  next_case : (v : View) → v.begun ≡ (view_of config h).begun → (target_of config h id).begins ≡ true → IsNext config v (target_of config h id).of
-  next_case v begun_is new =
+  next_case : (v : View) → v.calls ≡ (view_of config h).calls → v.begun ≡ (view_of config h).begun → (target_of config h id).begins ≡ true → IsNext config v (target_of config h id).of
+  next_case v calls_are begun_is new =
       let b = begins_new config h id new in
       let t = target_of config h id in
       subst (λ (c : Call). IsNext config v c) (sym b.of_is)
       (next_is config h v id ask
       (ap (λ (rs : List Round). refusal config (view_of config h) true rs ask) (sym b.no_rounds)
       ∙ ap (λ (x : Bool). refusal config (view_of config h) x t.rounds ask) (sym new) ∙ d.plans.0)
-      begun_is)
+      begun_is calls_are b.none)
 
   takes_case : (v : View) (filled : BoardPlan) → v.calls ≡ (view_of config h).calls → v.begun ≡ (view_of config h).begun → filled.call ≡ (target_of config h id).of.number →
       filled.cell ≡ (target_of config h id).of.cell →
@@ -119,7 +119,7 @@ module _ (config : Config) (h : List BoardEntry) (id : List ℕ) (ask : OfferAsk
   takes_case v filled calls_are begun_is call_is cell_is is (Some new) begins =
       let b = begins_new config h id begins.0 in
       let o = offer_of config h id ask draws in (
-        next_case v begun_is begins.0,
+        next_case v calls_are begun_is begins.0,
         call_is,
         cell_is,
         begins.1,

@@ -82,7 +82,7 @@ fn a_first_offer_begins_the_first_call_in_the_first_cell(rt: HostRuntime) {
     };
     assert!(rt; plan.call() == 0 && plan.cell() == 1 && plan.plan().pairs() == 2);
     assert!(rt; board.free_count() == 2 && board.live_count() == 0);
-    assert!(rt; board.find_call(b"call").is_none());
+    assert!(rt; board.find_call(b"call").is_none() && board.calls().is_empty());
 }
 
 /// Why a first offer of two sections is refused by a board of this configuration.

@@ -134,6 +134,24 @@ fn the_latest_reply_to_a_repeated_cookie_counts(rt: HostRuntime) {
     assert!(rt; finds(&cache, SOURCE, b"8_a", 60_000, None));
 }
 
+/// The key of a kept reply: the family, the address and the port of `SOURCE`, and a cookie.
+const KEY: &[u8] = b"\x04\xc0\x00\x02\x01\x08\xaf8_a";
+
+#[test]
+fn entries_stand_in_the_order_of_their_latest_replies(rt: HostRuntime) {
+    let alloc = rt.alloc();
+    let mut cache = new_cache(&rt, alloc);
+    keep(&rt, alloc, &mut cache, SOURCE, b"8_a", b"first", 0);
+    keep(&rt, alloc, &mut cache, SOURCE, b"8_b", b"other", 1);
+    keep(&rt, alloc, &mut cache, SOURCE, b"8_a", b"second", 2);
+    let entries = cache.entries();
+    let Some((key, kept)) = entries.last() else {
+        panic!(rt; "no entry");
+    };
+    assert!(rt; entries.len() == 2 && key.as_slice() == KEY);
+    assert!(rt; kept.number == 2 && kept.moment == 2 && kept.reply.as_slice() == b"second");
+}
+
 #[test]
 fn a_clock_that_goes_back_stands_still(rt: HostRuntime) {
     let alloc = rt.alloc();

@@ -369,6 +369,14 @@ const LIVE: &[Case] = &[
         lines: &[b"turns 78 datagrams 78 replies 78 sent 0 refused 0 lost 0\n"],
         ..SERVING
     },
+    // beside 2,048 live calls 4,096 replies are kept
+    Case {
+        words: &["serve", INTERFACE, "--max-sessions=2048"],
+        offers: 4096,
+        reply: Some(b"1_4095 d12:error-reason21:session limit reached6:result5:errore"),
+        lines: &[b"turns 4096 datagrams 4096 replies 4096 sent 0 refused 0 lost 0\n"],
+        ..SERVING
+    },
 ];
 
 #[test]

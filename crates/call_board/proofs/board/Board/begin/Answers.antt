@@ -1,8 +1,11 @@
-use Rattle.std.proofs.Common.{◌≡◌, ◌∙◌, ◌-◌, ◌+◌, ◌≤◌, ◌++◌, ◌∷◌, [], refl, ap, sym, subst, ℕ, List, Bool, true, set, arith}
+use Rattle.std.proofs.Common.{◌≡◌, ◌∙◌, ◌-◌, ◌+◌, ◌≤◌, ◌++◌, ◌∷◌, [], refl, ap, sym, subst, ℕ, List, Bool, true, false, set, arith}
+use Rattle.std.specs.List.{list_any}
+use Rattle.std.specs.Str.{bytes_eq}
 use Rattle.std.proofs.lemmas.List.{with_items_is}
 use Rattle.call_board.specs.declared.live_call.LiveCall.{LiveCall}
-use Rattle.call_board.specs.Views.{CallView}
+use Rattle.call_board.specs.Views.{CallView, is_of_id}
 use Rattle.call_board.specs.Boards.{CallsFor, CellsFor}
+use Rattle.call_board.proofs.Shown.{asks_id, none_has}
 use Rattle.call_board.proofs.Applies.{applied, begins_by, one_more_call, cells_more}
 use Rattle.call_board.proofs.board.Board.begin.Goals as goal
 
@@ -10,6 +13,8 @@ pub returns-clause-taken : goal.returns-clause-taken
 returns-clause-taken c = λ config v of round s next number cell b p.
     let view : CallView = record { of = of; rounds = round ∷ []; first = c.args.now; last = c.args.now } in
     let new = begins_by config of.id round c.args.new b in
+    let fresh = subst (λ (id : List ℕ). list_any (λ (call : LiveCall). bytes_eq call.id.list id) c.args.self.now.calls.list ≡ false) (sym new.0)
+    (none_has config (λ (call : LiveCall). bytes_eq call.id.list of.id) (is_of_id of.id) c.args.self.now.calls.list v.calls (asks_id config of.id) s.calls_for next.id_is_new) in
     let items : List Bool = c.args.self.now.taken.items in
     let whole = with_items_is c.args.self.now.taken c.mark_cell.new.taken (omega (arith, c.mark_cell.auto.taken, c.as_mut_slice.ensures.len)) in
     let taken : c.mark_cell.new.taken ≡ set items (c.args.cell - 1) true =
@@ -19,8 +24,8 @@ returns-clause-taken c = λ config v of round s next number cell b p.
       moment_is = s.moment_is;
       begun_is = ap (λ (n : ℕ). n + 1) s.begun_is;
       drawn_is = s.drawn_is;
-      calls_for = subst (λ (calls : List LiveCall). CallsFor config calls (v.calls ++ view ∷ [])) (sym c.push_reserved.ensures.items)
-          (one_more_call config c.args.self.now.calls.items v.calls
+      calls_for = subst (λ (calls : List LiveCall). CallsFor config calls (v.calls ++ view ∷ [])) (sym (c.push.ensures fresh))
+          (one_more_call config c.args.self.now.calls.list v.calls
           (record { number = c.args.call; cell = c.args.cell; id = c.args.new.id; dialog = c.apply.new.self; first_moment = c.args.now; last_moment = c.args.now }) view s.calls_for
           (record {
             number_is = number;

@@ -5,5 +5,5 @@ use Rattle.call_board.proofs.board.Board.call_at.Goals as goal
 
 pub returns : goal.returns
 returns c = λ config v s.
-    numbered_at config c.args.self.now.calls.items v.calls c.args.index c.index.result.now s.calls_for c.requires
-    ∙ ap (λ (call : LiveCall). Some call.number) (sym c.index.ensures)
+    numbered_at config c.args.self.now.calls.list v.calls c.args.index c.at.result.now s.calls_for c.requires
+    ∙ ap (λ (call : LiveCall). Some call.number) (sym c.at.ensures)

@@ -5,5 +5,5 @@ use Rattle.call_board.proofs.board.Board.cell_at.Goals as goal
 
 pub returns : goal.returns
 returns c = λ config v s.
-    cell_at config c.args.self.now.calls.items v.calls c.args.index c.index.result.now s.calls_for c.requires
-    ∙ ap (λ (call : LiveCall). Some call.cell) (sym c.index.ensures)
+    cell_at config c.args.self.now.calls.list v.calls c.args.index c.at.result.now s.calls_for c.requires
+    ∙ ap (λ (call : LiveCall). Some call.cell) (sym c.at.ensures)

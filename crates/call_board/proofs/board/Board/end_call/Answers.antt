@@ -11,14 +11,14 @@ use Rattle.call_board.proofs.board.Board.end_call.Goals as goal
 pub returns-clause-shows : goal.returns-clause-shows
 returns-clause-shows c = λ config v s apart.
     let shown = subst (λ (call : LiveCall). ShowsCall config v c.args.call call) (sym c.remove-ended.ensures.value)
-    (shown_call config v c.args.self.now.calls.items c.args.call c.place-place.result c.remove-ended.result s.calls_for c.place-place.ensures.place) in
+    (shown_call config v c.args.self.now.calls.list c.args.call c.place-place.result c.remove-ended.result s.calls_for c.place-place.ensures.place) in
     record {
       config_is = s.config_is;
       moment_is = s.moment_is;
       begun_is = s.begun_is;
       drawn_is = s.drawn_is;
-      calls_for = subst (λ (calls : List LiveCall). CallsFor config calls (without c.args.call v.calls)) (sym c.remove-ended.ensures.items)
-          (removed config c.args.call c.args.self.now.calls.items v.calls c.place-place.result c.remove-ended.result s.calls_for c.place-place.ensures.place);
+      calls_for = subst (λ (calls : List LiveCall). CallsFor config calls (without c.args.call v.calls)) (sym c.remove-ended.ensures.list)
+          (removed config c.args.call c.args.self.now.calls.list v.calls c.place-place.result c.remove-ended.result s.calls_for c.place-place.ensures.place);
       cells_for =
           let whole = with_items_is c.args.self.now.taken c.mark_cell.new.taken (omega (arith, c.mark_cell.auto.taken, c.as_mut_slice.ensures.len)) in
           let free : c.mark_cell.new.taken ≡ set c.args.self.now.taken.items (c.remove-ended.result.cell - 1) false =
@@ -34,5 +34,5 @@ returns-clause-shows c = λ config v s apart.
 pub returns-clause-cell : goal.returns-clause-cell
 returns-clause-cell c = λ config v s.
     let shown = subst (λ (call : LiveCall). ShowsCall config v c.args.call call) (sym c.remove-ended.ensures.value)
-    (shown_call config v c.args.self.now.calls.items c.args.call c.place-place.result c.remove-ended.result s.calls_for c.place-place.ensures.place) in
+    (shown_call config v c.args.self.now.calls.list c.args.call c.place-place.result c.remove-ended.result s.calls_for c.place-place.ensures.place) in
     ap (option_map (λ (of : CallView). of.of.cell)) shown.found ∙ ap Some (sym shown.call_for.cell_is)

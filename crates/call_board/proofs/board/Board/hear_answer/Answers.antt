@@ -1,4 +1,4 @@
-use Rattle.std.proofs.Common.{◌≡◌, ◌∙◌, ap, sym, subst, List, None, Some, position}
+use Rattle.std.proofs.Common.{◌≡◌, ◌∙◌, sym, subst, None, Some}
 use Rattle.std.specs.Str.{bytes_eq}
 use Rattle.call_board.specs.declared.live_call.LiveCall.{LiveCall}
 use Rattle.call_board.specs.Views.{CallView, is_of_id, call_of_id}
@@ -9,27 +9,24 @@ use Rattle.call_board.proofs.board.Board.hear_answer.Goals as goal
 pub returns-in-None-clause-heard : goal.returns-in-None-clause-heard
 returns-in-None-clause-heard c = λ config v of ask s e read is.
     let id = c.args.call_id.now in
-    let there = ap (λ (those : List LiveCall). position (λ (call : LiveCall). bytes_eq call.id.list id) those) c.as_slice.ensures.value in
-    let none : call_of_id v id ≡ None = no_call_found config (λ (call : LiveCall). bytes_eq call.id.list id) (is_of_id id) c.args.self.now.calls.items v.calls
-    (asks_id config id) s.calls_for (sym there ∙ sym c.place_of_id.ensures.place ∙ c.in-None.is) in
+    let none : call_of_id v id ≡ None = no_call_found config (λ (call : LiveCall). bytes_eq call.id.list id) (is_of_id id) c.args.self.now.calls.list v.calls
+    (asks_id config id) s.calls_for (sym c.place_of_id.ensures.place ∙ c.in-None.is) in
     let both : None ≡ Some of = sym none ∙ e in
     absurd (cc)
 
 pub returns-in-Some-clause-heard : goal.returns-in-Some-clause-heard
 returns-in-Some-clause-heard c = λ config v of ask s e read is.
     let id = c.args.call_id.now in
-    let at = ap (λ (those : List LiveCall). position (λ (call : LiveCall). bytes_eq call.id.list id) those) c.as_slice.ensures.value in
-    let f = subst (λ (call : LiveCall). IsFirst config (is_of_id id) v.calls call) (sym c.index.ensures)
-    (call_at_place config (λ (call : LiveCall). bytes_eq call.id.list id) (is_of_id id) c.args.self.now.calls.items v.calls c.in-Some.place c.index.result.now
-    (asks_id config id) s.calls_for (sym at ∙ sym c.place_of_id.ensures.place ∙ c.in-Some.is)) in
-    let kept = subst (λ (o : CallView). CallFor config c.index.result.now o) (same_one f.found e) f.call_for in
+    let f = subst (λ (call : LiveCall). IsFirst config (is_of_id id) v.calls call) (sym c.at.ensures)
+    (call_at_place config (λ (call : LiveCall). bytes_eq call.id.list id) (is_of_id id) c.args.self.now.calls.list v.calls c.in-Some.place c.at.result.now
+    (asks_id config id) s.calls_for (sym c.place_of_id.ensures.place ∙ c.in-Some.is)) in
+    let kept = subst (λ (o : CallView). CallFor config c.at.result.now o) (same_one f.found e) f.call_for in
     c.hear.ensures config of.rounds ask kept.dialog_for read is
 
 pub returns-in-Some-clause-nothing : goal.returns-in-Some-clause-nothing
 returns-in-Some-clause-nothing c = λ config v s e.
     let id = c.args.call_id.now in
-    let at = ap (λ (those : List LiveCall). position (λ (call : LiveCall). bytes_eq call.id.list id) those) c.as_slice.ensures.value in
-    let f = call_at_place config (λ (call : LiveCall). bytes_eq call.id.list id) (is_of_id id) c.args.self.now.calls.items v.calls c.in-Some.place c.index.result.now
-    (asks_id config id) s.calls_for (sym at ∙ sym c.place_of_id.ensures.place ∙ c.in-Some.is) in
+    let f = call_at_place config (λ (call : LiveCall). bytes_eq call.id.list id) (is_of_id id) c.args.self.now.calls.list v.calls c.in-Some.place c.at.result.now
+    (asks_id config id) s.calls_for (sym c.place_of_id.ensures.place ∙ c.in-Some.is) in
     let both : None ≡ Some f.of = sym e ∙ f.found in
     absurd (cc)

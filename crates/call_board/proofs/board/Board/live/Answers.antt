@@ -6,5 +6,5 @@ use Rattle.call_board.proofs.board.Board.live.Goals as goal
 
 pub returns : goal.returns
 returns c = λ config v s.
-    subst (λ (call : LiveCall). ShowsCall config v c.args.call call) (sym c.index.ensures)
-    (shown_call config v c.args.self.now.calls.items c.args.call c.place.result c.index.result.now s.calls_for c.place.ensures.place)
+    subst (λ (call : LiveCall). ShowsCall config v c.args.call call) (sym c.at.ensures)
+    (shown_call config v c.args.self.now.calls.list c.args.call c.place.result c.at.result.now s.calls_for c.place.ensures.place)

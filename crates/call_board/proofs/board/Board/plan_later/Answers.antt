@@ -14,9 +14,9 @@ use Rattle.call_board.proofs.board.Board.plan_later.Goals as goal
 pub returns-in-Err-clause-plans : goal.returns-in-Err-clause-plans
 returns-in-Err-clause-plans c = λ config v ask s asks.
     let id = c.args.input.now.call_id.list in
-    let call = c.index-call.result.now in
-    let f = subst (λ (call : LiveCall). IsFirst config (is_of_id id) v.calls call) (sym c.index-call.ensures)
-    (call_at_place config (λ (call : LiveCall). bytes_eq call.id.list id) (is_of_id id) c.args.self.now.calls.items v.calls c.args.place call (asks_id config id) s.calls_for c.requires.found) in
+    let call = c.at-call.result.now in
+    let f = subst (λ (call : LiveCall). IsFirst config (is_of_id id) v.calls call) (sym c.at-call.ensures)
+    (call_at_place config (λ (call : LiveCall). bytes_eq call.id.list id) (is_of_id id) c.args.self.now.calls.list v.calls c.args.place call (asks_id config id) s.calls_for c.requires.found) in
     let dialog = subst (λ (k : Config). DialogFor k call.dialog f.of.rounds) (sym s.config_is) f.call_for.dialog_for in
     subst (λ (o : Option CallView). PlansFor config v (target_by v id o) ask (Err c.fault_by.result)) (sym f.found)
     (λ n. refused_by config v false f.of.rounds ask c.in-Err.fault (c.in-Err.ensures.answered f.of.rounds ask dialog asks) (λ e. n (c.fault_by.ensures ∙ e)) ∙ ap code_of (sym c.fault_by.ensures))
@@ -24,9 +24,9 @@ returns-in-Err-clause-plans c = λ config v ask s asks.
 pub returns-then-lacks_pairs-clause-plans : goal.returns-then-lacks_pairs-clause-plans
 returns-then-lacks_pairs-clause-plans c = λ config v ask s asks.
     let id = c.args.input.now.call_id.list in
-    let call = c.index-call.result.now in
-    let f = subst (λ (call : LiveCall). IsFirst config (is_of_id id) v.calls call) (sym c.index-call.ensures)
-    (call_at_place config (λ (call : LiveCall). bytes_eq call.id.list id) (is_of_id id) c.args.self.now.calls.items v.calls c.args.place call (asks_id config id) s.calls_for c.requires.found) in
+    let call = c.at-call.result.now in
+    let f = subst (λ (call : LiveCall). IsFirst config (is_of_id id) v.calls call) (sym c.at-call.ensures)
+    (call_at_place config (λ (call : LiveCall). bytes_eq call.id.list id) (is_of_id id) c.args.self.now.calls.list v.calls c.args.place call (asks_id config id) s.calls_for c.requires.found) in
     let dialog = subst (λ (k : Config). DialogFor k call.dialog f.of.rounds) (sym s.config_is) f.call_for.dialog_for in
     subst (λ (o : Option CallView). PlansFor config v (target_by v id o) ask (Err NoPair)) (sym f.found)
     (λ n. let made = c.in-Ok.ensures.answered f.of.rounds ask dialog asks in
@@ -36,9 +36,9 @@ returns-then-lacks_pairs-clause-plans c = λ config v ask s asks.
 pub returns-clause-plans : goal.returns-clause-plans
 returns-clause-plans c = λ config v ask s asks.
     let id = c.args.input.now.call_id.list in
-    let call = c.index-call.result.now in
-    let f = subst (λ (call : LiveCall). IsFirst config (is_of_id id) v.calls call) (sym c.index-call.ensures)
-    (call_at_place config (λ (call : LiveCall). bytes_eq call.id.list id) (is_of_id id) c.args.self.now.calls.items v.calls c.args.place call (asks_id config id) s.calls_for c.requires.found) in
+    let call = c.at-call.result.now in
+    let f = subst (λ (call : LiveCall). IsFirst config (is_of_id id) v.calls call) (sym c.at-call.ensures)
+    (call_at_place config (λ (call : LiveCall). bytes_eq call.id.list id) (is_of_id id) c.args.self.now.calls.list v.calls c.args.place call (asks_id config id) s.calls_for c.requires.found) in
     let dialog = subst (λ (k : Config). DialogFor k call.dialog f.of.rounds) (sym s.config_is) f.call_for.dialog_for in
     let made = c.in-Ok.ensures.answered f.of.rounds ask dialog asks in
     subst (λ (o : Option CallView). PlansFor config v (target_by v id o) ask

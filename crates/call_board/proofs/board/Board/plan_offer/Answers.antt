@@ -9,6 +9,6 @@ use Rattle.call_board.proofs.board.Board.plan_offer.Goals as goal
 pub returns-in-None-clause-plans : goal.returns-in-None-clause-plans
 returns-in-None-clause-plans c = λ config v ask s asks.
     let id = c.args.input.now.call_id.list in
-    let none = no_call_found config (λ (call : LiveCall). bytes_eq call.id.list id) (is_of_id id) c.args.self.now.calls.items v.calls
+    let none = no_call_found config (λ (call : LiveCall). bytes_eq call.id.list id) (is_of_id id) c.args.self.now.calls.list v.calls
     (asks_id config id) s.calls_for (sym c.in-None.ensures.place) in
     subst (λ (o : Option CallView). PlansFor config v (target_by v id o) ask c.plan_first.result) (sym none) (c.plan_first.ensures.plans config v ask s asks)

@@ -13,9 +13,9 @@ use Rattle.call_board.proofs.board.Board.plan_reply.Goals as goal
 pub returns-in-Err-clause-plans : goal.returns-in-Err-clause-plans
 returns-in-Err-clause-plans c = λ config v s.
     let id = c.args.input.now.call_id.list in
-    let call = c.index-call.result.now in
-    let f = subst (λ (call : LiveCall). IsFirst config (is_of_id id) v.calls call) (sym c.index-call.ensures)
-    (call_at_place config (λ (call : LiveCall). bytes_eq call.id.list id) (is_of_id id) c.args.self.now.calls.items v.calls c.args.place call (asks_id config id) s.calls_for c.requires.found) in
+    let call = c.at-call.result.now in
+    let f = subst (λ (call : LiveCall). IsFirst config (is_of_id id) v.calls call) (sym c.at-call.ensures)
+    (call_at_place config (λ (call : LiveCall). bytes_eq call.id.list id) (is_of_id id) c.args.self.now.calls.list v.calls c.args.place call (asks_id config id) s.calls_for c.requires.found) in
     let dialog = subst (λ (k : Config). DialogFor k call.dialog f.of.rounds) (sym s.config_is) f.call_for.dialog_for in
     subst (λ (o : Option CallView). PlansAnswer config c.args.input.now c.args.sdp.now o (Err c.fault_by.result)) (sym f.found)
     (λ ask asks n. answer_refused_by f.of.rounds ask c.args.sdp.now c.args.self.now.config c.in-Err.fault (c.in-Err.ensures.answered f.of.rounds ask dialog asks) (λ e. n (c.fault_by.ensures ∙ e)) ∙ ap code_of (sym c.fault_by.ensures))
@@ -23,9 +23,9 @@ returns-in-Err-clause-plans c = λ config v s.
 pub returns-in-Ok-clause-plans : goal.returns-in-Ok-clause-plans
 returns-in-Ok-clause-plans c = λ config v s.
     let id = c.args.input.now.call_id.list in
-    let call = c.index-call.result.now in
-    let f = subst (λ (call : LiveCall). IsFirst config (is_of_id id) v.calls call) (sym c.index-call.ensures)
-    (call_at_place config (λ (call : LiveCall). bytes_eq call.id.list id) (is_of_id id) c.args.self.now.calls.items v.calls c.args.place call (asks_id config id) s.calls_for c.requires.found) in
+    let call = c.at-call.result.now in
+    let f = subst (λ (call : LiveCall). IsFirst config (is_of_id id) v.calls call) (sym c.at-call.ensures)
+    (call_at_place config (λ (call : LiveCall). bytes_eq call.id.list id) (is_of_id id) c.args.self.now.calls.list v.calls c.args.place call (asks_id config id) s.calls_for c.requires.found) in
     let dialog = subst (λ (k : Config). DialogFor k call.dialog f.of.rounds) (sym s.config_is) f.call_for.dialog_for in
     subst (λ (o : Option CallView). PlansAnswer config c.args.input.now c.args.sdp.now o
     (Ok (record { plan = c.in-Ok.plan; call = call.number; cell = call.cell; begun = None; leases = None }))) (sym f.found)

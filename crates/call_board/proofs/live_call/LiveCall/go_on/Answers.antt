@@ -2,8 +2,8 @@ use Rattle.std.proofs.Common.{refl}
 use Rattle.call_board.proofs.Applies.{applied, begun_awaits}
 use Rattle.call_board.proofs.live_call.LiveCall.go_on.Goals as goal
 
-pub returns : goal.returns
-returns c = λ config of round s begun p. record {
+pub returns-clause-taken : goal.returns-clause-taken
+returns-clause-taken c = λ config of round s begun p. record {
   number_is = s.number_is;
   cell_is = s.cell_is;
   id_is = s.id_is;

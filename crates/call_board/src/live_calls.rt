@@ -1,0 +1,132 @@
+//! The live calls of a board.
+
+ghost use Rattle.std.specs.Prelude.{◌≡◌, ◌<◌, ◌==◌, ◌++◌, [], ◌∷◌, false, length, position, remove, slice_index_or, IfSome, OnOk};
+ghost use Rattle.std.specs.List.{list_any};
+ghost use Rattle.std.specs.Str.{bytes_eq};
+
+use crate::live_call::LiveCall;
+use indexmap::IndexMap;
+use offer_answer::Plan;
+use relay_outside::OutOfMemory;
+use std::alloc::Global;
+use std::marker::Model;
+
+/// The live calls of a board, in order of creation, each under the bytes of its call-id.
+///
+/// Contracts see them as a list, and for how many more calls there is room, `spare`.
+#[derive(Drop)]
+pub(crate) struct LiveCalls {
+    calls: IndexMap<Vec<u8>, LiveCall>,
+}
+
+impl Model for LiveCalls {
+    ghost use Rattle.indexmap.specs.IndexMap.{spare, values};
+    ghost use Rattle.ng_bencode.specs.Room.{Room};
+    ghost use Rattle.call_board.specs.declared.live_call.LiveCall.{LiveCall};
+    ghost use Rattle.call_board.specs.Keyed.{AreUnderTheirIds};
+
+    ghost Value = { Room LiveCall };
+
+    ghost view = { λ calls. record { list = values calls.calls; spare = spare calls.calls } };
+
+    ghost invariant = { λ calls. AreUnderTheirIds calls.calls.entries };
+}
+
+impl LiveCalls {
+    ghost use Rattle.std.specs.Prelude.{map};
+    ghost use Rattle.indexmap.specs.IndexMap.{keys, values};
+    ghost use Rattle.call_board.specs.Applied.{WentOn};
+
+    /// No calls.
+    pub fn new(alloc: Global) -> LiveCalls
+        ensures { result.list ≡ [] }
+    {
+        LiveCalls {
+            calls: IndexMap::new(alloc),
+        }
+    }
+
+    /// How many calls there are.
+    pub fn len(&self) -> usize
+        ensures { result ≡ length self.now.list }
+    {
+        self.calls.len()
+    }
+
+    /// The calls, each under the bytes of its call-id, in order of creation.
+    pub fn by_id(&self) -> &IndexMap<Vec<u8>, LiveCall>
+        ensures keys { map (λ key. key.items) (keys result.now) ≡ map (λ call. call.id.list) self.now.list }
+        ensures calls { values result.now ≡ self.now.list }
+    {
+        &self.calls
+    }
+
+    /// The place of the call with this call-id, from 0.
+    pub fn place_of_id(&self, id: &[u8]) -> Option<usize>
+        ensures place { result ≡ position (λ call. bytes_eq call.id.list id.now) self.now.list }
+        ensures within { IfSome result (λ at. at < length self.now.list) }
+    {
+        self.calls.get_index_of(id)
+    }
+
+    /// The place of the call with this number, from 0.
+    pub fn place_of(&self, number: u64) -> Option<usize>
+        ensures place { result ≡ position (λ call. call.number == number) self.now.list }
+        ensures within { IfSome result (λ at. at < length self.now.list) }
+    {
+        self.calls
+            .values()
+            .as_slice()
+            .iter()
+            .position(|call| call.number == number)
+    }
+
+    /// The call in a place, from 0.
+    pub fn at(&self, place: usize) -> &LiveCall
+        requires { place < length self.now.list }
+        ensures { result.now ≡ slice_index_or self.now.list place result.now }
+    {
+        &self.calls[place]
+    }
+
+    /// Takes in one more offer or answer of the call in a place, from 0, at the moment `now`.
+    pub fn go_on(&mut self, place: usize, plan: Plan, now: u64)
+        requires { place < length self.old.list }
+        ensures { WentOn self.old.list self.new.list place plan now }
+    {
+        self.calls[place].go_on(plan, now);
+    }
+
+    /// Makes room for one more call. The calls stay, also when it fails.
+    pub fn reserve(&mut self) -> Result<(), OutOfMemory>
+        ensures list { self.new.list ≡ self.old.list }
+        ensures room { OnOk result (0 < self.new.spare) }
+    {
+        match self.calls.reserve(1) {
+            Ok(()) => Ok(()),
+            Err(_) => Err(OutOfMemory),
+        }
+    }
+
+    /// Adds a call after the others, of a call-id that none of them has, under the bytes of its call-id. It takes no memory.
+    pub fn push(&mut self, key: Vec<u8>, call: LiveCall)
+        requires room { 0 < self.old.spare }
+        requires key { key.items ≡ call.id.list }
+        ensures { list_any (λ live. bytes_eq live.id.list call.id.list) self.old.list ≡ false → self.new.list ≡ self.old.list ++ call ∷ [] }
+    {
+        let _ = self.calls.insert(key, call);
+    }
+
+    /// Takes out the call in a place, from 0. The others keep their order: each after it moves up by one, in a time that is linear in
+    /// their number.
+    pub fn remove(&mut self, place: usize) -> LiveCall
+        requires { place < length self.old.list }
+        ensures value { result ≡ slice_index_or self.old.list place result }
+        ensures list { self.new.list ≡ remove self.old.list place }
+    {
+        let Some((_, call)) = self.calls.shift_remove_index(place) else {
+            unreachable!();
+        };
+        call
+    }
+}
