@@ -4,6 +4,7 @@ ghost use Rattle.turn_table.specs.Hands.{IsSameHand};
 ghost use Rattle.relay_core.specs.Turning.{made_by};
 ghost use Rattle.media_lane.specs.declared.answers.Totals.{Totals};
 ghost use Rattle.media_lane.specs.Sweeping.{Sweeps};
+ghost use Rattle.media_lane.specs.Gated.{GainsGated};
 ghost use Rattle.board_turns.specs.Between.{board_of, IsBetween};
 ghost use Rattle.main_sweeps.specs.Totals.{HasTotals};
 
@@ -14,7 +15,7 @@ use std::sync::Wait;
 use turn_table::{Hand, Turns};
 
 /// Sweeps once over all pairs by the main hand, which holds no turn: takes once of each half of each pair, and relays each
-/// datagram directly, handed a moment of the clock. The totals go up by what came of it. It may wait, where a lane has a turn;
+/// datagram directly, handed a moment of the clock, inside the gate. The totals go up by what came of it. It may wait, where a lane has a turn;
 /// it takes no memory.
 pub fn sweep_between<I: InEnd, O: OutEnd, R: Wait, G: Gate, C: Clock>(
     rt: &R,
@@ -30,6 +31,7 @@ pub fn sweep_between<I: InEnd, O: OutEnd, R: Wait, G: Gate, C: Clock>(
     ensures between { IsBetween config.now turns.now result }
     ensures board { board_of (made_by result) ≡ board_of (made_by hand) }
     ensures swept { (swept : Totals) × Sweeps config.now 0 1 (C.range clock.now) hand result swept }
+    ensures gated { GainsGated (G.passed gate.now) (made_by hand) (made_by result) }
     ensures totals { HasTotals (made_by hand) totals.old → HasTotals (made_by result) totals.new }
 {
     let mut lane = Lane::new(hand, 0, 1, config);

@@ -16,8 +16,10 @@ use Rattle.media_lane.specs.Lanes.{hand_of, list_of, config_of, index_of, lanes_
 use Rattle.media_lane.specs.Receipts.{KeepsList}
 use Rattle.media_lane.specs.Visits.{Row, Visit, rows_of, all_rows, ArePassed, is_of, times, is_own, one_if, AreTotals}
 use Rattle.media_lane.specs.Visited.{is_marked}
+use Rattle.media_lane.specs.Gated.{GainsGated}
 use Rattle.media_lane.specs.Covering.{Covers}
 use Rattle.media_lane.specs.Sweeping.{VisitsOnce, Sweeps}
+use Rattle.media_lane.proofs.Gates.{gains_none, gains_both}
 use Rattle.media_lane.proofs.Visiting.{keeps_more}
 
 -- Numbers that are the same modulo another.
@@ -131,30 +133,32 @@ module _ {I O : Type 0} {gi : _} {go : _} {gm : _} where
   }
 
   -- nothing was done
-  pub covers_nothing : (range : Option (ℕ × ℕ)) (lane : Lane I O gi go gm) (progress : Progress) → Covers range lane lane progress progress
-  covers_nothing range lane progress = record {
+  pub covers_nothing : (range : Option (ℕ × ℕ)) (gate : ℕ → Type 0) (lane : Lane I O gi go gm) (progress : Progress) → Covers range gate lane lane progress progress
+  covers_nothing range gate lane progress = record {
     same = record { hand = (refl, refl, refl, refl); config_is = refl; index_is = refl; lanes_is = refl };
     keeps = record { numbered = λ n. n; orderly = λ o. o; receiving = λ own r. r };
     visits = [];
     list_is = sym (nothing_more (entries (hand_of lane)));
     passed = tt;
+    gated = gains_none gate (list_of lane);
     marked = λ pair half. omega arith;
     own = λ pair half. omega arith;
     counted = λ earlier a. subst (λ (vs : List Visit). AreTotals vs progress.totals) (sym (nothing_more earlier)) a;
   }
 
   -- a half was visited and marked that wasn't marked before
-  pub covers_visit : (range : Option (ℕ × ℕ)) (old new : Lane I O gi go gm) (before after : Progress) (pair : ℕ) (half : Half) → IsSameLane old new
+  pub covers_visit : (range : Option (ℕ × ℕ)) (gate : ℕ → Type 0) (old new : Lane I O gi go gm) (before after : Progress) (pair : ℕ) (half : Half) → IsSameLane old new
       → KeepsList (config_of old) (list_of old) (list_of new) → VisitsOnce (config_of old) range pair half (hand_of old) (hand_of new) before.totals after.totals
-      → is_marked before.visited pair half ≡ false
+      → GainsGated gate (list_of old) (list_of new) → is_marked before.visited pair half ≡ false
       → ((p : ℕ) (h : Half) → is_marked after.visited p h ≡ (is_marked before.visited p h || ((pair == p) && is_half half h)))
-      → pair < pair_count (config_of old) → pair % lanes_of old ≡ index_of old → Covers range old new before after
-  covers_visit range old new before after pair half same keeps v new_one marks below own = record {
+      → pair < pair_count (config_of old) → pair % lanes_of old ≡ index_of old → Covers range gate old new before after
+  covers_visit range gate old new before after pair half same keeps v gated new_one marks below own = record {
     same = same;
     keeps = keeps;
     visits = v.visit ∷ [];
     list_is = v.list_is ∙ ap (λ (rows : List Row). entries (hand_of old) ++ rows) (sym (nothing_more (rows_of (config_of old) v.visit)));
     passed = (v.passed, tt);
+    gated = gated;
     marked = λ p h.
         ap (λ (n : ℕ). one_if (is_marked before.visited p h) + n) (times_one p h v.visit pair half v.pair_is v.half_is)
         ∙ joined (is_marked before.visited p h) ((pair == p) && is_half half h) (unmarked p h)
@@ -175,8 +179,8 @@ module _ {I O : Type 0} {gi : _} {go : _} {gm : _} where
           (own_by pair (pair_count (config_of old)) (lanes_of old) (index_of old) below own)
 
   -- one after the other
-  pub covers_both : (range : Option (ℕ × ℕ)) (a b c : Lane I O gi go gm) (x y z : Progress) → Covers range a b x y → Covers range b c y z → Covers range a c x z
-  covers_both range a b c x y z first second = record {
+  pub covers_both : (range : Option (ℕ × ℕ)) (gate : ℕ → Type 0) (a b c : Lane I O gi go gm) (x y z : Progress) → Covers range gate a b x y → Covers range gate b c y z → Covers range gate a c x z
+  covers_both range gate a b c x y z first second = record {
     same = same_both a b c first.same second.same;
     keeps = keeps_more (config_of a) (config_of b) (all_rows (config_of b) second.visits) (hand_of a) (hand_of b) (hand_of c) second.list_is first.same.config_is first.keeps second.keeps;
     visits = first.visits ++ second.visits;
@@ -186,6 +190,7 @@ module _ {I O : Type 0} {gi : _} {go : _} {gm : _} where
         ∙ append_assoc (entries (hand_of a)) (all_rows (config_of a) first.visits) (all_rows (config_of a) second.visits)
         ∙ ap (λ (rows : List Row). entries (hand_of a) ++ rows) (sym (rows_append (config_of a) first.visits second.visits));
     passed = passed_append range first.visits second.visits first.passed second.passed;
+    gated = gains_both gate (list_of a) (list_of b) (list_of c) first.gated second.gated;
     marked = λ pair half.
         (let e = times_append pair half first.visits second.visits in
         let p = first.marked pair half in
@@ -207,38 +212,38 @@ module _ {I O : Type 0} {gi : _} {go : _} {gm : _} where
           ∙ ap (λ (lanes : ℕ). one_if (is_own (config_of a) (index_of a) lanes pair)) first.same.lanes_is
 
   -- the same lane and the same progress
-  pub covers_is : (range : Option (ℕ × ℕ)) (old mid new : Lane I O gi go gm) (before after progress : Progress) → new ≡ mid → progress ≡ after
-      → Covers range old mid before after → Covers range old new before progress
-  covers_is range old mid new before after progress lane_is progress_is c =
-      subst (λ (lane : Lane I O gi go gm). Covers range old lane before progress) (sym lane_is)
-      (subst (λ (p : Progress). Covers range old mid before p) (sym progress_is) c)
+  pub covers_is : (range : Option (ℕ × ℕ)) (gate : ℕ → Type 0) (old mid new : Lane I O gi go gm) (before after progress : Progress) → new ≡ mid → progress ≡ after
+      → Covers range gate old mid before after → Covers range gate old new before progress
+  covers_is range gate old mid new before after progress lane_is progress_is c =
+      subst (λ (lane : Lane I O gi go gm). Covers range gate old lane before progress) (sym lane_is)
+      (subst (λ (p : Progress). Covers range gate old mid before p) (sym progress_is) c)
 
   -- what is marked stays so
-  pub stays_marked : (range : Option (ℕ × ℕ)) (old new : Lane I O gi go gm) (before after : Progress) (pair : ℕ) (half : Half) → Covers range old new before after
+  pub stays_marked : (range : Option (ℕ × ℕ)) (gate : ℕ → Type 0) (old new : Lane I O gi go gm) (before after : Progress) (pair : ℕ) (half : Half) → Covers range gate old new before after
       → is_marked before.visited pair half ≡ true → is_marked after.visited pair half ≡ true
-  stays_marked range old new before after pair half c = still (is_marked before.visited pair half) (is_marked after.visited pair half) (times pair half c.visits) (c.marked pair half)
+  stays_marked range gate old new before after pair half c = still (is_marked before.visited pair half) (is_marked after.visited pair half) (times pair half c.visits) (c.marked pair half)
 
   -- both halves of the next own pair are marked as well
-  pub next_marked : (range : Option (ℕ × ℕ)) (a b c : Lane I O gi go gm) (x y z : Progress) (index lanes upto : ℕ) → Covers range a b x y → Covers range b c y z
+  pub next_marked : (range : Option (ℕ × ℕ)) (gate : ℕ → Type 0) (a b c : Lane I O gi go gm) (x y z : Progress) (index lanes upto : ℕ) → Covers range gate a b x y → Covers range gate b c y z
       → is_marked y.visited upto Rtp ≡ true → is_marked z.visited upto Rtcp ≡ true → upto % lanes ≡ index
       → ((pair : ℕ) (half : Half) → pair % lanes ≡ index → pair < upto → is_marked x.visited pair half ≡ true)
       → (pair : ℕ) (half : Half) → pair % lanes ≡ index → pair < upto + lanes → is_marked z.visited pair half ≡ true
-  next_marked range a b c x y z index lanes upto first second rtp rtcp own below pair half same before =
+  next_marked range gate a b c x y z index lanes upto first second rtp rtcp own below pair half same before =
       elim (next_own lanes upto pair (own ∙ sym same) before) [
-        | inl h ↦ stays_marked range b c y z pair half second (stays_marked range a b x y pair half first (below pair half same h))
+        | inl h ↦ stays_marked range gate b c y z pair half second (stays_marked range gate a b x y pair half first (below pair half same h))
         | inr h ↦ subst (λ (n : ℕ). is_marked z.visited n half ≡ true) (sym h) (both half)
       ]
     where
       both : (at : Half) → is_marked z.visited upto at ≡ true
-      both Rtp = stays_marked range b c y z upto Rtp second rtp
+      both Rtp = stays_marked range gate b c y z upto Rtp second rtp
       both Rtcp = rtcp
 
   -- all own halves were visited, from none on
-  pub sweeps_all : (range : Option (ℕ × ℕ)) (old new : Lane I O gi go gm) (before after : Progress) → Covers range old new before after
+  pub sweeps_all : (range : Option (ℕ × ℕ)) (gate : ℕ → Type 0) (old new : Lane I O gi go gm) (before after : Progress) → Covers range gate old new before after
       → ((pair : ℕ) (half : Half) → is_marked before.visited pair half ≡ false) → AreTotals [] before.totals
       → ((pair : ℕ) (half : Half) → pair % lanes_of old ≡ index_of old → pair < pair_count (config_of old) → is_marked after.visited pair half ≡ true)
       → Sweeps (config_of old) (index_of old) (lanes_of old) range (hand_of old) (hand_of new) after.totals
-  sweeps_all range old new before after c none nothing all = record {
+  sweeps_all range gate old new before after c none nothing all = record {
     visits = c.visits;
     list_is = c.list_is;
     passed = c.passed;

@@ -3,6 +3,7 @@ pub mod Above
 pub mod Keeping
 pub mod Taken
 pub mod Relays
+pub mod Gates
 pub mod Visiting
 pub mod Counting
 pub mod Loops

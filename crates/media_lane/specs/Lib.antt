@@ -5,6 +5,7 @@ pub mod Busy
 pub mod Taking
 pub mod Relaying
 pub mod Visits
+pub mod Gated
 pub mod Sweeping
 pub mod Looping
 pub mod Visited

@@ -90,7 +90,7 @@ impl<I: InEnd, O: OutEnd> Lane<I, O> {
         progress: &mut Progress,
     ) -> bool
         requires { IsHandOf turns.now (hand_of self.old) }
-        ensures { Covers (C.range clock.now) self.old self.new progress.old progress.new }
+        ensures { Covers (C.range clock.now) (G.passed gate.now) self.old self.new progress.old progress.new }
     {
         for port in ports {
             let Some((pair, half)) = self.half_at(*port) else {
@@ -115,7 +115,7 @@ impl<I: InEnd, O: OutEnd> Lane<I, O> {
         progress: &mut Progress,
     ) -> bool
         requires { IsHandOf turns.now (hand_of self.old) }
-        ensures { Covers (C.range clock.now) self.old self.new progress.old progress.new }
+        ensures { Covers (C.range clock.now) (G.passed gate.now) self.old self.new progress.old progress.new }
     {
         for _ in 0..COLD_HALVES {
             let Some((pair, half)) = self.own_half(order.look()) else {
@@ -148,7 +148,7 @@ impl<I: InEnd, O: OutEnd> Lane<I, O> {
         progress: &mut Progress,
     )
         requires { IsHandOf turns.now (hand_of self.old) }
-        ensures { Covers (C.range clock.now) self.old self.new progress.old progress.new }
+        ensures { Covers (C.range clock.now) (G.passed gate.now) self.old self.new progress.old progress.new }
     {
         let mut ports = [0; 64];
         for _ in 0..MOST_LOOKS {

@@ -12,7 +12,8 @@
 //! `specs/Starts.antt` says what the places of a lane's table begin as, `specs/Lanes.antt` what contracts see in a lane,
 //! `specs/Receipts.antt` what a receipt of a hand's list is, `specs/Busy.antt` what a busy call does, `specs/Taking.antt` and
 //! `specs/Relaying.antt` what a take and a relay add to the list of its hand, `specs/Visits.antt` and `specs/Sweeping.antt` what a
-//! sweep adds, `specs/Visited.antt` and `specs/Covering.antt` how far it has come, `specs/Looping.antt` what sweep after sweep adds.
+//! sweep adds, `specs/Visited.antt` and `specs/Covering.antt` how far it has come, `specs/Looping.antt` what sweep after sweep adds,
+//! `specs/Gated.antt` at whose cells a gate was passed.
 #![tactic(auto)]
 
 mod answers;

@@ -3,6 +3,7 @@ ghost use Rattle.std.specs.Prelude.{◌≡◌, ◌<◌, length};
 ghost use Rattle.turn_table.specs.Hands.{IsHandOf};
 ghost use Rattle.media_lane.specs.Lanes.{hand_of, list_of, config_of, index_of, lanes_of, IsSameLane};
 ghost use Rattle.media_lane.specs.Receipts.{KeepsList};
+ghost use Rattle.media_lane.specs.Gated.{GainsGated};
 ghost use Rattle.media_lane.specs.Looping.{AddsTotals, MakesSweeps};
 
 use crate::answers::Totals;
@@ -40,6 +41,7 @@ pub fn lane_loop<W: Wait, I: InEnd, O: OutEnd, G: Gate, C: Clock>(
     ensures same { IsSameLane lane.old lane.new }
     ensures swept { (made : MakesSweeps (config_of lane.old) (index_of lane.old) (lanes_of lane.old) (C.range clock.now) (hand_of lane.old) (hand_of lane.new) result) × (0 < length made.sweeps) }
     ensures list { KeepsList (config_of lane.old) (list_of lane.old) (list_of lane.new) }
+    ensures gated { GainsGated (G.passed gate.now) (list_of lane.old) (list_of lane.new) }
 {
     let mut totals = Totals::none();
     let mut order = Order::new();

@@ -9,6 +9,7 @@ ghost use Rattle.relay_core.specs.Standing.{IsCellPart};
 ghost use Rattle.media_lane.specs.Relaying.{relay_by, RelaysPart, RelaysBy, RelaysAtLast, bytes_left};
 ghost use Rattle.media_lane.specs.Lanes.{packet_of, pair_of, hand_of, list_of, config_of, sent_of, room_of, IsSameLane};
 ghost use Rattle.media_lane.specs.Receipts.{IsReceiptOf, KeepsList};
+ghost use Rattle.media_lane.specs.Gated.{GainsGated};
 
 use crate::answers::Relayed;
 use crate::lane::Lane;
@@ -99,6 +100,7 @@ impl<I: InEnd, O: OutEnd> Lane<I, O> {
         ensures same { IsSameLane self.old self.new }
         ensures relayed { RelaysBy I.told I.faults O.told O.faults receipt now result (sent_of self.old) (sent_of self.new) (hand_of self.old) (hand_of self.new) }
         ensures list { KeepsList (config_of self.old) (list_of self.old) (list_of self.new) }
+        ensures gated { GainsGated (G.passed gate.now) (list_of self.old) (list_of self.new) }
     {
         let cell = receipt.packet.holder.cell;
         let turn = match turns.try_turn(&mut self.hand, cell as usize) {
@@ -142,6 +144,7 @@ impl<I: InEnd, O: OutEnd> Lane<I, O> {
         ensures same { IsSameLane self.old self.new }
         ensures relayed { RelaysAtLast I.told I.faults O.told O.faults (receipt_of take packet.now (room_of self.old)) now result (sent_of self.new) (hand_of self.old) (hand_of self.new) }
         ensures list { KeepsList (config_of self.old) (list_of self.old) (list_of self.new) }
+        ensures gated { GainsGated (G.passed gate.now) (list_of self.old) (list_of self.new) }
     {
         let cell = packet.holder.cell;
         let turn = turns.turn(rt, &mut self.hand, cell as usize);
@@ -176,6 +179,7 @@ impl<I: InEnd, O: OutEnd> Lane<I, O> {
         ensures same { IsSameLane self.old self.new }
         ensures relayed { RelaysAtLast I.told I.faults O.told O.faults (packet_of receipt) now result (sent_of self.new) (hand_of self.old) (hand_of self.new) }
         ensures list { KeepsList (config_of self.old) (list_of self.old) (list_of self.new) }
+        ensures gated { GainsGated (G.passed gate.now) (list_of self.old) (list_of self.new) }
     {
         self.taken = receipt.bytes;
         self.relay_taken(rt, turns, gate, receipt.take, &receipt.packet, now)

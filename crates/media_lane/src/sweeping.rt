@@ -5,6 +5,7 @@ ghost use Rattle.port_pool.specs.Ports.{pair_count};
 ghost use Rattle.turn_table.specs.Hands.{IsHandOf};
 ghost use Rattle.media_lane.specs.Lanes.{hand_of, list_of, config_of, index_of, lanes_of, IsSameLane};
 ghost use Rattle.media_lane.specs.Receipts.{KeepsList};
+ghost use Rattle.media_lane.specs.Gated.{GainsGated};
 ghost use Rattle.media_lane.specs.Visits.{Visit, AreTotals, CountsRelay};
 ghost use Rattle.media_lane.specs.Visited.{is_marked};
 ghost use Rattle.media_lane.specs.Covering.{Covers};
@@ -75,6 +76,7 @@ impl<I: InEnd, O: OutEnd> Lane<I, O> {
         ensures same { IsSameLane self.old self.new }
         ensures visited { VisitsOnce (config_of self.old) (C.range clock.now) pair half (hand_of self.old) (hand_of self.new) totals.old totals.new }
         ensures list { KeepsList (config_of self.old) (list_of self.old) (list_of self.new) }
+        ensures gated { GainsGated (G.passed gate.now) (list_of self.old) (list_of self.new) }
     {
         let take = self.take(rt, turns, pair, half);
         if let Some(packet) = packet_in(half, take.given, &self.taken) {
@@ -98,7 +100,7 @@ impl<I: InEnd, O: OutEnd> Lane<I, O> {
         requires pair { pair < pair_count (config_of self.old) }
         requires own { pair % lanes_of self.old ≡ index_of self.old }
         requires held { pair < 32768 }
-        ensures covered { Covers (C.range clock.now) self.old self.new progress.old progress.new }
+        ensures covered { Covers (C.range clock.now) (G.passed gate.now) self.old self.new progress.old progress.new }
         ensures marked { is_marked progress.new.visited pair half ≡ true }
         ensures first { IsTrue result ↔ (is_marked progress.old.visited pair half ≡ false) }
     {
@@ -120,7 +122,7 @@ impl<I: InEnd, O: OutEnd> Lane<I, O> {
         progress: &mut Progress,
     )
         requires { IsHandOf turns.now (hand_of self.old) }
-        ensures covered { Covers (C.range clock.now) self.old self.new progress.old progress.new }
+        ensures covered { Covers (C.range clock.now) (G.passed gate.now) self.old self.new progress.old progress.new }
         ensures all { (pair : ℕ) (half : Half) → pair % lanes_of self.old ≡ index_of self.old → pair < pair_count (config_of self.old) → is_marked progress.new.visited pair half ≡ true }
     {
         let pairs = u64::from(count_pairs(&self.config));
@@ -150,6 +152,7 @@ impl<I: InEnd, O: OutEnd> Lane<I, O> {
         ensures same { IsSameLane self.old self.new }
         ensures swept { Sweeps (config_of self.old) (index_of self.old) (lanes_of self.old) (C.range clock.now) (hand_of self.old) (hand_of self.new) result }
         ensures list { KeepsList (config_of self.old) (list_of self.old) (list_of self.new) }
+        ensures gated { GainsGated (G.passed gate.now) (list_of self.old) (list_of self.new) }
     {
         self.sweep_in(rt, turns, gate, clock, &mut Order::new())
     }
@@ -167,6 +170,7 @@ impl<I: InEnd, O: OutEnd> Lane<I, O> {
         ensures same { IsSameLane self.old self.new }
         ensures swept { Sweeps (config_of self.old) (index_of self.old) (lanes_of self.old) (C.range clock.now) (hand_of self.old) (hand_of self.new) result }
         ensures list { KeepsList (config_of self.old) (list_of self.old) (list_of self.new) }
+        ensures gated { GainsGated (G.passed gate.now) (list_of self.old) (list_of self.new) }
     {
         order.begin(clock.now());
         let mut progress = Progress {

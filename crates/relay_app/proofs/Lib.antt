@@ -1,6 +1,7 @@
 mod Counts
 mod Departures
 mod Ends
+mod Gates
 mod Loops
 pub mod MediaThreads
 mod Orders

@@ -1,5 +1,5 @@
 -- What all threads of media made, one after the other.
-use Rattle.std.proofs.Common.{◌≡◌, ◌∙◌, sym, ap, subst, ℕ, suc, ◌+◌, ◌<◌, inl, inr, false, List, [], ◌∷◌, ◌++◌, Option, Some, All, length, map, reverse, append-nil, append_assoc, arith}
+use Rattle.std.proofs.Common.{◌≡◌, ◌∙◌, refl, sym, ap, subst, ℕ, suc, ◌+◌, ◌<◌, inl, inr, false, List, [], ◌∷◌, ◌++◌, Option, Some, All, length, map, reverse, append-nil, append_assoc, arith}
 use Rattle.std.specs.Prelude.{slice_index_or}
 use Rattle.std.proofs.lemmas.Bool.{cases_lt}
 use Rattle.std.proofs.lemmas.List.{length-map, map-append, reverse-append, get_or_append_left, get_or_push}
@@ -26,6 +26,8 @@ use Rattle.media_lane.specs.Lanes.{hand_of, config_of, index_of, lanes_of, list_
 use Rattle.media_lane.specs.Looping.{AddsTotals, AreSweeps, visits_of}
 use Rattle.media_lane.specs.Receipts.{KeepsList}
 use Rattle.media_lane.specs.Visits.{Row, Visit, ArePassed, all_rows}
+use Rattle.media_lane.specs.Gated.{AreGated}
+use Rattle.media_lane.proofs.Gates.{gated_none, gated_more, gated_both}
 use Rattle.board_turns.specs.Between.{IsBetween}
 use Rattle.main_sweeps.specs.Totals.{HasTotals}
 use Rattle.main_sweeps.proofs.Sweeps.{rows_in, visits_totals}
@@ -71,8 +73,8 @@ nothing_received config = record { received = λ e x i q. elim i [ ]; once = λ 
 -- One thread.
 
 module _ {I O : Type 0} {gi : _} {go : _} {gm : _} (config : Config) (turns : Turns (Relay I O) (Part I O) Made (Unit {0})) (threads : ℕ) (range : Option (ℕ × ℕ)) where
-  pub worked_done : (i : ℕ) (old new : MediaThread I O gi go gm) → IsFresh config turns threads i old → HasWorked range old new → IsDone config turns threads range i new
-  worked_done i old new fresh worked = record {
+  pub worked_done : (gate : ℕ → Type 0) (i : ℕ) (old new : MediaThread I O gi go gm) → IsFresh config turns threads i old → HasWorked range gate old new → IsDone config turns threads range i new
+  worked_done gate i old new fresh worked = record {
     of_table = worked.same.hand.0 ∙ fresh.of_table;
     one_part = worked.same.hand.2 ∙ fresh.one_part;
     not_main = worked.same.hand.3 ∙ fresh.not_main;
@@ -147,21 +149,40 @@ module _ {I O : Type 0} {gi : _} {go : _} {gm : _} (config : Config) (turns : Tu
       (all_totals (n + 1) xs done.1 (rows ++ rows_of x) adds.0 is adds.2
       (subst (λ (l : List Entry). HasTotals l adds.0) (sym (map-append entry_of rows (rows_of x))) (done_totals n x done.0 (list_of rows) was adds.0 adds.1 has)))
 
+module _ {I O : Type 0} {gi : _} {go : _} {gm : _} (gate : ℕ → Type 0) where
+  each_gated : (n : ℕ) (xs : List (MediaThread I O gi go gm)) → AreEach (λ (i : ℕ) (x : MediaThread I O gi go gm). AreGated gate (lane_list x.lane)) n xs
+      → AreGated gate (list_of (all_of (map (λ (x : MediaThread I O gi go gm). rows_of x) xs)))
+  each_gated n [] each = gated_none gate [] refl
+  each_gated n (x ∷ xs) each =
+      let more = all_of (map (λ (y : MediaThread I O gi go gm). rows_of y) xs) in
+      subst (λ (l : List Entry). AreGated gate l) (sym (map-append entry_of (rows_of x) more))
+      (gated_both gate (list_of (rows_of x)) (list_of more) each.0 (each_gated (n + 1) xs each.1))
+
 -- Each thread that was made and did its work is done.
 
 module _ {I O : Type 0} {gi : _} {go : _} {gm : _} (config config' : Config) (turns turns' : Turns (Relay I O) (Part I O) Made (Unit {0})) (threads : ℕ) (range : Option (ℕ × ℕ))
-    (xs ys : List (MediaThread I O gi go gm)) (config_is : config' ≡ config) (turns_are : turns' ≡ turns) (long : length ys ≡ length xs) (many : length xs ≡ threads)
+    (gate : ℕ → Type 0) (xs ys : List (MediaThread I O gi go gm)) (config_is : config' ≡ config) (turns_are : turns' ≡ turns) (long : length ys ≡ length xs) (many : length xs ≡ threads)
     (fresh : (i : ℕ) (d : MediaThread I O gi go gm) → i < threads → IsFresh config' turns' threads i (slice_index_or xs i d))
-    (worked : (i : ℕ) (d : MediaThread I O gi go gm) → i < length xs → HasWorked range (slice_index_or xs i d) (slice_index_or ys i d)) where
+    (worked : (i : ℕ) (d : MediaThread I O gi go gm) → i < length xs → HasWorked range gate (slice_index_or xs i d) (slice_index_or ys i d)) where
   pub done_at : (i : ℕ) (d : MediaThread I O gi go gm) → i < length ys → IsDone config turns threads range i (slice_index_or ys i d)
   done_at i d lt =
-      worked_done config turns threads range i (slice_index_or xs i d) (slice_index_or ys i d)
+      worked_done config turns threads range gate i (slice_index_or xs i d) (slice_index_or ys i d)
       (subst (λ (k : Config). IsFresh k turns threads i (slice_index_or xs i d)) config_is
       (subst (λ (t : Turns (Relay I O) (Part I O) Made (Unit {0})). IsFresh config' t threads i (slice_index_or xs i d)) turns_are (fresh i d (omega (arith, lt, long, many)))))
       (worked i d (omega (arith, lt, long)))
 
   pub are_done : AreDone config turns threads range 0 ys
   are_done = each_from_none (λ (i : ℕ) (x : MediaThread I O gi go gm). IsDone config turns threads range i x) ys done_at
+
+  gated_at : (i : ℕ) (d : MediaThread I O gi go gm) → i < length ys → AreGated gate (lane_list (slice_index_or ys i d).lane)
+  gated_at i d lt =
+      gated_more gate (lane_list (slice_index_or xs i d).lane) (lane_list (slice_index_or ys i d).lane)
+      (gated_none gate (lane_list (slice_index_or xs i d).lane) (ap (λ (rows : List Row). list_of rows) (fresh i d (omega (arith, lt, long, many))).nothing))
+      (worked i d (omega (arith, lt, long))).gated
+
+  -- the gate was passed at the cell of each relay
+  pub all_gated : AreGated gate (list_of (all_of (map (λ (x : MediaThread I O gi go gm). rows_of x) ys)))
+  all_gated = each_gated gate 0 ys (each_from_none (λ (i : ℕ) (x : MediaThread I O gi go gm). AreGated gate (lane_list x.lane)) ys gated_at)
 
   pub as_many : length (map (λ (x : MediaThread I O gi go gm). rows_of x) ys) ≡ threads
   as_many = length-map ys (λ (x : MediaThread I O gi go gm). rows_of x) ∙ long ∙ many

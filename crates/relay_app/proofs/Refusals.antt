@@ -14,11 +14,11 @@ use Rattle.relay_app.specs.Served.{Outside}
 use Rattle.relay_app.specs.Run.{Serves, StatusByWords, ReplayedBy, ReplaysBy, PrintsUsage, TellsLine}
 use Rattle.relay_app.proofs.Runs.{not_begun}
 
-pub serves_nothing : (settings : Option Settings) (range : Option (ℕ × ℕ)) (outside : Outside) (wrote : Option (List WriteCall)) → outside.link ≡ outside.link_now
+pub serves_nothing : (settings : Option Settings) (range : Option (ℕ × ℕ)) (gate : ℕ → Type 0) (outside : Outside) (wrote : Option (List WriteCall)) → outside.link ≡ outside.link_now
     → outside.timer ≡ outside.timer_now → outside.opened ≡ outside.opened_now → outside.drew ≡ outside.drew_now
-    → Serves settings range outside wrote wrote status.OutOfMemory
-serves_nothing None range outside wrote link timer opened drew = tt
-serves_nothing (Some settings) range outside wrote link timer opened drew = not_begun settings range outside wrote link timer opened drew
+    → Serves settings range gate outside wrote wrote status.OutOfMemory
+serves_nothing None range gate outside wrote link timer opened drew = tt
+serves_nothing (Some settings) range gate outside wrote link timer opened drew = not_begun settings range gate outside wrote link timer opened drew
 
 pub unread_status : (settings : Option Settings) (replay : Option ReplaySettings) → StatusByWords settings replay status.OutOfMemory
 unread_status None None = inr (inr refl)

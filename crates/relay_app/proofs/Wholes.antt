@@ -19,6 +19,7 @@ use Rattle.media_ports.specs.Held.{TellsHeld}
 use Rattle.media_ports.specs.Asked as asked
 use Rattle.media_lane.specs.declared.answers.Totals.{Totals}
 use Rattle.media_lane.specs.Visits.{Row, AreTotals}
+use Rattle.media_lane.specs.Gated.{AreGated}
 use Rattle.board_turns.specs.Between.{IsBetween}
 use Rattle.board_turns.specs.Ties.{AreTied, Ties}
 use Rattle.board_turns.proofs.Firsts.{first_board, none_open}
@@ -34,6 +35,7 @@ use Rattle.relay_app.specs.declared.serve.Looped.{Looped}
 use Rattle.relay_app.specs.Turned.{AddsSweep, DidTurns, CanWork, DidWork, MadeTurns}
 use Rattle.relay_app.proofs.Departures.{is_sent}
 use Rattle.relay_app.proofs.Ends.{whole_ends, opens_same}
+use Rattle.relay_app.proofs.Gates.{told_gated}
 use Rattle.relay_app.proofs.Loops.{opened_alone}
 use Rattle.relay_app.proofs.Orders.{AreOfLane, whole_in_order}
 use Rattle.relay_app.proofs.Tied.{run_tied}
@@ -57,11 +59,11 @@ may_begin {M} {I} {O} {g} settings config turns opened hand limit config_is betw
 }
 
 -- the turns of the hand that is there after them
-pub made_turns : {M I O : Type 0} {g : _} (settings : Settings) (config : Config) (turns : Turns M (Part I O) Made (Unit {0})) (range : Option (ℕ × ℕ)) (outside : Outside) (faults faults_now : ℕ)
+pub made_turns : {M I O : Type 0} {g : _} (settings : Settings) (config : Config) (turns : Turns M (Part I O) Made (Unit {0})) (range : Option (ℕ × ℕ)) (gate : ℕ → Type 0) (outside : Outside) (faults faults_now : ℕ)
     (old new : Hand M (Part I O) Made (Unit {0}) g) (after : Option (Hand M (Part I O) Made (Unit {0}) g)) (looped : Looped) → after ≡ Some new
-    → DidWork settings config turns range outside faults faults_now (Some old) after looped → MadeTurns settings config turns range outside faults faults_now old new looped
-made_turns {M} {I} {O} {g} settings config turns range outside faults faults_now old new after looped is did =
-    subst (λ (h : Option (Hand M (Part I O) Made (Unit {0}) g)). DidWork settings config turns range outside faults faults_now (Some old) h looped) is did
+    → DidWork settings config turns range gate outside faults faults_now (Some old) after looped → MadeTurns settings config turns range gate outside faults faults_now old new looped
+made_turns {M} {I} {O} {g} settings config turns range gate outside faults faults_now old new after looped is did =
+    subst (λ (h : Option (Hand M (Part I O) Made (Unit {0}) g)). DidWork settings config turns range gate outside faults faults_now (Some old) h looped) is did
 
 -- what the turns caused, when more faults of ports were counted after them
 stopped_causes : (history : List BoardEntry) (then later : Outside) → then.port_faults ≡ later.port_faults → then.key_faults ≡ later.key_faults
@@ -74,17 +76,17 @@ stopped_causes history then later p q port key causes entry given i is =
     }
 
 -- so the turns are those of a whole run
-pub ran_whole : (limit : ℕ) (config : Config) (threads : ℕ) (range : Option (ℕ × ℕ)) (l0 l1 : Option (List LinkCall)) (t0 t1 : Option (List ℕ)) (o0 o1 o2 : Option (List PortCall)) (k0 k1 : Option (List KeyCall))
+pub ran_whole : (limit : ℕ) (config : Config) (threads : ℕ) (range : Option (ℕ × ℕ)) (gate : ℕ → Type 0) (l0 l1 : Option (List LinkCall)) (t0 t1 : Option (List ℕ)) (o0 o1 o2 : Option (List PortCall)) (k0 k1 : Option (List KeyCall))
     (p0 p1 p2 q0 q1 : ℕ) (ended : Status) (counts : Counts) (totals : Totals) (rows swept last beside all : List Row) → p1 ≤ p2 → Gained o1 o2 asked.OpensNone
     → (turns : DidTurns limit config threads range
     (record { link = l0; link_now = l1; timer = t0; timer_now = t1; opened = o0; opened_now = o1; drew = k0; drew_now = k1; port_faults = p0; port_faults_now = p1; key_faults = q0; key_faults_now = q1 })
     ended counts rows)
-    → (whole : IsWhole config threads range turns.rounds totals) × (whole.rows ≡ all) × OutsAreTold whole.rows whole.list → AddsSweep config threads range rows swept → Ties config o1 o2 swept last
+    → (whole : IsWhole config threads range turns.rounds totals) × (whole.rows ≡ all) × OutsAreTold whole.rows whole.list → AreGated gate (list_of all) → AddsSweep config threads range rows swept → Ties config o1 o2 swept last
     → AreOfLane beside → all ≡ last ++ beside → (InOrder (list_of all) → InsAreTold config all) → TellsHeld config o0 [] → TellsHeld config o2 []
-    → DidServe [] limit config threads range
+    → DidServe [] limit config threads range gate
     (record { link = l0; link_now = l1; timer = t0; timer_now = t1; opened = o0; opened_now = o2; drew = k0; drew_now = k1; port_faults = p0; port_faults_now = p2; key_faults = q0; key_faults_now = q1 })
     ended counts totals
-ran_whole limit config threads range l0 l1 t0 t1 o0 o1 o2 k0 k1 p0 p1 p2 q0 q1 ended counts totals rows swept last beside all later closes turns whole sweep stop lanes joined ins shut shut_again =
+ran_whole limit config threads range gate l0 l1 t0 t1 o0 o1 o2 k0 k1 p0 p1 p2 q0 q1 ended counts totals rows swept last beside all later closes turns whole gated sweep stop lanes joined ins shut shut_again =
     let run = whole.0 in
     let tied : Gained o0 o2 (AreTied config run.rows) =
     subst (λ (xs : List Row). Gained o0 o2 (AreTied config xs)) (sym whole.1)
@@ -95,6 +97,8 @@ ran_whole limit config threads range l0 l1 t0 t1 o0 o1 o2 k0 k1 p0 p1 p2 q0 q1 e
       rounds = turns.rounds;
       last = turns.last;
       whole = run;
+      gated = told_gated gate run.list
+          (subst (λ (l : List Entry). AreGated gate l) (sym run.told_is) (subst (λ (xs : List Row). AreGated gate (list_of xs)) (sym whole.1) gated));
       counts_are = turns.counts_are;
       has_ended = turns.has_ended;
       last_is = turns.last_is;

@@ -52,21 +52,21 @@ pub record IsCalled (outside : Outside) (calls : List LinkCall) : Type 0 where
 -- The link was bound to its address, the control turns were made, while as many threads of media ran as the words say, and one line was
 -- printed, of totals. This is the status at their end,
 -- unless a fault of the sink took its place
-pub record DidRun (settings : Settings) (range : Option (ℕ × ℕ)) (outside : Outside) (wrote wrote_now : Option (List WriteCall)) (answer : Status) : Type 0 where
+pub record DidRun (settings : Settings) (range : Option (ℕ × ℕ)) (gate : ℕ → Type 0) (outside : Outside) (wrote wrote_now : Option (List WriteCall)) (answer : Status) : Type 0 where
   pub ended : Status
   pub counts : Counts
   pub totals : Totals
-  pub did : DidServe (call.Bind settings.listen true ∷ []) settings.turns settings.config settings.threads range outside ended counts totals
+  pub did : DidServe (call.Bind settings.listen true ∷ []) settings.turns settings.config settings.threads range gate outside ended counts totals
   pub answer_is : (answer ≡ ended) ⊎ (answer ≡ status.PrintFault)
   pub line : Gave wrote wrote_now (put.Write (totals_line counts totals) (is_printed answer) ∷ [])
 
 -- With words of `serve`: memory ran out before any call, or the bind failed, or the run is as `DidRun` says; before it nothing is printed
-abbrev pub Serves : Option Settings → (range : Option (ℕ × ℕ)) → Outside → (wrote wrote_now : Option (List WriteCall)) → Status → Type 0
-Serves None range outside wrote wrote_now answer = Unit {0}
-Serves (Some settings) range outside wrote wrote_now answer =
+abbrev pub Serves : Option Settings → (range : Option (ℕ × ℕ)) → (gate : ℕ → Type 0) → Outside → (wrote wrote_now : Option (List WriteCall)) → Status → Type 0
+Serves None range gate outside wrote wrote_now answer = Unit {0}
+Serves (Some settings) range gate outside wrote wrote_now answer =
     (IsCalled outside [] × Gave wrote wrote_now [] × (answer ≡ status.OutOfMemory))
     ⊎ (IsCalled outside (call.Bind settings.listen false ∷ []) × Gave wrote wrote_now [] × (answer ≡ status.ControlFault))
-    ⊎ DidRun settings range outside wrote wrote_now answer
+    ⊎ DidRun settings range gate outside wrote wrote_now answer
 
 -- how a run of `serve` may end
 abbrev pub IsServed : Status → Type 0

@@ -18,6 +18,7 @@ use Rattle.control_turns.specs.Taking.{DidTurn}
 use Rattle.control_turns.specs.declared.taking.ControlTurn.{ControlTurn}
 use Rattle.control_turns.specs.declared.taking.ControlTurn.TheVariants as turn
 use Rattle.media_lane.specs.declared.answers.Totals.{Totals}
+use Rattle.media_lane.specs.Gated.{AreGated}
 use Rattle.relay_app.specs.declared.status.Status.{Status}
 use Rattle.relay_app.specs.declared.status.Status.TheVariants as status
 use Rattle.relay_app.specs.declared.totals.Counts.{Counts}
@@ -176,12 +177,13 @@ pub record AreTold (config : Config) (first : List LinkCall) (rounds : List Roun
   pub causes : HaveCauses outside (history_after config rounds)
 
 -- A run whose control turns ended with this status, and in which the link was called so before them: its rounds, with all its steps, and what
--- the devices told of them, the port maker also of the ends that it was given back
-pub record DidServe (first : List LinkCall) (limit : ℕ) (config : Config) (threads : ℕ) (range : Option (ℕ × ℕ)) (outside : Outside) (ended : Status) (counts : Counts) (totals : Totals) : Type 0 where
+-- the devices told of them, the port maker also of the ends that it was given back. The gate was passed at the cell of each relay among the steps
+pub record DidServe (first : List LinkCall) (limit : ℕ) (config : Config) (threads : ℕ) (range : Option (ℕ × ℕ)) (gate : ℕ → Type 0) (outside : Outside) (ended : Status) (counts : Counts) (totals : Totals) : Type 0 where
   pub rounds : List Round
   -- the moment of the take that ended them
   pub last : List ℕ
   pub whole : IsWhole config threads range rounds totals
+  pub gated : AreGated gate whole.list
   pub counts_are : counts ≡ counts_in rounds
   pub has_ended : HasEnded ended limit counts.turns
   pub last_is : length last ≡ length (last_take ended)

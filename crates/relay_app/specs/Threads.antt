@@ -10,6 +10,7 @@ use Rattle.media_lane.specs.declared.answers.Totals.{Totals}
 use Rattle.media_lane.specs.Lanes.{hand_of, config_of, index_of, lanes_of, list_of, IsSameLane}
 use Rattle.media_lane.specs.Looping.{AddsTotals, AreSweeps, visits_of, MakesSweeps}
 use Rattle.media_lane.specs.Receipts.{KeepsList}
+use Rattle.media_lane.specs.Gated.{GainsGated}
 use Rattle.media_lane.specs.Visits.{Row, Visit, all_rows, AreTotals}
 use Rattle.relay_app.specs.declared.threads.MediaThread.{MediaThread}
 
@@ -38,12 +39,13 @@ module _ {I O : Type 0} {gi : _} {go : _} {gm : _} where
     pub index_is : index_of thread.lane ≡ index
     pub threads_are : lanes_of thread.lane ≡ threads
 
-  -- the same thread made one sweep or more, and nothing else
-  pub record HasWorked (range : Option (ℕ × ℕ)) (old new : MediaThread I O gi go gm) : Type 0 where
+  -- the same thread made one sweep or more, and nothing else, each relay with the gate passed at its cell
+  pub record HasWorked (range : Option (ℕ × ℕ)) (gate : ℕ → Type 0) (old new : MediaThread I O gi go gm) : Type 0 where
     pub same : IsSameLane old.lane new.lane
     pub made : MakesSweeps (config_of old.lane) (index_of old.lane) (lanes_of old.lane) range (hand_of old.lane) (hand_of new.lane) new.totals
     pub some : 0 < length made.sweeps
     pub list : KeepsList (config_of old.lane) (list_of old.lane) (list_of new.lane)
+    pub gated : GainsGated gate (list_of old.lane) (list_of new.lane)
 
   -- so all that it did are sweeps of its own pairs
   pub record IsDone (config : Config) (turns : Turns (Relay I O) (Part I O) Made (Unit {0})) (threads : ℕ) (range : Option (ℕ × ℕ)) (index : ℕ) (thread : MediaThread I O gi go gm) : Type 0 where

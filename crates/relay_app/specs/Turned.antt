@@ -11,6 +11,7 @@ use Rattle.relay_core.specs.declared.part.Part.{Part}
 use Rattle.relay_core.specs.Made.{Made, list_of}
 use Rattle.relay_core.specs.Turning.{made_by}
 use Rattle.media_lane.specs.Visits.{Row}
+use Rattle.media_lane.specs.Gated.{AreGated}
 use Rattle.board_turns.specs.Between.{board_of, IsBetween, MakesTurn}
 use Rattle.board_turns.specs.Ties.{AreTied}
 use Rattle.main_sweeps.specs.Totals.{HasTotals}
@@ -97,18 +98,20 @@ module _ {M I O : Type 0} {g : _} where
   CanWork settings config turns opened (Some hand) = MayTurn settings config turns opened hand
 
   -- All control turns were made, by this hand
-  pub record MadeTurns (settings : Settings) (config : Config) (turns : Turns M (Part I O) Made (Unit {0})) (range : Option (ℕ × ℕ)) (outside : Outside) (link_faults link_faults_now : ℕ)
-      (old new : Hand M (Part I O) Made (Unit {0}) g) (looped : Looped) : Type 0 where
+  pub record MadeTurns (settings : Settings) (config : Config) (turns : Turns M (Part I O) Made (Unit {0})) (range : Option (ℕ × ℕ)) (gate : ℕ → Type 0) (outside : Outside)
+      (link_faults link_faults_now : ℕ) (old new : Hand M (Part I O) Made (Unit {0}) g) (looped : Looped) : Type 0 where
     pub same : IsSameHand old new
     pub between : IsBetween config turns new
     pub opens : OpensJust config (history_of new) outside.opened_now
     pub did : DidTurns settings.turns config settings.threads range outside looped.status looped.counts (entries new)
+    pub gated : AreGated gate (made_by new)
     pub totals : HasTotals (made_by new) looped.totals
     pub later : (link_faults ≤ link_faults_now) × (outside.port_faults ≤ outside.port_faults_now) × (outside.key_faults ≤ outside.key_faults_now)
     pub cause : looped.status ≡ status.ControlFault → Rose link_faults link_faults_now
     pub ends : IsLoopEnd looped.status
 
-  abbrev pub DidWork : Settings → Config → Turns M (Part I O) Made (Unit {0}) → Option (ℕ × ℕ) → Outside → (link_faults link_faults_now : ℕ)
+  abbrev pub DidWork : Settings → Config → Turns M (Part I O) Made (Unit {0}) → Option (ℕ × ℕ) → (ℕ → Type 0) → Outside → (link_faults link_faults_now : ℕ)
       → (old new : Option (Hand M (Part I O) Made (Unit {0}) g)) → Looped → Type 0
-  DidWork settings config turns range outside faults faults_now (Some old) (Some new) looped = MadeTurns settings config turns range outside faults faults_now old new looped
-  DidWork settings config turns range outside faults faults_now old new looped = ⊥
+  DidWork settings config turns range gate outside faults faults_now (Some old) (Some new) looped =
+      MadeTurns settings config turns range gate outside faults faults_now old new looped
+  DidWork settings config turns range gate outside faults faults_now old new looped = ⊥

@@ -75,7 +75,7 @@ where
     requires turns { settings.now.turns < 2 ^ 63 }
     requires threads { settings.now.threads ≤ 16 }
     requires open { TellsHeld settings.now.config (P.told ports.old) [] }
-    ensures served { Serves (Some settings.now) (C.range clock.now)
+    ensures served { Serves (Some settings.now) (C.range clock.now) (G.passed gate.now)
         (record {
           link = N.told control.old;
           link_now = N.told control.new;
@@ -133,7 +133,7 @@ where
 /// fails, or `--turns` takes gave a datagram or nothing. Calls begin, are answered and end as the datagrams ask: their ports are
 /// opened and closed by the port maker, their keys drawn from the key source. Once a second of the timer, calls end whose last activity is
 /// `--timeout` ago, or whose first offer is `--offer-timeout` ago and was not answered. Meanwhile `--num-threads` threads relay media, each the
-/// packets of its own pairs of ports, handed moments of the clock; with 0, at most one packet of each port is relayed after each take.
+/// packets of its own pairs of ports, handed moments of the clock, each inside the gate; with 0, at most one packet of each port is relayed after each take.
 /// At the end the threads end, then all calls, and a line of totals is printed. The timer, in milliseconds, is asked once for each take
 /// of the link. Where no thread can be started, each thread's work is done after the last take.
 ///
@@ -169,7 +169,7 @@ where
     S: LineSource,
     O: LineSink,
     requires open { TellsNone (settings (map (λ word. word.now) words.now)) (P.told ports.old) }
-    ensures served { Serves (settings (map (λ word. word.now) words.now)) (C.range clock.now)
+    ensures served { Serves (settings (map (λ word. word.now) words.now)) (C.range clock.now) (G.passed gate.now)
         (record {
           link = N.told control.old;
           link_now = N.told control.new;

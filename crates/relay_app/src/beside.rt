@@ -12,7 +12,7 @@ use std::thread::{self, Threads};
 pub(crate) trait ControlWork<V, C, G, N, P, K, T> {
     ghost can_work: { Self → V → P → Type 0 };
 
-    ghost did: { V → C → Self → N → P → K → T → Self → N → P → K → T → Type 0 };
+    ghost did: { V → C → G → Self → N → P → K → T → Self → N → P → K → T → Type 0 };
 
     /// Makes all control turns.
     fn work<W: Wait>(
@@ -27,19 +27,19 @@ pub(crate) trait ControlWork<V, C, G, N, P, K, T> {
         timer: &mut T,
     )
         requires { can_work self.old server.now ports.old }
-        ensures { did server.now clock.now self.old link.old ports.old keys.old timer.old self.new link.new ports.new keys.new timer.new };
+        ensures { did server.now clock.now gate.now self.old link.old ports.old keys.old timer.old self.new link.new ports.new keys.new timer.new };
 }
 
 /// A thread of media over a table `S`.
 pub(crate) trait MediaWork<S, C, G> {
     ghost can_work: { Self → S → Type 0 };
 
-    ghost did: { S → C → Self → Self → Type 0 };
+    ghost did: { S → C → G → Self → Self → Type 0 };
 
     /// Relays media until the halt word is set.
     fn work<W: Wait>(&mut self, rt: &W, turns: &S, clock: &C, gate: &G, halt: &AtomicBool)
         requires { can_work self.old turns.now }
-        ensures { did turns.now clock.now self.old self.new };
+        ensures { did turns.now clock.now gate.now self.old self.new };
 }
 
 /// Makes all control turns, and then sets the halt word.
@@ -59,7 +59,7 @@ where
     W: Wait,
     M: ControlWork<V, C, G, N, P, K, T>,
     requires { M.can_work control.old server.now ports.old }
-    ensures { M.did server.now clock.now control.old link.old ports.old keys.old timer.old control.new link.new ports.new keys.new timer.new }
+    ensures { M.did server.now clock.now gate.now control.old link.old ports.old keys.old timer.old control.new link.new ports.new keys.new timer.new }
 {
     control.work(rt, server, clock, gate, link, ports, keys, timer);
     halt.store(true, Ordering::SeqCst);
@@ -82,7 +82,7 @@ where
     L: MediaWork<S, C, G> + Send,
     requires some { 0 < length threads.old }
     requires ready { All (λ thread. L.can_work thread turns.now) threads.old }
-    ensures { (i : ℕ) (d : _) → i < length threads.old → L.did turns.now clock.now (slice_index_or threads.old i d) (slice_index_or threads.new i d) }
+    ensures { (i : ℕ) (d : _) → i < length threads.old → L.did turns.now clock.now gate.now (slice_index_or threads.old i d) (slice_index_or threads.new i d) }
 {
     let count = threads.len();
     thread::for_each_mut(
@@ -120,14 +120,14 @@ where
     requires some { 0 < length threads.old }
     requires control { M.can_work control.old server.now ports.old }
     requires threads { All (λ thread. L.can_work thread turns.now) threads.old }
-    ensures control { M.did server.now clock.now control.old link.old ports.old keys.old timer.old control.new link.new ports.new keys.new timer.new }
-    ensures threads { (i : ℕ) (d : _) → i < length threads.old → L.did turns.now clock.now (slice_index_or threads.old i d) (slice_index_or threads.new i d) }
+    ensures control { M.did server.now clock.now gate.now control.old link.old ports.old keys.old timer.old control.new link.new ports.new keys.new timer.new }
+    ensures threads { (i : ℕ) (d : _) → i < length threads.old → L.did turns.now clock.now gate.now (slice_index_or threads.old i d) (slice_index_or threads.new i d) }
 {
     thread::join_mut(
         rt,
         &mut ||
             requires { (0 < length threads.now) × All (λ thread. L.can_work thread turns.now) threads.now }
-            ensures { (i : ℕ) (d : _) → i < length threads.entry.now → L.did turns.entry.now clock.entry.now (slice_index_or threads.entry.now i d) (slice_index_or threads.exit.now i d) }
+            ensures { (i : ℕ) (d : _) → i < length threads.entry.now → L.did turns.entry.now clock.entry.now gate.entry.now (slice_index_or threads.entry.now i d) (slice_index_or threads.exit.now i d) }
         { media_threads(rt, turns, clock, gate, halt, threads) },
         &mut || {
             control_turns(
@@ -160,9 +160,9 @@ where
     L: MediaWork<S, C, G> + Send,
     requires control { M.can_work control.old server.now ports.old }
     requires threads { All (λ thread. L.can_work thread turns.now) threads.old.items }
-    ensures control { M.did server.now clock.now control.old link.old ports.old keys.old timer.old control.new link.new ports.new keys.new timer.new }
+    ensures control { M.did server.now clock.now gate.now control.old link.old ports.old keys.old timer.old control.new link.new ports.new keys.new timer.new }
     ensures as_many { length threads.new.items ≡ length threads.old.items }
-    ensures threads { (i : ℕ) (d : _) → i < length threads.old.items → L.did turns.now clock.now (slice_index_or threads.old.items i d) (slice_index_or threads.new.items i d) }
+    ensures threads { (i : ℕ) (d : _) → i < length threads.old.items → L.did turns.now clock.now gate.now (slice_index_or threads.old.items i d) (slice_index_or threads.new.items i d) }
 {
     if threads.is_empty() {
         control.work(rt, server, clock, gate, link, ports, keys, timer);

@@ -12,6 +12,7 @@ ghost use Rattle.relay_core.specs.Timed.{AreTimed};
 ghost use Rattle.relay_core.specs.Told.{InOrder, InsAreTold, OutsAreTold};
 ghost use Rattle.relay_core.specs.Turning.{made_by};
 ghost use Rattle.media_lane.specs.declared.answers.Totals.{Totals};
+ghost use Rattle.media_lane.specs.Gated.{AreGated, GainsGated};
 ghost use Rattle.media_ports.specs.Asked.{OpensNone};
 ghost use Rattle.media_ports.specs.Held.{TellsHeld};
 ghost use Rattle.board_turns.specs.Between.{IsBetween};
@@ -95,6 +96,7 @@ fn sweep_alone<P: PortMaker, C: Clock, G: Gate, R: Wait>(
     ensures between { IsBetween server.now.config server.now.turns result }
     ensures history { history_of result ≡ history_of hand }
     ensures swept { AddsSweep server.now.config settings.now.threads (C.range clock.now) (entries hand) (entries result) }
+    ensures gated { GainsGated (G.passed gate.now) (made_by hand) (made_by result) }
     ensures totals { HasTotals (made_by hand) totals.old → HasTotals (made_by result) totals.new }
 {
     if settings.threads > 0 {
@@ -195,6 +197,7 @@ fn make_turns<N: ControlLink, P: PortMaker, K: KeySource, T: Timer, C: Clock, G:
           key_faults_now = K.faults keys.new;
         })
         result.0.status result.0.counts (entries result.1) }
+    ensures gated { AreGated (G.passed gate.now) (made_by result.1) }
     ensures totals { HasTotals (made_by result.1) result.0.totals }
     ensures later { (N.faults link.old ≤ N.faults link.new) × (P.faults ports.old ≤ P.faults ports.new) × (K.faults keys.old ≤ K.faults keys.new) }
     ensures cause { result.0.status ≡ Status.ControlFault → Rose (N.faults link.old) (N.faults link.new) }
@@ -258,8 +261,8 @@ where
 {
     ghost can_work = { λ control server ports. CanWork control.settings server.config server.turns (P.told ports) control.hand };
 
-    ghost did = { λ server clock old link ports keys timer new link_now ports_now keys_now timer_now.
-        DidWork old.settings server.config server.turns (C.range clock)
+    ghost did = { λ server clock gate old link ports keys timer new link_now ports_now keys_now timer_now.
+        DidWork old.settings server.config server.turns (C.range clock) (G.passed gate)
         (record {
           link = N.told link;
           link_now = N.told link_now;
@@ -363,7 +366,7 @@ where
     requires empty { room.items ≡ [] }
     requires room { settings.now.threads ≤ vec_capacity room }
     requires open { TellsHeld server.config (P.told ports.old) [] }
-    ensures did { DidServe [] settings.now.turns server.config settings.now.threads (C.range clock.now)
+    ensures did { DidServe [] settings.now.turns server.config settings.now.threads (C.range clock.now) (G.passed gate.now)
         (record {
           link = N.told link.old;
           link_now = N.told link.new;

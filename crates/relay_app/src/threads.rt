@@ -29,7 +29,7 @@ impl<I: InEnd, O: OutEnd, C: Clock, G: Gate> MediaWork<Turns<Relay<I, O>>, C, G>
     for MediaThread<I, O> {
     ghost can_work = { λ thread turns. IsHandOf turns (hand_of thread.lane) };
 
-    ghost did = { λ turns clock old new. HasWorked (C.range clock) old new };
+    ghost did = { λ turns clock gate old new. HasWorked (C.range clock) (G.passed gate) old new };
 
     fn work<W: Wait>(
         &mut self,

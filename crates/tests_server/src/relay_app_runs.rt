@@ -107,6 +107,8 @@ struct CountingGate {
 }
 
 impl Gate for CountingGate {
+    ghost passed = { λ gate cell. Unit {0} };
+
     fn inside(&self, _cell: u32) {
         self.relays.fetch_add(1, Ordering::SeqCst);
     }

@@ -72,6 +72,8 @@ struct MeetingGate<'a> {
 }
 
 impl<'a> Gate for MeetingGate<'a> {
+    ghost passed = { λ gate cell. Unit {0} };
+
     fn inside(&self, cell: u32) {
         let meeting = self.meeting;
         match cell {

@@ -12,5 +12,7 @@ impl OpenGate {
 }
 
 impl Gate for OpenGate {
+    ghost passed = { λ gate cell. Unit {0} };
+
     fn inside(&self, _cell: u32) {}
 }

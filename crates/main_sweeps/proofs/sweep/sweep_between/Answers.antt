@@ -1,7 +1,10 @@
+use Rattle.std.proofs.Common.{sym, subst}
 use Rattle.turn_table.specs.Hands.{starts}
+use Rattle.relay_core.specs.Turning.{made_by}
 use Rattle.media_lane.specs.Lanes.{config_of, hand_of, index_of, lanes_of}
 use Rattle.media_lane.proofs.Places.{parts_begin}
 use Rattle.media_lane.specs.Visits.{all_rows}
+use Rattle.media_lane.specs.Gated.{GainsGated}
 use Rattle.main_sweeps.proofs.Between.{StepsBy, stepped_between, stepped_board}
 use Rattle.main_sweeps.proofs.Sweeps.{SweptBy, swept_at, swept_by_lane, swept_totals}
 use Rattle.main_sweeps.proofs.sweep.sweep_between.Goals as goal
@@ -32,3 +35,9 @@ returns-clause-board g c =
 pub returns-clause-totals : goal.returns-clause-totals
 returns-clause-totals g c =
     swept_totals c.args.config.now (g.C.Clock.range c.args.clock.now) c.args.hand c.into_hand.result c.sweep-swept.result (swept g c) c.args.totals.now c.add.new.self c.add.ensures
+
+pub returns-clause-gated : goal.returns-clause-gated
+returns-clause-gated g c =
+    let gate = g.G.Gate.passed c.args.gate.now in
+    subst (λ h. GainsGated gate (made_by h) (made_by c.into_hand.result)) c.new-lane.ensures.hand
+    (subst (λ h. GainsGated gate (made_by (hand_of c.new-lane.result)) (made_by h)) (sym c.into_hand.ensures.hand) c.sweep-swept.ensures.gated)

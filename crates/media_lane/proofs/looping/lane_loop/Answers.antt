@@ -1,5 +1,6 @@
 use Rattle.std.proofs.Common.{rules}
 use Rattle.media_lane.specs.Lanes.{hand_of, config_of, index_of, lanes_of, list_of}
+use Rattle.media_lane.proofs.Gates.{gains_none, gains_both}
 use Rattle.media_lane.proofs.Loops.{keeps_none, no_sweep, loop_on, loop_keeps}
 use Rattle.media_lane.proofs.looping.lane_loop.Goals as goal
 
@@ -10,6 +11,7 @@ loop-init g c =
       same = search rules;
       swept = no_sweep (config_of lane) (index_of lane) (lanes_of lane) (g.C.Clock.range c.args.clock.now) (hand_of lane) c.none-totals.result c.none-totals.ensures;
       list = keeps_none (config_of lane) (list_of lane);
+      gated = gains_none (g.G.Gate.passed c.args.gate.now) (list_of lane);
     }
 
 pub loop-preserved : goal.loop-preserved
@@ -22,6 +24,7 @@ loop-preserved g c =
           c.sweep_in.result so_far.same.config_is so_far.same.index_is so_far.same.lanes_is c.sweep_in.ensures.swept c.loop.totals c.add.new.self so_far.swept c.add.ensures).0;
       list = loop_keeps (config_of lane) _ (index_of lane) _ (lanes_of lane) _ (g.C.Clock.range c.args.clock.now) (hand_of lane) (hand_of c.loop.lane) (hand_of c.sweep_in.new.self)
           c.sweep_in.result so_far.same.config_is so_far.same.index_is so_far.same.lanes_is c.sweep_in.ensures.swept so_far.list c.sweep_in.ensures.list;
+      gated = gains_both (g.G.Gate.passed c.args.gate.now) (list_of lane) (list_of c.loop.lane) (list_of c.sweep_in.new.self) so_far.gated c.sweep_in.ensures.gated;
     }
 
 pub returns-clause-swept : goal.returns-clause-swept
@@ -37,3 +40,7 @@ returns-clause-list g c =
     let so_far = c.loop.invariant in
     loop_keeps (config_of lane) _ (index_of lane) _ (lanes_of lane) _ (g.C.Clock.range c.args.clock.now) (hand_of lane) (hand_of c.loop.lane) (hand_of c.sweep_in-2.new.self)
     c.sweep_in-2.result so_far.same.config_is so_far.same.index_is so_far.same.lanes_is c.sweep_in-2.ensures.swept so_far.list c.sweep_in-2.ensures.list
+
+pub returns-clause-gated : goal.returns-clause-gated
+returns-clause-gated g c =
+    gains_both (g.G.Gate.passed c.args.gate.now) (list_of c.args.lane.now) (list_of c.loop.lane) (list_of c.sweep_in-2.new.self) c.loop.invariant.gated c.sweep_in-2.ensures.gated

@@ -1,6 +1,9 @@
 use Rattle.std.proofs.Common.{arith, refl}
 use Rattle.nested_steps.proofs.Nesting.{same_again}
+use Rattle.relay_core.specs.Turning.{made_by}
+use Rattle.media_lane.proofs.Gates.{gated_none, gated_more}
 use Rattle.board_turns.proofs.Firsts.{first_board}
+use Rattle.relay_app.proofs.Gates.{follows_gated, ticked_gated}
 use Rattle.relay_app.proofs.Loops.{begins, turn_goes, turn_ends, turns_spent}
 use Rattle.relay_app.proofs.Rounds.{follows_totals}
 use Rattle.relay_app.proofs.Wholes.{first_totals, opens_again}
@@ -12,6 +15,7 @@ turns-init g c = record {
   between = c.requires.between;
   opens = c.requires.open;
   running = begins _ _ _ _ _ c.requires.nothing (first_board _ c.requires.nothing) refl refl refl refl;
+  gated = gated_none (g.G.Gate.passed c.args.gate.now) _ c.requires.nothing;
   totals = first_totals _ _ c.requires.nothing c.no_totals-totals.ensures;
   later = omega arith;
   port_later = omega arith;
@@ -40,6 +44,13 @@ turns-preserved g c = record {
       c.tick_when_due-next.result c.sweep_alone-hand.result c.tick_when_due-next.new.hand _ _ c.in_default.ensures.answer c.sweep_alone-hand.ensures.history c.sweep_alone-hand.ensures.swept
       c.sweep_alone-hand.ensures.between c.tick_when_due-next.ensures.between c.tick_when_due-next.ensures.ticks c.tick_when_due-next.ensures.since c.tick_when_due-next.ensures.closes
       c.tick_when_due-next.ensures.ties c.tick_when_due-next.ensures.later;
+  gated =
+      ticked_gated (g.G.Gate.passed c.args.gate.now) c.args.server.now.config c.sweep_alone-hand.result c.tick_when_due-next.new.hand _ c.tick_when_due-next.ensures.ticks.ticked
+      c.sweep_alone-hand.ensures.between.orderly c.tick_when_due-next.ensures.ticks.did
+      (gated_more (g.G.Gate.passed c.args.gate.now) (made_by c.control_turn-turn.new.hand) (made_by c.sweep_alone-hand.result)
+      (follows_gated (g.G.Gate.passed c.args.gate.now) c.args.server.now.config c.turns.hand c.control_turn-turn.new.hand _ c.control_turn-turn.result
+      c.control_turn-turn.ensures.turned.made c.turns.invariant.between.orderly c.control_turn-turn.ensures.turned.follows c.turns.invariant.gated)
+      c.sweep_alone-hand.ensures.gated);
   totals =
       c.tick_when_due-next.ensures.totals _
       (c.sweep_alone-hand.ensures.totals
@@ -62,6 +73,11 @@ returns-in-Some-clause-did g c =
     c.with-counts.ensures.sum c.turns.invariant.between c.control_turn-turn.ensures.between c.turns.invariant.running c.now-now.ensures c.control_turn-turn.ensures.turned c.control_turn-turn.ensures.ties
     c.turns.invariant.port_later c.turns.invariant.key_later c.control_turn-turn.ensures.later.1 c.control_turn-turn.ensures.later.2
     c.args.settings.now.turns c.in-Some.status c.in-Some.ensures.answer c.turns-test.true
+
+pub returns-in-Some-clause-gated : goal.returns-in-Some-clause-gated
+returns-in-Some-clause-gated g c =
+    follows_gated (g.G.Gate.passed c.args.gate.now) c.args.server.now.config c.turns.hand c.control_turn-turn.new.hand _ c.control_turn-turn.result
+    c.control_turn-turn.ensures.turned.made c.turns.invariant.between.orderly c.control_turn-turn.ensures.turned.follows c.turns.invariant.gated
 
 pub returns-in-Some-clause-totals : goal.returns-in-Some-clause-totals
 returns-in-Some-clause-totals g c =

@@ -2,6 +2,7 @@ use Rattle.std.proofs.Common.{◌-◌, ◌≤◌}
 use Rattle.turn_table.specs.Hands.{IsSameHand, entries}
 use Rattle.board_turns.specs.Between.{IsBetween}
 use Rattle.relay_core.specs.Turning.{made_by}
+use Rattle.media_lane.specs.Gated.{AreGated}
 use Rattle.main_sweeps.specs.Totals.{HasTotals}
 use Rattle.ng_server.specs.Servers.{OpensJust, history_of}
 use Rattle.relay_app.specs.Turned.{Running}
@@ -26,6 +27,7 @@ invariant-turns g l = record {
     key_faults = g.K.KeySource.faults l.fn.keys;
     key_faults_now = g.K.KeySource.faults l.keys;
   });
+  gated : AreGated (g.G.Gate.passed l.gate) (made_by l.hand);
   totals : HasTotals (made_by l.hand) l.totals;
   later : g.N.ControlLink.faults l.fn.link ≤ g.N.ControlLink.faults l.link;
   port_later : g.P.PortMaker.faults l.fn.ports ≤ g.P.PortMaker.faults l.ports;

@@ -7,6 +7,7 @@ use Rattle.media_lane.specs.Relaying.{relay_by, bytes_left}
 use Rattle.media_lane.proofs.Places.{gives_cell}
 use Rattle.media_lane.proofs.Above.{list_gained, tried_still}
 use Rattle.media_lane.proofs.Relays.{relays_by, keeps}
+use Rattle.media_lane.proofs.Gates.{gains_relay}
 use Rattle.media_lane.proofs.lane.Lane.relay_taken.Goals as goal
 
 pub relay_in_turn-outcome-requires-clause-at_cell : goal.relay_in_turn-outcome-requires-clause-at_cell
@@ -32,3 +33,8 @@ pub returns-clause-list : goal.returns-clause-list
 returns-clause-list g c =
     keeps g.I.InEnd.told g.I.InEnd.faults g.O.OutEnd.told g.O.OutEnd.faults c.args.self.now.config c.requires.receipt.0 (receipt_of c.args.take c.args.packet.now c.args.self.now.taken) c.args.now
     c.relay_in_turn-outcome.result c.args.self.now.hand c.relay_in_turn-outcome.new.hand (front_of c.turn-turn.result) (state_of c.turn-turn.result) c.requires.receipt.1 c.turn-turn.ensures.turn.1 (gained g c)
+
+pub returns-clause-gated : goal.returns-clause-gated
+returns-clause-gated g c =
+    gains_relay (g.G.Gate.passed c.args.gate.now) c.args.self.now.hand c.relay_in_turn-outcome.new.hand (receipt_of c.args.take c.args.packet.now c.args.self.now.taken)
+    (front_of c.turn-turn.result) c.args.now _ c.relay_in_turn-outcome.result (gained g c) c.inside.ensures

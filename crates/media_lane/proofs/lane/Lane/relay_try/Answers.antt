@@ -7,6 +7,7 @@ use Rattle.media_lane.specs.Relaying.{relay_by, bytes_left}
 use Rattle.media_lane.proofs.Places.{gives_cell}
 use Rattle.media_lane.proofs.Above.{list_gained}
 use Rattle.media_lane.proofs.Relays.{relays_by, keeps}
+use Rattle.media_lane.proofs.Gates.{gains_relay}
 use Rattle.media_lane.proofs.lane.Lane.relay_try.Goals as goal
 
 pub relay_in_turn-done-requires-clause-at_cell : goal.relay_in_turn-done-requires-clause-at_cell
@@ -30,3 +31,8 @@ pub returns-clause-list : goal.returns-clause-list
 returns-clause-list g c =
     keeps g.I.InEnd.told g.I.InEnd.faults g.O.OutEnd.told g.O.OutEnd.faults c.args.self.now.config (pair_of c.args.receipt) (packet_of c.args.receipt) c.args.now c.relay_in_turn-done.result
     c.args.self.now.hand c.relay_in_turn-done.new.hand (front_of c.in-Ok.turn) (state_of c.in-Ok.turn) c.requires.receipt c.in-Ok.ensures.turn.1 (gained g c)
+
+pub returns-clause-gated : goal.returns-clause-gated
+returns-clause-gated g c =
+    gains_relay (g.G.Gate.passed c.args.gate.now) c.args.self.now.hand c.relay_in_turn-done.new.hand (packet_of c.args.receipt) (front_of c.in-Ok.turn) c.args.now _
+    c.relay_in_turn-done.result (gained g c) c.inside.ensures

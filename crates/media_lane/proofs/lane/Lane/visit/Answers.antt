@@ -2,11 +2,13 @@ use Rattle.std.proofs.Common.{sym, subst, [], ◌∷◌}
 use Rattle.turn_table.specs.Steps.{entry}
 use Rattle.port_pool.specs.Taking.{taken_of}
 use Rattle.call_cell.specs.Standing.{receipt_of}
+use Rattle.relay_core.specs.Entries.{box_of}
 use Rattle.relay_core.specs.Made.{entry_of}
 use Rattle.media_lane.specs.Lanes.{config_of, hand_of, list_of, room_of}
 use Rattle.media_lane.specs.Receipts.{IsReceiptOf, KeepsList}
 use Rattle.media_lane.specs.Relaying.{relay_made}
 use Rattle.media_lane.proofs.Above.{made_more}
+use Rattle.media_lane.proofs.Gates.{gains_both, gains_take}
 use Rattle.media_lane.proofs.Visiting.{keeps_both, visits_nothing, visits_packet}
 use Rattle.media_lane.proofs.lane.Lane.visit.Goals as goal
 
@@ -34,10 +36,19 @@ returns-in-Some-clause-list g c =
     (made_more (hand_of c.take-take.new.self) (hand_of c.relay_taken-outcome.new.self) row made.list_is) c.take-take.ensures.list
     (subst (λ x. KeepsList x (list_of c.take-take.new.self) (list_of c.relay_taken-outcome.new.self)) c.take-take.ensures.same.0.config_is c.relay_taken-outcome.ensures.list)
 
+pub returns-in-Some-clause-gated : goal.returns-in-Some-clause-gated
+returns-in-Some-clause-gated g c =
+    gains_both (g.G.Gate.passed c.args.gate.now) (list_of c.args.self.now) (list_of c.take-take.new.self) (list_of c.relay_taken-outcome.new.self)
+    (gains_take (g.G.Gate.passed c.args.gate.now) (hand_of c.args.self.now) (hand_of c.take-take.new.self) (box_of (config_of c.args.self.now) c.args.pair) c.take-take.result.number c.args.half
+    (taken_of c.take-take.result.given (room_of c.take-take.new.self)) c.take-take.ensures.entry)
+    c.relay_taken-outcome.ensures.gated
+
 pub returns-in_default : goal.returns-in_default
 returns-in_default g c = record {
   same = c.take-take.ensures.same.0;
   visited = visits_nothing (config_of c.args.self.now) (g.C.Clock.range c.args.clock.now) c.args.pair c.args.half (hand_of c.args.self.now) (hand_of c.args.self.now) (hand_of c.take-take.new.self)
       c.take-take.result.number (taken_of c.take-take.result.given (room_of c.take-take.new.self)) c.args.totals.now (c.in_default.ensures.packet c.take-take.result.number) c.take-take.ensures.entry;
   list = c.take-take.ensures.list;
+  gated = gains_take (g.G.Gate.passed c.args.gate.now) (hand_of c.args.self.now) (hand_of c.take-take.new.self) (box_of (config_of c.args.self.now) c.args.pair) c.take-take.result.number c.args.half
+      (taken_of c.take-take.result.given (room_of c.take-take.new.self)) c.take-take.ensures.entry;
 }

@@ -7,7 +7,7 @@ use Rattle.media_lane.proofs.lane.Lane.visit_rest.Given as goal
 
 abbrev pub invariant-loop-pair : goal.invariant-loop-pair
 invariant-loop-pair g l = record {
-  covered : Covers (g.C.Clock.range l.clock) l.initial.self l.self l.initial.progress l.progress;
+  covered : Covers (g.C.Clock.range l.clock) (g.G.Gate.passed l.gate) l.initial.self l.self l.initial.progress l.progress;
   below : (pair : ℕ) (half : Half) → pair % lanes_of l.initial.self ≡ index_of l.initial.self → pair < l.pair → is_marked l.progress.visited pair half ≡ true;
   own : l.pair % l.lanes ≡ index_of l.initial.self;
 }
