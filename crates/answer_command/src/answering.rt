@@ -68,7 +68,8 @@ pub fn answer<P: PortMaker, R: Wait>(
         Ok(plan) => plan,
         Err(fault) => return unplanned(alloc, request.cookie, fault, chosen_lines),
     };
-    let Ok(room) = answer_room(alloc, request.cookie, plan.planned().reply_len()) else {
+    let planned = plan.planned();
+    let Ok(room) = answer_room(alloc, request.cookie, planned.signal(), planned.reply_len()) else {
         return short();
     };
     let AnswerRoom {

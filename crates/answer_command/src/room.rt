@@ -1,11 +1,13 @@
 //! The memory of an answer that the board planned.
-ghost use Rattle.std.specs.Prelude.{◌≡◌, ◌≤◌, ◌<◌, ◌^◌, [], IfOk, OnOk};
+ghost use Rattle.std.specs.Prelude.{◌≡◌, ◌≤◌, ◌<◌, ◌^◌, [], IfOk, OnOk, if◌then◌else◌};
 ghost use Rattle.cookie_cache.specs.Keepings.{IsCookie};
 ghost use Rattle.control_replies.specs.Rooms.{IsReplyRoom};
+ghost use Rattle.nested_steps.specs.InCells.{is_keyed, names_inbound};
 
 use call_cell::InContexts;
 use control_replies::reply_room;
 use ng_bencode::Text;
+use port_pool::{SectionSignal, Signal};
 use relay_outside::OutOfMemory;
 use sdp_text::Bytes;
 use std::alloc::Global;
@@ -38,22 +40,53 @@ fn text_room(alloc: Global, len: usize) -> Result<Bytes, OutOfMemory>
     Ok(text)
 }
 
-/// The memory of an answer under this cookie whose description has at most this many bytes. There is none for 2^40 bytes.
+/// Whether a section names an inbound key for one of its legs.
+fn is_keyed(section: SectionSignal) -> bool
+    ensures { result ≡ is_keyed section }
+{
+    match section {
+        SectionSignal::Commit(a, b) => a.inbound.is_some() || b.inbound.is_some(),
+        SectionSignal::Reject => false,
+    }
+}
+
+/// Whether an answer names an inbound key.
+fn names_inbound(signal: &Signal) -> bool
+    ensures { result ≡ names_inbound signal.now }
+{
+    for index in 0..signal.len() {
+        if is_keyed(signal.section(index)) {
+            return true;
+        }
+    }
+    false
+}
+
+/// For how many inbound keys room is made: for none in an answer that names none, as one of plain RTP.
+fn context_count(signal: &Signal) -> usize
+    ensures { result ≡ (if names_inbound signal.now then 16 else 0) }
+{
+    if names_inbound(signal) { MOST_KEYS } else { 0 }
+}
+
+/// The memory of an answer under this cookie that commits this, and whose description has at most so many bytes. There is none for
+/// 2^40 bytes.
 pub(crate) fn answer_room(
     alloc: Global,
     cookie: &[u8],
+    signal: &Signal,
     len: usize,
 ) -> Result<AnswerRoom, OutOfMemory>
     requires { IsCookie cookie.now }
     ensures small { OnOk result (len < 2 ^ 40) }
-    ensures contexts { IfOk result (λ room. 16 ≤ room.contexts) }
+    ensures contexts { IfOk result (λ room. room.contexts ≡ (if names_inbound signal.now then 16 else 0)) }
     ensures text { IfOk result (λ room. (room.text.list ≡ []) × (len ≤ room.text.spare)) }
     ensures reply { IfOk result (λ room. IsReplyRoom cookie.now len room.reply) }
 {
     if len >= MOST_BYTES {
         return Err(OutOfMemory);
     }
-    let contexts = InContexts::reserve(alloc, MOST_KEYS)?;
+    let contexts = InContexts::reserve(alloc, context_count(signal))?;
     let text = text_room(alloc, len)?;
     let reply = reply_room(alloc, cookie, len)?;
     Ok(AnswerRoom {

@@ -1,4 +1,4 @@
-use Rattle.std.proofs.Common.{◌≡◌, ◌∙◌, refl, ap, sym, subst, ℕ, List, filter, arith}
+use Rattle.std.proofs.Common.{◌≡◌, ◌∙◌, refl, ap, sym, subst, ℕ, inr, List, filter, arith}
 use Rattle.turn_table.specs.Hands.{entries}
 use Rattle.port_pool.specs.declared.signal.SectionSignal.{SectionSignal}
 use Rattle.port_pool.specs.Signals.{is_rejected}
@@ -17,7 +17,7 @@ use Rattle.relay_core.specs.Turning.{IsAbove, made_by}
 use Rattle.relay_core.proofs.Coming.{answer_names}
 use Rattle.relay_core.proofs.Histories.{good_history}
 use Rattle.relay_core.proofs.KeysOnce.{keys_once}
-use Rattle.nested_steps.specs.InCells.{in_cell_of}
+use Rattle.nested_steps.specs.InCells.{in_cell_of, names_inbound}
 use Rattle.nested_steps.specs.Leaving.{legs_in}
 use Rattle.nested_steps.proofs.Nesting.{above_rows}
 use Rattle.board_turns.specs.Ending.{leg_pairs}
@@ -70,6 +70,11 @@ commit_cell-requires-clause-names g c n above =
     let names = answer_names config l c.requires.turn.orderly c.args.turn.now.entry_id.number n e a c.requires.turn.above d.fits d.acts (subst (λ (k : ℕ). IsAbove l k n) at above) in
     subst (λ (k : ℕ). NamesKeys (since_end (cell_history l k n)) c.signal.result.now) (sym at)
     (subst (λ (s : List SectionSignal). NamesKeys (since_end (cell_history l of.cell n)) s) (sym said) names)
+
+pub commit_cell-requires-clause-room : goal.commit_cell-requires-clause-room
+commit_cell-requires-clause-room g c =
+    let said : c.signal.result.now ≡ c.args.answer.plan.plan.signal = c.signal.ensures ∙ ap (λ p. p.signal) c.planned.ensures ∙ c.write_answer.ensures.signal in
+    inr (λ named. c.requires.contexts (sym (ap (λ (s : List SectionSignal). names_inbound s) said) ∙ named))
 
 pub apply-requires : goal.apply-requires
 apply-requires g c =
