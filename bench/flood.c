@@ -3,7 +3,8 @@
  *
  *   garbage    control datagrams as fast as they go: random bytes, frames around faulty bencode, faulty commands and descriptions, each under
  *              a cookie of its own. sent=, replies= (those that were read)
- *   packets    media datagrams to the ports first..last, 50 at once to each: no head of RTP, RTP with a wrong tag, random bytes, from one
+ *   packets    media datagrams to the ports on standard input (of each call that of the plain side for RTP, and that of SRTP), and to the next
+ *              ports, 50 at once to each: without a head of RTP, on the plain side RTP too, on the other RTP with a wrong tag, all from one
  *              source that no description names. sent=
  *   lengths    a datagram of each length from 0 to 65,507 to the port, 20 at once. sent=
  *   pings      one ping each 10 ms, under a cookie of its own: sent=, answered=, p50=, p99=, longest= (microseconds) */
@@ -11,6 +12,7 @@
 #include <errno.h>
 #include <poll.h>
 #include <stdarg.h>
+#include <stdbool.h>
 #include <stdint.h>
 #include <stdio.h>
 #include <stdlib.h>
@@ -21,8 +23,9 @@
 
 #define LONGEST 65507
 #define AT_ONCE 50
+#define MOST_CALLS 2048
 
-static long port = 2223, first = 10000, last = 10399, seconds = 5;
+static long port = 2223, seconds = 5;
 static uint64_t dice = 88172645463325252ULL;
 
 static _Noreturn void fail(const char *what) {
@@ -100,19 +103,27 @@ static void garbage(uint64_t end) {
     printf("sent=%lu replies=%lu\n", sent, replies);
 }
 
-static void packets(uint64_t end) {
+static void burst(int from, long to, bool heads) {
     static uint8_t packet[LONGEST];
+    for (int i = 0; i < AT_ONCE; i++) {
+        size_t length = i % 10 ? 182 : roll() % 2100;
+        random_bytes(packet, length < 32 ? length : 32);
+        packet[0] = heads && i % 2 ? 0x80 : packet[0] & 0x3f;
+        send_to(from, to, packet, length);
+    }
+}
+
+static void packets(uint64_t end) {
+    static long plain[MOST_CALLS], secure[MOST_CALLS];
     unsigned long sent = 0;
+    size_t count = 0;
     int from = open_socket();
-    while (now_us() < end) {
-        for (long to = first; to <= last && now_us() < end; to++) {
-            for (int i = 0; i < AT_ONCE; i++, sent++) {
-                size_t length = i % 10 ? 182 : roll() % 2100;
-                random_bytes(packet, length < 32 ? length : 32);
-                /* half of them RTP with some tag, to the ports that face the side of SRTP: two pairs a call, that one first */
-                packet[0] = i % 2 && (to - first) % 4 == 0 ? 0x80 : packet[0] & 0x3f;
-                send_to(from, to, packet, length);
-            }
+    while (count < MOST_CALLS && scanf("%ld %ld", &plain[count], &secure[count]) == 2) count++;
+    while (count && now_us() < end) {
+        for (size_t i = 0; i < count && now_us() < end; i++, sent += 4 * AT_ONCE) {
+            /* (nobody sends RTCP, so a head there would be the first packet, from which a source is learned) */
+            burst(from, plain[i], true), burst(from, plain[i] + 1, false);
+            burst(from, secure[i], true), burst(from, secure[i] + 1, true);
         }
     }
     printf("sent=%lu\n", sent);
@@ -162,8 +173,7 @@ static void pings(uint64_t end) {
 int main(int count, char **words) {
     for (int i = 2; i < count; i++) {
         char *value = strchr(words[i], '=');
-        long *number = !value ? NULL : !strncmp(words[i], "port=", 5) ? &port : !strncmp(words[i], "first=", 6) ? &first
-                     : !strncmp(words[i], "last=", 5) ? &last : !strncmp(words[i], "seconds=", 8) ? &seconds : NULL;
+        long *number = !value ? NULL : !strncmp(words[i], "port=", 5) ? &port : !strncmp(words[i], "seconds=", 8) ? &seconds : NULL;
         if (!number) return fprintf(stderr, "flood: %s is no word of mine\n", words[i]), 2;
         *number = strtol(value + 1, NULL, 10);
     }

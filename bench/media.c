@@ -37,7 +37,9 @@ static struct {
     long window;  /* packets on their way in a flood */
     long threads; /* of this program, for packets */
     long insist;  /* milliseconds after which a command is sent again, for 30 seconds; 0: five times, a second each */
-    long step;    /* so many calls are opened for each that has packets; the others are closed before: so its ports lie apart */
+    long step;    /* how many calls are opened for each that has packets; the others are closed before: so its ports lie apart */
+    long strict;  /* 1: the calls have the flag `strict source` */
+    long tell;    /* 1: once they have media, the ports of the calls go to standard error: a line a call, that of a and that of b */
 } asked = {.port = 2223, .calls = 1, .seconds = 5, .minutes = 10, .window = 32, .threads = 1, .step = 1};
 
 static struct call *calls;
@@ -129,7 +131,7 @@ static void open_calls(void) {
     calls = calloc((size_t)asked.calls + 1, sizeof *calls);
     traffic_open((unsigned)asked.threads, calls, (unsigned)asked.calls);
     for (long i = 0; i < asked.calls; i++) {
-        calls[i].number = (unsigned)(i * asked.step), calls[i].secure = asked.secure;
+        calls[i].number = (unsigned)(i * asked.step), calls[i].secure = asked.secure, calls[i].strict = asked.strict;
         if (asked.relay) {
             calls[i].port_to_a = (uint16_t)(asked.relay + 2 * i);
             calls[i].port_to_b = (uint16_t)(asked.relay + 2 * i + 1);
@@ -184,12 +186,18 @@ static int by_size(const void *left, const void *right) {
     return (first > second) - (first < second);
 }
 
+static void tell_ports(void) {
+    for (long i = 0; i < asked.calls; i++) fprintf(stderr, "ports %u %u\n", calls[i].port_to_a, calls[i].port_to_b);
+    fputs("media\n", stderr);
+}
+
 /* Sets calls up and ends them, one after the other, while the others have media. */
 static void measure_set_up(void) {
     size_t set_up = 0, most = (size_t)asked.seconds * 100000;
     uint32_t *times = calloc(most, sizeof *times);
     open_calls();
     run_traffic(WARM_UP, 0);
+    if (asked.tell) tell_ports();
     struct used before = used_now();
     uint64_t start = clock_ns(CLOCK_MONOTONIC), now = start, end = start + (uint64_t)asked.seconds * 1000000000;
     traffic_begin((uint64_t)asked.seconds * 1000000000, 0);
@@ -234,7 +242,8 @@ static void read_words(char **words) {
     } known[] = {{"port", &asked.port, 1, 65535},   {"relay", &asked.relay, 1, 65535},     {"pid", &asked.pid, 1, 1 << 30},
                  {"calls", &asked.calls, 0, 2048},  {"secure", &asked.secure, 0, 1},       {"seconds", &asked.seconds, 1, 600},
                  {"minutes", &asked.minutes, 1, 1440}, {"window", &asked.window, 1, 1024}, {"threads", &asked.threads, 1, 8},
-                 {"step", &asked.step, 1, 64},      {"insist", &asked.insist, 0, 1000}};
+                 {"step", &asked.step, 1, 64},      {"insist", &asked.insist, 0, 1000},    {"strict", &asked.strict, 0, 1},
+                 {"tell", &asked.tell, 0, 1}};
     for (; *words; words++) {
         size_t i = 0, length = strcspn(*words, "=");
         char *end = NULL;

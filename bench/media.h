@@ -23,20 +23,20 @@ struct srtp_key {
     uint32_t inner[5], outer[5];
 };
 void srtp_key_of(struct srtp_key *key, const uint8_t master[MASTER_LENGTH]);
-/* Writes the tag of a packet, whose roll-over counter is given, behind it. */
+/* Writes the tag of a packet, whose roll-over counter is given, after it. */
 void srtp_tag(const struct srtp_key *key, uint32_t roll_over, uint8_t *packet, size_t length);
 
 /* media_calls.c: calls over the ng protocol. Side a is plain; side b is plain or SRTP. */
 struct call {
     unsigned number;
-    bool secure;
+    bool secure, strict;
     struct sockaddr_in a, b;     /* where the telephones are */
     uint16_t port_to_a, port_to_b; /* the proxy's ports that face them */
     struct srtp_key b_key;       /* what b's packets are tagged by */
 };
 /* The link to the proxy's control port of 127.0.0.1. */
 void link_open(uint16_t port);
-/* From here on a command is sent again each so many milliseconds, for 30 seconds: for a port that others flood. */
+/* From here on a command is sent again after this many milliseconds without a reply, for 30 seconds: for a port that others flood. */
 void link_insist(int milliseconds);
 /* Whether a ping is answered in a tenth of a second. */
 bool link_is_answered(void);
@@ -52,14 +52,14 @@ struct counts {
     uint64_t dropped; /* by the receiving sockets of this program, for want of room */
     uint64_t latest;  /* microseconds by which a paced packet was sent too late, the greatest */
     uint64_t elapsed; /* nanoseconds of sending */
-    uint32_t delays[LONGEST_DELAY + 1]; /* how many packets took so many microseconds */
+    uint32_t delays[LONGEST_DELAY + 1]; /* how many packets took this many microseconds */
 };
-/* Makes so many threads with sockets, and places so many calls on them: the addresses of their telephones. */
+/* Makes threads with sockets, and places the calls on them: the addresses of their telephones. */
 void traffic_open(unsigned threads, struct call *calls, unsigned count);
 /* What the packets of the calls look like and where they go, once the calls are open. */
 void traffic_ready(void);
-/* Sends for so many nanoseconds: with a window of 0 each way of a call a packet every 20 ms, else as fast as packets come back, with at
- * most so many on their way. */
+/* Sends for this many nanoseconds: with a window of 0 each way of a call a packet every 20 ms, else as fast as packets come back, with at
+ * most `window` on their way. */
 void traffic_begin(uint64_t nanoseconds, unsigned window);
 void traffic_end(struct counts *counts);
 /* The delay in microseconds below which this share of the packets lies. */

@@ -31,7 +31,7 @@ void link_insist(int milliseconds) {
     tries = 30000 / milliseconds;
 }
 
-/* Sends a body once under the cookie, and takes its reply, if it comes in so many milliseconds. */
+/* Sends a body once under the cookie, and takes its reply, if it comes within this many milliseconds. */
 static bool try(unsigned long cookie, const char *body, int milliseconds) {
     char datagram[4096], head[64];
     int length = snprintf(datagram, sizeof datagram, "%lx_%lx %s", run, cookie, body);
@@ -102,17 +102,17 @@ static void describe(char *text, size_t size, const struct sockaddr_in *where, c
 }
 
 void call_open(struct call *call) {
-    const char *protocol = call->secure ? "RTP/SAVP" : "RTP/AVP";
+    const char *protocol = call->secure ? "RTP/SAVP" : "RTP/AVP", *flags = call->strict ? "5:flagsl13:strict sourcee" : "";
     char name[64], sdp[1024], body[2048], crypto[128] = "";
     int length = snprintf(name, sizeof name, "%lx-%u", run, call->number);
     describe(sdp, sizeof sdp, &call->a, "RTP/AVP", "");
-    snprintf(body, sizeof body, "d4:DTLS3:off3:ICE6:remove7:call-id%d:%s7:command5:offer8:from-tag1:a3:sdp%zu:%s18:transport protocol%zu:%se", length, name,
-             strlen(sdp), sdp, strlen(protocol), protocol);
+    snprintf(body, sizeof body, "d4:DTLS3:off3:ICE6:remove7:call-id%d:%s7:command5:offer%s8:from-tag1:a3:sdp%zu:%s18:transport protocol%zu:%se", length, name,
+             flags, strlen(sdp), sdp, strlen(protocol), protocol);
     ask(body);
     call->port_to_b = port_in_reply();
     if (call->secure) crypto_line(call, crypto, sizeof crypto);
     describe(sdp, sizeof sdp, &call->b, protocol, crypto);
-    snprintf(body, sizeof body, "d4:DTLS3:off3:ICE6:remove7:call-id%d:%s7:command6:answer8:from-tag1:a3:sdp%zu:%s6:to-tag1:be", length, name, strlen(sdp), sdp);
+    snprintf(body, sizeof body, "d4:DTLS3:off3:ICE6:remove7:call-id%d:%s7:command6:answer%s8:from-tag1:a3:sdp%zu:%s6:to-tag1:be", length, name, flags, strlen(sdp), sdp);
     ask(body);
     call->port_to_a = port_in_reply();
 }

@@ -408,7 +408,7 @@ fn reads_addresses(rt: HostRuntime) {
     none_failed(&rt, "ADDRESSES", other_address());
 }
 
-/// Addresses, and how each is written.
+/// Addresses, and how each is written. What is written is read as the same address.
 const WRITTEN: &[(Host, &[u8])] = &[
     (Host::V4([192, 0, 2, 10]), b"192.0.2.10"),
     (Host::V4([0, 255, 99, 100]), b"0.255.99.100"),
@@ -440,7 +440,11 @@ const WRITTEN: &[(Host, &[u8])] = &[
 ];
 
 fn is_written(host: &Host, want: &[u8]) -> bool {
-    host_text(host).as_slice() == want
+    let family: &[u8] = match host {
+        Host::V4(_) => b"IP4",
+        Host::V6(_) => b"IP6",
+    };
+    host_text(host).as_slice() == want && read_host(family, want) == Some(*host)
 }
 
 fn other_written() -> Option<usize> {

@@ -1,4 +1,4 @@
-use crate::relay_app_runs::{Case, SERVING, check_cases};
+use crate::relay_app_runs::{ANSWER, Case, OFFER, SERVING, check_cases};
 use relay_app::Status;
 use relay_outside::{Addr, Ip};
 
@@ -229,6 +229,23 @@ const ONE_PING: Case = Case {
 #[test]
 fn faults_end_the_run_or_are_counted_out(rt: HostRuntime) {
     check_cases(&rt, rt.alloc(), FAULTY);
+}
+
+/// An answered call, and a third take that fails: the run ends, and closes the ports of the call.
+const FAILING_THIRD_TAKE: &[Case] = &[Case {
+    asked: &[OFFER, ANSWER],
+    link_fails: 6,
+    status: Status::ControlFault,
+    reply: Some(
+        b"2 d6:result2:ok3:sdp118:v=0\r\no=- 1 1 IN IP4 198.51.100.20\r\ns=-\r\nc=IN IP4 198.51.100.20\r\nt=0 0\r\nm=audio 30002 RTP/AVP 0\r\nc=IN IP4 203.0.113.1\r\ne",
+    ),
+    lines: &[b"turns 2 datagrams 2 replies 2 sent 0 refused 0 lost 0\n"],
+    ..SERVING
+}];
+
+#[test]
+fn a_failing_take_ends_the_run_with_its_calls(rt: HostRuntime) {
+    check_cases(&rt, rt.alloc(), FAILING_THIRD_TAKE);
 }
 
 const NUMBERS: &[(Status, u8)] = &[
