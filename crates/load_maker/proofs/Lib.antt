@@ -1,0 +1,5 @@
+pub mod Pushed
+pub mod Trees
+pub mod Heads
+pub mod Sealing
+pub mod KeyLine

@@ -1,0 +1,69 @@
+-- What the ports of the generated load tell and give.
+use Rattle.std.specs.Prelude.{◌≡◌, ℕ, ◌+◌, min, nat_lt, Bool, ◌==◌, Option, Some, None, MatchOption, List, length, take, if◌then◌else◌}
+use Rattle.relay_outside.specs.declared.address.Addr.{Addr}
+use Rattle.relay_outside.specs.declared.ports.InCall.{InCall}
+use Rattle.relay_outside.specs.declared.ports.OutCall.{OutCall}
+use Rattle.relay_outside.specs.declared.ports.PortCall.{PortCall}
+use Rattle.relay_outside.specs.Told.{EndTold, opened_for}
+use Rattle.port_pool.specs.declared.holder.Side.TheVariants.{A, B}
+use Rattle.load_maker.specs.declared.stream.Stream.{Stream}
+use Rattle.load_maker.specs.Packets.{source_of, packet}
+
+-- an in end: what it tells; whose packets it gives, if any; how many there are, and how many of them were given
+pub record InState : Type 0 where
+  pub told : EndTold InCall
+  pub stream : Option Stream
+  pub packets : ℕ
+  pub given : ℕ
+
+-- the maker: what it tells; how many packets each side sends; the call that was begun last, and how many ports were opened since then
+pub record MakerState : Type 0 where
+  pub told : Option (List PortCall)
+  pub packets : ℕ
+  pub call : Option ℕ
+  pub opened : ℕ
+
+-- what an out end tells: its address, and nothing of its calls
+abbrev pub silent_at : Addr → EndTold OutCall
+silent_at at = record { at = at; calls = None }
+
+-- whose packets the next port that is opened gives. The first pair of a call is that of side B's leg, the second that of side A's; of each the
+-- RTP port comes first, and to the RTCP port nothing is sent
+abbrev pub stream_at : Option ℕ → ℕ → Option Stream
+stream_at None opened = None
+stream_at (Some call) opened =
+    if opened == 0
+    then Some (record { call = call; side = B })
+    else if opened == 2 then Some (record { call = call; side = A }) else None
+
+-- the in end of the next port, opened for this address
+abbrev pub next_end : MakerState → Addr → InState
+next_end maker at = record {
+  told = opened_for at;
+  stream = stream_at maker.call maker.opened;
+  packets = maker.packets;
+  given = 0;
+}
+
+abbrev pub where_left : Bool → Option Stream → Option Stream
+where_left more stream = if more then stream else None
+
+-- whose packet the next take gives, where one is left
+abbrev pub next_stream : InState → Option Stream
+next_stream end = where_left (nat_lt end.given end.packets) end.stream
+
+-- a take gives these bytes from this source, cut at the room of the buffer
+pub record GivesPacket (source : Addr) (bytes : List ℕ) (answer : Option (Addr × ℕ)) (buf : List ℕ) : Type 0 where
+  pub len : ℕ
+  pub cut : len ≡ min (length bytes) (length buf)
+  pub answer_is : answer ≡ Some (source, len)
+  pub front : take len buf ≡ take len bytes
+
+-- a take gives the next packet of the stream; after the last one it gives nothing
+abbrev pub Takes : InState → InState → Option (Addr × ℕ) → List ℕ → Type 0
+Takes before after answer buf =
+    MatchOption (next_stream before)
+    ((answer ≡ None) × (after.given ≡ before.given))
+    (λ stream.
+    GivesPacket (source_of stream.call stream.side) (packet stream.call stream.side (before.given + 1)) answer buf
+    × (after.given ≡ before.given + 1))
