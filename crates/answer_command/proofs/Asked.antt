@@ -15,7 +15,7 @@ use Rattle.call_board.specs.Calls.{find_call, rounds}
 use Rattle.call_board.specs.Fits.{Hears, HearsAnswer}
 use Rattle.call_board.proofs.Done.{Asks}
 use Rattle.call_board.proofs.Dues.{AsksOf}
-use Rattle.control_entries.specs.declared.request.Request.{Request}
+use Rattle.control_reading.specs.declared.request.Request.{Request}
 use Rattle.control_entries.specs.declared.device_answers.DeviceAnswers.{DeviceAnswers}
 use Rattle.control_entries.specs.Controls.{unanswered}
 use Rattle.control_entries.specs.Telling.{IsAnew, IsAsking}

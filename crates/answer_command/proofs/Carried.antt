@@ -35,7 +35,7 @@ use Rattle.board_turns.specs.Acting.{InTurn, DoesAct}
 use Rattle.control_reading.specs.Bodies.{IsErrorOf}
 use Rattle.control_reading.specs.declared.description.DescriptionFault.{DescriptionFault}
 use Rattle.control_reading.specs.declared.description.DescriptionFault.TheVariants as faults
-use Rattle.control_entries.specs.declared.request.Request.{Request}
+use Rattle.control_reading.specs.declared.request.Request.{Request}
 use Rattle.control_entries.specs.declared.device_answers.DeviceAnswers.TheVariants.{Nothing}
 use Rattle.control_entries.specs.declared.command_outcome.CommandOutcome.{CommandOutcome}
 use Rattle.control_entries.specs.Controls.{unanswered, with_answer, entry_with}
@@ -104,7 +104,7 @@ module _ {M I O T : Type 0} {g : _} where
       (entry_with entry_id.moment (hearing_as request pairs chosen Nothing)
       (due_of config (board_history (made_by old) entry_id.number) request pairs input lines chosen p
       (is_due config (board_history (made_by old) entry_id.number) input lines chosen p planned))) board told
-      → text.list ≡ reply_datagram config request.cookie.now
+      → text.list ≡ reply_datagram config request.cookie.now request.body.now
       (Described (plan.answer_text config (rounds (board_history (made_by old) entry_id.number) (is_due config (board_history (made_by old) entry_id.number) input lines chosen p planned).of.number)
       (ask_of input chosen)))
       → Carries config old new entry_id (hearing_as request pairs chosen Nothing) (Some text) board told
@@ -120,7 +120,7 @@ module _ {M I O T : Type 0} {g : _} where
       → InTurn config turns hand entry_id board told → AsksFor config (board_history (made_by hand) entry_id.number) entry_id.moment request pairs input → lines_of input.sdp.list ≡ lines
       → HearsAnswer (board_history (made_by hand) entry_id.number) (ask_of input chosen) (find_call (board_history (made_by hand) entry_id.number) input.call_id.list)
       → PlansAnswer config input lines (call_of_id (view_of config (board_history (made_by hand) entry_id.number)) input.call_id.list) (Err fault)
-      → code_of fault ≡ code → Refuses request.cookie.now chosen code done
+      → code_of fault ≡ code → Refuses request.cookie.now request.body.now chosen code done
       → Carries config hand hand entry_id (hearing_by request pairs done) done.reply board told
   refuses_case config turns hand entry_id request pairs input lines chosen fault None done board told turn c lines_are heard planned is refuses =
       is_short_carries config turns hand entry_id request pairs done board told turn c.anew refuses
@@ -139,7 +139,7 @@ module _ {M I O T : Type 0} {g : _} where
       → InTurn config turns hand entry_id board told → AsksFor config (board_history (made_by hand) entry_id.number) entry_id.moment request pairs input → lines_of input.sdp.list ≡ lines
       → HearsAnswer (board_history (made_by hand) entry_id.number) (ask_of input chosen) (find_call (board_history (made_by hand) entry_id.number) input.call_id.list)
       → PlansAnswer config input lines (call_of_id (view_of config (board_history (made_by hand) entry_id.number)) input.call_id.list) (Err fault)
-      → Refuses request.cookie.now chosen (code_of fault) done
+      → Refuses request.cookie.now request.body.now chosen (code_of fault) done
       → Carries config hand hand entry_id (hearing_by request pairs done) done.reply board told
   refuses_carries config turns hand entry_id request pairs input lines chosen fault done board told turn c lines_are heard planned refuses =
       refuses_case config turns hand entry_id request pairs input lines chosen fault (code_of fault) done board told turn c lines_are heard planned refl refuses
@@ -148,7 +148,7 @@ module _ {M I O T : Type 0} {g : _} where
   error_carries : (config : Config) (turns : Turns M (Part I O) Made T) (hand : Hand M (Part I O) Made T g) (entry_id : BoardEntryId) (request : Request) (pairs : Option Entries) (input : AnswerIn)
       (chosen : List (Option CryptoLine)) (code : ErrorCode) (done : CommandOutcome) (board : Board) (told : Option (List PortCall))
       → InTurn config turns hand entry_id board told → IsAnew (board_history (made_by hand) entry_id.number) entry_id.moment request → IsAsking request pairs (says_of input)
-      → sdp_error config input.sdp.list ≡ Some code → Tells chosen (reply_datagram config request.cookie.now (Fault code)) done
+      → sdp_error config input.sdp.list ≡ Some code → Tells chosen (reply_datagram config request.cookie.now request.body.now (Fault code)) done
       → Carries config hand hand entry_id (hearing_by request pairs done) done.reply board told
   error_carries config turns hand entry_id request pairs input chosen code done board told turn anew asking faulty tells =
       let h = board_history (made_by hand) entry_id.number in
@@ -162,7 +162,7 @@ module _ {M I O T : Type 0} {g : _} where
   pub misdescribed_carries : (config : Config) (turns : Turns M (Part I O) Made T) (hand : Hand M (Part I O) Made T g) (entry_id : BoardEntryId) (request : Request) (pairs : Option Entries) (input : AnswerIn)
       (fault : DescriptionFault) (done : CommandOutcome) (board : Board) (told : Option (List PortCall))
       → InTurn config turns hand entry_id board told → IsAnew (board_history (made_by hand) entry_id.number) entry_id.moment request → IsAsking request pairs (says_of input)
-      → IsErrorOf (sdp_error config input.sdp.list) fault → Refuses request.cookie.now [] (error_in fault) done
+      → IsErrorOf (sdp_error config input.sdp.list) fault → Refuses request.cookie.now request.body.now [] (error_in fault) done
       → Carries config hand hand entry_id (hearing_by request pairs done) done.reply board told
   misdescribed_carries config turns hand entry_id request pairs input (faults.Error code) done board told turn anew asking faulty refuses =
       error_carries config turns hand entry_id request pairs input [] code done board told turn anew asking faulty (refuses config)

@@ -19,8 +19,8 @@ use crate::room::{AnswerRoom, answer_room};
 use answer_turns::{PlannedAnswer, answer_act};
 use call_board::Board;
 use call_cell::Gone;
-use control_entries::{CommandOutcome, DeviceAnswers, Request, misdescribed, short, unplanned};
-use control_reading::read_description;
+use control_entries::{CommandOutcome, DeviceAnswers, misdescribed, short, unplanned};
+use control_reading::{Request, read_description};
 use control_replies::write_described;
 use nested_steps::BoardTurn;
 use ng_command::AnswerIn;
@@ -61,15 +61,15 @@ pub fn answer<P: PortMaker, R: Wait>(
 {
     let sdp = match read_description(alloc, turn.config, input.sdp.as_slice()) {
         Ok(sdp) => sdp,
-        Err(fault) => return misdescribed(alloc, request.cookie, fault),
+        Err(fault) => return misdescribed(alloc, request, fault),
     };
     let chosen_lines = board.hear_answer(input.call_id.as_slice(), &sdp);
     let plan = match board.plan_answer(alloc, input, &sdp) {
         Ok(plan) => plan,
-        Err(fault) => return unplanned(alloc, request.cookie, fault, chosen_lines),
+        Err(fault) => return unplanned(alloc, request, fault, chosen_lines),
     };
     let planned = plan.planned();
-    let Ok(room) = answer_room(alloc, request.cookie, planned.signal(), planned.reply_len()) else {
+    let Ok(room) = answer_room(alloc, request, planned.signal(), planned.reply_len()) else {
         return short();
     };
     let AnswerRoom {
@@ -83,7 +83,7 @@ pub fn answer<P: PortMaker, R: Wait>(
         contexts,
     };
     answer_act(rt, turn, hand, board, ports, gone, answer, &mut text);
-    write_described(request.cookie, text.as_slice(), &mut reply);
+    write_described(request, text.as_slice(), &mut reply);
     CommandOutcome {
         chosen_lines,
         device_answers: DeviceAnswers::Nothing,

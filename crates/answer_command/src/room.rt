@@ -5,6 +5,7 @@ ghost use Rattle.control_replies.specs.Rooms.{IsReplyRoom};
 ghost use Rattle.nested_steps.specs.InCells.{is_keyed, names_inbound};
 
 use call_cell::InContexts;
+use control_reading::Request;
 use control_replies::reply_room;
 use ng_bencode::Text;
 use port_pool::{SectionSignal, Signal};
@@ -69,26 +70,25 @@ fn context_count(signal: &Signal) -> usize
     if names_inbound(signal) { MOST_KEYS } else { 0 }
 }
 
-/// The memory of an answer under this cookie that commits this, and whose description has at most so many bytes. There is none for
-/// 2^40 bytes.
+/// The memory of an answer to this request that commits this, and whose description has at most this many bytes. There is none for 2^40 bytes.
 pub(crate) fn answer_room(
     alloc: Global,
-    cookie: &[u8],
+    request: &Request,
     signal: &Signal,
     len: usize,
 ) -> Result<AnswerRoom, OutOfMemory>
-    requires { IsCookie cookie.now }
+    requires { IsCookie request.now.cookie.now }
     ensures small { OnOk result (len < 2 ^ 40) }
     ensures contexts { IfOk result (λ room. room.contexts ≡ (if names_inbound signal.now then 16 else 0)) }
     ensures text { IfOk result (λ room. (room.text.list ≡ []) × (len ≤ room.text.spare)) }
-    ensures reply { IfOk result (λ room. IsReplyRoom cookie.now len room.reply) }
+    ensures reply { IfOk result (λ room. IsReplyRoom request.now.cookie.now request.now.body.now len room.reply) }
 {
     if len >= MOST_BYTES {
         return Err(OutOfMemory);
     }
     let contexts = InContexts::reserve(alloc, context_count(signal))?;
     let text = text_room(alloc, len)?;
-    let reply = reply_room(alloc, cookie, len)?;
+    let reply = reply_room(alloc, request, len)?;
     Ok(AnswerRoom {
         contexts,
         text,

@@ -19,10 +19,10 @@ use Rattle.board_laws.proofs.Spelled.{read_once}
 use Rattle.board_laws.proofs.Given.{Fed, nothing_same}
 use Rattle.board_laws.proofs.Commands.{ToldAlike, asked_same}
 
-abbrev act_of : Answered → Act
+abbrev pub act_of : Answered → Act
 act_of a = a.act
 
-abbrev bytes_of : Answered → List ℕ
+abbrev pub bytes_of : Answered → List ℕ
 bytes_of a = a.bytes
 
 abbrev entry : ℕ → Control → BoardEntry
@@ -44,11 +44,11 @@ repeats_not a other = refl
 read_by : (repeat long out_of_memory told : Bool) → repeat ≡ false → long ≡ false → out_of_memory ≡ false → (not repeat && not long && (not out_of_memory || told)) ≡ true
 read_by repeat long out_of_memory told p q r = rw (p, q, r) refl
 
-read : (config : Config) (h : List BoardEntry) (now : ℕ) (c : Control) → FitsControl config h now c → kept h c.source c.cookie now ≡ None → HasMemory c → c.too_long ≡ false → Reads c.body c.pairs
+pub read : (config : Config) (h : List BoardEntry) (now : ℕ) (c : Control) → FitsControl config h now c → kept h c.source c.cookie now ≡ None → HasMemory c → c.too_long ≡ false → Reads c.body c.pairs
 read config h now c fits none fed short =
     fits.reads (read_by (is_repeat c.act) c.too_long c.given.out_of_memory (is_some c.given.report) (repeats_not c.act (no_repeat config h now c fits none)) short fed)
 
-few : (cookie body : List ℕ) → nat_lt 16384 (length (cookie ++ 32 ∷ body)) ≡ false → length body < 2 ^ 64
+pub few : (cookie body : List ℕ) → nat_lt 16384 (length (cookie ++ 32 ∷ body)) ≡ false → length body < 2 ^ 64
 few cookie body is =
     let low = ltb-false 16384 (length (cookie ++ 32 ∷ body)) is in
     let all = length-append cookie (32 ∷ body) in
@@ -81,17 +81,17 @@ same_asked config h now c d f g one fed_c fed_d none_c none_d =
 -- One turn of a datagram for which nothing is kept, by what is asked.
 
 pub record Answers (config : Config) (h : List BoardEntry) (c : Control) (r : Result Said ErrorCode) : Type 0 where
-  pub answer : answer_of c ≡ spelled config c.cookie (answering_asked config h c r)
+  pub answer : answer_of c ≡ spelled config c.cookie c.body (answering_asked config h c r)
   pub hears : is_heard (answering_asked config h c r).act ≡ true → Hears h c r
   pub gives : GivesFor (demanded_by h c r) c.given (answering_asked config h c r).act
 
-answers : (config : Config) (h : List BoardEntry) (now : ℕ) (c : Control) (r : Result Said ErrorCode) → FitsControl config h now c → HasMemory c
+pub answers : (config : Config) (h : List BoardEntry) (now : ℕ) (c : Control) (r : Result Said ErrorCode) → FitsControl config h now c → HasMemory c
     → kept h c.source c.cookie now ≡ None → asked config c.too_long c.pairs ≡ r → Answers config h c r
 answers config h now c r fits fed none is =
-    let due : answer_of c ≡ spelled config c.cookie (answering config h c) =
-    fits.answers ∙ ap (answering_unless config h c) none ∙ ap (λ (b : Bool). unless_out_of_memory config c.cookie b (answering config h c)) fed in
-    let answer : answer_of c ≡ spelled config c.cookie (answering_asked config h c r) =
-    due ∙ ap (λ (s : Result Said ErrorCode). spelled config c.cookie (answering_asked config h c s)) is in
+    let due : answer_of c ≡ spelled config c.cookie c.body (answering config h c) =
+    fits.answers ∙ ap (answering_unless config h c) none ∙ ap (λ (b : Bool). unless_out_of_memory config c.cookie c.body b (answering config h c)) fed in
+    let answer : answer_of c ≡ spelled config c.cookie c.body (answering_asked config h c r) =
+    due ∙ ap (λ (s : Result Said ErrorCode). spelled config c.cookie c.body (answering_asked config h c s)) is in
     record {
       answer = answer;
       hears = λ heard. subst (Hears h c) is (fits.hears (ap (λ (a : Answered). is_heard a.act) answer ∙ heard));
@@ -99,12 +99,14 @@ answers config h now c r fits fed none is =
           (subst (GivesFor (demanded config h c) c.given) (ap act_of answer) fits.gives);
     }
 
-one_answer : (config : Config) (h : List BoardEntry) (c d : Control) (r : Result Said ErrorCode) → c.cookie ≡ d.cookie → Fed c.given d.given → ToldAlike c.given d.given c.act d.act
+one_answer : (config : Config) (h : List BoardEntry) (c d : Control) (r : Result Said ErrorCode) → c.cookie ≡ d.cookie → c.body ≡ d.body → Fed c.given d.given → ToldAlike c.given d.given c.act d.act
     → Answers config h c r → Answers config h d r → AreOne c d
-one_answer config h c d r cookie fed told x y =
+one_answer config h c d r cookie body fed told x y =
     let same = asked_same config h c d r fed (λ of m n is_c is_d. told of m n (ap act_of x.answer ∙ is_c) (ap act_of y.answer ∙ is_d)) x.hears y.hears x.gives y.gives in
     let both : answer_of c ≡ answer_of d =
-    x.answer ∙ ap (λ (k : List ℕ). spelled config k (answering_asked config h c r)) cookie ∙ ap (spelled config d.cookie) same.answer ∙ sym y.answer in
+    x.answer ∙ ap (λ (k : List ℕ). spelled config k c.body (answering_asked config h c r)) cookie
+    ∙ ap (λ (b : List ℕ). spelled config d.cookie b (answering_asked config h c r)) body
+    ∙ ap (spelled config d.cookie d.body) same.answer ∙ sym y.answer in
     record { given = same.given; reply = ap bytes_of both; act = ap act_of both }
 
 one_kept : (config : Config) (h : List BoardEntry) (now : ℕ) (c d : Control) → FitsControl config h now c → FitsControl config h now d → AreOfOne c d → Fed c.given d.given → ToldAlike c.given d.given c.act d.act
@@ -120,7 +122,7 @@ one_kept config h now c d f g one fed told (Some bytes) is_c is_d =
       act = ap act_of left ∙ sym (ap act_of right);
     }
 one_kept config h now c d f g one fed told None is_c is_d =
-    one_answer config h c d (asked config c.too_long c.pairs) one.cookie fed told
+    one_answer config h c d (asked config c.too_long c.pairs) one.cookie one.body fed told
     (answers config h now c (asked config c.too_long c.pairs) f fed.left is_c refl)
     (answers config h now d (asked config c.too_long c.pairs) g fed.right is_d (sym (same_asked config h now c d f g one fed.left fed.right is_c is_d)))
 

@@ -3,3 +3,4 @@ pub mod Faults
 pub mod Given
 pub mod Commands
 pub mod Answered
+pub mod Both

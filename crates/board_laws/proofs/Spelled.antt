@@ -1,5 +1,5 @@
 -- A text is read in one way: the dictionary of a body, and the crypto lines that are chosen of a description.
-use Rattle.std.proofs.Common.{◌≡◌, ◌∙◌, sym, ap, refl, ℕ, suc, ◌<◌, ◌^◌, ◌⊎◌, inl, inr, List, [], ◌∷◌, ◌++◌, length, take, codes, decimal, get_or, Option, Some, None, Result, Ok, IsSome, arith}
+use Rattle.std.proofs.Common.{◌≡◌, ◌∙◌, sym, ap, refl, ℕ, suc, ◌<◌, ◌^◌, ◌⊎◌, inl, inr, Bool, true, false, List, [], ◌∷◌, ◌++◌, length, take, codes, decimal, get_or, Option, Some, None, Result, Ok, IsSome, arith}
 use Rattle.std.proofs.lemmas.List.{append_cancel_left}
 use Rattle.std.specs.List.{prefix_len}
 use Rattle.std.specs.Char.{is_ascii_digit}
@@ -24,21 +24,27 @@ use Rattle.offer_answer.specs.Sections.{section_count}
 use Rattle.offer_answer.specs.Keys.{chosen_in, last_lines}
 use Rattle.offer_answer.specs.Faults.{AreFirst}
 use Rattle.offer_answer.specs.Plan.{OfferHeard, AnswerHeard}
+use Rattle.call_board.specs.Dialects.{is_json, SaysIn}
 use Rattle.call_board.specs.Asked.{Reads}
 use Rattle.call_board.specs.Answers.{offer_ask, answer_ask}
+use Rattle.call_board.proofs.Saying.{says_once}
 
 -- The dictionary of a body.
 
 dict_once : (p q : Entries) → Dict p ≡ Dict q → p ≡ q
 dict_once p q e = cc
 
+said_once : (in_json : Bool) (body : List ℕ) (p q : Entries) → length body < 2 ^ 64 → SaysIn in_json body (Dict p) → SaysIn in_json body (Dict q) → p ≡ q
+said_once false body p q short r s =
+    dict_once p q (one_way 16 16 (Dict p) (Dict q) [] [] (spells_fits body (Dict p) r short) (spells_fits body (Dict q) s short)
+    (ap (λ (text : List ℕ). text ++ []) (sym r.spelled ∙ s.spelled))).0
+said_once true body p q short r s = dict_once p q (says_once body (Dict p) (Dict q) r s)
+
 pub read_once : (body : List ℕ) (p q : Option Entries) → length body < 2 ^ 64 → Reads body p → Reads body q → p ≡ q
 read_once body None None short r s = refl
 read_once body (Some p) None short r s = absurd (s p r)
 read_once body None (Some q) short r s = absurd (r q s)
-read_once body (Some p) (Some q) short r s =
-    ap Some (dict_once p q (one_way 16 16 (Dict p) (Dict q) [] [] (spells_fits body (Dict p) r short) (spells_fits body (Dict q) s short)
-    (ap (λ (text : List ℕ). text ++ []) (sym r.spelled ∙ s.spelled))).0)
+read_once body (Some p) (Some q) short r s = ap Some (said_once (is_json body) body p q short r s)
 
 -- A usable crypto line, from left to right.
 

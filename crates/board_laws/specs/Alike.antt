@@ -1,8 +1,16 @@
--- Two turns of the board of one datagram, in which the devices returned the same.
-use Rattle.std.specs.Prelude.{◌≡◌, ℕ, ◌+◌, Bool, false, List, [], ◌∷◌, Some}
+-- Two turns of the board of one datagram, or of two that say the same in two dialects, in which the devices returned the same.
+use Rattle.std.specs.Prelude.{◌≡◌, ℕ, ◌+◌, ◌++◌, Bool, true, false, List, [], ◌∷◌, Some, None}
 use Rattle.relay_outside.specs.declared.keys.KeyCall.{KeyCall}
+use Rattle.relay_outside.specs.declared.settings.Config.{Config}
+use Rattle.ng_bencode.specs.Tree.{Dict, Entries}
+use Rattle.ng_bencode.specs.Spells.{Spells, spelling}
+use Rattle.ng_json.specs.Twins.{Says}
+use Rattle.ng_json.specs.Written.{json_text}
 use Rattle.port_pool.specs.declared.reports.LegReport.{LegReport}
-use Rattle.call_board.specs.Acts.{Call, Queried, Given, Control}
+use Rattle.call_board.specs.Acts.{Call, Queried, Given, Control, BoardEntry}
+use Rattle.call_board.specs.Dialects.{is_json}
+use Rattle.call_board.specs.Kept.{kept}
+use Rattle.call_board.specs.Replies.{Reply, tree_of_reply}
 use Rattle.control_entries.specs.Giving.{draws_of}
 
 -- the same datagram, from the same source
@@ -44,3 +52,24 @@ pub record AreOne (c d : Control) : Type 0 where
   pub given : c.given ≡ d.given
   pub reply : c.reply ≡ d.reply
   pub act : c.act ≡ d.act
+
+-- A bencode datagram and a JSON datagram say the same: the one's body spells this dictionary, and the other's is JSON that says it. They
+-- come from one source, neither is longer than 16,384 bytes, and no reply is kept for either at this moment
+pub record SayAlike (h : List BoardEntry) (now : ℕ) (pairs : Entries) (c d : Control) : Type 0 where
+  pub source : c.source ≡ d.source
+  pub spells : Spells c.body (Dict pairs)
+  pub in_json : is_json d.body ≡ true
+  pub says : Says d.body (Dict pairs)
+  pub short_c : c.too_long ≡ false
+  pub short_d : d.too_long ≡ false
+  pub none_kept_c : kept h c.source c.cookie now ≡ None
+  pub none_kept_d : kept h d.source d.cookie now ≡ None
+
+-- The devices returned the same, the same was done, and one value was replied: spelled in bencode to the one, written as JSON to the other,
+-- each after its own cookie
+pub record AreOneInBoth (config : Config) (c d : Control) : Type 0 where
+  pub given : c.given ≡ d.given
+  pub act : c.act ≡ d.act
+  pub reply : Reply
+  pub spelled : c.reply ≡ c.cookie ++ 32 ∷ spelling (tree_of_reply config reply)
+  pub written : d.reply ≡ d.cookie ++ 32 ∷ json_text (tree_of_reply config reply)

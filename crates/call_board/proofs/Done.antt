@@ -38,7 +38,7 @@ IsDue config h now c due = answering_unless config h c (kept h c.source c.cookie
 
 -- an act, with the datagram of its reply
 abbrev pub with_reply : Config → Control → Reply → Act → Answered
-with_reply config c reply does = record { bytes = reply_datagram config c.cookie reply; act = does }
+with_reply config c reply does = record { bytes = reply_datagram config c.cookie c.body reply; act = does }
 
 -- nothing is kept for the datagram, memory doesn't run out, and this is what it asks
 pub record Asks (config : Config) (h : List BoardEntry) (now : ℕ) (c : Control) (r : Result Said ErrorCode) : Type 0 where
@@ -65,7 +65,7 @@ same_answering config h c due (Ok (said.Listing limit)) = refl
 same_due : (config : Config) (h : List BoardEntry) (c : Control) (due : Answered) (o : Option (List ℕ))
     → answering_unless config h (answered_as c due) o ≡ answering_unless config h c o
 same_due config h c due (Some bytes) = refl
-same_due config h c due None = ap (unless_out_of_memory config c.cookie c.given.out_of_memory) (same_answering config h c due (asked config c.too_long c.pairs))
+same_due config h c due None = ap (unless_out_of_memory config c.cookie c.body c.given.out_of_memory) (same_answering config h c due (asked config c.too_long c.pairs))
 
 -- what is due, is due whatever stands for the reply and the act
 pub due_as : (config : Config) (h : List BoardEntry) (now : ℕ) (c : Control) (due other : Answered) → IsDue config h now c due → IsDue config h now (answered_as c other) due
@@ -116,13 +116,13 @@ repeated_due config h now c bytes is = ap (answering_unless config h c) is
 pub out_of_memory_due : (config : Config) (h : List BoardEntry) (now : ℕ) (c : Control) → kept h c.source c.cookie now ≡ None → c.given.out_of_memory ≡ true
     → IsDue config h now c (with_reply config c (Fault E17) act.OutOfMemory)
 out_of_memory_due config h now c none out_of_memory =
-    ap (answering_unless config h c) none ∙ ap (λ b. unless_out_of_memory config c.cookie b (answering config h c)) out_of_memory
+    ap (answering_unless config h c) none ∙ ap (λ b. unless_out_of_memory config c.cookie c.body b (answering config h c)) out_of_memory
 
 asked_due : (config : Config) (h : List BoardEntry) (now : ℕ) (c : Control) (r : Result Said ErrorCode) → Asks config h now c r
-    → IsDue config h now c (spelled config c.cookie (answering_asked config h c r))
+    → IsDue config h now c (spelled config c.cookie c.body (answering_asked config h c r))
 asked_due config h now c r asks =
-    ap (answering_unless config h c) asks.nothing_kept ∙ ap (λ b. unless_out_of_memory config c.cookie b (answering config h c)) asks.not_out_of_memory
-    ∙ ap (λ s. spelled config c.cookie (answering_asked config h c s)) asks.is_asked
+    ap (answering_unless config h c) asks.nothing_kept ∙ ap (λ b. unless_out_of_memory config c.cookie c.body b (answering config h c)) asks.not_out_of_memory
+    ∙ ap (λ s. spelled config c.cookie c.body (answering_asked config h c s)) asks.is_asked
 
 pub failed_due : (config : Config) (h : List BoardEntry) (now : ℕ) (c : Control) (code : ErrorCode) → Asks config h now c (Err code)
     → IsDue config h now c (with_reply config c (Fault code) (act.Failed code))
@@ -134,8 +134,8 @@ ping_due config h now c asks = asked_due config h now c (Ok said.Ping) asks
 -- Queries and lists.
 
 query_due : (config : Config) (h : List BoardEntry) (now : ℕ) (c : Control) (id : List ℕ) (due : Answering)
-    → Asks config h now c (Ok (said.Query id)) → query_of h c.given (find_call h id) ≡ due → IsDue config h now c (spelled config c.cookie due)
-query_due config h now c id due asks is = asked_due config h now c (Ok (said.Query id)) asks ∙ ap (spelled config c.cookie) is
+    → Asks config h now c (Ok (said.Query id)) → query_of h c.given (find_call h id) ≡ due → IsDue config h now c (spelled config c.cookie c.body due)
+query_due config h now c id due asks is = asked_due config h now c (Ok (said.Query id)) asks ∙ ap (spelled config c.cookie c.body) is
 
 -- no live call has the call-id
 pub query_unknown_due : (config : Config) (h : List BoardEntry) (now : ℕ) (c : Control) (id : List ℕ)
@@ -162,8 +162,8 @@ listed_due config h now c limit asks = asked_due config h now c (Ok (said.Listin
 -- Deletes.
 
 delete_due : (config : Config) (h : List BoardEntry) (now : ℕ) (c : Control) (id : List ℕ) (tag : Option (List ℕ)) (fatal : Bool) (due : Answering)
-    → Asks config h now c (Ok (said.Delete id tag fatal)) → delete_of h tag fatal (find_call h id) ≡ due → IsDue config h now c (spelled config c.cookie due)
-delete_due config h now c id tag fatal due asks is = asked_due config h now c (Ok (said.Delete id tag fatal)) asks ∙ ap (spelled config c.cookie) is
+    → Asks config h now c (Ok (said.Delete id tag fatal)) → delete_of h tag fatal (find_call h id) ≡ due → IsDue config h now c (spelled config c.cookie c.body due)
+delete_due config h now c id tag fatal due asks is = asked_due config h now c (Ok (said.Delete id tag fatal)) asks ∙ ap (spelled config c.cookie c.body) is
 
 -- no live call has the call-id: a fault where that is fatal, and a warning elsewhere
 pub delete_unknown_due : (config : Config) (h : List BoardEntry) (now : ℕ) (c : Control) (id : List ℕ) (tag : Option (List ℕ)) (fatal : Bool)
@@ -208,11 +208,11 @@ says_answer id ask = said.Answer id ask.from_tag ask.to_tag ask.sdp ask.options
 
 -- by what the board's history demands of the answer
 pub due_of_answer : (config : Config) (h : List BoardEntry) (now : ℕ) (c : Control) (id : List ℕ) (ask : AnswerAsk) (due : Answering)
-    → Asks config h now c (Ok (says_answer id ask)) → ask.chosen ≡ c.chosen → answer_to config h ask (find_call h id) ≡ due → IsDue config h now c (spelled config c.cookie due)
+    → Asks config h now c (Ok (says_answer id ask)) → ask.chosen ≡ c.chosen → answer_to config h ask (find_call h id) ≡ due → IsDue config h now c (spelled config c.cookie c.body due)
 due_of_answer config h now c id ask due asks heard is =
     asked_due config h now c (Ok (says_answer id ask)) asks
-    ∙ ap (λ (chosen : List (Option CryptoLine)). spelled config c.cookie (answer_to config h (answer_ask ask.from_tag ask.to_tag ask.sdp ask.options chosen) (find_call h id))) (sym heard)
-    ∙ ap (spelled config c.cookie) is
+    ∙ ap (λ (chosen : List (Option CryptoLine)). spelled config c.cookie c.body (answer_to config h (answer_ask ask.from_tag ask.to_tag ask.sdp ask.options chosen) (find_call h id))) (sym heard)
+    ∙ ap (spelled config c.cookie c.body) is
 
 pub answer_unknown_due : (config : Config) (h : List BoardEntry) (now : ℕ) (c : Control) (id : List ℕ) (ask : AnswerAsk)
     → Asks config h now c (Ok (says_answer id ask)) → ask.chosen ≡ c.chosen → find_call h id ≡ None → IsDue config h now c (with_reply config c (Fault E9) (act.Failed E9))
@@ -251,11 +251,11 @@ says_offer id ask = said.Offer id ask.from_tag ask.sdp ask.options
 -- by what the board's history demands of the offer
 pub due_of_offer : (config : Config) (h : List BoardEntry) (now : ℕ) (c : Control) (id : List ℕ) (ask : OfferAsk) (due : Answering)
     → Asks config h now c (Ok (says_offer id ask)) → ask.chosen ≡ c.chosen → offer_to config h c.given id ask (find_call h id) ≡ due
-    → IsDue config h now c (spelled config c.cookie due)
+    → IsDue config h now c (spelled config c.cookie c.body due)
 due_of_offer config h now c id ask due asks heard is =
     asked_due config h now c (Ok (says_offer id ask)) asks
-    ∙ ap (λ (chosen : List (Option CryptoLine)). spelled config c.cookie (offer_to config h c.given id (offer_ask ask.from_tag ask.sdp ask.options chosen) (find_call h id))) (sym heard)
-    ∙ ap (spelled config c.cookie) is
+    ∙ ap (λ (chosen : List (Option CryptoLine)). spelled config c.cookie c.body (offer_to config h c.given id (offer_ask ask.from_tag ask.sdp ask.options chosen) (find_call h id))) (sym heard)
+    ∙ ap (spelled config c.cookie c.body) is
 
 -- it fails by its first fault or shortage (`Dues.offer_fails`, or by the board's history below)
 pub offer_failed_due : (config : Config) (h : List BoardEntry) (now : ℕ) (c : Control) (id : List ℕ) (ask : OfferAsk) (code : ErrorCode)
@@ -276,7 +276,7 @@ plan_leases config h c id ask p planned = record { is = offer_leases config h c.
 leased_due : (config : Config) (h : List BoardEntry) (now : ℕ) (c : Control) (id : List ℕ) (ask : OfferAsk) (of : Call) (begins : Bool) (before : List Round) (pairs : List ℕ) (failed drew : Bool)
     → Asks config h now c (Ok (says_offer id ask)) → ask.chosen ≡ c.chosen → IsLeasing config h c id ask of begins before pairs
     → list_any not c.given.opens ≡ failed → c.given.draw_failed ≡ drew
-    → IsDue config h now c (spelled config c.cookie (leased_case config h c.given ask of begins before pairs failed drew))
+    → IsDue config h now c (spelled config c.cookie c.body (leased_case config h c.given ask of begins before pairs failed drew))
 leased_due config h now c id ask of begins before pairs failed drew asks heard leased opened is =
     due_of_offer config h now c id ask (leased_case config h c.given ask of begins before pairs failed drew) asks heard
     (leased.is ∙ ap (λ b. leased_case config h c.given ask of begins before pairs b c.given.draw_failed) opened
@@ -301,7 +301,7 @@ offer_keys_due config h now c id ask of begins before pairs asks heard leased op
 pub offered_due : (config : Config) (h : List BoardEntry) (now : ℕ) (c : Control) (id : List ℕ) (ask : OfferAsk) (of : Call) (begins : Bool) (before : List Round) (pairs : List ℕ)
     → Asks config h now c (Ok (says_offer id ask)) → ask.chosen ≡ c.chosen → IsLeasing config h c id ask of begins before pairs
     → list_any not c.given.opens ≡ false → c.given.draw_failed ≡ false
-    → IsDue config h now c (spelled config c.cookie (offering config before (offer_of h c ask of begins before pairs)))
+    → IsDue config h now c (spelled config c.cookie c.body (offering config before (offer_of h c ask of begins before pairs)))
 offered_due config h now c id ask of begins before pairs asks heard leased opened drew =
     leased_due config h now c id ask of begins before pairs false false asks heard leased opened drew
 

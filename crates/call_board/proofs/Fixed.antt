@@ -32,8 +32,8 @@ use Rattle.call_board.proofs.Tells.{leased_case, tells_of}
 
 -- What is due, where memory may run out.
 
-abbrev pub unless_out_of_memory : Config → (cookie : List ℕ) → Bool → Answering → Answered
-unless_out_of_memory config cookie out_of_memory a = cond out_of_memory (record { bytes = reply_datagram config cookie (Fault E17); act = act.OutOfMemory }) (spelled config cookie a)
+abbrev pub unless_out_of_memory : Config → (cookie body : List ℕ) → Bool → Answering → Answered
+unless_out_of_memory config cookie body out_of_memory a = cond out_of_memory (record { bytes = reply_datagram config cookie body (Fault E17); act = act.OutOfMemory }) (spelled config cookie body a)
 
 abbrev act_of : Answered → Act
 act_of a = a.act
@@ -75,10 +75,10 @@ long_alike config h c d pairs others false is = absurd (let e = is in cc)
 
 unread_due : (config : Config) (h : List BoardEntry) (c d : Control) (pairs others : Option Entries) → (c.act ≡ act.Repeated → ⊥) → (repeat too_long out_of_memory told : Bool)
     → is_repeat c.act ≡ repeat → (not repeat && not too_long && (not out_of_memory || told)) ≡ false
-    → unless_out_of_memory config c.cookie out_of_memory (answering_asked config h d (asked config too_long others)) ≡ unless_out_of_memory config c.cookie out_of_memory (answering_asked config h c (asked config too_long pairs))
+    → unless_out_of_memory config c.cookie c.body out_of_memory (answering_asked config h d (asked config too_long others)) ≡ unless_out_of_memory config c.cookie c.body out_of_memory (answering_asked config h c (asked config too_long pairs))
 unread_due config h c d pairs others once true too_long out_of_memory told is unread = absurd (once (repeats c.act is))
 unread_due config h c d pairs others once false true out_of_memory told is unread =
-    ap (unless_out_of_memory config c.cookie out_of_memory) (long_alike config h c d pairs others true refl)
+    ap (unless_out_of_memory config c.cookie c.body out_of_memory) (long_alike config h c d pairs others true refl)
 unread_due config h c d pairs others once false false true told is unread = refl
 unread_due config h c d pairs others once false false false told is unread = absurd (let e : true ≡ false = unread in cc)
 
@@ -191,10 +191,10 @@ asked_same config h c chosen (Ok (said.Query id)) unheard = refl
 asked_same config h c chosen (Ok (said.Listing limit)) unheard = refl
 
 unheard_due : (config : Config) (h : List BoardEntry) (c : Control) (chosen : List (Option CryptoLine)) (out_of_memory : Bool) (r : Result Said ErrorCode)
-    → is_heard (unless_out_of_memory config c.cookie out_of_memory (answering_asked config h c r)).act ≡ false
-    → unless_out_of_memory config c.cookie out_of_memory (answering_asked config h (heard_as c chosen) r) ≡ unless_out_of_memory config c.cookie out_of_memory (answering_asked config h c r)
+    → is_heard (unless_out_of_memory config c.cookie c.body out_of_memory (answering_asked config h c r)).act ≡ false
+    → unless_out_of_memory config c.cookie c.body out_of_memory (answering_asked config h (heard_as c chosen) r) ≡ unless_out_of_memory config c.cookie c.body out_of_memory (answering_asked config h c r)
 unheard_due config h c chosen true r unheard = refl
-unheard_due config h c chosen false r unheard = ap (spelled config c.cookie) (asked_same config h c chosen r unheard)
+unheard_due config h c chosen false r unheard = ap (spelled config c.cookie c.body) (asked_same config h c chosen r unheard)
 
 unheard_case : (config : Config) (h : List BoardEntry) (c : Control) (chosen : List (Option CryptoLine)) (o : Option (List ℕ))
     → is_heard (answering_unless config h c o).act ≡ false → answering_unless config h (heard_as c chosen) o ≡ answering_unless config h c o

@@ -20,6 +20,7 @@ pub mod Keeps
 pub mod Draws
 pub mod Demands
 pub mod Fixed
+pub mod Saying
 mod rows
 pub mod Placed
 pub mod Shown

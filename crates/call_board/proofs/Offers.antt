@@ -25,7 +25,7 @@ use Rattle.call_board.proofs.Cells.{live_bound}
 -- the cases of the reply to a valid offer
 pub data OfferEnds (config : Config) (h : List BoardEntry) (c : Control) (id : List ℕ) (ask : OfferAsk) : Type 0 where
   well : (o : act.Offer) → c.act ≡ act.Offered o → o.ask ≡ ask
-      → c.reply ≡ (spelled config c.cookie (offering config (rounds_of_call h (find_call h id)) o)).bytes → OfferEnds config h c id ask
+      → c.reply ≡ (spelled config c.cookie c.body (offering config (rounds_of_call h (find_call h id)) o)).bytes → OfferEnds config h c id ask
   no_pair : c.act ≡ act.Failed E13
       → is_short (free_in config h) (plan.demand (rounds_of_call h (find_call h id)) ask).pairs ≡ true → OfferEnds config h c id ask
   session_limit : c.act ≡ act.Failed E14 → find_call h id ≡ None → length (live h) ≡ config.max_sessions → OfferEnds config h c id ask
@@ -53,11 +53,11 @@ offer_of h c ask of new before pairs = record {
 
 leased_ends : (config : Config) (h : List BoardEntry) (c : Control) (id : List ℕ) (ask : OfferAsk) (of : Call) (new : Bool) (before : List Round) (pairs : List ℕ)
     → before ≡ rounds_of_call h (find_call h id) → (failed drew : Bool) → list_any not c.given.opens ≡ failed → c.given.draw_failed ≡ drew
-    → answer_of c ≡ spelled config c.cookie (leased_case config h c.given ask of new before pairs failed drew) → OfferEnds config h c id ask
+    → answer_of c ≡ spelled config c.cookie c.body (leased_case config h c.given ask of new before pairs failed drew) → OfferEnds config h c id ask
 leased_ends config h c id ask of new before pairs before_is true drew fails draws is = port_fault _ (ap act_of is) (false_in c.given.opens fails)
 leased_ends config h c id ask of new before pairs before_is false true fails draws is = key_fault _ (ap act_of is) draws
 leased_ends config h c id ask of new before pairs before_is false false fails draws is =
-    well _ (ap act_of is) refl (ap bytes_of is ∙ ap (λ (rs : List Round). (spelled config c.cookie (offering config rs (offer_of h c ask of new before pairs))).bytes) before_is)
+    well _ (ap act_of is) refl (ap bytes_of is ∙ ap (λ (rs : List Round). (spelled config c.cookie c.body (offering config rs (offer_of h c ask of new before pairs))).bytes) before_is)
 
 -- a limit that is reached and can't be passed
 reached : (limit count : ℕ) → nat_le limit count ≡ true → count ≤ limit → count ≡ limit
@@ -66,7 +66,7 @@ reached limit count over bound = grind (arith, nat_tests)
 planned_ends : (config : Config) (h : List BoardEntry) (c : Control) (id : List ℕ) (ask : OfferAsk) (of : Call) (new : Bool) (before : List Round)
     → before ≡ rounds_of_call h (find_call h id) → ((new && nat_le config.max_sessions (length (live h))) ≡ true → (find_call h id ≡ None) × (length (live h) ≡ config.max_sessions))
     → (over short : Bool) → (new && nat_le config.max_sessions (length (live h))) ≡ over → is_short (free_in config h) (plan.demand before ask).pairs ≡ short
-    → answer_of c ≡ spelled config c.cookie (cond over (failing E14) (cond short (failing E13) (offer_leased config h c.given ask of new before (leased_pairs config h (plan.demand before ask)))))
+    → answer_of c ≡ spelled config c.cookie c.body (cond over (failing E14) (cond short (failing E13) (offer_leased config h c.given ask of new before (leased_pairs config h (plan.demand before ask)))))
     → OfferEnds config h c id ask
 planned_ends config h c id ask of new before before_is limit true short overs shorts is = let l = limit overs in session_limit (ap act_of is) l.0 l.1
 planned_ends config h c id ask of new before before_is limit false true overs shorts is =
@@ -76,21 +76,21 @@ planned_ends config h c id ask of new before before_is limit false false overs s
 
 found_ends : (config : Config) (h : List BoardEntry) (c : Control) (id : List ℕ) (ask : OfferAsk) → length (live h) ≤ config.max_sessions
     → (found : Option Call) → find_call h id ≡ found → plan.offer_fault (rounds_of_call h found) ask ≡ None
-    → answer_of c ≡ spelled config c.cookie (offer_to config h c.given id ask found) → OfferEnds config h c id ask
+    → answer_of c ≡ spelled config c.cookie c.body (offer_to config h c.given id ask found) → OfferEnds config h c id ask
 found_ends config h c id ask bound None found no_fault is =
     planned_ends config h c id ask (new_call h id) true [] (sym (ap (rounds_of_call h) found))
     (λ over. (found, reached config.max_sessions (length (live h)) over bound))
     (nat_le config.max_sessions (length (live h))) (is_short (free_in config h) (plan.demand [] ask).pairs) refl refl
-    (is ∙ ap (λ fault. spelled config c.cookie (offer_unless config h c.given ask (new_call h id) true [] fault)) no_fault)
+    (is ∙ ap (λ fault. spelled config c.cookie c.body (offer_unless config h c.given ask (new_call h id) true [] fault)) no_fault)
 found_ends config h c id ask bound (Some of) found no_fault is =
     planned_ends config h c id ask of false (rounds h of.number) (sym (ap (rounds_of_call h) found))
     (λ over. absurd (let wrong : false ≡ true = over in cc))
     false (is_short (free_in config h) (plan.demand (rounds h of.number) ask).pairs) refl refl
-    (is ∙ ap (λ fault. spelled config c.cookie (offer_unless config h c.given ask of false (rounds h of.number) fault)) no_fault)
+    (is ∙ ap (λ fault. spelled config c.cookie c.body (offer_unless config h c.given ask of false (rounds h of.number) fault)) no_fault)
 
 out_of_memory_ends : (config : Config) (h : List BoardEntry) (c : Control) (id : List ℕ) (ask : OfferAsk) → length (live h) ≤ config.max_sessions
     → plan.offer_fault (rounds_of_call h (find_call h id)) ask ≡ None → (out_of_memory : Bool)
-    → answer_of c ≡ cond out_of_memory (record { bytes = reply_datagram config c.cookie (Fault E17); act = act.OutOfMemory }) (spelled config c.cookie (offer_to config h c.given id ask (find_call h id)))
+    → answer_of c ≡ cond out_of_memory (record { bytes = reply_datagram config c.cookie c.body (Fault E17); act = act.OutOfMemory }) (spelled config c.cookie c.body (offer_to config h c.given id ask (find_call h id)))
     → OfferEnds config h c id ask
 out_of_memory_ends config h c id ask bound no_fault true is = no_memory (ap act_of is)
 out_of_memory_ends config h c id ask bound no_fault false is = found_ends config h c id ask bound (find_call h id) refl no_fault is
@@ -99,8 +99,8 @@ pub offer_ends : (config : Config) (h : List BoardEntry) (now : ℕ) (c : Contro
     → kept h c.source c.cookie now ≡ None → asked config c.too_long c.pairs ≡ Ok (said.Offer id ask.from_tag ask.sdp ask.options) → ask.chosen ≡ c.chosen
     → plan.offer_fault (rounds_of_call h (find_call h id)) ask ≡ None → OfferEnds config h c id ask
 offer_ends config h now c id ask old fits none is_asked heard no_fault =
-    let due = λ (ch : List (Option CryptoLine)). spelled config c.cookie (offer_to config h c.given id (offer_ask ask.from_tag ask.sdp ask.options ch) (find_call h id)) in
+    let due = λ (ch : List (Option CryptoLine)). spelled config c.cookie c.body (offer_to config h c.given id (offer_ask ask.from_tag ask.sdp ask.options ch) (find_call h id)) in
     let unkept = fits.answers ∙ ap (answering_unless config h c) none in
-    let asking = ap (λ r. cond c.given.out_of_memory (record { bytes = reply_datagram config c.cookie (Fault E17); act = act.OutOfMemory }) (spelled config c.cookie (answering_asked config h c r))) is_asked in
-    let hearing = ap (λ ch. cond c.given.out_of_memory (record { bytes = reply_datagram config c.cookie (Fault E17); act = act.OutOfMemory }) (due ch)) (sym heard) in
+    let asking = ap (λ r. cond c.given.out_of_memory (record { bytes = reply_datagram config c.cookie c.body (Fault E17); act = act.OutOfMemory }) (spelled config c.cookie c.body (answering_asked config h c r))) is_asked in
+    let hearing = ap (λ ch. cond c.given.out_of_memory (record { bytes = reply_datagram config c.cookie c.body (Fault E17); act = act.OutOfMemory }) (due ch)) (sym heard) in
     out_of_memory_ends config h c id ask (live_bound config h old) no_fault c.given.out_of_memory (unkept ∙ asking ∙ hearing)

@@ -209,7 +209,7 @@ out_of_memory_case config h now c gives true is = turn_is now c _ is
 out_of_memory_case config h now c gives false is = asked_case config h now c (asked config c.too_long c.pairs) refl gives is
 
 out_of_memory_act : (config : Config) (h : List BoardEntry) (c : Control) (out_of_memory : Bool)
-    → (cond out_of_memory (record { bytes = reply_datagram config c.cookie (Fault E17); act = act.OutOfMemory }) (spelled config c.cookie (answering config h c))).act ≡ cond out_of_memory act.OutOfMemory (answering config h c).act
+    → (cond out_of_memory (record { bytes = reply_datagram config c.cookie c.body (Fault E17); act = act.OutOfMemory }) (spelled config c.cookie c.body (answering config h c))).act ≡ cond out_of_memory act.OutOfMemory (answering config h c).act
 out_of_memory_act config h c true = refl
 out_of_memory_act config h c false = refl
 

@@ -61,7 +61,7 @@ pub record Given : Type 0 where
   pub report : Option (List LegReport)
 
 -- A control datagram with a frame: its source, cookie and body, and whether it filled 16,385 bytes; the dictionary that the
--- body spells, where it spells one, and the usable crypto keys of its description, section by section; what the devices
+-- body says, where it says one, and the usable crypto keys of its description, section by section; what the devices
 -- returned; the reply, a whole datagram with the cookie first; and what it did
 pub record Control : Type 0 where
   pub source : Addr

@@ -155,13 +155,13 @@ pub record Answered : Type 0 where
   pub bytes : List ℕ
   pub act : Act
 
-abbrev pub spelled : Config → (cookie : List ℕ) → Answering → Answered
-spelled config cookie a = record { bytes = reply_datagram config cookie a.reply; act = a.act }
+abbrev pub spelled : Config → (cookie body : List ℕ) → Answering → Answered
+spelled config cookie body a = record { bytes = reply_datagram config cookie body a.reply; act = a.act }
 
 -- Which reply a datagram gets and what it does: a kept reply is sent again, as it was kept; the reply to any other datagram may be
 -- that memory ran out; else it is the one that is due
 abbrev pub answering_unless : Config → List BoardEntry → Control → Option (List ℕ) → Answered
 answering_unless config h c (Some bytes) = record { bytes = bytes; act = act.Repeated }
 answering_unless config h c None =
-    if c.given.out_of_memory then record { bytes = reply_datagram config c.cookie (Fault E17); act = act.OutOfMemory }
-    else spelled config c.cookie (answering config h c)
+    if c.given.out_of_memory then record { bytes = reply_datagram config c.cookie c.body (Fault E17); act = act.OutOfMemory }
+    else spelled config c.cookie c.body (answering config h c)

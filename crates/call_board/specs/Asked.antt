@@ -3,7 +3,6 @@ use Rattle.std.specs.Prelude.{ℕ, Bool, true, false, List, Option, Some, None, 
 use Rattle.relay_outside.specs.declared.address.Ip.{Ip}
 use Rattle.relay_outside.specs.declared.settings.Config.{Config}
 use Rattle.ng_bencode.specs.Tree.{Dict, Entries}
-use Rattle.ng_bencode.specs.Spells.{Spells}
 use Rattle.ng_command.specs.declared.fault.CommandFault.{CommandFault}
 use Rattle.ng_command.specs.declared.fault.CommandFault.TheVariants as fault
 use Rattle.ng_command.specs.declared.fault.KeyName.TheVariants.{Tls}
@@ -17,11 +16,16 @@ use Rattle.sdp_text.specs.Reading.{fault_in, v6_line_in}
 use Rattle.sdp_text.specs.declared.fault.SdpFault.{SdpFault}
 use Rattle.sdp_text.specs.declared.fault.SdpFault.TheVariants as sdp
 use Rattle.histories.specs.Words.{or_else}
+use Rattle.call_board.specs.Dialects.{is_json, SaysIn}
 
--- the body spells this dictionary, or it spells none
+-- the text says this dictionary, or it says none
+abbrev pub ReadsIn : (in_json : Bool) → List ℕ → Option Entries → Type 0
+ReadsIn in_json text (Some pairs) = SaysIn in_json text (Dict pairs)
+ReadsIn in_json text None = (pairs : Entries) → SaysIn in_json text (Dict pairs) → ⊥
+
+-- the same of a body, in its dialect
 abbrev pub Reads : List ℕ → Option Entries → Type 0
-Reads body (Some pairs) = Spells body (Dict pairs)
-Reads body None = (pairs : Entries) → Spells body (Dict pairs) → ⊥
+Reads body pairs = ReadsIn (is_json body) body pairs
 
 abbrev pub code_of : CommandFault → ErrorCode
 code_of fault.Malformed = E1

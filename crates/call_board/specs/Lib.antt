@@ -3,6 +3,7 @@ pub mod Calls
 pub mod Pairs
 pub mod Kept
 pub mod Reports
+pub mod Dialects
 pub mod Replies
 pub mod Asked
 pub mod Answers

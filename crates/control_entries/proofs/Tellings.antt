@@ -26,7 +26,7 @@ use Rattle.relay_core.specs.Made.{Made}
 use Rattle.relay_core.specs.Turning.{made_by}
 use Rattle.nested_steps.specs.declared.board_turn.BoardEntryId.{BoardEntryId}
 use Rattle.board_turns.specs.Acting.{InTurn}
-use Rattle.control_entries.specs.declared.request.Request.{Request}
+use Rattle.control_reading.specs.declared.request.Request.{Request}
 use Rattle.control_entries.specs.declared.device_answers.DeviceAnswers.{DeviceAnswers}
 use Rattle.control_entries.specs.declared.device_answers.DeviceAnswers.TheVariants.{Nothing, OutOfMemory}
 use Rattle.control_entries.specs.declared.command_outcome.CommandOutcome.{CommandOutcome}
@@ -74,7 +74,7 @@ module _ {M I O T : Type 0} {g : _} where
       (due_fits config h entry_id.moment c due is anew.framed anew.length_is
       (λ read. absurd (not_read true (not request.too_long) read)) (λ heard. absurd (let k : false ≡ true = heard in cc))
       (record { no_opens = refl; no_draws = refl; none_failed = refl }) (λ s t. refl))
-      (does_nothing config turns hand entry_id x due board told turn.shows turn.opens refl refl) (refl, sym (fault_is config request.cookie.now E17))
+      (does_nothing config turns hand entry_id x due board told turn.shows turn.opens refl refl) (refl, sym (fault_is config request.cookie.now request.body.now E17))
 
   -- memory ran out
   pub short_carries : (config : Config) (turns : Turns M (Part I O) Made T) (hand : Hand M (Part I O) Made T g) (entry_id : BoardEntryId) (request : Request) (pairs : Option Entries)

@@ -7,18 +7,18 @@ use Rattle.ng_bencode.specs.Room.{Room}
 use Rattle.ng_bencode.specs.Tree.{Entries}
 use Rattle.sdes_lines.specs.declared.crypto_line.CryptoLine.{CryptoLine}
 use Rattle.ng_reply.specs.declared.code.ErrorCode.TheVariants.{E17}
-use Rattle.ng_reply.specs.Replies.{error_datagram}
 use Rattle.call_board.specs.declared.board.Board.{Board}
 use Rattle.call_board.specs.Acts.{Control, OutOfMemory}
 use Rattle.call_board.specs.Fits.{FitsBoard}
 use Rattle.call_board.specs.Kept.{is_kept}
+use Rattle.call_board.specs.Replies.{fault_datagram}
 use Rattle.relay_core.specs.Entries.{board_history}
 use Rattle.relay_core.specs.Made.{Made}
 use Rattle.relay_core.specs.Turning.{made_by}
 use Rattle.relay_core.specs.declared.part.Part.{Part}
 use Rattle.nested_steps.specs.declared.board_turn.BoardEntryId.{BoardEntryId}
 use Rattle.board_turns.specs.Acting.{DoesAct}
-use Rattle.control_entries.specs.declared.request.Request.{Request}
+use Rattle.control_reading.specs.declared.request.Request.{Request}
 use Rattle.control_entries.specs.declared.device_answers.DeviceAnswers.{DeviceAnswers}
 use Rattle.control_entries.specs.declared.command_outcome.CommandOutcome.{CommandOutcome}
 use Rattle.control_entries.specs.Controls.{Hearing, control_of, entry_at}
@@ -43,7 +43,7 @@ hearing_by request pairs done = hearing_as request pairs done.chosen_lines done.
 
 -- the reply is made, and is to be kept; without one memory ran out, and the reply says that
 abbrev pub IsReplyOf : Control → Option (Room ℕ) → Type 0
-IsReplyOf c None = (c.act ≡ OutOfMemory) × (c.reply ≡ error_datagram c.cookie E17)
+IsReplyOf c None = (c.act ≡ OutOfMemory) × (c.reply ≡ fault_datagram c.cookie c.body E17)
 IsReplyOf c (Some text) = (is_kept c.act ≡ true) × (text.list ≡ c.reply)
 
 module _ {M I O T : Type 0} {g : _} where

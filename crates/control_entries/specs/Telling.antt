@@ -14,7 +14,7 @@ use Rattle.call_board.specs.Kept.{kept}
 use Rattle.call_board.specs.Replies.{Reply, Fault, Warned, reply_datagram}
 use Rattle.control_reading.specs.declared.description.DescriptionFault.{DescriptionFault}
 use Rattle.control_reading.specs.declared.description.DescriptionFault.TheVariants as faults
-use Rattle.control_entries.specs.declared.request.Request.{Request}
+use Rattle.control_reading.specs.declared.request.Request.{Request}
 use Rattle.control_entries.specs.declared.device_answers.DeviceAnswers.TheVariants.{Nothing, OutOfMemory}
 use Rattle.control_entries.specs.declared.command_outcome.CommandOutcome.{CommandOutcome}
 
@@ -54,6 +54,6 @@ error_in (faults.Error code) = Some code
 error_in faults.OutOfMemory = None
 
 -- this error is told, and these crypto lines were chosen; without one memory ran out
-abbrev pub Refuses : (cookie : List ℕ) → List (Option CryptoLine) → Option ErrorCode → CommandOutcome → Type 0
-Refuses cookie chosen None done = IsShort done
-Refuses cookie chosen (Some code) done = (config : Config) → Tells chosen (reply_datagram config cookie (Fault code)) done
+abbrev pub Refuses : (cookie body : List ℕ) → List (Option CryptoLine) → Option ErrorCode → CommandOutcome → Type 0
+Refuses cookie body chosen None done = IsShort done
+Refuses cookie body chosen (Some code) done = (config : Config) → Tells chosen (reply_datagram config cookie body (Fault code)) done

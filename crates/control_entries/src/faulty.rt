@@ -8,7 +8,7 @@ ghost use Rattle.control_entries.specs.Telling.{Refuses, error_in};
 use crate::command_outcome::CommandOutcome;
 use crate::refusing::{refused, short};
 use call_board::BoardFault;
-use control_reading::DescriptionFault;
+use control_reading::{DescriptionFault, Request};
 use ng_reply::ErrorCode;
 use offer_answer::ChosenLines;
 use std::alloc::Global;
@@ -32,28 +32,28 @@ fn code_of(fault: BoardFault) -> Option<ErrorCode>
 /// The outcome when planning fails with this fault, after these crypto lines were chosen: the reply tells its error, or that memory ran out.
 pub fn unplanned(
     alloc: Global,
-    cookie: &[u8],
+    request: &Request,
     fault: BoardFault,
     chosen_lines: ChosenLines,
 ) -> CommandOutcome
-    requires { IsCookie cookie.now }
-    ensures refuses { Refuses cookie.now chosen_lines (code_of fault) result }
+    requires { IsCookie request.now.cookie.now }
+    ensures refuses { Refuses request.now.cookie.now request.now.body.now chosen_lines (code_of fault) result }
     ensures unasked { IsUnasked result.device_answers }
 {
     match code_of(fault) {
-        Some(code) => refused(alloc, cookie, code, chosen_lines),
+        Some(code) => refused(alloc, request, code, chosen_lines),
         None => short(),
     }
 }
 
 /// The outcome when the description is refused: the reply tells the error, or that memory ran out. No crypto line is chosen in it.
-pub fn misdescribed(alloc: Global, cookie: &[u8], fault: DescriptionFault) -> CommandOutcome
-    requires { IsCookie cookie.now }
-    ensures refuses { Refuses cookie.now [] (error_in fault) result }
+pub fn misdescribed(alloc: Global, request: &Request, fault: DescriptionFault) -> CommandOutcome
+    requires { IsCookie request.now.cookie.now }
+    ensures refuses { Refuses request.now.cookie.now request.now.body.now [] (error_in fault) result }
     ensures unasked { IsUnasked result.device_answers }
 {
     match fault {
-        DescriptionFault::Error(code) => refused(alloc, cookie, code, ChosenLines::none()),
+        DescriptionFault::Error(code) => refused(alloc, request, code, ChosenLines::none()),
         DescriptionFault::OutOfMemory => short(),
     }
 }

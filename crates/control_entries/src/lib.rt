@@ -10,10 +10,8 @@ mod command_outcome;
 mod device_answers;
 mod faulty;
 mod refusing;
-mod request;
 
 pub use command_outcome::CommandOutcome;
 pub use device_answers::DeviceAnswers;
 pub use faulty::{misdescribed, unplanned};
 pub use refusing::{missing, refused, short, told};
-pub use request::Request;

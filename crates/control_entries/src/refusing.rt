@@ -8,6 +8,7 @@ ghost use Rattle.control_entries.specs.Telling.{Tells, IsShort, missing_reply};
 
 use crate::command_outcome::CommandOutcome;
 use crate::device_answers::DeviceAnswers;
+use control_reading::Request;
 use control_replies::{error_datagram, warned_datagram};
 use ng_bencode::Text;
 use ng_reply::ErrorCode;
@@ -45,26 +46,26 @@ pub fn told(chosen_lines: ChosenLines, reply: Result<Text, OutOfMemory>) -> Comm
 /// A command that fails.
 pub fn refused(
     alloc: Global,
-    cookie: &[u8],
+    request: &Request,
     code: ErrorCode,
     chosen_lines: ChosenLines,
 ) -> CommandOutcome
-    requires { IsCookie cookie.now }
-    ensures tells { (config : Config) → Tells chosen_lines (reply_datagram config cookie.now (Fault code)) result }
+    requires { IsCookie request.now.cookie.now }
+    ensures tells { (config : Config) → Tells chosen_lines (reply_datagram config request.now.cookie.now request.now.body.now (Fault code)) result }
     ensures unasked { IsUnasked result.device_answers }
 {
-    told(chosen_lines, error_datagram(alloc, cookie, code))
+    told(chosen_lines, error_datagram(alloc, request, code))
 }
 
 /// A delete that finds nothing to end: an error where it is fatal, a warning otherwise.
-pub fn missing(alloc: Global, cookie: &[u8], fatal: bool, code: ErrorCode) -> CommandOutcome
-    requires { IsCookie cookie.now }
-    ensures tells { (config : Config) → Tells [] (reply_datagram config cookie.now (missing_reply fatal code)) result }
+pub fn missing(alloc: Global, request: &Request, fatal: bool, code: ErrorCode) -> CommandOutcome
+    requires { IsCookie request.now.cookie.now }
+    ensures tells { (config : Config) → Tells [] (reply_datagram config request.now.cookie.now request.now.body.now (missing_reply fatal code)) result }
     ensures unasked { IsUnasked result.device_answers }
 {
     if fatal {
-        refused(alloc, cookie, code, ChosenLines::none())
+        refused(alloc, request, code, ChosenLines::none())
     } else {
-        told(ChosenLines::none(), warned_datagram(alloc, cookie, code))
+        told(ChosenLines::none(), warned_datagram(alloc, request, code))
     }
 }

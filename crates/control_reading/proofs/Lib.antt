@@ -1,3 +1,4 @@
+pub mod Strings
 pub mod Sizes
 pub mod Read
 pub mod Described

@@ -17,7 +17,7 @@ abbrev pub pairs_if : Option (Row (Room ℕ × Value)) → Option Entries
 pairs_if None = None
 pairs_if (Some pairs) = Some (pairs_of (list_in pairs))
 
--- the dictionary that the body spells, or none
+-- the dictionary that the body says, or none
 abbrev pub pairs_in : Body → Option Entries
 pairs_in body = pairs_if body.dictionary
 

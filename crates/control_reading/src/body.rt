@@ -1,15 +1,17 @@
 //! The body of a control datagram.
 
-ghost use Rattle.std.specs.Prelude.{◌≡◌, ◌≤◌, length, false, Some, IfOk, MatchOption};
+ghost use Rattle.std.specs.Prelude.{◌≡◌, ◌≤◌, length, true, false, Some, IfOk, MatchOption};
 ghost use Rattle.ng_bencode.specs.Row.{list_in};
 ghost use Rattle.ng_bencode.specs.Tree.{Dict, Entries, tree_of, pairs_of};
 ghost use Rattle.ng_command.specs.Said.{said};
 ghost use Rattle.ng_command.specs.Reading.{told};
-ghost use Rattle.call_board.specs.Asked.{Reads, code_of, or_code, command_in};
+ghost use Rattle.call_board.specs.Asked.{ReadsIn, Reads, code_of, or_code, command_in};
 ghost use Rattle.control_reading.specs.Bodies.{pairs_if, pairs_in, said_by, description_in};
 
+use crate::request::is_json;
 use ng_bencode::{Bad, Pairs, Value, decode};
 use ng_command::{Command, CommandFault, read_pairs};
+use ng_json::JsonFault;
 use ng_reply::ErrorCode;
 use relay_outside::OutOfMemory;
 use std::alloc::Global;
@@ -17,7 +19,7 @@ use std::alloc::Global;
 /// What the body of a control datagram says.
 #[derive(Drop)]
 pub struct Body {
-    /// The dictionary that it spells, if it spells one.
+    /// The dictionary that it says, if it says one.
     pub dictionary: Option<Pairs>,
     /// The command that the dictionary says, or the first error that there is in its place: `E1` to `E5`.
     pub command: Result<Command, ErrorCode>,
@@ -49,14 +51,37 @@ fn dictionary_of(value: Value) -> Option<Pairs>
     }
 }
 
-/// The dictionary that a body spells, if it spells one.
-fn dictionary_in(alloc: Global, body: &[u8]) -> Result<Option<Pairs>, OutOfMemory>
-    ensures { IfOk result (λ dictionary. Reads body.now (pairs_if dictionary)) }
+/// The dictionary that a text spells in bencode, if it spells one.
+fn bencode_dictionary(alloc: Global, text: &[u8]) -> Result<Option<Pairs>, OutOfMemory>
+    ensures { IfOk result (λ dictionary. ReadsIn false text.now (pairs_if dictionary)) }
 {
-    match decode(alloc, body) {
+    match decode(alloc, text) {
         Ok(value) => Ok(dictionary_of(value)),
         Err(Bad::NotBencode) => Ok(None),
         Err(Bad::OutOfMemory) => Err(OutOfMemory),
+    }
+}
+
+/// The dictionary that a JSON text says, if it says one.
+fn json_dictionary(alloc: Global, text: &[u8]) -> Result<Option<Pairs>, OutOfMemory>
+    ensures { IfOk result (λ dictionary. ReadsIn true text.now (pairs_if dictionary)) }
+{
+    match ng_json::read(alloc, text) {
+        Ok(value) => Ok(dictionary_of(value)),
+        Err(JsonFault::NotJson) => Ok(None),
+        Err(JsonFault::NoTwin) => Ok(None),
+        Err(JsonFault::OutOfMemory) => Err(OutOfMemory),
+    }
+}
+
+/// The dictionary that a body says in its dialect, if it says one.
+fn dictionary_in(alloc: Global, body: &[u8]) -> Result<Option<Pairs>, OutOfMemory>
+    ensures { IfOk result (λ dictionary. Reads body.now (pairs_if dictionary)) }
+{
+    if is_json(body) {
+        json_dictionary(alloc, body)
+    } else {
+        bencode_dictionary(alloc, body)
     }
 }
 
@@ -71,7 +96,7 @@ fn command_of(alloc: Global, pairs: &Pairs) -> Result<Result<Command, ErrorCode>
     }
 }
 
-/// What a body says that spells this dictionary.
+/// What a body says whose dictionary is this one.
 fn body_of(alloc: Global, pairs: Pairs) -> Result<Body, OutOfMemory>
     ensures dictionary { IfOk result (λ read. pairs_in read ≡ Some (pairs_of (list_in pairs))) }
     ensures command { IfOk result (λ read. command_in false (pairs_in read) ≡ said_by read.command) }
@@ -85,7 +110,7 @@ fn body_of(alloc: Global, pairs: Pairs) -> Result<Body, OutOfMemory>
     }
 }
 
-/// Reads the body of a control datagram, of at most 16,384 bytes.
+/// Reads the body of a control datagram, of at most 16,384 bytes, in its dialect.
 pub fn read_body(alloc: Global, body: &[u8]) -> Result<Body, OutOfMemory>
     ensures reads { IfOk result (λ read. Reads body.now (pairs_in read)) }
     ensures command { IfOk result (λ read. command_in false (pairs_in read) ≡ said_by read.command) }

@@ -1,42 +1,54 @@
 -- The datagrams of replies whose text is the same in every configuration.
-use Rattle.std.proofs.Common.{◌≡◌, ℕ, List, [], ◌∷◌, ◌++◌, refl, ap, ◌∙◌, append_assoc}
+use Rattle.std.proofs.Common.{◌≡◌, ℕ, Bool, List, [], ◌∷◌, ◌++◌, refl, sym, ap, ◌∙◌, append_assoc}
 use Rattle.std.specs.Prelude.{Result, Ok, Err, IfOk}
 use Rattle.relay_outside.specs.declared.settings.Config.{Config}
 use Rattle.ng_bencode.specs.Room.{Room}
-use Rattle.ng_bencode.specs.Spells.{spelling}
+use Rattle.ng_bencode.specs.Tree.{Tree}
 use Rattle.ng_reply.specs.Replies as bare
 use Rattle.ng_reply.specs.declared.code.ErrorCode.{ErrorCode}
-use Rattle.call_board.specs.Replies.{Pong, Done, Warned, Described, Reported, Listed, Fault, reply_text, reply_datagram}
+use Rattle.call_board.specs.Dialects.{is_json, text_in}
+use Rattle.call_board.specs.Replies.{Pong, Done, Warned, Described, Reported, Listed, Fault, reply_text, reply_datagram, fault_datagram}
 use Rattle.call_board.specs.Reports.{Report, report_tree, listing_tree}
 
-pub pong_is : (config : Config) (cookie : List ℕ) → cookie ++ 32 ∷ spelling bare.pong_reply ≡ reply_datagram config cookie Pong
-unfolding reply_text
-pong_is config cookie = refl
+-- the datagram of a value
+abbrev pub value_datagram : (cookie body : List ℕ) → Tree → List ℕ
+value_datagram cookie body tree = cookie ++ 32 ∷ text_in (is_json body) tree
 
-pub done_is : (config : Config) (cookie : List ℕ) → cookie ++ 32 ∷ spelling bare.ok_reply ≡ reply_datagram config cookie Done
+pub pong_is : (config : Config) (cookie body : List ℕ) → value_datagram cookie body bare.pong_reply ≡ reply_datagram config cookie body Pong
 unfolding reply_text
-done_is config cookie = refl
+pong_is config cookie body = refl
 
-pub warned_is : (config : Config) (cookie : List ℕ) (code : ErrorCode) → cookie ++ 32 ∷ spelling (bare.warning_reply code) ≡ reply_datagram config cookie (Warned code)
+pub done_is : (config : Config) (cookie body : List ℕ) → value_datagram cookie body bare.ok_reply ≡ reply_datagram config cookie body Done
 unfolding reply_text
-warned_is config cookie code = refl
+done_is config cookie body = refl
 
-pub reported_is : (config : Config) (cookie : List ℕ) (told : Report) → cookie ++ 32 ∷ spelling (report_tree config told) ≡ reply_datagram config cookie (Reported told)
+pub warned_is : (config : Config) (cookie body : List ℕ) (code : ErrorCode) → value_datagram cookie body (bare.warning_reply code) ≡ reply_datagram config cookie body (Warned code)
 unfolding reply_text
-reported_is config cookie told = refl
+warned_is config cookie body code = refl
 
-pub listed_is : (config : Config) (cookie : List ℕ) (ids : List (List ℕ)) → cookie ++ 32 ∷ spelling (listing_tree ids) ≡ reply_datagram config cookie (Listed ids)
+pub reported_is : (config : Config) (cookie body : List ℕ) (told : Report) → value_datagram cookie body (report_tree config told) ≡ reply_datagram config cookie body (Reported told)
 unfolding reply_text
-listed_is config cookie ids = refl
+reported_is config cookie body told = refl
 
-pub described_is : (config : Config) (cookie sdp : List ℕ) → cookie ++ 32 ∷ spelling (bare.sdp_reply sdp) ≡ reply_datagram config cookie (Described sdp)
+pub listed_is : (config : Config) (cookie body : List ℕ) (ids : List (List ℕ)) → value_datagram cookie body (listing_tree ids) ≡ reply_datagram config cookie body (Listed ids)
 unfolding reply_text
-described_is config cookie sdp = refl
+listed_is config cookie body ids = refl
 
--- what `fixed_error` writes, out of memory included, is the datagram of the error
-pub fault_is : (config : Config) (cookie : List ℕ) (code : ErrorCode) → bare.error_datagram cookie code ≡ reply_datagram config cookie (Fault code)
+pub described_is : (config : Config) (cookie body sdp : List ℕ) → value_datagram cookie body (bare.sdp_reply sdp) ≡ reply_datagram config cookie body (Described sdp)
 unfolding reply_text
-fault_is config cookie code = refl
+described_is config cookie body sdp = refl
+
+-- the datagram of an error, out of memory included
+pub fault_is : (config : Config) (cookie body : List ℕ) (code : ErrorCode) → fault_datagram cookie body code ≡ reply_datagram config cookie body (Fault code)
+unfolding reply_text
+fault_is config cookie body code = refl
+
+-- what is written in the dialect of a body
+pub fault_in : (cookie body : List ℕ) (code : ErrorCode) (in_json : Bool) → is_json body ≡ in_json → cookie ++ 32 ∷ text_in in_json (bare.error_reply code) ≡ fault_datagram cookie body code
+fault_in cookie body code in_json is = ap (λ (b : Bool). cookie ++ 32 ∷ text_in b (bare.error_reply code)) (sym is)
+
+pub appended_in : (old new body : List ℕ) (tree : Tree) (in_json : Bool) → is_json body ≡ in_json → new ≡ old ++ text_in in_json tree → new ≡ old ++ text_in (is_json body) tree
+appended_in old new body tree in_json is put = put ∙ ap (λ (b : Bool). old ++ text_in b tree) (sym is)
 
 -- a text that holds these bytes holds the same bytes under another name
 pub same_text : {E : Type 0} (result : Result (Room ℕ) E) (bytes same : List ℕ) → IfOk result (λ text. text.list ≡ bytes) → bytes ≡ same → IfOk result (λ text. text.list ≡ same)
@@ -47,7 +59,9 @@ same_text (Err none) bytes same holds is = tt
 pub written : (old new bytes same : List ℕ) → old ≡ [] → new ≡ old ++ bytes → bytes ≡ same → new ≡ same
 written old new bytes same empty put is = put ∙ ap (λ front. front ++ bytes) empty ∙ is
 
-pub described_written : (config : Config) (cookie sdp old first second last : List ℕ) → old ≡ [] → first ≡ old ++ cookie → second ≡ first ++ 32 ∷ [] → last ≡ second ++ spelling (bare.sdp_reply sdp) → last ≡ reply_datagram config cookie (Described sdp)
-described_written config cookie sdp old first second last empty a b c =
+pub described_written : (config : Config) (cookie body sdp old first second last : List ℕ) → old ≡ [] → first ≡ old ++ cookie → second ≡ first ++ 32 ∷ []
+    → last ≡ second ++ text_in (is_json body) (bare.sdp_reply sdp) → last ≡ reply_datagram config cookie body (Described sdp)
+described_written config cookie body sdp old first second last empty a b c =
+    let text : List ℕ = text_in (is_json body) (bare.sdp_reply sdp) in
     let front : first ≡ cookie = written old first cookie cookie empty a refl in
-    c ∙ ap (λ front. front ++ spelling (bare.sdp_reply sdp)) (b ∙ ap (λ front. front ++ 32 ∷ []) front) ∙ append_assoc cookie (32 ∷ []) (spelling (bare.sdp_reply sdp)) ∙ described_is config cookie sdp
+    c ∙ ap (λ front. front ++ text) (b ∙ ap (λ front. front ++ 32 ∷ []) front) ∙ append_assoc cookie (32 ∷ []) text ∙ described_is config cookie body sdp

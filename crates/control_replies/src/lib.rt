@@ -9,4 +9,6 @@ mod room;
 mod short;
 
 pub use room::{reply_room, write_described, write_error};
-pub use short::{done_datagram, error_datagram, pong_datagram, value_datagram, warned_datagram};
+pub use short::{
+    done_datagram, error_datagram, error_into, pong_datagram, value_datagram, warned_datagram,
+};

@@ -26,7 +26,7 @@ use Rattle.relay_core.specs.Made.{Made}
 use Rattle.relay_core.specs.Turning.{made_by}
 use Rattle.nested_steps.specs.declared.board_turn.BoardEntryId.{BoardEntryId}
 use Rattle.board_turns.specs.Acting.{InTurn}
-use Rattle.control_entries.specs.declared.request.Request.{Request}
+use Rattle.control_reading.specs.declared.request.Request.{Request}
 use Rattle.control_entries.specs.declared.device_answers.DeviceAnswers.TheVariants.{Nothing}
 use Rattle.control_entries.specs.declared.command_outcome.CommandOutcome.{CommandOutcome}
 use Rattle.control_entries.specs.Controls.{unanswered}
@@ -56,7 +56,7 @@ module _ {M I O T : Type 0} {g : _} where
       (chosen : List (Option CryptoLine)) (code : ErrorCode) (done : CommandOutcome) (board : Board) (told : Option (List PortCall))
       → InTurn config turns hand entry_id board told → IsAnew (board_history (made_by hand) entry_id.number) entry_id.moment request
       → (request.too_long ≡ false → Reads request.body.now pairs) → command_in request.too_long pairs ≡ Err code
-      → Tells chosen (reply_datagram config request.cookie.now (Fault code)) done
+      → Tells chosen (reply_datagram config request.cookie.now request.body.now (Fault code)) done
       → Carries config hand hand entry_id (hearing_by request pairs done) done.reply board told
   faulty_carries config turns hand entry_id request pairs chosen code done board told turn anew reads is tells =
       let h = board_history (made_by hand) entry_id.number in
@@ -71,7 +71,7 @@ module _ {M I O T : Type 0} {g : _} where
       (chosen : List (Option CryptoLine)) (done : CommandOutcome) (board : Board) (told : Option (List PortCall))
       → InTurn config turns hand entry_id board told → IsAnew (board_history (made_by hand) entry_id.number) entry_id.moment request
       → (request.too_long ≡ false → Reads request.body.now pairs) → command_in request.too_long pairs ≡ Ok said.Ping
-      → Tells chosen (reply_datagram config request.cookie.now Pong) done
+      → Tells chosen (reply_datagram config request.cookie.now request.body.now Pong) done
       → Carries config hand hand entry_id (hearing_by request pairs done) done.reply board told
   ping_carries config turns hand entry_id request pairs chosen done board told turn anew reads is tells =
       let h = board_history (made_by hand) entry_id.number in
@@ -85,7 +85,7 @@ module _ {M I O T : Type 0} {g : _} where
       (limit : ℕ) (done : CommandOutcome) (board : Board) (told : Option (List PortCall))
       → InTurn config turns hand entry_id board told → IsAnew (board_history (made_by hand) entry_id.number) entry_id.moment request
       → (request.too_long ≡ false → Reads request.body.now pairs) → command_in request.too_long pairs ≡ Ok (said.Listing limit)
-      → ((config : Config) (v : View) → Shows config board v → Tells [] (reply_datagram config request.cookie.now (Listed (take limit (map (λ (c : CallView). c.of.id) v.calls)))) done)
+      → ((config : Config) (v : View) → Shows config board v → Tells [] (reply_datagram config request.cookie.now request.body.now (Listed (take limit (map (λ (c : CallView). c.of.id) v.calls)))) done)
       → Carries config hand hand entry_id (hearing_by request pairs done) done.reply board told
   list_carries config turns hand entry_id request pairs limit done board told turn anew reads is tells =
       let h = board_history (made_by hand) entry_id.number in
@@ -94,5 +94,5 @@ module _ {M I O T : Type 0} {g : _} where
       tells_carries config turns hand entry_id request pairs [] (with_reply config c (Listed ids) act.Told) done board told turn anew reads
       (listed_due config h entry_id.moment c limit (record { nothing_kept = anew.not_kept; not_out_of_memory = refl; is_asked = asks_so config request.too_long pairs (said.Listing limit) is refl })) refl refl
       (λ heard. absurd (let k : false ≡ true = heard in cc))
-      (subst (λ (names : List (List ℕ)). Tells [] (reply_datagram config request.cookie.now (Listed (take limit names))) done) (call_ids h (live h))
+      (subst (λ (names : List (List ℕ)). Tells [] (reply_datagram config request.cookie.now request.body.now (Listed (take limit names))) done) (call_ids h (live h))
       (tells config (at_moment (view_of config h) entry_id.moment) turn.shows))

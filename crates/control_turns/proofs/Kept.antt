@@ -8,7 +8,6 @@ use Rattle.turn_table.specs.declared.hands.Hand.{Hand}
 use Rattle.ng_bencode.specs.Room.{Room}
 use Rattle.ng_bencode.specs.Tree.{Entries}
 use Rattle.ng_reply.specs.declared.code.ErrorCode.TheVariants.{E17}
-use Rattle.ng_reply.specs.Replies.{error_datagram}
 use Rattle.sdes_lines.specs.declared.crypto_line.CryptoLine.{CryptoLine}
 use Rattle.control_reading.specs.Bodies.{pairs_if}
 use Rattle.control_replies.proofs.Datagrams.{fault_is}
@@ -22,6 +21,7 @@ use Rattle.call_board.specs.Boards.{Shows, BoardFor}
 use Rattle.call_board.specs.Fits.{FitsControl}
 use Rattle.call_board.specs.Kept.{is_kept, kept, keepings}
 use Rattle.call_board.specs.Pairs.{held}
+use Rattle.call_board.specs.Replies.{fault_datagram}
 use Rattle.call_board.specs.Views.{View, view_of, at_moment, last_moment, with_keeping}
 use Rattle.call_board.specs.Whole.{with_reply, after, after_act}
 use Rattle.call_board.proofs.Done.{IsDue, due_fits, repeated_due, out_of_memory_due}
@@ -36,7 +36,7 @@ use Rattle.media_ports.specs.Held.{TellsHeld}
 use Rattle.nested_steps.specs.declared.board_turn.BoardEntryId.{BoardEntryId}
 use Rattle.board_turns.specs.Ending.{leg_pairs}
 use Rattle.board_turns.specs.Acting.{acted, InTurn}
-use Rattle.control_entries.specs.declared.request.Request.{Request}
+use Rattle.control_reading.specs.declared.request.Request.{Request}
 use Rattle.control_turns.specs.declared.turn_record.TurnRecord.{TurnRecord}
 use Rattle.control_entries.specs.Controls.{Hearing, unanswered, with_answer, entry_with, entry_at, control_of}
 use Rattle.control_entries.specs.declared.device_answers.DeviceAnswers.{DeviceAnswers}
@@ -185,18 +185,18 @@ module _ {M I O T : Type 0} {g : _} where
       (short_carries config turns hand entry_id request (pairs_if turn_record.dictionary) turn_record.chosen_lines turn_record.device_answers was told turn anew device_answers) keeps
 
 -- the reply that was made is the one that is due
-pub datagram_is : (c : Control) (reply : Option (Room ℕ)) → IsReplyOf c reply → datagram_of c.cookie reply ≡ c.reply
+pub datagram_is : (c : Control) (reply : Option (Room ℕ)) → IsReplyOf c reply → datagram_of c.cookie c.body reply ≡ c.reply
 datagram_is c None is = sym is.1
 datagram_is c (Some text) is = is.1
 
 -- where memory ran out, the reply says so
 pub short_reply : (config : Config) (h : List BoardEntry) (moment : ℕ) (request : Request) (pairs : Option Entries) (chosen : List (Option CryptoLine)) (device_answers : DeviceAnswers)
     → kept h request.source request.cookie.now moment ≡ None → device_answers ≡ OutOfMemory
-    → (control_of config h moment (hearing_as request pairs chosen device_answers)).reply ≡ error_datagram request.cookie.now E17
+    → (control_of config h moment (hearing_as request pairs chosen device_answers)).reply ≡ fault_datagram request.cookie.now request.body.now E17
 short_reply config h moment request pairs chosen device_answers none is =
     ap (λ (given : DeviceAnswers). (control_of config h moment (hearing_as request pairs chosen given)).reply) is
     ∙ ap (λ (a : Answered). a.bytes) (out_of_memory_due config h moment (unanswered (hearing_as request pairs chosen OutOfMemory)) none refl)
-    ∙ sym (fault_is config request.cookie.now E17)
+    ∙ sym (fault_is config request.cookie.now request.body.now E17)
 
 -- a kept reply is the reply
 pub repeat_reply : (config : Config) (h : List BoardEntry) (moment : ℕ) (request : Request) (pairs : Option Entries) (chosen : List (Option CryptoLine)) (bytes : List ℕ)

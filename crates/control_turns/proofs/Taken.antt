@@ -22,7 +22,7 @@ use Rattle.relay_core.specs.declared.part.Part.{Part}
 use Rattle.relay_core.specs.Made.{Made}
 use Rattle.relay_core.specs.Turning.{made_by}
 use Rattle.board_turns.specs.Between.{board_of}
-use Rattle.control_entries.specs.declared.request.Request.{Request}
+use Rattle.control_reading.specs.declared.request.Request.{Request}
 use Rattle.control_entries.specs.Controls.{Hearing, control_of, moment_at}
 use Rattle.control_turns.specs.declared.taking.ControlTurn.{ControlTurn}
 use Rattle.control_turns.specs.declared.taking.ControlTurn.TheVariants as turn

@@ -5,7 +5,6 @@ use Rattle.relay_outside.specs.declared.settings.Config.{Config}
 use Rattle.turn_table.specs.declared.hands.Hand.{Hand}
 use Rattle.turn_table.specs.declared.hands.Turns.{Turns}
 use Rattle.ng_reply.specs.declared.code.ErrorCode.TheVariants.{E17}
-use Rattle.ng_reply.specs.Replies.{error_datagram}
 use Rattle.cookie_cache.specs.Keepings.{moment_used}
 use Rattle.ng_bencode.specs.Room.{Room}
 use Rattle.control_reading.specs.Bodies.{pairs_if}
@@ -13,6 +12,7 @@ use Rattle.call_board.specs.declared.board.Board.{Board}
 use Rattle.call_board.specs.Boards.{BoardFor}
 use Rattle.call_board.specs.Fits.{FitsBoard}
 use Rattle.call_board.specs.Pairs.{held}
+use Rattle.call_board.specs.Replies.{fault_datagram}
 use Rattle.call_board.specs.Views.{View, with_keeping}
 use Rattle.relay_core.specs.Entries.{board_history}
 use Rattle.relay_core.specs.Legal.{Orderly}
@@ -25,7 +25,7 @@ use Rattle.media_ports.specs.Held.{TellsHeld}
 use Rattle.nested_steps.specs.declared.board_turn.BoardEntryId.{BoardEntryId}
 use Rattle.nested_steps.specs.Nesting.{MayNest}
 use Rattle.board_turns.specs.Ending.{leg_pairs}
-use Rattle.control_entries.specs.declared.request.Request.{Request}
+use Rattle.control_reading.specs.declared.request.Request.{Request}
 use Rattle.control_turns.specs.declared.turn_record.TurnRecord.{TurnRecord}
 use Rattle.control_entries.specs.Controls.{Hearing, entry_at}
 use Rattle.control_entries.specs.Carrying.{hearing_as}
@@ -52,9 +52,9 @@ module _ {M I O T : Type 0} {g : _} where
 -- The reply that is sent, and kept.
 
 -- the datagram that is sent: the reply that was made, or that memory ran out
-abbrev pub datagram_of : List ℕ → Option (Room ℕ) → List ℕ
-datagram_of cookie None = error_datagram cookie E17
-datagram_of cookie (Some text) = text.list
+abbrev pub datagram_of : (cookie body : List ℕ) → Option (Room ℕ) → List ℕ
+datagram_of cookie body None = fault_datagram cookie body E17
+datagram_of cookie body (Some text) = text.list
 
 -- what the board keeps with the reply, where there is one
 abbrev pub with_kept : Request → ℕ → Option (Room ℕ) → View → View

@@ -19,8 +19,8 @@ ghost use Rattle.board_turns.specs.Ties.{Ties};
 use answer_command::answer;
 use call_board::Board;
 use call_cell::Gone;
-use control_entries::{CommandOutcome, Request, refused, short, told};
-use control_reading::{Body, read_body};
+use control_entries::{CommandOutcome, refused, short, told};
+use control_reading::{Body, Request, read_body};
 use control_replies::pong_datagram;
 use delete_command::delete;
 use nested_steps::BoardTurn;
@@ -76,10 +76,10 @@ fn carry_out_command<P: PortMaker, K: KeySource, R: Wait>(
 {
     let command = match command {
         Ok(command) => command,
-        Err(code) => return refused(alloc, request.cookie, *code, ChosenLines::none()),
+        Err(code) => return refused(alloc, request, *code, ChosenLines::none()),
     };
     match command {
-        Command::Ping => told(ChosenLines::none(), pong_datagram(alloc, request.cookie)),
+        Command::Ping => told(ChosenLines::none(), pong_datagram(alloc, request)),
         Command::Offer(input) => offer(
             rt, alloc, turn, hand, board, ports, keys, gone, request, input,
         ),
@@ -116,7 +116,7 @@ pub(crate) fn carry_out<P: PortMaker, K: KeySource, R: Wait>(
         IsGivenBy turn.now.config.now (free turn.now.config.now h) (given_by result.done.device_answers) (P.faults ports.old) (P.faults ports.new) (K.faults keys.old) (K.faults keys.new) (P.told ports.old) (P.told ports.new) (K.told keys.old) (K.told keys.new) }
 {
     if request.too_long {
-        let done = refused(alloc, request.cookie, ErrorCode::E18, ChosenLines::none());
+        let done = refused(alloc, request, ErrorCode::E18, ChosenLines::none());
         return Carried {
             dictionary: None,
             done,

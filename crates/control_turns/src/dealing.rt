@@ -2,7 +2,6 @@
 ghost use Rattle.std.specs.Prelude.{◌≡◌, ◌≤◌, [], None};
 ghost use Rattle.relay_outside.specs.Told.{HasCause};
 ghost use Rattle.turn_table.specs.Hands.{IsSameHand, SameTurns, entries};
-ghost use Rattle.ng_reply.specs.Replies.{error_datagram};
 ghost use Rattle.cookie_cache.specs.Keepings.{IsCookie};
 ghost use Rattle.relay_core.specs.Entries.{board_history};
 ghost use Rattle.relay_core.specs.Turning.{made_by};
@@ -10,6 +9,7 @@ ghost use Rattle.nested_steps.specs.Nesting.{MayNest};
 ghost use Rattle.board_turns.specs.Acting.{InTurn};
 ghost use Rattle.control_entries.specs.Controls.{control_of, moment_at};
 ghost use Rattle.call_board.specs.Pairs.{free};
+ghost use Rattle.call_board.specs.Replies.{fault_datagram};
 ghost use Rattle.control_entries.specs.Giving.{given_by, IsGivenBy, IsUnasked};
 ghost use Rattle.control_turns.specs.Sending.{Sends};
 ghost use Rattle.control_entries.specs.Telling.{IsAnew};
@@ -23,7 +23,8 @@ use crate::sending::{send, send_shortage};
 use crate::turn_record::TurnRecord;
 use call_board::Board;
 use call_cell::Gone;
-use control_entries::{CommandOutcome, DeviceAnswers, Request};
+use control_entries::{CommandOutcome, DeviceAnswers};
+use control_reading::Request;
 use nested_steps::{BoardEntryId, BoardTurn};
 use ng_bencode::Text;
 use ng_reply::ErrorCode;
@@ -48,10 +49,10 @@ fn answer_short<N: ControlLink>(link: &mut N, request: &Request) -> Answered
     requires { IsCookie request.now.cookie.now }
     ensures short { (result.turn_record.dictionary ≡ None) × (result.turn_record.chosen_lines ≡ []) × (result.turn_record.device_answers ≡ DeviceAnswers.OutOfMemory) }
     ensures unasked { IsUnasked result.turn_record.device_answers }
-    ensures sent { Sends request.now.source (error_datagram request.now.cookie.now ErrorCode.E17) result.sent (N.told link.old) (N.told link.new) }
+    ensures sent { Sends request.now.source (fault_datagram request.now.cookie.now request.now.body.now ErrorCode.E17) result.sent (N.told link.old) (N.told link.new) }
     ensures cause { HasCause (N.faults link.old) (N.faults link.new) result.sent }
 {
-    let sent = send_shortage(link, request.source, request.cookie);
+    let sent = send_shortage(link, request);
     let turn_record = TurnRecord {
         dictionary: None,
         chosen_lines: ChosenLines::none(),

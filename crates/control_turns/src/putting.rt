@@ -8,7 +8,7 @@ ghost use Rattle.control_entries.specs.Controls.{control_made};
 ghost use Rattle.control_turns.specs.Dealing.{hearing_of};
 
 use crate::turn_record::TurnRecord;
-use control_entries::Request;
+use control_reading::Request;
 use relay_core::{Relay, Says, Told};
 use relay_outside::{Config, InEnd, OutEnd};
 use turn_table::{Hand, Turn, Turns};

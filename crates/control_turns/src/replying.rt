@@ -11,7 +11,7 @@ ghost use Rattle.control_turns.specs.Dealing.{datagram_of, with_kept};
 
 use crate::sending::{send, send_shortage};
 use call_board::Board;
-use control_entries::Request;
+use control_reading::Request;
 use ng_bencode::Text;
 use relay_outside::{ControlLink, Failed};
 
@@ -27,12 +27,12 @@ pub(crate) fn reply_to<N: ControlLink>(
 ) -> Result<(), Failed>
     requires cookie { IsCookie request.now.cookie.now × (cookie.list ≡ request.now.cookie.now) }
     requires place { HasSparePlace board.old.replies }
-    ensures sent { Sends request.now.source (datagram_of request.now.cookie.now reply) result (N.told link.old) (N.told link.new) }
+    ensures sent { Sends request.now.source (datagram_of request.now.cookie.now request.now.body.now reply) result (N.told link.old) (N.told link.new) }
     ensures kept { (config : Config) (v : View) → Shows config board.old v → Shows config board.new (with_kept request.now moment reply v) }
     ensures cause { HasCause (N.faults link.old) (N.faults link.new) result }
 {
     let Some(reply) = reply else {
-        return send_shortage(link, request.source, request.cookie);
+        return send_shortage(link, request);
     };
     let sent = send(link, request.source, reply.as_slice());
     board.keep_reply(request.source, cookie, reply, moment);

@@ -1,11 +1,13 @@
 //! The sending of replies.
 ghost use Rattle.std.specs.Prelude.{◌≤◌, ◌∷◌, ◌++◌};
 ghost use Rattle.relay_outside.specs.Told.{HasCause};
-ghost use Rattle.ng_reply.specs.Replies.{error_datagram};
 ghost use Rattle.cookie_cache.specs.Keepings.{IsCookie};
+ghost use Rattle.call_board.specs.Replies.{fault_datagram};
 ghost use Rattle.control_turns.specs.Sending.{Sends};
 
-use ng_reply::{ErrorCode, fixed_error};
+use control_reading::Request;
+use control_replies::error_into;
+use ng_reply::ErrorCode;
 use relay_outside::{Addr, ControlLink, Failed};
 
 /// Sends a reply.
@@ -16,17 +18,13 @@ pub(crate) fn send<N: ControlLink>(link: &mut N, to: Addr, bytes: &[u8]) -> Resu
     link.send(to, bytes)
 }
 
-/// Replies that memory ran out, without taking any.
-pub(crate) fn send_shortage<N: ControlLink>(
-    link: &mut N,
-    to: Addr,
-    cookie: &[u8],
-) -> Result<(), Failed>
-    requires { IsCookie cookie.now }
-    ensures sent { Sends to (error_datagram cookie.now ErrorCode.E17) result (N.told link.old) (N.told link.new) }
+/// Replies to a request that memory ran out, without taking any.
+pub(crate) fn send_shortage<N: ControlLink>(link: &mut N, request: &Request) -> Result<(), Failed>
+    requires { IsCookie request.now.cookie.now }
+    ensures sent { Sends request.now.source (fault_datagram request.now.cookie.now request.now.body.now ErrorCode.E17) result (N.told link.old) (N.told link.new) }
     ensures cause { HasCause (N.faults link.old) (N.faults link.new) result }
 {
     let mut out = [0; 512];
-    let len = fixed_error(cookie, ErrorCode::E17, &mut out);
-    send(link, to, &out[..len])
+    let len = error_into(request, ErrorCode::E17, &mut out);
+    send(link, request.source, &out[..len])
 }

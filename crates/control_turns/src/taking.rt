@@ -12,7 +12,7 @@ ghost use Rattle.board_turns.specs.Ties.{Ties};
 
 use crate::turn::answer_datagram;
 use call_cell::Gone;
-use control_entries::Request;
+use control_reading::Request;
 use ng_frame::split;
 use relay_core::Relay;
 use relay_outside::{Addr, Config, ControlLink, KeySource, PortMaker, Taken};

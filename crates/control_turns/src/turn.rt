@@ -13,7 +13,7 @@ ghost use Rattle.board_turns.specs.Ties.{Ties};
 use crate::dealing::deal_part;
 use crate::putting::put_control;
 use call_cell::Gone;
-use control_entries::Request;
+use control_reading::Request;
 use nested_steps::{BoardEntryId, BoardTurn};
 use relay_core::Relay;
 use relay_outside::{Config, ControlLink, Failed, KeySource, PortMaker};

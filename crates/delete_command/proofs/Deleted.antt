@@ -21,7 +21,7 @@ use Rattle.relay_core.specs.Made.{Made}
 use Rattle.relay_core.specs.Turning.{made_by}
 use Rattle.nested_steps.specs.declared.board_turn.BoardEntryId.{BoardEntryId}
 use Rattle.board_turns.specs.Acting.{DoesAct}
-use Rattle.control_entries.specs.declared.request.Request.{Request}
+use Rattle.control_reading.specs.declared.request.Request.{Request}
 use Rattle.control_entries.specs.declared.device_answers.DeviceAnswers.TheVariants.{Nothing}
 use Rattle.control_entries.specs.Controls.{entry_with}
 use Rattle.control_entries.specs.Carrying.{hearing_as, Carries}
@@ -44,7 +44,7 @@ module _ {M I O T : Type 0} {g : _} where
       → IsAnew (board_history (made_by old) entry_id.number) entry_id.moment request → IsAsking request pairs (Delete id tag fatal)
       → find_call (board_history (made_by old) entry_id.number) id ≡ Some of → names_side (rounds (board_history (made_by old) entry_id.number) of.number) tag ≡ true
       → DoesAct config old new entry_id (deleting_entry config entry_id.moment request pairs of) board told
-      → text.list ≡ reply_datagram config request.cookie.now reply.Done → chosen ≡ []
+      → text.list ≡ reply_datagram config request.cookie.now request.body.now reply.Done → chosen ≡ []
       → Carries config old new entry_id (hearing_as request pairs chosen Nothing) (Some text) board told
   deleted_carries config old new entry_id request pairs chosen id tag fatal of text board told anew asking found names does bytes none =
       let h = board_history (made_by old) entry_id.number in

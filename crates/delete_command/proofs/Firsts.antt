@@ -6,12 +6,11 @@ use Rattle.turn_table.specs.declared.hands.Turns.{Turns}
 use Rattle.turn_table.specs.declared.hands.Hand.{Hand}
 use Rattle.relay_outside.specs.declared.address.Addr.{Addr}
 use Rattle.cookie_cache.specs.Keepings.{kept}
-use Rattle.ng_bencode.specs.Tree.{Dict, Entries}
-use Rattle.ng_bencode.specs.Spells.{Spells}
+use Rattle.ng_bencode.specs.Tree.{Entries}
 use Rattle.ng_command.specs.Said.{Delete}
 use Rattle.ng_command.specs.Reading.{told}
 use Rattle.call_board.specs.declared.board.Board.{Board}
-use Rattle.call_board.specs.Asked.{or_code}
+use Rattle.call_board.specs.Asked.{Reads, or_code}
 use Rattle.call_board.specs.Boards.{Shows, BoardFor}
 use Rattle.call_board.specs.Pairs.{held}
 use Rattle.call_board.specs.Views.{view_of, at_moment, last_moment}
@@ -25,7 +24,7 @@ use Rattle.board_turns.specs.Acting.{InTurn}
 use Rattle.board_turns.specs.Between.{IsBetween}
 use Rattle.board_turns.specs.Ending.{leg_pairs}
 use Rattle.board_turns.proofs.Firsts.{none_open}
-use Rattle.control_entries.specs.declared.request.Request.{Request}
+use Rattle.control_reading.specs.declared.request.Request.{Request}
 use Rattle.control_entries.specs.Telling.{IsAsking}
 
 abbrev pub at_first : BoardEntryId
@@ -50,8 +49,8 @@ module _ {M I O T : Type 0} {g : _} where
 
 -- what a body says, a datagram asks
 pub asking_so : (request : Request) (pairs : Entries) (id : List ℕ) (tag : Option (List ℕ)) (fatal : Bool) → request.too_long ≡ false
-    → Spells request.body.now (Dict pairs) → told pairs ≡ Ok (Delete id tag fatal) → IsAsking request (Some pairs) (Delete id tag fatal)
-asking_so request pairs id tag fatal short spells says = record { short = short; reads = spells; command = ap or_code says }
+    → Reads request.body.now (Some pairs) → told pairs ≡ Ok (Delete id tag fatal) → IsAsking request (Some pairs) (Delete id tag fatal)
+asking_so request pairs id tag fatal short reads says = record { short = short; reads = reads; command = ap or_code says }
 
 -- nothing is kept before the first datagram
 pub none_kept : (source : Addr) (cookie : List ℕ) (now : ℕ) → kept [] source cookie now ≡ None

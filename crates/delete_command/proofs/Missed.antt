@@ -23,7 +23,7 @@ use Rattle.relay_core.specs.Made.{Made}
 use Rattle.relay_core.specs.Turning.{made_by}
 use Rattle.nested_steps.specs.declared.board_turn.BoardEntryId.{BoardEntryId}
 use Rattle.board_turns.specs.Acting.{InTurn}
-use Rattle.control_entries.specs.declared.request.Request.{Request}
+use Rattle.control_reading.specs.declared.request.Request.{Request}
 use Rattle.control_entries.specs.declared.device_answers.DeviceAnswers.TheVariants.{Nothing}
 use Rattle.control_entries.specs.declared.command_outcome.CommandOutcome.{CommandOutcome}
 use Rattle.control_entries.specs.Controls.{unanswered}
@@ -66,7 +66,7 @@ module _ {M I O T : Type 0} {g : _} where
       → InTurn config turns hand entry_id board told → IsAnew (board_history (made_by hand) entry_id.number) entry_id.moment request
       → (request.too_long ≡ false → Reads request.body.now pairs) → is_found_late code ≡ false
       → IsDue config (board_history (made_by hand) entry_id.number) entry_id.moment (asking_with request pairs) (missing_due config (asking_with request pairs) code fatal)
-      → Tells [] (reply_datagram config request.cookie.now (missing_reply fatal code)) done
+      → Tells [] (reply_datagram config request.cookie.now request.body.now (missing_reply fatal code)) done
       → Carries config hand hand entry_id (hearing_by request pairs done) done.reply board told
   missed config turns hand entry_id request pairs code true done board told turn anew reads early is tells =
       tells_carries config turns hand entry_id request pairs [] (missing_due config (asking_with request pairs) code true) done board told turn anew reads is refl refl
@@ -80,7 +80,7 @@ module _ {M I O T : Type 0} {g : _} where
       (id : List ℕ) (tag : Option (List ℕ)) (fatal : Bool) (done : CommandOutcome) (board : Board) (told : Option (List PortCall))
       → InTurn config turns hand entry_id board told → IsAnew (board_history (made_by hand) entry_id.number) entry_id.moment request
       → IsAsking request pairs (Delete id tag fatal) → find_call (board_history (made_by hand) entry_id.number) id ≡ None
-      → Tells [] (reply_datagram config request.cookie.now (missing_reply fatal E9)) done
+      → Tells [] (reply_datagram config request.cookie.now request.body.now (missing_reply fatal E9)) done
       → Carries config hand hand entry_id (hearing_by request pairs done) done.reply board told
   unknown_carries config turns hand entry_id request pairs id tag fatal done board told turn anew asking none tells =
       let h = board_history (made_by hand) entry_id.number in
@@ -93,7 +93,7 @@ module _ {M I O T : Type 0} {g : _} where
       → InTurn config turns hand entry_id board told → IsAnew (board_history (made_by hand) entry_id.number) entry_id.moment request
       → IsAsking request pairs (Delete id tag fatal) → find_call (board_history (made_by hand) entry_id.number) id ≡ Some of
       → names_side (rounds (board_history (made_by hand) entry_id.number) of.number) tag ≡ false
-      → Tells [] (reply_datagram config request.cookie.now (missing_reply fatal E10)) done
+      → Tells [] (reply_datagram config request.cookie.now request.body.now (missing_reply fatal E10)) done
       → Carries config hand hand entry_id (hearing_by request pairs done) done.reply board told
   stranger_carries config turns hand entry_id request pairs id tag fatal of done board told turn anew asking found names tells =
       let h = board_history (made_by hand) entry_id.number in

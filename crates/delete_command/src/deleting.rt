@@ -22,7 +22,8 @@ ghost use Rattle.board_turns.specs.Ties.{Ties};
 use board_turns::delete_call;
 use call_board::Board;
 use call_cell::Gone;
-use control_entries::{CommandOutcome, DeviceAnswers, Request, missing, short};
+use control_entries::{CommandOutcome, DeviceAnswers, missing, short};
+use control_reading::Request;
 use control_replies::done_datagram;
 use nested_steps::BoardTurn;
 use ng_bencode::Text;
@@ -90,12 +91,12 @@ pub fn delete<P: PortMaker, R: Wait>(
     ensures unasked { IsUnasked result.device_answers }
 {
     let Some(call) = board.find_call(input.call_id.as_slice()) else {
-        return missing(alloc, request.cookie, input.fatal, ErrorCode::E9);
+        return missing(alloc, request, input.fatal, ErrorCode::E9);
     };
     if !names_side(board, call, &input.from_tag) {
-        return missing(alloc, request.cookie, input.fatal, ErrorCode::E10);
+        return missing(alloc, request, input.fatal, ErrorCode::E10);
     }
-    let Ok(reply) = done_datagram(alloc, request.cookie) else {
+    let Ok(reply) = done_datagram(alloc, request) else {
         return short();
     };
     delete_call(rt, turn, hand, board, ports, gone, call);

@@ -1,8 +1,8 @@
--- The description of a command is no longer than the dictionary that says it.
+-- The description of a command is no longer than the dictionary that says it, nor than its longest byte string.
 use Rattle.std.proofs.Common.{◌≡◌, ◌+◌, ◌≤◌, ℕ, Bool, true, false, List, [], ◌∷◌, ◌++◌, length, Option, Some, None, Result, Ok, Err, refl, ap, subst, if◌then◌else◌, unwrap_or, decimal, arith}
-use Rattle.std.specs.Prelude.{codes}
+use Rattle.std.specs.Prelude.{codes, ⊤}
 use Rattle.std.proofs.lemmas.List.{length-append}
-use Rattle.ng_bencode.specs.Tree.{Tree, Int, Bytes, Items, Dict, Entries, no_entries, entry}
+use Rattle.ng_bencode.specs.Tree.{Tree, Int, Bytes, Items, Dict, Trees, no_items, item, Entries, no_entries, entry}
 use Rattle.ng_bencode.specs.Lookup.{value_at, is_same_key}
 use Rattle.ng_bencode.specs.Spells.{string, spelling, entry_spellings}
 use Rattle.ng_command.specs.Values.{text_of, text_at}
@@ -70,3 +70,62 @@ told_within pairs says e = go (kind_named (text_at pairs (codes "command"))) e
     go : (named : Result Kind CommandFault) → told_by named pairs ≡ Ok says → length (sdp_in says) ≤ length (entry_spellings pairs)
     go (Err fault) h = absurd (cc)
     go (Ok kind) h = on kind (fault_of kind pairs) h
+
+-- each byte string of the value, its keys apart, has at most n bytes
+abbrev mutual
+  pub TreeIsShort : ℕ → Tree → Type 0
+  TreeIsShort n (Int z) = ⊤
+  TreeIsShort n (Bytes bytes) = length bytes ≤ n
+  TreeIsShort n (Items ts) = TreesAreShort n ts
+  TreeIsShort n (Dict pairs) = PairsAreShort n pairs
+
+  pub TreesAreShort : ℕ → Trees → Type 0
+  TreesAreShort n no_items = ⊤
+  TreesAreShort n (item t ts) = TreeIsShort n t × TreesAreShort n ts
+
+  pub PairsAreShort : ℕ → Entries → Type 0
+  PairsAreShort n no_entries = ⊤
+  PairsAreShort n (entry key t rest) = TreeIsShort n t × PairsAreShort n rest
+
+text_at_most : (n : ℕ) (tree : Tree) (text : List ℕ) → TreeIsShort n tree → text_of (Some tree) ≡ Some text → length text ≤ n
+text_at_most n (Int z) text h e = absurd (cc)
+text_at_most n (Bytes bytes) text h e =
+    let same : bytes ≡ text = cc in
+    omega (arith, h, ap (λ (t : List ℕ). length t) same)
+text_at_most n (Items items) text h e = absurd (cc)
+text_at_most n (Dict pairs) text h e = absurd (cc)
+
+found_at_most : (n : ℕ) (pairs : Entries) (key text : List ℕ) → PairsAreShort n pairs → text_at pairs key ≡ Some text → length text ≤ n
+found_at_most n no_entries key text h e = absurd (cc)
+found_at_most n (entry name tree rest) key text h e =
+    elim (is_same_key name key) as (λ (b : Bool). text_of (if b then Some tree else value_at rest key) ≡ Some text → length text ≤ n) [
+      | true ↦ λ k. text_at_most n tree text h.0 k
+      | false ↦ λ k. found_at_most n rest key text h.1 k
+    ] e
+
+at_most : (n : ℕ) (pairs : Entries) (key : List ℕ) → PairsAreShort n pairs → length (text_in pairs key) ≤ n
+at_most n pairs key h = go (text_at pairs key) refl
+  where
+    go : (o : Option (List ℕ)) → text_at pairs key ≡ o → length (unwrap_or o []) ≤ n
+    go None e = omega arith
+    go (Some text) e = found_at_most n pairs key text h e
+
+meant_at_most : (n : ℕ) (kind : Kind) (pairs : Entries) → PairsAreShort n pairs → length (sdp_in (meaning kind pairs)) ≤ n
+meant_at_most n kinds.Ping pairs h = omega arith
+meant_at_most n kinds.Offer pairs h = at_most n pairs (codes "sdp") h
+meant_at_most n kinds.Answer pairs h = at_most n pairs (codes "sdp") h
+meant_at_most n kinds.Delete pairs h = omega arith
+meant_at_most n kinds.Query pairs h = omega arith
+meant_at_most n kinds.List pairs h = omega arith
+
+-- nor than the longest byte string of the dictionary
+pub told_at_most : (n : ℕ) (pairs : Entries) (says : Said) → PairsAreShort n pairs → told pairs ≡ Ok says → length (sdp_in says) ≤ n
+told_at_most n pairs says h e = go (kind_named (text_at pairs (codes "command"))) e
+  where
+    on : (kind : Kind) (fault : Option CommandFault) → or_fault fault (meaning kind pairs) ≡ Ok says → length (sdp_in says) ≤ n
+    on kind (Some fault) k = absurd (cc)
+    on kind None k = let same : meaning kind pairs ≡ says = cc in subst (λ (s : Said). length (sdp_in s) ≤ n) same (meant_at_most n kind pairs h)
+
+    go : (named : Result Kind CommandFault) → told_by named pairs ≡ Ok says → length (sdp_in says) ≤ n
+    go (Err fault) k = absurd (cc)
+    go (Ok kind) k = on kind (fault_of kind pairs) k

@@ -20,7 +20,7 @@ use Rattle.call_board.specs.Views.{view_of}
 use Rattle.call_board.specs.declared.board_plan.BoardPlan.{BoardPlan}
 use Rattle.call_board.proofs.Done.{Asks}
 use Rattle.call_board.proofs.Dues.{target_in, target_is}
-use Rattle.control_entries.specs.declared.request.Request.{Request}
+use Rattle.control_reading.specs.declared.request.Request.{Request}
 use Rattle.control_entries.specs.declared.device_answers.DeviceAnswers.{DeviceAnswers}
 use Rattle.control_entries.specs.Controls.{unanswered}
 use Rattle.control_entries.specs.Giving.{given_by}

@@ -35,7 +35,7 @@ use Rattle.relay_core.specs.Made.{Made}
 use Rattle.relay_core.specs.Turning.{made_by}
 use Rattle.nested_steps.specs.declared.board_turn.BoardEntryId.{BoardEntryId}
 use Rattle.board_turns.specs.Acting.{InTurn, DoesAct}
-use Rattle.control_entries.specs.declared.request.Request.{Request}
+use Rattle.control_reading.specs.declared.request.Request.{Request}
 use Rattle.control_entries.specs.declared.device_answers.DeviceAnswers.{DeviceAnswers}
 use Rattle.control_entries.specs.declared.device_answers.DeviceAnswers.TheVariants as device_answers
 use Rattle.control_entries.specs.declared.device_answers.DeviceAnswers.TheVariants.{Nothing}
@@ -82,13 +82,13 @@ module _ {M I O T : Type 0} {g : _} where
 
   pub gives_carries : (config : Config) (old new : Hand M (Part I O) Made T g) (entry_id : BoardEntryId) (request : Request) (pairs : Option Entries) (chosen : List (Option CryptoLine)) (device_answers : DeviceAnswers) (reply : Reply)
       (done : CommandOutcome) (board : Board) (told : Option (List PortCall))
-      → Gives request.cookie.now chosen device_answers reply done
-      → ((text : Room ℕ) → text.list ≡ reply_datagram config request.cookie.now reply → Carries config old new entry_id (hearing_as request pairs chosen device_answers) (Some text) board told)
+      → Gives request.cookie.now request.body.now chosen device_answers reply done
+      → ((text : Room ℕ) → text.list ≡ reply_datagram config request.cookie.now request.body.now reply → Carries config old new entry_id (hearing_as request pairs chosen device_answers) (Some text) board told)
       → Carries config old new entry_id (hearing_by request pairs done) done.reply board told
   gives_carries config old new entry_id request pairs chosen device_answers reply done board told gives carries =
       subst (λ (lines : List (Option CryptoLine)). Carries config old new entry_id (hearing_as request pairs lines done.device_answers) done.reply board told) (sym gives.chosen_are)
       (subst (λ (given : DeviceAnswers). Carries config old new entry_id (hearing_as request pairs chosen given) done.reply board told) (sym gives.answers_are)
-      (made_so config old new entry_id (hearing_as request pairs chosen device_answers) (reply_datagram config request.cookie.now reply) done.reply board told (gives.replies config) carries))
+      (made_so config old new entry_id (hearing_as request pairs chosen device_answers) (reply_datagram config request.cookie.now request.body.now reply) done.reply board told (gives.replies config) carries))
 
   -- it is accepted
   pub offered_carries : (config : Config) (old new : Hand M (Part I O) Made T g) (entry_id : BoardEntryId) (request : Request) (pairs : Option Entries) (input : OfferIn) (chosen : List (Option CryptoLine)) (p : BoardPlan)
@@ -99,7 +99,7 @@ module _ {M I O T : Type 0} {g : _} where
       → ((e : BoardEntry) → FitsBoard config (board_history (made_by old) entry_id.number) e
       → act.act e ≡ act.Offered (offer_of config (board_history (made_by old) entry_id.number) input.call_id.list (ask_of input chosen) drawn.list) → e.moment ≡ entry_id.moment
       → DoesAct config old new entry_id e board told)
-      → text.list ≡ reply_datagram config request.cookie.now (Described (text_of config (board_history (made_by old) entry_id.number) input.call_id.list
+      → text.list ≡ reply_datagram config request.cookie.now request.body.now (Described (text_of config (board_history (made_by old) entry_id.number) input.call_id.list
       (offer_of config (board_history (made_by old) entry_id.number) input.call_id.list (ask_of input chosen) drawn.list)))
       → Carries config old new entry_id (hearing_as request pairs chosen (device_answers.Offered (2 * pair_count p.plan) drawn)) (Some text) board told
   offered_carries config old new entry_id request pairs input chosen p drawn text board told c heard plans count does bytes =
@@ -110,7 +110,7 @@ module _ {M I O T : Type 0} {g : _} where
       let x = hearing_as request pairs chosen given in
       let t = target_of config h id in
       let o = offer_of config h id ask drawn.list in
-      let due = spelled config request.cookie.now (offering config t.rounds o) in
+      let due = spelled config request.cookie.now request.body.now (offering config t.rounds o) in
       let is = offered_due config h entry_id.moment (unanswered x) id ask t.of t.begins t.rounds (pairs_for config h id ask) (asks_offer config h entry_id.moment request pairs input chosen given c refl) refl
       (plan_leases config h (unanswered x) id ask p plans) (none_fails (2 * pair_count p.plan)) refl in
       let fits = due_fits config h entry_id.moment (unanswered x) due is c.anew.framed c.anew.length_is (λ read. c.asking.reads)
@@ -131,7 +131,7 @@ module _ {M I O T : Type 0} {g : _} where
       → ComesEarly (pairs_of_plan p) (keys_of_plan p) (Port opened)
       → ((e : BoardEntry) (code : ErrorCode) → act.act e ≡ act.Undone code (undone_leases config (board_history (made_by old) entry_id.number) input.call_id.list (ask_of input chosen)) []
       → DoesAct config old new entry_id e board told)
-      → text.list ≡ reply_datagram config request.cookie.now (Fault E15)
+      → text.list ≡ reply_datagram config request.cookie.now request.body.now (Fault E15)
       → Carries config old new entry_id (hearing_as request pairs chosen (device_answers.PortFault opened)) (Some text) board told
   ports_carries config old new entry_id request pairs input chosen p opened text board told c heard plans early undoes bytes =
       let h = board_history (made_by old) entry_id.number in
@@ -162,7 +162,7 @@ module _ {M I O T : Type 0} {g : _} where
       → ComesEarly (pairs_of_plan p) (keys_of_plan p) (Key drawn)
       → ((e : BoardEntry) (code : ErrorCode) → act.act e ≡ act.Undone code (undone_leases config (board_history (made_by old) entry_id.number) input.call_id.list (ask_of input chosen)) drawn.list
       → DoesAct config old new entry_id e board told)
-      → text.list ≡ reply_datagram config request.cookie.now (Fault E16)
+      → text.list ≡ reply_datagram config request.cookie.now request.body.now (Fault E16)
       → Carries config old new entry_id (hearing_as request pairs chosen (device_answers.KeyFault (2 * pair_count p.plan) drawn)) (Some text) board told
   keys_carries config old new entry_id request pairs input chosen p drawn text board told c heard plans early undoes bytes =
       let h = board_history (made_by old) entry_id.number in
@@ -196,7 +196,7 @@ module _ {M I O T : Type 0} {g : _} where
       → ComesEarly (pairs_of_plan p) (keys_of_plan p) fault
       → ((e : BoardEntry) (code : ErrorCode) → act.act e ≡ act.Undone code (undone_leases config (board_history (made_by old) entry_id.number) input.call_id.list (ask_of input chosen)) (keys_before fault)
       → DoesAct config old new entry_id e board told)
-      → text.list ≡ reply_datagram config request.cookie.now (Fault (undone_code fault))
+      → text.list ≡ reply_datagram config request.cookie.now request.body.now (Fault (undone_code fault))
       → Carries config old new entry_id (hearing_as request pairs chosen (undone_answers (2 * pair_count p.plan) fault)) (Some text) board told
   undone_carries config old new entry_id request pairs input chosen p (Port opened) text board told c heard plans early undoes bytes =
       ports_carries config old new entry_id request pairs input chosen p opened text board told c heard plans early undoes bytes
@@ -208,7 +208,7 @@ module _ {M I O T : Type 0} {g : _} where
       (fault : BoardFault) (code : Option ErrorCode) (done : CommandOutcome) (board : Board) (told : Option (List PortCall))
       → InTurn config turns hand entry_id board told → AsksFor config (board_history (made_by hand) entry_id.number) entry_id.moment request pairs input → OfferHeard (ask_of input chosen)
       → PlansOffer config (view_of config (board_history (made_by hand) entry_id.number)) input.call_id.list (ask_of input chosen) (Err fault)
-      → code_of fault ≡ code → Refuses request.cookie.now chosen code done
+      → code_of fault ≡ code → Refuses request.cookie.now request.body.now chosen code done
       → Carries config hand hand entry_id (hearing_by request pairs done) done.reply board told
   refuses_case config turns hand entry_id request pairs input chosen fault None done board told turn c heard planned is refuses =
       is_short_carries config turns hand entry_id request pairs done board told turn c.anew refuses
@@ -226,7 +226,7 @@ module _ {M I O T : Type 0} {g : _} where
       (fault : BoardFault) (done : CommandOutcome) (board : Board) (told : Option (List PortCall))
       → InTurn config turns hand entry_id board told → AsksFor config (board_history (made_by hand) entry_id.number) entry_id.moment request pairs input → OfferHeard (ask_of input chosen)
       → PlansOffer config (view_of config (board_history (made_by hand) entry_id.number)) input.call_id.list (ask_of input chosen) (Err fault)
-      → Refuses request.cookie.now chosen (code_of fault) done
+      → Refuses request.cookie.now request.body.now chosen (code_of fault) done
       → Carries config hand hand entry_id (hearing_by request pairs done) done.reply board told
   refuses_carries config turns hand entry_id request pairs input chosen fault done board told turn c heard planned refuses =
       refuses_case config turns hand entry_id request pairs input chosen fault (code_of fault) done board told turn c heard planned refl refuses
@@ -235,7 +235,7 @@ module _ {M I O T : Type 0} {g : _} where
   error_carries : (config : Config) (turns : Turns M (Part I O) Made T) (hand : Hand M (Part I O) Made T g) (entry_id : BoardEntryId) (request : Request) (pairs : Option Entries) (input : OfferIn) (chosen : List (Option CryptoLine))
       (code : ErrorCode) (done : CommandOutcome) (board : Board) (told : Option (List PortCall))
       → InTurn config turns hand entry_id board told → IsAnew (board_history (made_by hand) entry_id.number) entry_id.moment request → IsAsking request pairs (says_of input)
-      → sdp_error config input.sdp.list ≡ Some code → Tells chosen (reply_datagram config request.cookie.now (Fault code)) done
+      → sdp_error config input.sdp.list ≡ Some code → Tells chosen (reply_datagram config request.cookie.now request.body.now (Fault code)) done
       → Carries config hand hand entry_id (hearing_by request pairs done) done.reply board told
   error_carries config turns hand entry_id request pairs input chosen code done board told turn anew asking faulty tells =
       let h = board_history (made_by hand) entry_id.number in
@@ -249,7 +249,7 @@ module _ {M I O T : Type 0} {g : _} where
   pub misdescribed_carries : (config : Config) (turns : Turns M (Part I O) Made T) (hand : Hand M (Part I O) Made T g) (entry_id : BoardEntryId) (request : Request) (pairs : Option Entries) (input : OfferIn)
       (fault : DescriptionFault) (done : CommandOutcome) (board : Board) (told : Option (List PortCall))
       → InTurn config turns hand entry_id board told → IsAnew (board_history (made_by hand) entry_id.number) entry_id.moment request → IsAsking request pairs (says_of input)
-      → IsErrorOf (sdp_error config input.sdp.list) fault → Refuses request.cookie.now [] (error_in fault) done
+      → IsErrorOf (sdp_error config input.sdp.list) fault → Refuses request.cookie.now request.body.now [] (error_in fault) done
       → Carries config hand hand entry_id (hearing_by request pairs done) done.reply board told
   misdescribed_carries config turns hand entry_id request pairs input (faults.Error code) done board told turn anew asking faulty refuses =
       error_carries config turns hand entry_id request pairs input [] code done board told turn anew asking faulty (refuses config)

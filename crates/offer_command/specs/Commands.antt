@@ -18,7 +18,7 @@ use Rattle.offer_leases.specs.declared.fault.LeaseFault.TheVariants.{Port, Key}
 use Rattle.control_entries.specs.declared.command_outcome.CommandOutcome.{CommandOutcome}
 use Rattle.control_entries.specs.declared.device_answers.DeviceAnswers.{DeviceAnswers}
 use Rattle.control_entries.specs.declared.device_answers.DeviceAnswers.TheVariants.{PortFault, KeyFault}
-use Rattle.control_entries.specs.declared.request.Request.{Request}
+use Rattle.control_reading.specs.declared.request.Request.{Request}
 use Rattle.control_entries.specs.Telling.{IsAnew, IsAsking}
 
 -- what the command says
@@ -43,10 +43,10 @@ IsReply bytes None = ⊥
 IsReply bytes (Some text) = text.list ≡ bytes
 
 -- where these crypto lines were chosen, the devices returned this, and the reply is made
-pub record Gives (cookie : List ℕ) (chosen : List (Option CryptoLine)) (device_answers : DeviceAnswers) (reply : Reply) (done : CommandOutcome) : Type 0 where
+pub record Gives (cookie body : List ℕ) (chosen : List (Option CryptoLine)) (device_answers : DeviceAnswers) (reply : Reply) (done : CommandOutcome) : Type 0 where
   pub chosen_are : done.chosen_lines ≡ chosen
   pub answers_are : done.device_answers ≡ device_answers
-  pub replies : (config : Config) → IsReply (reply_datagram config cookie reply) done.reply
+  pub replies : (config : Config) → IsReply (reply_datagram config cookie body reply) done.reply
 
 -- the error of an offer that is undone
 abbrev pub undone_code : LeaseFault → ErrorCode

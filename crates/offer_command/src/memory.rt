@@ -4,6 +4,7 @@ ghost use Rattle.cookie_cache.specs.Keepings.{IsCookie};
 ghost use Rattle.control_replies.specs.Rooms.{IsReplyRoom};
 ghost use Rattle.offer_turns.specs.Brings.{HasOfferRoom};
 
+use control_reading::Request;
 use control_replies::reply_room;
 use ng_bencode::Text;
 use offer_answer::Plan;
@@ -23,22 +24,22 @@ pub(crate) struct OfferMemory<I, O> {
     pub reply: Text,
 }
 
-/// The memory of an offer under this cookie with this plan. There is none for a description of 2^40 bytes.
+/// The memory of an offer of this request with this plan. There is none for a description of 2^40 bytes.
 pub(crate) fn offer_memory<I, O>(
     alloc: Global,
-    cookie: &[u8],
+    request: &Request,
     plan: &Plan,
 ) -> Result<OfferMemory<I, O>, OutOfMemory>
-    requires { IsCookie cookie.now }
+    requires { IsCookie request.now.cookie.now }
     ensures small { OnOk result (plan.now.reply_len < 2 ^ 40) }
     ensures room { IfOk result (λ memory. HasOfferRoom plan.now memory.room) }
-    ensures reply { IfOk result (λ memory. IsReplyRoom cookie.now plan.now.reply_len memory.reply) }
+    ensures reply { IfOk result (λ memory. IsReplyRoom request.now.cookie.now request.now.body.now plan.now.reply_len memory.reply) }
 {
     let length = plan.reply_len();
     if length >= MOST_BYTES {
         return Err(OutOfMemory);
     }
-    let reply = reply_room(alloc, cookie, length)?;
+    let reply = reply_room(alloc, request, length)?;
     let room = OfferRoom::reserve(alloc, plan)?;
     Ok(OfferMemory { room, reply })
 }

@@ -18,8 +18,8 @@ use crate::memory::{OfferMemory, offer_memory};
 use crate::replying::{accepted, undone};
 use call_board::Board;
 use call_cell::Gone;
-use control_entries::{CommandOutcome, Request, misdescribed, short, unplanned};
-use control_reading::read_description;
+use control_entries::{CommandOutcome, misdescribed, short, unplanned};
+use control_reading::{Request, read_description};
 use nested_steps::BoardTurn;
 use ng_command::OfferIn;
 use offer_answer::ChosenLines;
@@ -62,14 +62,14 @@ pub fn offer<P: PortMaker, K: KeySource, R: Wait>(
 {
     let sdp = match read_description(alloc, turn.config, input.sdp.as_slice()) {
         Ok(sdp) => sdp,
-        Err(fault) => return misdescribed(alloc, request.cookie, fault),
+        Err(fault) => return misdescribed(alloc, request, fault),
     };
     let chosen_lines = ChosenLines::of_offer(&sdp);
     let plan = match board.plan_offer(alloc, input, &sdp) {
         Ok(plan) => plan,
-        Err(fault) => return unplanned(alloc, request.cookie, fault, chosen_lines),
+        Err(fault) => return unplanned(alloc, request, fault, chosen_lines),
     };
-    let Ok(memory) = offer_memory(alloc, request.cookie, plan.planned()) else {
+    let Ok(memory) = offer_memory(alloc, request, plan.planned()) else {
         return short();
     };
     let OfferMemory { room, reply } = memory;
@@ -81,7 +81,7 @@ pub fn offer<P: PortMaker, K: KeySource, R: Wait>(
     };
     let offered = match offer_act(rt, turn, hand, board, ports, keys, gone, offer) {
         Ok(offered) => offered,
-        Err(fault) => return undone(request.cookie, fault, opens, chosen_lines, reply),
+        Err(fault) => return undone(request, fault, opens, chosen_lines, reply),
     };
-    accepted(request.cookie, offered, opens, chosen_lines, reply)
+    accepted(request, offered, opens, chosen_lines, reply)
 }

@@ -2,11 +2,12 @@
 ghost use Rattle.std.specs.Prelude.{◌≡◌, ◌<◌, ◌≤◌, ◌^◌, [], length};
 ghost use Rattle.cookie_cache.specs.Keepings.{IsCookie};
 ghost use Rattle.call_board.specs.Replies.{Described, Fault};
-ghost use Rattle.control_replies.specs.Rooms.{described_len};
+ghost use Rattle.control_replies.specs.Rooms.{described_room};
 ghost use Rattle.control_entries.specs.declared.device_answers.DeviceAnswers.TheVariants as device_answers;
 ghost use Rattle.offer_command.specs.Commands.{Gives, undone_code, undone_answers};
 
 use control_entries::{CommandOutcome, DeviceAnswers};
+use control_reading::Request;
 use control_replies::{write_described, write_error};
 use ng_bencode::Text;
 use ng_reply::ErrorCode;
@@ -16,7 +17,7 @@ use offer_turns::AcceptedOffer;
 
 /// The offer was accepted, and opened this many ports. Its reply is written into the room that was made for it. It takes no memory.
 pub(crate) fn accepted(
-    cookie: &[u8],
+    request: &Request,
     offered: AcceptedOffer,
     opened: usize,
     chosen_lines: ChosenLines,
@@ -24,12 +25,12 @@ pub(crate) fn accepted(
 ) -> CommandOutcome
     requires small { length offered.text.list < 2 ^ 40 }
     requires empty { reply.list ≡ [] }
-    requires room { described_len cookie.now offered.text.list ≤ reply.spare }
-    ensures { Gives cookie.now chosen_lines (device_answers.Offered opened offered.drawn) (Described offered.text.list) result }
+    requires room { described_room request.now.cookie.now request.now.body.now offered.text.list ≤ reply.spare }
+    ensures { Gives request.now.cookie.now request.now.body.now chosen_lines (device_answers.Offered opened offered.drawn) (Described offered.text.list) result }
 {
     let AcceptedOffer { drawn, text } = offered;
     let mut reply = reply;
-    write_described(cookie, text.as_slice(), &mut reply);
+    write_described(request, text.as_slice(), &mut reply);
     CommandOutcome {
         chosen_lines,
         device_answers: DeviceAnswers::Offered(opened, drawn),
@@ -49,20 +50,20 @@ fn undone_by(fault: LeaseFault, ports: usize) -> (ErrorCode, DeviceAnswers)
 
 /// The offer, which opens this many ports, was undone. Its reply is written into the room that was made for it. It takes no memory.
 pub(crate) fn undone(
-    cookie: &[u8],
+    request: &Request,
     fault: LeaseFault,
     ports: usize,
     chosen_lines: ChosenLines,
     reply: Text,
 ) -> CommandOutcome
-    requires cookie { IsCookie cookie.now }
+    requires cookie { IsCookie request.now.cookie.now }
     requires empty { reply.list ≡ [] }
     requires room { 512 ≤ reply.spare }
-    ensures { Gives cookie.now chosen_lines (undone_answers ports fault) (Fault (undone_code fault)) result }
+    ensures { Gives request.now.cookie.now request.now.body.now chosen_lines (undone_answers ports fault) (Fault (undone_code fault)) result }
 {
     let mut reply = reply;
     let (code, device_answers) = undone_by(fault, ports);
-    write_error(cookie, code, &mut reply);
+    write_error(request, code, &mut reply);
     CommandOutcome {
         chosen_lines,
         device_answers,

@@ -78,7 +78,7 @@ can_offer config h now source cookie body too_long pairs chosen id from_tag sdp 
       pairs = pairs;
       chosen = chosen;
       given = given draws;
-      reply = reply_datagram config cookie (offering config t.rounds (o draws)).reply;
+      reply = reply_datagram config cookie body (offering config t.rounds (o draws)).reply;
       act = act.Offered (o draws);
     }
 
@@ -103,7 +103,7 @@ can_offer config h now source cookie body too_long pairs chosen id from_tag sdp 
       gives = subst (λ (d : Demand). GivesFor d (given draws) (act.Offered (o draws))) (sym (same draws))
           (record { all_opened = refl }, record { all_drawn = count ∙ keys_count config h id ask p plans.1; none_failed = refl }, refl);
       reports = λ out_of_memory. absurd (let e = out_of_memory in cc);
-      answers = sym (ap (answering_unless config h (control draws)) a.none_kept ∙ ap (spelled config cookie) (answer draws));
+      answers = sym (ap (answering_unless config h (control draws)) a.none_kept ∙ ap (spelled config cookie body) (answer draws));
     }
 
     due : (draws : List (List ℕ)) → length draws ≡ key_count p.plan → IsDue config h id ask p draws

@@ -37,7 +37,7 @@ TellsLine line answer writes =
     (writes ≡ put.Write line answer ∷ [])
     ⊎ ((text : List ℕ) × (writes ≡ put.Write line true ∷ put.Write text answer ∷ []))
 
--- the usage: a line, and then, where the reader of options refused the words, its text; nothing where memory was refused
+-- the usage: a line, and then, where the reader of options refused the words, its text; nothing where it is out of memory
 abbrev pub PrintsUsage : Status → List WriteCall → Type 0
 PrintsUsage status.OutOfMemory writes = writes ≡ []
 PrintsUsage answer writes = (line : List ℕ) × TellsLine line (is_printed answer) writes × (starts_with nat_eq line (codes "usage: rtpengine") ≡ true)

@@ -249,7 +249,7 @@ asked_answers config h c p (Ok says) asks q = command_answers config h c p says 
 
 -- what a datagram did that was neither repeated nor out of memory follows from what it asks
 out_of_memory_is : {X : Type 0} (f : Act → Option X) (x : X) (config : Config) (h : List BoardEntry) (c : Control) → f act.OutOfMemory ≡ None → (out_of_memory : Bool)
-    → f (cond out_of_memory (record { bytes = reply_datagram config c.cookie (Fault E17); act = act.OutOfMemory }) (spelled config c.cookie (answering config h c))).act ≡ Some x
+    → f (cond out_of_memory (record { bytes = reply_datagram config c.cookie c.body (Fault E17); act = act.OutOfMemory }) (spelled config c.cookie c.body (answering config h c))).act ≡ Some x
     → f (answering config h c).act ≡ Some x
 out_of_memory_is f x config h c none true q = absurd (none_some none q)
 out_of_memory_is f x config h c none false q = q

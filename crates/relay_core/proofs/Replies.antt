@@ -89,66 +89,66 @@ repeated config l o e c reply i q k =
 
 -- What is told of a failure is its error.
 
-abbrev Tells : Config → (cookie reply : List ℕ) → Act → Type 0
-Tells config cookie reply (act.Failed code) = reply ≡ reply_datagram config cookie (Fault code)
-Tells config cookie reply (act.Undone code leases draws) = reply ≡ reply_datagram config cookie (Fault code)
-Tells config cookie reply act.OutOfMemory = reply ≡ reply_datagram config cookie (Fault E17)
-Tells config cookie reply _ = Unit {0}
+abbrev Tells : Config → (cookie body reply : List ℕ) → Act → Type 0
+Tells config cookie body reply (act.Failed code) = reply ≡ reply_datagram config cookie body (Fault code)
+Tells config cookie body reply (act.Undone code leases draws) = reply ≡ reply_datagram config cookie body (Fault code)
+Tells config cookie body reply act.OutOfMemory = reply ≡ reply_datagram config cookie body (Fault E17)
+Tells config cookie body reply _ = Unit {0}
 
-abbrev TellsIt : Config → (cookie : List ℕ) → Answered → Type 0
-TellsIt config cookie a = Tells config cookie a.bytes a.act
+abbrev TellsIt : Config → (cookie body : List ℕ) → Answered → Type 0
+TellsIt config cookie body a = Tells config cookie body a.bytes a.act
 
-leased_tells : (config : Config) (cookie : List ℕ) (h : List BoardEntry) (given : act.Given) (ask : OfferAsk) (of : act.Call) (new : Bool) (before : List Round) (pairs : List ℕ)
-    (failed drew : Bool) → TellsIt config cookie (spelled config cookie (leased_case config h given ask of new before pairs failed drew))
-leased_tells config cookie h given ask of new before pairs true drew = refl
-leased_tells config cookie h given ask of new before pairs false true = refl
-leased_tells config cookie h given ask of new before pairs false false = tt
+leased_tells : (config : Config) (cookie body : List ℕ) (h : List BoardEntry) (given : act.Given) (ask : OfferAsk) (of : act.Call) (new : Bool) (before : List Round) (pairs : List ℕ)
+    (failed drew : Bool) → TellsIt config cookie body (spelled config cookie body (leased_case config h given ask of new before pairs failed drew))
+leased_tells config cookie body h given ask of new before pairs true drew = refl
+leased_tells config cookie body h given ask of new before pairs false true = refl
+leased_tells config cookie body h given ask of new before pairs false false = tt
 
-planned_tells : (config : Config) (cookie : List ℕ) (h : List BoardEntry) (given : act.Given) (ask : OfferAsk) (of : act.Call) (new : Bool) (before : List Round)
-    (over short : Bool) → TellsIt config cookie (spelled config cookie (cond over (failing E14)
+planned_tells : (config : Config) (cookie body : List ℕ) (h : List BoardEntry) (given : act.Given) (ask : OfferAsk) (of : act.Call) (new : Bool) (before : List Round)
+    (over short : Bool) → TellsIt config cookie body (spelled config cookie body (cond over (failing E14)
     (cond short (failing E13) (offer_leased config h given ask of new before (leased_pairs config h (plan.demand before ask))))))
-planned_tells config cookie h given ask of new before true short = refl
-planned_tells config cookie h given ask of new before false true = refl
-planned_tells config cookie h given ask of new before false false =
-    leased_tells config cookie h given ask of new before (leased_pairs config h (plan.demand before ask)) (list_any not given.opens) given.draw_failed
+planned_tells config cookie body h given ask of new before true short = refl
+planned_tells config cookie body h given ask of new before false true = refl
+planned_tells config cookie body h given ask of new before false false =
+    leased_tells config cookie body h given ask of new before (leased_pairs config h (plan.demand before ask)) (list_any not given.opens) given.draw_failed
 
-unless_tells : (config : Config) (cookie : List ℕ) (h : List BoardEntry) (given : act.Given) (ask : OfferAsk) (of : act.Call) (new : Bool) (before : List Round)
-    (fault : Option ErrorCode) → TellsIt config cookie (spelled config cookie (offer_unless config h given ask of new before fault))
-unless_tells config cookie h given ask of new before (Some code) = refl
-unless_tells config cookie h given ask of new before None =
-    planned_tells config cookie h given ask of new before (new && nat_le config.max_sessions (length (live h)))
+unless_tells : (config : Config) (cookie body : List ℕ) (h : List BoardEntry) (given : act.Given) (ask : OfferAsk) (of : act.Call) (new : Bool) (before : List Round)
+    (fault : Option ErrorCode) → TellsIt config cookie body (spelled config cookie body (offer_unless config h given ask of new before fault))
+unless_tells config cookie body h given ask of new before (Some code) = refl
+unless_tells config cookie body h given ask of new before None =
+    planned_tells config cookie body h given ask of new before (new && nat_le config.max_sessions (length (live h)))
     (is_short (free_in config h) (plan.demand before ask).pairs)
 
-found_tells : (config : Config) (cookie : List ℕ) (h : List BoardEntry) (given : act.Given) (id : List ℕ) (ask : OfferAsk) (found : Option act.Call)
-    → TellsIt config cookie (spelled config cookie (offer_to config h given id ask found))
-found_tells config cookie h given id ask None = unless_tells config cookie h given ask (new_call h id) true [] (plan.offer_fault [] ask)
-found_tells config cookie h given id ask (Some of) =
-    unless_tells config cookie h given ask of false (rounds h of.number) (plan.offer_fault (rounds h of.number) ask)
+found_tells : (config : Config) (cookie body : List ℕ) (h : List BoardEntry) (given : act.Given) (id : List ℕ) (ask : OfferAsk) (found : Option act.Call)
+    → TellsIt config cookie body (spelled config cookie body (offer_to config h given id ask found))
+found_tells config cookie body h given id ask None = unless_tells config cookie body h given ask (new_call h id) true [] (plan.offer_fault [] ask)
+found_tells config cookie body h given id ask (Some of) =
+    unless_tells config cookie body h given ask of false (rounds h of.number) (plan.offer_fault (rounds h of.number) ask)
 
-out_of_memory_tells : (config : Config) (cookie : List ℕ) (a : Answered) → TellsIt config cookie a → (out_of_memory : Bool)
-    → TellsIt config cookie (cond out_of_memory (record { bytes = reply_datagram config cookie (Fault E17); act = act.OutOfMemory }) a)
-out_of_memory_tells config cookie a told true = refl
-out_of_memory_tells config cookie a told false = told
+out_of_memory_tells : (config : Config) (cookie body : List ℕ) (a : Answered) → TellsIt config cookie body a → (out_of_memory : Bool)
+    → TellsIt config cookie body (cond out_of_memory (record { bytes = reply_datagram config cookie body (Fault E17); act = act.OutOfMemory }) a)
+out_of_memory_tells config cookie body a told true = refl
+out_of_memory_tells config cookie body a told false = told
 
 -- the turn of an offer that isn't kept
 offer_tells : (config : Config) (h : List BoardEntry) (now : ℕ) (c : Control) (id from_tag sdp : List ℕ) (options : Options) → FitsControl config h now c
-    → kept h c.source c.cookie now ≡ None → asked config c.too_long c.pairs ≡ Ok (said.Offer id from_tag sdp options) → Tells config c.cookie c.reply c.act
+    → kept h c.source c.cookie now ≡ None → asked config c.too_long c.pairs ≡ Ok (said.Offer id from_tag sdp options) → Tells config c.cookie c.body c.reply c.act
 offer_tells config h now c id from_tag sdp options fits none is_asked =
     let ask = offer_ask from_tag sdp options c.chosen in
     let unkept = fits.answers ∙ ap (answering_unless config h c) none in
-    let asking = ap (λ r. cond c.given.out_of_memory (record { bytes = reply_datagram config c.cookie (Fault E17); act = act.OutOfMemory }) (spelled config c.cookie (answering_asked config h c r))) is_asked in
-    subst (TellsIt config c.cookie) (sym (unkept ∙ asking))
-    (out_of_memory_tells config c.cookie (spelled config c.cookie (offer_to config h c.given id ask (find_call h id)))
-    (found_tells config c.cookie h c.given id ask (find_call h id)) c.given.out_of_memory)
+    let asking = ap (λ r. cond c.given.out_of_memory (record { bytes = reply_datagram config c.cookie c.body (Fault E17); act = act.OutOfMemory }) (spelled config c.cookie c.body (answering_asked config h c r))) is_asked in
+    subst (TellsIt config c.cookie c.body) (sym (unkept ∙ asking))
+    (out_of_memory_tells config c.cookie c.body (spelled config c.cookie c.body (offer_to config h c.given id ask (find_call h id)))
+    (found_tells config c.cookie c.body h c.given id ask (find_call h id)) c.given.out_of_memory)
 
-offer_reply : (config : Config) (h : List BoardEntry) (c : Control) (id : List ℕ) (ask : OfferAsk) → Tells config c.cookie c.reply c.act
+offer_reply : (config : Config) (h : List BoardEntry) (c : Control) (id : List ℕ) (ask : OfferAsk) → Tells config c.cookie c.body c.reply c.act
     → OfferEnds config h c id ask → IsOfferReply config h c id ask
 offer_reply config h c id ask told (ends.well o a b r) = well o a b r
-offer_reply config h c id ask told (ends.no_pair a s) = no_pair (subst (Tells config c.cookie c.reply) a told) a s
-offer_reply config h c id ask told (ends.session_limit a f n) = session_limit (subst (Tells config c.cookie c.reply) a told) a f n
-offer_reply config h c id ask told (ends.port_fault leases a i) = port_fault leases (subst (Tells config c.cookie c.reply) a told) a i
-offer_reply config h c id ask told (ends.key_fault leases a t) = key_fault leases (subst (Tells config c.cookie c.reply) a told) a t
-offer_reply config h c id ask told (ends.no_memory a) = no_memory (subst (Tells config c.cookie c.reply) a told) a
+offer_reply config h c id ask told (ends.no_pair a s) = no_pair (subst (Tells config c.cookie c.body c.reply) a told) a s
+offer_reply config h c id ask told (ends.session_limit a f n) = session_limit (subst (Tells config c.cookie c.body c.reply) a told) a f n
+offer_reply config h c id ask told (ends.port_fault leases a i) = port_fault leases (subst (Tells config c.cookie c.body c.reply) a told) a i
+offer_reply config h c id ask told (ends.key_fault leases a t) = key_fault leases (subst (Tells config c.cookie c.body c.reply) a told) a t
+offer_reply config h c id ask told (ends.no_memory a) = no_memory (subst (Tells config c.cookie c.body c.reply) a told) a
 
 pub offers_answered : (config : Config) (l : List Entry) → Orderly config l → (e : Entry) (c : Control) (id : List ℕ) (ask : OfferAsk) → In e l → e.event ≡ Board (Turn c)
     → IsValidOffer config (board_history l e.number) c e.moment id ask → IsOfferReply config (board_history l e.number) c id ask

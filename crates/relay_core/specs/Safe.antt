@@ -138,16 +138,16 @@ pub record IsValidOffer (config : Config) (h : List BoardEntry) (c : Control) (n
 -- the reply is a success, or the error of what it lacks
 pub data IsOfferReply (config : Config) (h : List BoardEntry) (c : Control) (id : List ℕ) (ask : OfferAsk) : Type 0 where
   well : (o : act.Offer) → c.act ≡ act.Offered o → o.ask ≡ ask
-      → c.reply ≡ (spelled config c.cookie (offering config (rounds_of_call h (find_call h id)) o)).bytes → IsOfferReply config h c id ask
-  no_pair : c.reply ≡ reply_datagram config c.cookie (Fault E13) → c.act ≡ act.Failed E13
+      → c.reply ≡ (spelled config c.cookie c.body (offering config (rounds_of_call h (find_call h id)) o)).bytes → IsOfferReply config h c id ask
+  no_pair : c.reply ≡ reply_datagram config c.cookie c.body (Fault E13) → c.act ≡ act.Failed E13
       → is_short (free_in config h) (plan.demand (rounds_of_call h (find_call h id)) ask).pairs ≡ true → IsOfferReply config h c id ask
-  session_limit : c.reply ≡ reply_datagram config c.cookie (Fault E14) → c.act ≡ act.Failed E14
+  session_limit : c.reply ≡ reply_datagram config c.cookie c.body (Fault E14) → c.act ≡ act.Failed E14
       → find_call h id ≡ None → length (live h) ≡ config.max_sessions → IsOfferReply config h c id ask
-  port_fault : (leases : List act.Lease) → c.reply ≡ reply_datagram config c.cookie (Fault E15) → c.act ≡ act.Undone E15 leases []
+  port_fault : (leases : List act.Lease) → c.reply ≡ reply_datagram config c.cookie c.body (Fault E15) → c.act ≡ act.Undone E15 leases []
       → In false c.given.opens → IsOfferReply config h c id ask
-  key_fault : (leases : List act.Lease) → c.reply ≡ reply_datagram config c.cookie (Fault E16) → c.act ≡ act.Undone E16 leases c.given.draws
+  key_fault : (leases : List act.Lease) → c.reply ≡ reply_datagram config c.cookie c.body (Fault E16) → c.act ≡ act.Undone E16 leases c.given.draws
       → c.given.draw_failed ≡ true → IsOfferReply config h c id ask
-  no_memory : c.reply ≡ reply_datagram config c.cookie (Fault E17) → c.act ≡ act.OutOfMemory → IsOfferReply config h c id ask
+  no_memory : c.reply ≡ reply_datagram config c.cookie c.body (Fault E17) → c.act ≡ act.OutOfMemory → IsOfferReply config h c id ask
 
 -- What an orderly list has, whatever the lanes do
 pub record BoardSafe (config : Config) (l : List Entry) : Type 0 where
@@ -164,7 +164,7 @@ pub record BoardSafe (config : Config) (l : List Entry) : Type 0 where
   -- and it belongs to one leg, which is one lease of a pair, in whatever cells and at whatever times legs have it
   pub one_leg : (e f : Entry) (a b : Holder) (number : ℕ) → In e l → In f l → In a (legs (cell_before l e)) → In b (legs (cell_before l f))
       → HasKey (cell_before l e) a number → HasKey (cell_before l f) b number → a ≡ b
-  -- what is read of a datagram is what its body spells, and the lines that are chosen are those of its description
+  -- what is read of a datagram is what its body says, and the lines that are chosen are those of its description
   pub bodies_are : (e : Entry) (c : Control) → In e l → e.event ≡ Board (Turn c) → is_read c ≡ true → Reads c.body c.pairs
   pub lines_are : (e : Entry) (c : Control) → In e l → e.event ≡ Board (Turn c) → is_heard c.act ≡ true
       → Hears (board_history l e.number) c (asked config c.too_long c.pairs)

@@ -93,7 +93,7 @@ asked_fed config h c (Ok (said.Listing limit)) = refl
 due_fed : (config : Config) (h : List BoardEntry) (c : Control) (o : Option (List ℕ)) → HasMemory c → runs_out (answering_unless config h c o).act ≡ false
 due_fed config h c (Some bytes) fed = refl
 due_fed config h c None fed =
-    ap (λ (b : Bool). runs_out (unless_out_of_memory config c.cookie b (answering config h c)).act) fed ∙ asked_fed config h c (asked config c.too_long c.pairs)
+    ap (λ (b : Bool). runs_out (unless_out_of_memory config c.cookie c.body b (answering config h c)).act) fed ∙ asked_fed config h c (asked config c.too_long c.pairs)
 
 never : true ≡ false → ⊥
 never e = cc

@@ -157,7 +157,7 @@ module _ (config : Config) (h k : List BoardEntry) (same : SameBoards config h k
 
   unkept_same : (c : Control) (o : Option (List ℕ)) → answering_unless config h c o ≡ answering_unless config k c o
   unkept_same c (Some bytes) = refl
-  unkept_same c None = ap (unless_out_of_memory config c.cookie c.given.out_of_memory) (asked_same c (asked config c.too_long c.pairs))
+  unkept_same c None = ap (unless_out_of_memory config c.cookie c.body c.given.out_of_memory) (asked_same c (asked config c.too_long c.pairs))
 
   kept_same : (source : Addr) (cookie : List ℕ) (now : ℕ) → kept h source cookie now ≡ kept k source cookie now
   kept_same source cookie now = ap (λ (ks : List Keeping). cache.kept ks source cookie now) same.keepings_are

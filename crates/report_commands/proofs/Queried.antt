@@ -35,7 +35,7 @@ use Rattle.nested_steps.specs.declared.board_turn.BoardEntryId.{BoardEntryId}
 use Rattle.board_turns.specs.Acting.{InTurn}
 use Rattle.board_turns.specs.Ending.{leg_pairs}
 use Rattle.control_replies.proofs.Datagrams.{fault_is}
-use Rattle.control_entries.specs.declared.request.Request.{Request}
+use Rattle.control_reading.specs.declared.request.Request.{Request}
 use Rattle.control_entries.specs.declared.device_answers.DeviceAnswers.{DeviceAnswers}
 use Rattle.control_entries.specs.declared.device_answers.DeviceAnswers.TheVariants as device_answers
 use Rattle.control_entries.specs.declared.command_outcome.CommandOutcome.{CommandOutcome}
@@ -72,7 +72,7 @@ module _ {M I O T : Type 0} {g : _} where
   pub unknown_carries : (config : Config) (turns : Turns M (Part I O) Made T) (hand : Hand M (Part I O) Made T g) (entry_id : BoardEntryId) (request : Request) (pairs : Option Entries)
       (chosen : List (Option CryptoLine)) (id : List ℕ) (done : CommandOutcome) (board : Board) (told : Option (List PortCall))
       → InTurn config turns hand entry_id board told → IsAnew (board_history (made_by hand) entry_id.number) entry_id.moment request → IsAsking request pairs (Query id)
-      → find_call (board_history (made_by hand) entry_id.number) id ≡ None → Tells chosen (reply_datagram config request.cookie.now (Fault E9)) done
+      → find_call (board_history (made_by hand) entry_id.number) id ≡ None → Tells chosen (reply_datagram config request.cookie.now request.body.now (Fault E9)) done
       → Carries config hand hand entry_id (hearing_by request pairs done) done.reply board told
   unknown_carries config turns hand entry_id request pairs chosen id done board told turn anew asking none tells =
       let h = board_history (made_by hand) entry_id.number in
@@ -88,7 +88,7 @@ module _ {M I O T : Type 0} {g : _} where
       → InTurn config turns old entry_id board told → IsAnew (board_history (made_by old) entry_id.number) entry_id.moment request → IsAsking request pairs (Query id)
       → find_call (board_history (made_by old) entry_id.number) id ≡ Some of
       → GainsNested entry_id.number entry_id.moment (in_cell of (Read reports) ∷ []) old new
-      → text.list ≡ reply_datagram config request.cookie.now (replies.Reported (report_of_call (board_history (made_by old) entry_id.number) of reports))
+      → text.list ≡ reply_datagram config request.cookie.now request.body.now (replies.Reported (report_of_call (board_history (made_by old) entry_id.number) of reports))
       → Carries config old new entry_id (hearing_as request pairs [] (device_answers.Report reports)) (Some text) board told
   queried_carries config turns old new entry_id request pairs id of reports text board told turn anew asking found gained bytes =
       let h = board_history (made_by old) entry_id.number in
@@ -131,14 +131,14 @@ module _ {M I O T : Type 0} {g : _} where
         shows = turn.shows;
         opens = subst (λ (legs : List Holder). TellsHeld config told (leg_pairs legs)) (sym (reading_holds config h entry_id.moment x due refl)) turn.opens;
       })
-      (refl, sym (fault_is config request.cookie.now E17))
+      (refl, sym (fault_is config request.cookie.now request.body.now E17))
 
   told_case : (config : Config) (turns : Turns M (Part I O) Made T) (old new : Hand M (Part I O) Made T g) (entry_id : BoardEntryId) (request : Request) (pairs : Option Entries)
       (id : List ℕ) (of : Call) (reports : List LegReport) (done : CommandOutcome) (reply : Option (Room ℕ)) (board : Board) (told : Option (List PortCall))
       → InTurn config turns old entry_id board told → IsAnew (board_history (made_by old) entry_id.number) entry_id.moment request → IsAsking request pairs (Query id)
       → find_call (board_history (made_by old) entry_id.number) id ≡ Some of
       → GainsNested entry_id.number entry_id.moment (in_cell of (Read reports) ∷ []) old new
-      → TellsOfBy reports (reply_datagram config request.cookie.now (replies.Reported (report_of_call (board_history (made_by old) entry_id.number) of reports))) done reply
+      → TellsOfBy reports (reply_datagram config request.cookie.now request.body.now (replies.Reported (report_of_call (board_history (made_by old) entry_id.number) of reports))) done reply
       → Carries config old new entry_id (hearing_by request pairs done) reply board told
   told_case config turns old new entry_id request pairs id of reports done None board told turn anew asking found gained tells =
       subst (λ (given : DeviceAnswers). Carries config old new entry_id (hearing_as request pairs done.chosen_lines given) None board told) (sym tells)
@@ -154,7 +154,7 @@ module _ {M I O T : Type 0} {g : _} where
       → InTurn config turns old entry_id board told → IsAnew (board_history (made_by old) entry_id.number) entry_id.moment request → IsAsking request pairs (Query id)
       → find_call (board_history (made_by old) entry_id.number) id ≡ Some of
       → GainsNested entry_id.number entry_id.moment (in_cell of (Read reports) ∷ []) old new
-      → TellsOf reports (reply_datagram config request.cookie.now (replies.Reported (report_of_call (board_history (made_by old) entry_id.number) of reports))) done
+      → TellsOf reports (reply_datagram config request.cookie.now request.body.now (replies.Reported (report_of_call (board_history (made_by old) entry_id.number) of reports))) done
       → Carries config old new entry_id (hearing_by request pairs done) done.reply board told
   told_carries config turns old new entry_id request pairs id of reports done board told turn anew asking found gained tells =
       told_case config turns old new entry_id request pairs id of reports done done.reply board told turn anew asking found gained tells

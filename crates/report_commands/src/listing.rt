@@ -8,7 +8,8 @@ ghost use Rattle.control_entries.specs.Giving.{IsUnasked};
 ghost use Rattle.control_entries.specs.Telling.{Tells};
 
 use call_board::Board;
-use control_entries::{CommandOutcome, Request, told};
+use control_entries::{CommandOutcome, told};
+use control_reading::Request;
 use control_replies::value_datagram;
 use ng_bencode::Text;
 use offer_answer::ChosenLines;
@@ -19,28 +20,28 @@ use std::alloc::Global;
 fn list_datagram(
     alloc: Global,
     board: &Board,
-    cookie: &[u8],
+    request: &Request,
     limit: u32,
 ) -> Result<Text, OutOfMemory>
     requires shown { (config : Config) × (v : View) × Shows config board.now v }
     ensures { (config : Config) (v : View) → Shows config board.now v →
-        IfOk result (λ text. text.list ≡ reply_datagram config cookie.now (Listed (take limit (map (λ (c : CallView). c.of.id) v.calls)))) }
+        IfOk result (λ text. text.list ≡ reply_datagram config request.now.cookie.now request.now.body.now (Listed (take limit (map (λ (c : CallView). c.of.id) v.calls)))) }
 {
     let Ok(value) = call_report::list(alloc, board, limit) else {
         return Err(OutOfMemory);
     };
-    value_datagram(alloc, cookie, &value)
+    value_datagram(alloc, request, &value)
 }
 
 /// Tells the call-ids of the live calls, in order of their creation, up to this many. Nothing is done.
 pub fn list(alloc: Global, board: &Board, request: &Request, limit: u32) -> CommandOutcome
     requires shown { (config : Config) × (v : View) × Shows config board.now v }
     ensures tells { (config : Config) (v : View) → Shows config board.now v →
-        Tells [] (reply_datagram config request.now.cookie.now (Listed (take limit (map (λ (c : CallView). c.of.id) v.calls)))) result }
+        Tells [] (reply_datagram config request.now.cookie.now request.now.body.now (Listed (take limit (map (λ (c : CallView). c.of.id) v.calls)))) result }
     ensures unasked { IsUnasked result.device_answers }
 {
     told(
         ChosenLines::none(),
-        list_datagram(alloc, board, request.cookie, limit),
+        list_datagram(alloc, board, request, limit),
     )
 }

@@ -23,7 +23,8 @@ ghost use Rattle.report_commands.specs.Told.{TellsOf, view_report};
 
 use board_turns::query_call;
 use call_board::Board;
-use control_entries::{CommandOutcome, DeviceAnswers, Request, refused, short};
+use control_entries::{CommandOutcome, DeviceAnswers, refused, short};
+use control_reading::Request;
 use control_replies::value_datagram;
 use nested_steps::BoardTurn;
 use ng_bencode::Text;
@@ -41,19 +42,19 @@ use turn_table::Hand;
 fn report_datagram(
     alloc: Global,
     board: &Board,
-    cookie: &[u8],
+    request: &Request,
     call: u64,
     reports: &LegReports,
 ) -> Result<Text, OutOfMemory>
     requires shown { (config : Config) × (v : View) × (c : CallView) × Shows config board.now v × (call_numbered v call ≡ Some c) }
     requires counts { (report : LegReport) → In report reports.now → CountsFit report }
     ensures { (config : Config) (v : View) (c : CallView) → Shows config board.now v → call_numbered v call ≡ Some c →
-        IfOk result (λ text. text.list ≡ reply_datagram config cookie.now (Reported (view_report c reports.now))) }
+        IfOk result (λ text. text.list ≡ reply_datagram config request.now.cookie.now request.now.body.now (Reported (view_report c reports.now))) }
 {
     let Ok(value) = call_report::query(alloc, board, call, reports) else {
         return Err(OutOfMemory);
     };
-    value_datagram(alloc, cookie, &value)
+    value_datagram(alloc, request, &value)
 }
 
 /// A call was read, and this is the reply, where memory sufficed for it.
@@ -98,12 +99,12 @@ pub fn query<I: InEnd, O: OutEnd, R: Wait>(
     ensures unasked { IsUnasked result.device_answers }
 {
     let Some(call) = board.find_call(input.call_id.as_slice()) else {
-        return refused(alloc, request.cookie, ErrorCode::E9, ChosenLines::none());
+        return refused(alloc, request, ErrorCode::E9, ChosenLines::none());
     };
     let Ok(mut reports) = LegReports::new(alloc) else {
         return short();
     };
     query_call(rt, turn, hand, board, call, &mut reports);
-    let reply = report_datagram(alloc, board, request.cookie, call, &reports);
+    let reply = report_datagram(alloc, board, request, call, &reports);
     reported(reports, reply)
 }

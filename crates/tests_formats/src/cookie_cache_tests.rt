@@ -149,7 +149,9 @@ fn entries_stand_in_the_order_of_their_latest_replies(rt: HostRuntime) {
         panic!(rt; "no entry");
     };
     assert!(rt; entries.len() == 2 && key.as_slice() == KEY);
-    assert!(rt; kept.number == 2 && kept.moment == 2 && kept.reply.as_slice() == b"second");
+    assert!(rt;
+        kept.number == 2 && kept.moment == 2 && kept.reply.as_slice() == b"second".as_slice()
+    );
 }
 
 #[test]

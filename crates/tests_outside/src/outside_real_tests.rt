@@ -325,7 +325,7 @@ fn addresses_of_both_families_stay_the_same(rt: HostRuntime) {
 /// How long the clocks are looked at, in milliseconds, and how long that may take on a busy machine.
 const LOOKED: u32 = 300;
 
-/// Whether so many milliseconds of a clock may have gone by in that time.
+/// Whether this many milliseconds of a clock may have gone by in that time.
 fn went_by(from: u64, to: u64) -> bool {
     (u64::from(LOOKED)..60_000).contains(&to.saturating_sub(from))
 }

@@ -53,11 +53,19 @@ const BODIES: &[(&[u8], bool, ErrorCode)] = &[
     (b"le", false, ErrorCode::E1),
     (b"d7:command4:pongE", false, ErrorCode::E1),
     (b"d7:command5:querye", true, ErrorCode::E4(KeyName::CallId)),
+    (b"{\"command\":\"ping\"", false, ErrorCode::E1),
+    (b"{\"command\":null}", false, ErrorCode::E1),
+    (
+        b"{\"command\":\"query\"}",
+        true,
+        ErrorCode::E4(KeyName::CallId),
+    ),
 ];
 
 #[test]
 fn a_body_is_read_once(rt: HostRuntime) {
     assert!(rt; is_ping(rt.alloc(), b"d7:command4:pinge"));
+    assert!(rt; is_ping(rt.alloc(), b"{\"command\":\"ping\"}"));
     for (place, (text, is_dictionary, code)) in BODIES.iter().enumerate() {
         let is_so = said(rt.alloc(), *text) == Some((*is_dictionary, Some(*code)));
         assert!(rt; is_so, "body {place}");

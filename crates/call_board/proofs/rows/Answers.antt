@@ -38,7 +38,7 @@ full = history_of (begins c1 [] ∷ begins c2 [] ∷ begins c3 [] ∷ [])
 kept_first : answering_unless config two (datagram out_of_memory) (Some (codes "7_o pong")) ≡ record { bytes = codes "7_o pong"; act = act.Repeated }
 kept_first = refl
 
-out_of_memory_reply : answering_unless config two (datagram out_of_memory) None ≡ record { bytes = reply_datagram config (codes "7_o") (Fault E17); act = act.OutOfMemory }
+out_of_memory_reply : answering_unless config two (datagram out_of_memory) None ≡ record { bytes = reply_datagram config (codes "7_o") [] (Fault E17); act = act.OutOfMemory }
 out_of_memory_reply = refl
 
 faulty_command : answering_asked config two (datagram given) (Err E3) ≡ record { reply = Fault E3; act = act.Failed E3 }

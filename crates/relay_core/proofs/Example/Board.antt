@@ -39,7 +39,7 @@ offer_turn = record {
   pairs = Some offer_pairs;
   chosen = None ∷ [];
   given = record { out_of_memory = false; opens = true ∷ true ∷ true ∷ true ∷ []; draws = first_draw ∷ second_draw ∷ []; draw_failed = false; report = None };
-  reply = reply_datagram config (codes "1") (Described (plan.offer_text config [] offer (30000 ∷ 30002 ∷ []) keys));
+  reply = reply_datagram config (codes "1") offer_body (Described (plan.offer_text config [] offer (30000 ∷ 30002 ∷ []) keys));
   act = act.Offered accepted_offer;
 }
 
@@ -106,7 +106,7 @@ answer_turn = record {
   pairs = Some answer_pairs;
   chosen = Some line ∷ [];
   given = nothing_given;
-  reply = reply_datagram config (codes "2") (Described (plan.answer_text config offered answer));
+  reply = reply_datagram config (codes "2") answer_body (Described (plan.answer_text config offered answer));
   act = act.Answered accepted_answer;
 }
 
@@ -144,7 +144,7 @@ delete_turn = record {
   pairs = Some delete_pairs;
   chosen = [];
   given = nothing_given;
-  reply = reply_datagram config (codes "3") Done;
+  reply = reply_datagram config (codes "3") delete_body Done;
   act = act.Deleted the_call;
 }
 
@@ -198,7 +198,7 @@ next_turn = record {
   pairs = Some next_pairs;
   chosen = None ∷ [];
   given = record nothing_given { opens = true ∷ true ∷ true ∷ true ∷ [] };
-  reply = reply_datagram config (codes "4") (Described (plan.offer_text config [] next_offer (30000 ∷ 30002 ∷ []) []));
+  reply = reply_datagram config (codes "4") next_body (Described (plan.offer_text config [] next_offer (30000 ∷ 30002 ∷ []) []));
   act = act.Offered accepted_next;
 }
 

@@ -10,8 +10,7 @@ use Rattle.sdes_lines.specs.declared.crypto_line.Suite.TheVariants.{Tag80, Tag32
 use Rattle.sdes_lines.specs.declared.crypto_line.CryptoLine.{CryptoLine}
 use Rattle.sdes_lines.specs.CryptoLine.{line_text, IsUsable}
 use Rattle.sdp_text.specs.declared.proto.Proto.TheVariants.{Savp}
-use Rattle.ng_bencode.specs.Tree.{Bytes, Dict, Entries, entry, no_entries}
-use Rattle.ng_bencode.specs.Spells.{Spells}
+use Rattle.ng_bencode.specs.Tree.{Bytes, Entries, entry, no_entries}
 use Rattle.ng_command.specs.declared.command.Options.{Options}
 use Rattle.ng_command.specs.Said as said
 use Rattle.ng_command.specs.Said.{Said}
@@ -24,7 +23,7 @@ use Rattle.port_pool.specs.Signals.{NewKey}
 use Rattle.offer_answer.specs.Rounds.{Round, Offered, OfferAsk, AnswerAsk}
 use Rattle.offer_answer.specs.Demands.{new_leg}
 use Rattle.offer_answer.specs.Plan as plan
-use Rattle.call_board.specs.Asked.{asked, sdp_error}
+use Rattle.call_board.specs.Asked.{Reads, asked, sdp_error}
 
 -- one call at a time, and two port pairs
 abbrev pub config : Config
@@ -66,7 +65,7 @@ offer_pairs =
     entry (codes "command") (Bytes (codes "offer")) (entry (codes "call-id") (Bytes id) (entry (codes "from-tag") (Bytes tag_a)
     (entry (codes "sdp") (Bytes offer_sdp) (entry (codes "transport protocol") (Bytes (codes "RTP/SAVP")) no_entries))))
 
-pub offer_is_read : Spells offer_body (Dict offer_pairs)
+pub offer_is_read : Reads offer_body (Some offer_pairs)
 unfolding offer_body offer_pairs offer_sdp digits
 offer_is_read = record { ints = (tt, (tt, (tt, (tt, (tt, tt))))); deep = omega arith; spelled = refl }
 
@@ -146,7 +145,7 @@ answer_pairs =
     entry (codes "command") (Bytes (codes "answer")) (entry (codes "call-id") (Bytes id) (entry (codes "from-tag") (Bytes tag_a)
     (entry (codes "to-tag") (Bytes tag_b) (entry (codes "sdp") (Bytes answer_sdp) no_entries))))
 
-pub answer_is_read : Spells answer_body (Dict answer_pairs)
+pub answer_is_read : Reads answer_body (Some answer_pairs)
 unfolding answer_body answer_pairs answer_sdp digits
 answer_is_read = record { ints = (tt, (tt, (tt, (tt, (tt, tt))))); deep = omega arith; spelled = refl }
 
@@ -218,7 +217,7 @@ delete_body = codes "d7:command6:delete7:call-id1:ce"
 unfoldable pub delete_pairs : Entries
 delete_pairs = entry (codes "command") (Bytes (codes "delete")) (entry (codes "call-id") (Bytes id) no_entries)
 
-pub delete_is_read : Spells delete_body (Dict delete_pairs)
+pub delete_is_read : Reads delete_body (Some delete_pairs)
 unfolding delete_body delete_pairs digits
 delete_is_read = record { ints = (tt, (tt, tt)); deep = omega arith; spelled = refl }
 
@@ -239,7 +238,7 @@ next_pairs =
     entry (codes "command") (Bytes (codes "offer")) (entry (codes "call-id") (Bytes next_id) (entry (codes "from-tag") (Bytes tag_a)
     (entry (codes "sdp") (Bytes offer_sdp) no_entries)))
 
-pub next_is_read : Spells next_body (Dict next_pairs)
+pub next_is_read : Reads next_body (Some next_pairs)
 unfolding next_body next_pairs offer_sdp digits
 next_is_read = record { ints = (tt, (tt, (tt, (tt, tt)))); deep = omega arith; spelled = refl }
 

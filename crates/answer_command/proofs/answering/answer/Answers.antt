@@ -138,7 +138,7 @@ returns-clause-carries g c pairs asking =
     answered_carries config c.args.hand.now c.answer_act.new.hand c.args.turn.now.entry_id request pairs input c.in-Ok.sdp heard c.in-Ok-plan_answer.plan c.write_described.new.out c.answer_act.new.board
     (g.P.PortMaker.told c.answer_act.new.ports) asks planned (c.answer_act.ensures.does e d.of ask is)
     (c.write_described.ensures config
-    ∙ ap (λ (bytes : List ℕ). reply_datagram config request.cookie.now (Described bytes)) (c.as_slice-3.ensures ∙ c.answer_act.ensures.text e d.of ask is))
+    ∙ ap (λ (bytes : List ℕ). reply_datagram config request.cookie.now request.body.now (Described bytes)) (c.as_slice-3.ensures ∙ c.answer_act.ensures.text e d.of ask is))
 
 pub returns-in-Err-clause-ties : goal.returns-in-Err-clause-ties
 returns-in-Err-clause-ties g c = ties_none c.args.turn.now.config.now (g.P.PortMaker.told c.args.ports.now) (entries c.args.hand.now)

@@ -7,5 +7,5 @@ use Rattle.control_entries.proofs.faulty.misdescribed.Goals as goal
 
 pub returns-in-Error-clause-refuses : goal.returns-in-Error-clause-refuses
 returns-in-Error-clause-refuses c =
-    subst (λ (fault : DescriptionFault). Refuses c.args.cookie.now [] (error_in fault) c.refused.result) (sym c.in-Error.is)
-    (λ config. subst (λ (chosen : List (Option CryptoLine)). Tells chosen (reply_datagram config c.args.cookie.now (Fault c.in-Error.code)) c.refused.result) c.none.ensures (c.refused.ensures.tells config))
+    subst (λ (fault : DescriptionFault). Refuses c.args.request.now.cookie.now c.args.request.now.body.now [] (error_in fault) c.refused.result) (sym c.in-Error.is)
+    (λ config. subst (λ (chosen : List (Option CryptoLine)). Tells chosen (reply_datagram config c.args.request.now.cookie.now c.args.request.now.body.now (Fault c.in-Error.code)) c.refused.result) c.none.ensures (c.refused.ensures.tells config))

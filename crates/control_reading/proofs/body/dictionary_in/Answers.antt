@@ -1,9 +1,9 @@
-use Rattle.ng_bencode.specs.Tree.{Dict}
-use Rattle.control_reading.proofs.Read.{dictionary_read}
+use Rattle.std.proofs.Common.{◌∙◌, sym, true, false}
+use Rattle.control_reading.proofs.Read.{read_in}
 use Rattle.control_reading.proofs.body.dictionary_in.Goals as goal
 
-pub returns-in-Ok : goal.returns-in-Ok
-returns-in-Ok c = dictionary_read c.args.body.now c.in-Ok.value c.dictionary_of.result c.in-Ok.ensures.value c.in-Ok.ensures.only c.dictionary_of.ensures
+pub returns-then-is_json : goal.returns-then-is_json
+returns-then-is_json c = read_in c.args.body.now true c.json_dictionary.result (sym c.is_json.ensures ∙ c.if-is_json.true) c.json_dictionary.ensures
 
-pub returns-in-Err-NotBencode : goal.returns-in-Err-NotBencode
-returns-in-Err-NotBencode c = λ pairs spells. c.in-Err-NotBencode.ensures.cause c.in-Err-NotBencode.field-0-is (Dict pairs) spells
+pub returns-else-is_json : goal.returns-else-is_json
+returns-else-is_json c = read_in c.args.body.now false c.bencode_dictionary.result (sym c.is_json.ensures ∙ c.if-is_json.false) c.bencode_dictionary.ensures

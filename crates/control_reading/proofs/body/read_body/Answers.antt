@@ -9,6 +9,11 @@ use Rattle.control_reading.specs.Bodies.{pairs_if}
 use Rattle.control_reading.proofs.Read.{reads_so, is_small}
 use Rattle.control_reading.proofs.body.read_body.Goals as goal
 
+pub returns-in-Ok-Some-clause-reads : goal.returns-in-Ok-Some-clause-reads
+returns-in-Ok-Some-clause-reads c =
+    let reads = subst (λ (d : Option (Row (Room ℕ × Value))). Reads c.args.body.now (pairs_if d)) c.in-Ok-Some.field-0-is c.in-Ok-Some.ensures in
+    reads_so c.args.body.now (pairs_of (list_in c.in-Ok-Some.pairs)) c.body_of.result reads c.body_of.ensures.dictionary
+
 pub returns-in-Ok-Some-clause-small : goal.returns-in-Ok-Some-clause-small
 returns-in-Ok-Some-clause-small c =
     let reads = subst (λ (d : Option (Row (Room ℕ × Value))). Reads c.args.body.now (pairs_if d)) c.in-Ok-Some.field-0-is c.in-Ok-Some.ensures in

@@ -3,4 +3,4 @@ use Rattle.control_replies.proofs.short.error_datagram.Goals as goal
 use Rattle.std.proofs.Common.{◌∙◌}
 
 pub returns : goal.returns
-returns c config = c.in-Ok.ensures ∙ (c.fixed_error-len.ensures.datagram ∙ fault_is config c.args.cookie.now c.args.code)
+returns c config = c.in-Ok.ensures ∙ (c.error_into-len.ensures.datagram ∙ fault_is config c.args.request.now.cookie.now c.args.request.now.body.now c.args.code)

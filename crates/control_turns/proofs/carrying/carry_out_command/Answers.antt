@@ -30,7 +30,7 @@ returns-in-Ping-clause-carries g c pairs short reads is =
     ping_carries c.args.turn.now.config.now c.args.turn.now.turns.now c.args.hand.now c.args.turn.now.entry_id c.args.request.now pairs c.none-in-Ping.result c.told.result c.args.board.now
     (g.P.PortMaker.told c.args.ports.now) c.requires.turn c.requires.anew (λ s. reads)
     (ap (λ (b : Bool). command_in b pairs) short ∙ is ∙ ap said_by c.in-Ok.is ∙ ap (λ (x : Command). Ok (said x)) c.in-Ping.is)
-    (c.told.ensures.tells (reply_datagram c.args.turn.now.config.now c.args.request.now.cookie.now Pong) (c.pong_datagram.ensures c.args.turn.now.config.now))
+    (c.told.ensures.tells (reply_datagram c.args.turn.now.config.now c.args.request.now.cookie.now c.args.request.now.body.now Pong) (c.pong_datagram.ensures c.args.turn.now.config.now))
 
 pub returns-in-Ping-clause-given : goal.returns-in-Ping-clause-given
 returns-in-Ping-clause-given g c =

@@ -137,7 +137,7 @@ returns-in-Err-offer_act-clause-carries g c pairs asking =
     let opens : c.pairs-opens.result ≡ pair_count plan.plan = c.pairs-opens.ensures.count ∙ ap pair_count c.planned-2.ensures in
     let can = subst (λ (are : List (List ℕ)). CanOffer config h id ask are plan) lines (may_offer config h c.args.turn.now.entry_id.moment request pairs input chosen plan asks heard plans) in
     let fault = c.in-Err-offer_act.fault in
-    let gives = subst (λ (n : ℕ). Gives request.cookie.now chosen (undone_answers (2 * n) fault) (Fault (undone_code fault)) c.undone.result) opens c.undone.ensures in
+    let gives = subst (λ (n : ℕ). Gives request.cookie.now request.body.now chosen (undone_answers (2 * n) fault) (Fault (undone_code fault)) c.undone.result) opens c.undone.ensures in
     gives_carries config c.args.hand.now c.offer_act.new.hand c.args.turn.now.entry_id request pairs chosen (undone_answers (2 * pair_count plan.plan) fault) (Fault (undone_code fault))
     c.undone.result board told gives
     (λ text is. undone_carries config c.args.hand.now c.offer_act.new.hand c.args.turn.now.entry_id request pairs input chosen plan fault text board told asks heard plans
@@ -180,12 +180,12 @@ returns-clause-carries g c pairs asking =
     let opens : c.pairs-opens.result ≡ pair_count plan.plan = c.pairs-opens.ensures.count ∙ ap pair_count c.planned-2.ensures in
     let can = subst (λ (are : List (List ℕ)). CanOffer config h id ask are plan) lines (may_offer config h c.args.turn.now.entry_id.moment request pairs input chosen plan asks heard plans) in
     let offered = c.in-Ok-offer_act.offered in
-    let gives = subst (λ (n : ℕ). Gives request.cookie.now chosen (device_answers.Offered (2 * n) offered.drawn) (Described offered.text.list) c.accepted.result) opens c.accepted.ensures in
+    let gives = subst (λ (n : ℕ). Gives request.cookie.now request.body.now chosen (device_answers.Offered (2 * n) offered.drawn) (Described offered.text.list) c.accepted.result) opens c.accepted.ensures in
     gives_carries config c.args.hand.now c.offer_act.new.hand c.args.turn.now.entry_id request pairs chosen (device_answers.Offered (2 * pair_count plan.plan) offered.drawn) (Described offered.text.list)
     c.accepted.result board told gives
     (λ text is. offered_carries config c.args.hand.now c.offer_act.new.hand c.args.turn.now.entry_id request pairs input chosen plan offered.drawn text board told asks heard plans
     c.in-Ok-offer_act.ensures.count (c.in-Ok-offer_act.ensures.does id ask can)
-    (is ∙ ap (λ (bytes : List ℕ). reply_datagram config request.cookie.now (Described bytes)) (c.in-Ok-offer_act.ensures.text id ask can)))
+    (is ∙ ap (λ (bytes : List ℕ). reply_datagram config request.cookie.now request.body.now (Described bytes)) (c.in-Ok-offer_act.ensures.text id ask can)))
 
 pub returns-clause-given : goal.returns-clause-given
 returns-clause-given g c =

@@ -9,6 +9,6 @@ pub returns-clause-tells : goal.returns-clause-tells
 returns-clause-tells c config v shows =
     subst
     (λ (chosen : List (Option CryptoLine)).
-    Tells chosen (reply_datagram config c.args.request.now.cookie.now (Listed (take c.args.limit (map (λ (call : CallView). call.of.id) v.calls)))) c.told.result)
+    Tells chosen (reply_datagram config c.args.request.now.cookie.now c.args.request.now.body.now (Listed (take c.args.limit (map (λ (call : CallView). call.of.id) v.calls)))) c.told.result)
     c.none.ensures
     (c.told.ensures.tells _ (c.list_datagram.ensures config v shows))

@@ -1,10 +1,9 @@
-use Rattle.std.proofs.Common.{◌∙◌, sym, ap, subst, ℕ, ◌≤◌, List, ◌∷◌, ◌++◌, map}
+use Rattle.std.proofs.Common.{◌∙◌, sym, ap, subst, ℕ, ◌≤◌, List, map}
 use Rattle.std.specs.Prelude.{take}
-use Rattle.ng_bencode.specs.Spells.{spelling}
 use Rattle.ng_bencode.specs.Tree.{Tree, depth}
 use Rattle.call_board.specs.Views.{View, CallView}
 use Rattle.call_report.proofs.Shallow.{listing_shallow}
-use Rattle.control_replies.proofs.Datagrams.{listed_is, same_text}
+use Rattle.control_replies.proofs.Datagrams.{value_datagram, listed_is, same_text}
 use Rattle.report_commands.proofs.listing.list_datagram.Goals as goal
 
 ids_in : ℕ → View → List (List ℕ)
@@ -21,5 +20,5 @@ pub returns : goal.returns
 unfolding ids_in
 returns c config v shows =
     same_text c.value_datagram.result _ _ c.value_datagram.ensures
-    (ap (λ (tree : Tree). c.args.cookie.now ++ 32 ∷ spelling tree) (c.in-Ok.ensures config v shows)
-    ∙ listed_is config c.args.cookie.now (ids_in c.args.limit v))
+    (ap (value_datagram c.args.request.now.cookie.now c.args.request.now.body.now) (c.in-Ok.ensures config v shows)
+    ∙ listed_is config c.args.request.now.cookie.now c.args.request.now.body.now (ids_in c.args.limit v))

@@ -1,10 +1,9 @@
-use Rattle.std.proofs.Common.{◌∙◌, sym, ap, subst, ◌≤◌, ◌∷◌, ◌++◌}
-use Rattle.ng_bencode.specs.Spells.{spelling}
+use Rattle.std.proofs.Common.{◌∙◌, sym, ap, subst, ◌≤◌}
 use Rattle.ng_bencode.specs.Tree.{Tree, depth}
 use Rattle.call_board.specs.Views.{CallView}
 use Rattle.call_board.proofs.Found.{found_is_live}
 use Rattle.call_report.proofs.Shallow.{report_shallow}
-use Rattle.control_replies.proofs.Datagrams.{reported_is, same_text}
+use Rattle.control_replies.proofs.Datagrams.{value_datagram, reported_is, same_text}
 use Rattle.report_commands.specs.Told.{view_report}
 use Rattle.report_commands.proofs.querying.report_datagram.Goals as goal
 
@@ -22,5 +21,5 @@ value_datagram-requires c =
 pub returns : goal.returns
 returns c config v of shows found =
     same_text c.value_datagram.result _ _ c.value_datagram.ensures
-    (ap (λ (tree : Tree). c.args.cookie.now ++ 32 ∷ spelling tree) (c.in-Ok.ensures config v of shows found)
-    ∙ reported_is config c.args.cookie.now (view_report of c.args.reports.now))
+    (ap (value_datagram c.args.request.now.cookie.now c.args.request.now.body.now) (c.in-Ok.ensures config v of shows found)
+    ∙ reported_is config c.args.request.now.cookie.now c.args.request.now.body.now (view_report of c.args.reports.now))
