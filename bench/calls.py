@@ -1,13 +1,15 @@
 """Offers, answers and deletes calls over UDP, waiting for each reply, and prints nanoseconds a call.
 
-Usage: bench/calls.py PORT CALLS [OTHERS] [KEPT]. Before, it offers and answers that many other calls, which stay, and sends that
-many pings, so that their replies are kept.
+Usage: bench/calls.py PORT CALLS [OTHERS] [KEPT] [bencode | json]. Before, it offers and answers that many other calls, which stay, and
+sends that many pings, so that their replies are kept. The datagrams are made before the time begins.
 """
+import json
 import socket
 import sys
 import time
 
-port, calls, others, kept = (int(word) for word in [*sys.argv[1:], "0", "0"][:4])
+port, calls, others, kept = (int(word) for word in [*sys.argv[1:5], "0", "0"][:4])
+in_json = sys.argv[5:] == ["json"]
 link = socket.socket(socket.AF_INET, socket.SOCK_DGRAM)
 link.settimeout(5)
 link.connect(("127.0.0.1", port))
@@ -16,34 +18,42 @@ offer = ("v=0\r\no=alice 1 1 IN IP4 192.0.2.10\r\ns=-\r\nc=IN IP4 192.0.2.10\r\n
 answer = ("v=0\r\no=bob 2 2 IN IP4 198.51.100.20\r\ns=-\r\nc=IN IP4 198.51.100.20\r\nt=0 0\r\n"
           "m=audio 7000 RTP/AVP 0\r\n")
 run = str(time.time_ns())
+succeeded = (b'"result":"ok"', b'"result":"pong"') if in_json else (b"6:result2:ok", b"6:result4:pong")
 
 
-def ask(letter, call, body):
-    link.send(f"{letter}{run}{call} d7:call-id6:{call:06}{body}".encode())
-    reply = link.recv(65535)
-    if b"6:result2:ok" not in reply and b"6:result4:pong" not in reply:
-        sys.exit(f"call {call}: {reply!r}")
+def datagram(letter, call, **command):
+    """A command as a datagram, in the dialect that was asked for."""
+    pairs = {"call-id": f"{call:06}", **{key.replace("_", "-"): text for key, text in command.items()}}
+    body = json.dumps(pairs) if in_json else "d" + "".join(f"{len(it)}:{it}" for pair in pairs.items() for it in pair) + "e"
+    return f"{letter}{run}{call} {body}".encode()
 
 
 def set_up(call):
-    ask("o", call, f"7:command5:offer8:from-tag5:alice3:sdp{len(offer)}:{offer}e")
-    ask("a", call, f"7:command6:answer8:from-tag5:alice3:sdp{len(answer)}:{answer}6:to-tag3:bobe")
+    return [datagram("o", call, command="offer", from_tag="alice", sdp=offer),
+            datagram("a", call, command="answer", from_tag="alice", sdp=answer, to_tag="bob")]
 
 
 def end(call):
-    ask("d", call, "7:command6:deletee")
+    return [datagram("d", call, command="delete")]
+
+
+def ask(datagrams):
+    for it in datagrams:
+        link.send(it)
+        reply = link.recv(65535)
+        if not any(text in reply for text in succeeded):
+            sys.exit(f"{it!r}: {reply!r}")
 
 
 first_other = 900_000
-for other in range(others):
-    set_up(first_other + other)
-for ping in range(kept):
-    ask("p", ping, "7:command4:pinge")
+other_calls = range(first_other, first_other + others)
+for other in other_calls:
+    ask(set_up(other))
+ask(datagram("p", ping, command="ping") for ping in range(kept))
+measured = [it for call in range(calls) for it in set_up(call) + end(call)]
 start = time.perf_counter_ns()
-for call in range(calls):
-    set_up(call)
-    end(call)
+ask(measured)
 taken = time.perf_counter_ns() - start
-for other in range(others):
-    end(first_other + other)
+for other in other_calls:
+    ask(end(other))
 print(taken // calls, "ns a call")
