@@ -24,7 +24,7 @@ session_count text = number_within 1 2048 text
 abbrev pub turn_count : List ℕ → Option ℕ
 turn_count text = number_within 1 1000000000000000 text
 
--- how many threads relay media beside the one that answers commands; where there is none, that one relays it too
+-- how many threads relay media besides the one that answers commands; where there is none, that one relays it too
 abbrev pub thread_count : List ℕ → Option ℕ
 thread_count text = number_within 0 16 text
 

@@ -8,7 +8,7 @@ use Rattle.command_line.specs.declared.refusal.Refusal.TheVariants.{Usage, OutOf
 abbrev pub begins_usage : List ℕ → Bool
 begins_usage line = starts_with nat_eq line (codes "usage: rtpengine")
 
--- memory was refused; or P holds, and the usage is told
+-- out of memory; or P holds, and the usage is told
 abbrev pub IsRefused : Type 0 → Refusal → Type 0
 IsRefused P OutOfMemory = ⊤
 IsRefused P (Usage usage) = P × (begins_usage usage.line.bytes.items ≡ true)

@@ -109,7 +109,7 @@ pub fn read_words<'a>(alloc: Global, words: &'a [&'a str]) -> Result<Task, Refus
     read_task(alloc, *command, options)
 }
 
-/// How a run with these words relays media, for those who make its devices; `None` where they are no words of `serve`, or out of memory.
+/// How a run with these words relays media, for those who make its devices; `None` unless they are a valid command line of `serve`, or out of memory.
 #[tactic(auto, unfolding(port_pool::specs::Ports::pair_count))]
 pub fn read_media<'a>(alloc: Global, words: &'a [&'a str]) -> Option<Media>
     ensures { MatchOption result ⊤ (λ said. media (settings (map (λ word. word.now) words.entry.now)) ≡ Some said) }

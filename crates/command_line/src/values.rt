@@ -135,7 +135,7 @@ fn find_seconds(matches: &ArgMatches<'_>, name: &str) -> Option<u64>
     find_number(matches, name, limits)
 }
 
-/// How many threads relay media beside the one that answers commands: 0 to 16.
+/// How many threads relay media besides the one that answers commands: 0 to 16.
 fn find_threads(matches: &ArgMatches<'_>) -> Option<u32>
     ensures value { result ≡ number_of 0 16 (codes "num-threads") (rows_of (found_of matches.now)) }
     ensures within { IfSome result (λ threads. threads ≤ 16) }

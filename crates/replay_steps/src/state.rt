@@ -10,7 +10,7 @@ use relay_script::Step;
 use replay_devices::{ReplayOut, Timetable, Watch};
 use std::alloc::Global;
 
-/// What a replay keeps between its steps, beside the relay.
+/// What a replay keeps between its steps, besides the relay.
 #[derive(Drop)]
 pub(crate) struct ReplayState<'a> {
     /// The configuration of the relay.
