@@ -60,10 +60,11 @@ impl SectionEdits {
         }
     }
 
-    /// Makes room for `more` edits.
+    /// Makes room for `more` edits. Its edits and the room that it had stay, also when it fails.
     pub fn reserve(&mut self, more: usize) -> Result<(), OutOfMemory>
         ensures room { OnOk result (more ≤ self.new.spare) }
         ensures list { self.new.list ≡ self.old.list }
+        ensures kept { self.old.spare ≤ self.new.spare }
     {
         match self.items.reserve(more) {
             Ok(()) => Ok(()),

@@ -5,3 +5,6 @@ pub mod JoinLemmas
 pub mod EmptyEnds
 pub mod Served
 pub mod LineLemmas
+pub mod Firsts
+pub mod Faults
+pub mod Numbers

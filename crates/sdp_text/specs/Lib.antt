@@ -7,3 +7,4 @@ pub mod LineFaults
 pub mod Parts
 pub mod Reading
 pub mod Limits
+pub mod First

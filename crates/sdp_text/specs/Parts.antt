@@ -1,7 +1,7 @@
 -- The sections of a description: each is an `m=` line with the lines up to the next one.
-use Rattle.std.specs.Prelude.{ℕ, ◌+◌, List, [], ◌∷◌, take, Bool, true, false, ◌&&◌, ◌||◌, not, Option, Some, None, nat_lt, ◌==◌, if◌then◌else◌, is_none, map, count_by}
+use Rattle.std.specs.Prelude.{ℕ, ◌+◌, List, [], ◌∷◌, Bool, true, false, ◌&&◌, ◌||◌, not, Option, Some, None, nat_lt, ◌==◌, if◌then◌else◌, is_none, map}
 use Rattle.sdp_text.specs.Hosts.{is_unspecified, is_v6}
-use Rattle.sdp_text.specs.Roles.{role, is_media}
+use Rattle.sdp_text.specs.Roles.{role}
 use Rattle.sdp_text.specs.declared.host.Host.{Host}
 use Rattle.sdp_text.specs.declared.proto.Proto.{Proto}
 use Rattle.sdp_text.specs.declared.proto.Proto.TheVariants.{Avp, Avpf, Savp, Savpf, Other}
@@ -15,11 +15,6 @@ use Rattle.sdp_text.specs.declared.part.Part.{Part}
 use Rattle.sdp_text.specs.declared.section.Section.{Section}
 use Rattle.sdp_text.specs.declared.fault.SdpFault.{SdpFault}
 use Rattle.sdp_text.specs.declared.fault.SdpFault.TheVariants as faults
-
--- how many `m=` lines there are up to the line at an index: 0 before the first, and else the number of the
--- section that the line belongs to, from 1
-abbrev pub section_at : List (List ℕ) → ℕ → ℕ
-section_at lines index = count_by is_media (take (index + 1) lines)
 
 -- the first `c=` line before the next `m=` line, with its number; the first role is that of line `number`
 abbrev pub first_connection : ℕ → List Role → Option (ℕ × Address)

@@ -33,10 +33,11 @@ impl Bytes {
         }
     }
 
-    /// Makes room for `more` bytes.
+    /// Makes room for `more` bytes. Its bytes and the room that it had stay, also when it fails.
     pub fn reserve(&mut self, more: usize) -> Result<(), OutOfMemory>
         ensures room { OnOk result (more ≤ self.new.spare) }
         ensures list { self.new.list ≡ self.old.list }
+        ensures kept { self.old.spare ≤ self.new.spare }
     {
         match self.items.reserve(more) {
             Ok(()) => Ok(()),

@@ -6,11 +6,40 @@ use std::alloc::Global;
 const OFFER: &[u8] =
     b"v=0\r\no=alice 1 1 IN IP4 192.0.2.10\r\ns=-\r\nc=IN IP4 192.0.2.10\r\nt=0 0\r\nm=audio 6000 RTP/AVP 0 8\r\na=rtpmap:0 PCMU/8000\r\na=sendrecv\r\n";
 
+// The same with line feeds alone, and none behind the last line.
+const UNIX_OFFER: &[u8] =
+    b"v=0\no=alice 1 1 IN IP4 192.0.2.10\ns=-\nc=IN IP4 192.0.2.10\nt=0 0\nm=audio 6000 RTP/AVP 0 8\na=rtpmap:0 PCMU/8000\na=sendrecv";
+
 const OFFER_ADDRESS: Option<Host> = Some(Host::V4([192, 0, 2, 10]));
 
 /// Texts, and the first cause for which each is refused, if any.
 const FAULTS: &[(&[u8], Option<SdpFault>)] = &[
     (OFFER, None),
+    (UNIX_OFFER, None),
+    (
+        b"v=0\r\no=alice 1 1 IN IP4 192.0.2.10\r\ns=-\r\nc=IN IP4 300.1.1.1\r\nt=0 0\r\nm=audio 6000 RTP/AVP 0 8\r\na=rtpmap:0 PCMU/8000\r\na=sendrecv\r\n",
+        Some(SdpFault::Address(4)),
+    ),
+    (
+        b"v=0\r\no=alice 1 1 IN IP4 192.0.2.10\r\ns=-\r\nc=IN IP6 1::2::3\r\nt=0 0\r\nm=audio 6000 RTP/AVP 0 8\r\na=rtpmap:0 PCMU/8000\r\na=sendrecv\r\n",
+        Some(SdpFault::Address(4)),
+    ),
+    (
+        b"v=0\r\no=alice 1 1 IN IP4 192.0.2.10\r\ns=-\r\nc=IN IP4 192.0.2.10\r\nt=0 0\r\nm=audio 6000/2 RTP/AVP 0 8\r\na=rtpmap:0 PCMU/8000\r\na=sendrecv\r\n",
+        Some(SdpFault::PortCount(6)),
+    ),
+    (
+        b"v=0\r\no=alice 1 1 IN IP4 192.0.2.10\r\ns=-\r\nc=IN IP4 192.0.2.10\r\nt=0 0\r\nm=audio 65535 RTP/AVP 0 8\r\na=rtpmap:0 PCMU/8000\r\na=sendrecv\r\n",
+        Some(SdpFault::Line(6)),
+    ),
+    (
+        b"v=0\r\no=alice 1 1 IN IP4 192.0.2.10\r\ns=-\r\nc=IN IP4 192.0.2.10\r\nt=0 0\r\nm=audio 6000 UDP/TLS/RTP/SAVPF 0 8\r\na=rtpmap:0 PCMU/8000\r\na=sendrecv\r\n",
+        Some(SdpFault::Dtls),
+    ),
+    (
+        b"v=0\r\no=alice 1 1 IN IP4 192.0.2.10\r\ns=-\r\nc=IN IP4 192.0.2.10\r\nt=0 0\r\nm=audio 6000 RTP/AVP 0 8\r\nm=audio 6000 RTP/AVP 0 8\r\nm=audio 6000 RTP/AVP 0 8\r\nm=audio 6000 RTP/AVP 0 8\r\nm=audio 6000 RTP/AVP 0 8\r\nm=audio 6000 RTP/AVP 0 8\r\nm=audio 6000 RTP/AVP 0 8\r\nm=audio 6000 RTP/AVP 0 8\r\nm=audio 6000 RTP/AVP 0 8\r\na=rtpmap:0 PCMU/8000\r\na=sendrecv\r\n",
+        Some(SdpFault::TooManyMedia(9)),
+    ),
     (b"", Some(SdpFault::Line(1))),
     (b"\r\n\r\n", Some(SdpFault::Line(1))),
     (
@@ -123,6 +152,19 @@ const OWN_ADDRESS: Option<Host> = Some(Host::V4([203, 0, 113, 9]));
 const SECTIONS: &[(&[u8], usize, Section)] = &[
     (
         OFFER,
+        0,
+        Section {
+            line: 6,
+            port: 6000,
+            proto: Proto::Avp,
+            address: OFFER_ADDRESS,
+            rtcp_port: 6001,
+            rtcp_address: OFFER_ADDRESS,
+            hold: false,
+        },
+    ),
+    (
+        UNIX_OFFER,
         0,
         Section {
             line: 6,
@@ -281,6 +323,9 @@ fn tells_what_each_section_signals(rt: HostRuntime) {
 const LINES: &[(&[u8], usize, usize, &[u8])] = &[
     (OFFER, 8, 7, b"a=sendrecv"),
     (OFFER, 8, 0, b"v=0"),
+    (UNIX_OFFER, 8, 0, b"v=0"),
+    (UNIX_OFFER, 8, 5, b"m=audio 6000 RTP/AVP 0 8"),
+    (UNIX_OFFER, 8, 7, b"a=sendrecv"),
     (b"v=0\ns=-\nt=0 0", 3, 2, b"t=0 0"),
     (b"v=0\r\ns=-\nt=0 0\r\n\n\r\n", 3, 1, b"s=-"),
 ];
@@ -314,6 +359,10 @@ fn gives_lines_without_their_ends(rt: HostRuntime) {
 /// Texts, and the first line of each with an address of IPv6 that is used.
 const FIRST_V6: &[(&[u8], Option<u32>)] = &[
     (OFFER, None),
+    (
+        b"v=0\r\no=alice 1 1 IN IP4 192.0.2.10\r\ns=-\r\nc=IN IP6 2001:db8::1\r\nt=0 0\r\nm=audio 6000 RTP/AVP 0 8\r\na=rtpmap:0 PCMU/8000\r\na=sendrecv\r\n",
+        Some(4),
+    ),
     (b"v=0\nc=IN IP6 2001:db8::1\nm=a 6 RTP/AVP 0\n", Some(2)),
     (b"v=0\nc=IN IP6 2001:db8::1\nm=a 0 RTP/AVP 0\n", None),
     (
