@@ -5,7 +5,7 @@ use Rattle.port_pool.specs.declared.holder.Side.{Side}
 use Rattle.port_pool.specs.declared.holder.Side.TheVariants.{A, B}
 use Rattle.offer_answer.specs.Plan as plan
 use Rattle.call_board.specs.Reports.{Report, side_value, stands_before}
-use Rattle.call_report.specs.Pairs.{with_pair}
+use Rattle.ng_reply.specs.Pairs.{with_pair}
 
 -- the side whose tag stands first, in byte order; side A where a side has none
 abbrev pub first_side : Option (List ℕ) → Option (List ℕ) → Side

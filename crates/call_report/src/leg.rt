@@ -7,8 +7,9 @@ ghost use Rattle.offer_answer.specs.Texts.{host_of_ip};
 ghost use Rattle.offer_answer.specs.Plan as plan;
 ghost use Rattle.call_board.specs.Reports.{counts, endpoint_value, profile_text, leg_value};
 
-use crate::values::{put_pair, put_text, whole};
+use crate::values::whole;
 use ng_bencode::{Pairs, Value};
+use ng_reply::{put_pair, put_text};
 use port_pool::LegReport;
 use relay_outside::{Addr, Ip, OutOfMemory};
 use sdp_text::{Host, Proto, host_text};

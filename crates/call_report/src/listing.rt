@@ -7,9 +7,10 @@ ghost use Rattle.call_board.specs.Views.{CallView, View};
 ghost use Rattle.call_board.specs.Boards.{Shows};
 ghost use Rattle.call_board.specs.Reports.{listing_tree};
 
-use crate::values::{put_item, put_pair, put_text};
+use crate::values::put_item;
 use call_board::Board;
 use ng_bencode::{Pairs, Text, Value, Values};
+use ng_reply::{put_pair, put_text};
 use relay_outside::OutOfMemory;
 use std::alloc::Global;
 

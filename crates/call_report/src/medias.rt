@@ -12,8 +12,9 @@ ghost use Rattle.offer_answer.specs.Dialogs.{DialogFor};
 ghost use Rattle.call_board.specs.Reports.{leg_value, leg_at, Report, side_value};
 
 use crate::leg::leg_value;
-use crate::values::{put_item, put_pair};
+use crate::values::put_item;
 use ng_bencode::{Pairs, Value, Values};
+use ng_reply::put_pair;
 use offer_answer::Dialog;
 use port_pool::{LegReport, LegReports, Side};
 use relay_outside::OutOfMemory;

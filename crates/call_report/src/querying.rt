@@ -14,9 +14,10 @@ ghost use Rattle.call_report.specs.Tags.{with_side};
 
 use crate::medias::side_value;
 use crate::tag_order::first_side;
-use crate::values::{moment_value, put_pair, put_text};
+use crate::values::moment_value;
 use call_board::Board;
 use ng_bencode::{Pairs, Value};
+use ng_reply::{put_pair, put_text};
 use offer_answer::Dialog;
 use port_pool::{LegReports, Side};
 use relay_outside::OutOfMemory;

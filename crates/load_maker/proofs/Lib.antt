@@ -1,4 +1,3 @@
-pub mod Pushed
 pub mod Trees
 pub mod Heads
 pub mod Sealing

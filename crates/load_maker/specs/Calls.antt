@@ -1,6 +1,8 @@
 -- What the generated calls signal, by their numbers from 1: their call-ids, their descriptions, and the bodies of the two commands that make each.
 use Rattle.std.specs.Prelude.{ℕ, ◌+◌, ◌*◌, ◌%◌, Bool, true, false, List, ◌++◌, codes, decimal, replicate}
-use Rattle.ng_bencode.specs.Tree.{Tree, Bytes, Dict, Entries, no_entries, entry}
+use Rattle.ng_bencode.specs.Tree.{Tree, Bytes, Dict, Entries, no_entries}
+use Rattle.ng_reply.specs.Pairs.{with_pair}
+use Rattle.ng_reply.specs.Replies.{text_entry}
 use Rattle.sdes_lines.specs.CryptoLine.{line_text}
 use Rattle.sdes_lines.specs.declared.crypto_line.Suite.TheVariants.{Tag80}
 
@@ -34,18 +36,9 @@ answered_sdp call protected =
     ++ decimal (media_port call)
     ++ answer_end call protected
 
--- a pair of two texts, before the rest
-abbrev pub text_entry : List ℕ → List ℕ → Entries → Entries
-text_entry key text rest = entry key (Bytes text) rest
-
--- the pairs with one more appended
-abbrev pub with_text : Entries → List ℕ → List ℕ → Entries
-with_text no_entries key text = text_entry key text no_entries
-with_text (entry name tree rest) key text = entry name tree (with_text rest key text)
-
 -- the pairs, and after them the protocol towards side B, where it is to be protected
 abbrev pub with_profile : Entries → Bool → Entries
-with_profile pairs true = with_text pairs (codes "transport protocol") (codes "RTP/SAVP")
+with_profile pairs true = with_pair pairs (codes "transport protocol") (Bytes (codes "RTP/SAVP"))
 with_profile pairs false = pairs
 
 -- the body of a call's offer; its keys stand in byte order

@@ -3,12 +3,13 @@ ghost use Rattle.std.specs.Prelude.{◌≡◌, ◌≤◌, IfOk, OnOk};
 ghost use Rattle.ng_bencode.specs.Row.{list_in};
 ghost use Rattle.ng_bencode.specs.Tree.{pairs_of};
 ghost use Rattle.ng_bencode.specs.Spells.{spelling};
-ghost use Rattle.load_maker.specs.Calls.{call_id, with_text, with_profile, offer_of, answer_of};
+ghost use Rattle.load_maker.specs.Calls.{call_id, with_profile, offer_of, answer_of};
 
 use crate::commands::Signals;
 use crate::sdp::{answered_sdp, offered_sdp};
 use crate::writing::{put, put_number};
 use ng_bencode::{Pairs, Text, Value, encode};
+use ng_reply::put_text;
 use relay_outside::OutOfMemory;
 use std::alloc::Global;
 
@@ -35,10 +36,10 @@ fn offer_body(alloc: Global, call: u32, protected: bool) -> Result<Text, OutOfMe
         return Err(OutOfMemory);
     };
     let mut pairs = Pairs::new(alloc);
-    put_pair(alloc, &mut pairs, b"call-id", id.as_slice())?;
-    put_pair(alloc, &mut pairs, b"command", b"offer")?;
-    put_pair(alloc, &mut pairs, b"from-tag", b"a")?;
-    put_pair(alloc, &mut pairs, b"sdp", sdp.as_slice())?;
+    put_text(alloc, &mut pairs, b"call-id", id.as_slice())?;
+    put_text(alloc, &mut pairs, b"command", b"offer")?;
+    put_text(alloc, &mut pairs, b"from-tag", b"a")?;
+    put_text(alloc, &mut pairs, b"sdp", sdp.as_slice())?;
     put_profile(alloc, &mut pairs, protected)?;
     match encode(alloc, &Value::dict(pairs)) {
         Ok(body) => Ok(body),
@@ -58,11 +59,11 @@ fn answer_body(alloc: Global, call: u32, protected: bool) -> Result<Text, OutOfM
         return Err(OutOfMemory);
     };
     let mut pairs = Pairs::new(alloc);
-    put_pair(alloc, &mut pairs, b"call-id", id.as_slice())?;
-    put_pair(alloc, &mut pairs, b"command", b"answer")?;
-    put_pair(alloc, &mut pairs, b"from-tag", b"a")?;
-    put_pair(alloc, &mut pairs, b"sdp", sdp.as_slice())?;
-    put_pair(alloc, &mut pairs, b"to-tag", b"b")?;
+    put_text(alloc, &mut pairs, b"call-id", id.as_slice())?;
+    put_text(alloc, &mut pairs, b"command", b"answer")?;
+    put_text(alloc, &mut pairs, b"from-tag", b"a")?;
+    put_text(alloc, &mut pairs, b"sdp", sdp.as_slice())?;
+    put_text(alloc, &mut pairs, b"to-tag", b"b")?;
     match encode(alloc, &Value::dict(pairs)) {
         Ok(body) => Ok(body),
         Err(_) => Err(OutOfMemory),
@@ -85,22 +86,5 @@ fn put_profile(alloc: Global, pairs: &mut Pairs, protected: bool) -> Result<(), 
     if !protected {
         return Ok(());
     }
-    put_pair(alloc, pairs, b"transport protocol", b"RTP/SAVP")
-}
-
-/// Puts a pair of two texts after the others.
-fn put_pair(alloc: Global, pairs: &mut Pairs, key: &[u8], text: &[u8]) -> Result<(), OutOfMemory>
-    ensures { OnOk result (pairs_of (list_in pairs.new) ≡ with_text (pairs_of (list_in pairs.old)) key.now text.now) }
-{
-    let Ok(name) = Text::copy_of(alloc, key) else {
-        return Err(OutOfMemory);
-    };
-    let Ok(own) = Text::copy_of(alloc, text) else {
-        return Err(OutOfMemory);
-    };
-    let Ok(()) = pairs.reserve(1) else {
-        return Err(OutOfMemory);
-    };
-    pairs.push((name, Value::bytes(own)));
-    Ok(())
+    put_text(alloc, pairs, b"transport protocol", b"RTP/SAVP")
 }

@@ -10,11 +10,6 @@ use Rattle.ng_reply.specs.declared.code.ErrorCode.{ErrorCode}
 abbrev pub text_entry : List ℕ → List ℕ → Entries → Entries
 text_entry key text rest = entry key (Bytes text) rest
 
--- the pairs with one more appended
-abbrev pub with_text : Entries → List ℕ → List ℕ → Entries
-with_text no_entries key text = text_entry key text no_entries
-with_text (entry name tree rest) key text = entry name tree (with_text rest key text)
-
 -- a ping's reply
 abbrev pub pong_reply : Tree
 pong_reply = Dict (text_entry (codes "result") (codes "pong") no_entries)

@@ -2,9 +2,10 @@ ghost use Rattle.std.specs.Prelude.{◌≡◌, ◌+◌, ◌<◌, ◌≤◌, ◌^
 ghost use Rattle.ng_bencode.specs.Row.{list_in};
 ghost use Rattle.ng_bencode.specs.Tree.{tree_of, pairs_of};
 ghost use Rattle.ng_bencode.specs.Spells.{spelling};
-ghost use Rattle.ng_reply.specs.Replies.{with_text, pong_reply, ok_reply, sdp_reply, warning_reply};
+ghost use Rattle.ng_reply.specs.Replies.{pong_reply, ok_reply, sdp_reply, warning_reply};
 
 use crate::code::ErrorCode;
+use crate::pairs::put_text;
 use crate::words::code_text;
 use itoa::Buffer;
 use ng_bencode::{Pairs, Text, Value};
@@ -19,7 +20,7 @@ pub fn pong(alloc: Global) -> Result<Value, OutOfMemory>
     ensures { IfOk result (λ value. tree_of value ≡ pong_reply) }
 {
     let mut pairs = Pairs::new(alloc);
-    let Ok(()) = put_pair(alloc, &mut pairs, b"result", b"pong") else {
+    let Ok(()) = put_text(alloc, &mut pairs, b"result", b"pong") else {
         return Err(OutOfMemory);
     };
     Ok(Value::dict(pairs))
@@ -30,7 +31,7 @@ pub fn done(alloc: Global) -> Result<Value, OutOfMemory>
     ensures { IfOk result (λ value. tree_of value ≡ ok_reply) }
 {
     let mut pairs = Pairs::new(alloc);
-    let Ok(()) = put_pair(alloc, &mut pairs, b"result", b"ok") else {
+    let Ok(()) = put_text(alloc, &mut pairs, b"result", b"ok") else {
         return Err(OutOfMemory);
     };
     Ok(Value::dict(pairs))
@@ -42,10 +43,10 @@ pub fn warned(alloc: Global, code: ErrorCode) -> Result<Value, OutOfMemory>
 {
     let words = code_text(code);
     let mut pairs = Pairs::new(alloc);
-    let Ok(()) = put_pair(alloc, &mut pairs, b"result", b"ok") else {
+    let Ok(()) = put_text(alloc, &mut pairs, b"result", b"ok") else {
         return Err(OutOfMemory);
     };
-    let Ok(()) = put_pair(alloc, &mut pairs, b"warning", words.as_slice()) else {
+    let Ok(()) = put_text(alloc, &mut pairs, b"warning", words.as_slice()) else {
         return Err(OutOfMemory);
     };
     Ok(Value::dict(pairs))
@@ -75,21 +76,4 @@ pub fn sdp_reply_into(sdp: &[u8], out: &mut Text)
     out.push(b':');
     out.extend(sdp);
     out.push(b'e');
-}
-
-/// Puts a pair of two texts after the others.
-fn put_pair(alloc: Global, pairs: &mut Pairs, key: &[u8], text: &[u8]) -> Result<(), OutOfMemory>
-    ensures { OnOk result (pairs_of (list_in pairs.new) ≡ with_text (pairs_of (list_in pairs.old)) key.now text.now) }
-{
-    let Ok(name) = Text::copy_of(alloc, key) else {
-        return Err(OutOfMemory);
-    };
-    let Ok(own) = Text::copy_of(alloc, text) else {
-        return Err(OutOfMemory);
-    };
-    let Ok(()) = pairs.reserve(1) else {
-        return Err(OutOfMemory);
-    };
-    pairs.push((name, Value::bytes(own)));
-    Ok(())
 }

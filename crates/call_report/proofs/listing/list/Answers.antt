@@ -12,7 +12,7 @@ returns c = λ config v s.
     let calls : Tree = Items (items_of (map Bytes ids)) in
     c.dict.ensures
     ∙ ap Dict
-    (then_pair (entry (codes "calls") calls no_entries) _ _ (codes "result") (Bytes (codes "ok")) _ c.in_ok-put_text.ensures
-    (then_pair no_entries _ _ (codes "calls") calls _ c.in_ok-put_pair.ensures (ap pairs_of c.new-pairs.ensures)
+    (then_pair (entry (codes "calls") calls no_entries) _ _ (codes "result") (Bytes (codes "ok")) _ c.in_ok-put_text.ensures.put
+    (then_pair no_entries _ _ (codes "calls") calls _ c.in_ok-put_pair.ensures.put (ap pairs_of c.new-pairs.ensures)
     (c.list.ensures ∙ ap (λ (trees : List Tree). Items (items_of trees)) (c.in_ok-call_ids.ensures config v s)))
     refl)

@@ -2,7 +2,7 @@ use Rattle.std.proofs.Common.{◌≡◌, ◌∙◌, ap, sym, subst, ℕ, List, O
 use Rattle.ng_bencode.specs.Row.{list_in}
 use Rattle.ng_bencode.specs.Tree.{Entries, pairs_of}
 use Rattle.call_board.specs.Reports.{side_value}
-use Rattle.call_report.specs.Pairs.{with_pair}
+use Rattle.ng_reply.specs.Pairs.{with_pair}
 use Rattle.call_report.specs.Tags.{with_tag}
 use Rattle.call_report.proofs.querying.put_side.Goals as goal
 
@@ -15,4 +15,4 @@ returns c = λ config told d same.
     let old : Entries = pairs_of (list_in c.args.pairs.now) in
     let put = ap (λ tree. with_pair old c.in-Some.tag.now tree) (c.in_ok-told.ensures config told d same)
     ∙ ap (λ (tag : Option (List ℕ)). with_tag old tag (side_value told c.args.side)) (sym (c.in-Some.ensures config told.rounds d)) in
-    subst (λ (pairs : Entries). OnOk c.put_pair.result (pairs_of (list_in c.put_pair.new.pairs) ≡ pairs)) put c.put_pair.ensures
+    subst (λ (pairs : Entries). OnOk c.put_pair.result (pairs_of (list_in c.put_pair.new.pairs) ≡ pairs)) put c.put_pair.ensures.put

@@ -18,10 +18,10 @@ returns c = λ config v of s found.
     entry (codes "created") (moment_value of.first) (entry (codes "last signal") (moment_value of.last) (entry (codes "result") (Bytes (codes "ok")) no_entries)) in
     c.dict.ensures
     ∙ ap Dict
-    (then_pair three _ _ (codes "tags") (tags_value told) _ c.in_ok-put_pair-3.ensures
-    (then_pair two _ _ (codes "result") (Bytes (codes "ok")) _ c.in_ok-put_text.ensures
-    (then_pair one _ _ (codes "last signal") (moment_value of.last) _ c.in_ok-put_pair-2.ensures
-    (then_pair no_entries _ _ (codes "created") (moment_value of.first) _ c.in_ok-put_pair.ensures (ap pairs_of c.new-pairs.ensures)
+    (then_pair three _ _ (codes "tags") (tags_value told) _ c.in_ok-put_pair-3.ensures.put
+    (then_pair two _ _ (codes "result") (Bytes (codes "ok")) _ c.in_ok-put_text.ensures.put
+    (then_pair one _ _ (codes "last signal") (moment_value of.last) _ c.in_ok-put_pair-2.ensures.put
+    (then_pair no_entries _ _ (codes "created") (moment_value of.first) _ c.in_ok-put_pair.ensures.put (ap pairs_of c.new-pairs.ensures)
     (c.moment_value.ensures ∙ ap (λ (pair : ℕ × ℕ). moment_value pair.0) (sym moments)))
     (c.moment_value-2.ensures ∙ ap (λ (pair : ℕ × ℕ). moment_value pair.1) (sym moments)))
     refl)

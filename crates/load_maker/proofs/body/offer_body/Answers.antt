@@ -9,8 +9,8 @@ pub returns-in-Ok-encode : goal.returns-in-Ok-encode
 returns-in-Ok-encode c =
     c.in-Ok-encode.ensures
     ∙ ap spelling
-    (offer_is (pairs_of (list_in c.new-pairs.result)) (pairs_of (list_in c.put_pair.new.pairs)) (pairs_of (list_in c.put_pair-2.new.pairs))
-    (pairs_of (list_in c.put_pair-3.new.pairs)) (pairs_of (list_in c.put_pair-4.new.pairs)) (pairs_of (list_in c.put_profile.new.pairs))
+    (offer_is (pairs_of (list_in c.new-pairs.result)) (pairs_of (list_in c.put_text.new.pairs)) (pairs_of (list_in c.put_text-2.new.pairs))
+    (pairs_of (list_in c.put_text-3.new.pairs)) (pairs_of (list_in c.put_text-4.new.pairs)) (pairs_of (list_in c.put_profile.new.pairs))
     (tree_of c.dict.result) c.as_slice.result.now c.as_slice-2.result.now c.args.call c.args.protected
     (ap pairs_of c.new-pairs.ensures) (c.as_slice.ensures ∙ c.in-Ok.ensures) (c.as_slice-2.ensures ∙ c.in-Ok-offered_sdp.ensures)
-    c.in_ok-put_pair.ensures c.in_ok-put_pair-2.ensures c.in_ok-put_pair-3.ensures c.in_ok-put_pair-4.ensures c.in_ok-put_profile.ensures c.dict.ensures)
+    c.in_ok-put_text.ensures.put c.in_ok-put_text-2.ensures.put c.in_ok-put_text-3.ensures.put c.in_ok-put_text-4.ensures.put c.in_ok-put_profile.ensures c.dict.ensures)
