@@ -1,5 +1,5 @@
 -- What a leg's part for receiving does with a packet that opens.
-use Rattle.std.proofs.Common.{◌≡◌, refl, ap, subst, sym, ◌∙◌, ℕ, Bool, false, List, Option, Some, Ok, Err}
+use Rattle.std.proofs.Common.{◌≡◌, refl, ap, subst, sym, ◌∙◌, ℕ, Bool, true, false, List, Option, Some, Ok, Err}
 use Rattle.std.specs.Prelude.{Box, not, if◌then◌else◌}
 use Rattle.std.specs.Global.{Global}
 use Rattle.std.specs.List.{cons_option}
@@ -53,6 +53,52 @@ accepts s half source bytes known notes old new inbound buf size for is right op
     let Q : Bool → Type 0 = λ (b : Bool).
     AcceptsTo (if b then Stopped refused.WrongSource else opened_by s.inbound notes half bytes) half source s known notes old new buf (Ok size) in
     subst P (sym is) (subst Q (sym right) (accepts_case s half source known notes old new inbound buf size for (opened_by s.inbound notes half bytes) opens learns))
+
+-- What becomes of a packet that is refused.
+
+judged_so : LegSignal → Option Addr → List Note → Half → Addr → List ℕ → Bool → Bool → Judged
+judged_so s known notes half source bytes packet wrong =
+    if not packet then Stopped refused.Malformed else (if wrong then Stopped refused.WrongSource else opened_by s.inbound notes half bytes)
+
+pub malformed : (s : LegSignal) (half : Half) (source : Addr) (bytes : List ℕ) (known : Half → Option Addr) (notes : List Note) (old : Receiving) (buf : List ℕ)
+    → is_packet half bytes ≡ false
+    → AcceptsTo (judged_leg (Some s) (known half) notes half source bytes) half source s known notes old old buf (Err refused.Malformed)
+unfolding judged_so
+malformed s half source bytes known notes old buf is =
+    let P : Bool → Type 0 = λ (b : Bool).
+    AcceptsTo (judged_so s (known half) notes half source bytes b (is_wrong_source s.flags (known half) source)) half source s known notes old old buf (Err refused.Malformed) in
+    subst P (sym is) (record { answer = refl; contexts = refl })
+
+pub wrongly_sent : (s : LegSignal) (half : Half) (source : Addr) (bytes : List ℕ) (known : Half → Option Addr) (notes : List Note) (old : Receiving) (buf : List ℕ)
+    → is_packet half bytes ≡ true → is_wrong_source s.flags (known half) source ≡ true
+    → AcceptsTo (judged_leg (Some s) (known half) notes half source bytes) half source s known notes old old buf (Err refused.WrongSource)
+unfolding judged_so
+wrongly_sent s half source bytes known notes old buf is wrong =
+    let P : Bool → Type 0 = λ (b : Bool).
+    AcceptsTo (judged_so s (known half) notes half source bytes b (is_wrong_source s.flags (known half) source)) half source s known notes old old buf (Err refused.WrongSource) in
+    let Q : Bool → Type 0 = λ (b : Bool).
+    AcceptsTo (judged_so s (known half) notes half source bytes true b) half source s known notes old old buf (Err refused.WrongSource) in
+    subst P (sym is) (subst Q (sym wrong) (record { answer = refl; contexts = refl }))
+
+stops_case : (s : LegSignal) (half : Half) (source : Addr) (known : Half → Option Addr) (notes : List Note) (old : Receiving) (inbound : Option (Box (Option Inbound) Global))
+    (buf : List ℕ) (cause : Refused) → (j : Judged) → OpensIn j s.inbound notes old.inbound inbound buf (Err cause)
+    → AcceptsTo j half source s known notes old (with_inbound old inbound) buf (Err cause)
+stops_case s half source known notes old inbound buf cause (Stopped why) opens =
+    record { answer = opens.answer; contexts = ap (λ (i : Option (Box (Option Inbound) Global)). with_inbound old i) opens.contexts }
+stops_case s half source known notes old inbound buf cause (Passed noted plain) opens = absurd (let f = opens.answer in cc)
+
+pub stops : (s : LegSignal) (half : Half) (source : Addr) (bytes : List ℕ) (known : Half → Option Addr) (notes : List Note) (old : Receiving)
+    (inbound : Option (Box (Option Inbound) Global)) (buf : List ℕ) (cause : Refused)
+    → is_packet half bytes ≡ true → is_wrong_source s.flags (known half) source ≡ false
+    → OpensIn (opened_by s.inbound notes half bytes) s.inbound notes old.inbound inbound buf (Err cause)
+    → AcceptsTo (judged_leg (Some s) (known half) notes half source bytes) half source s known notes old (with_inbound old inbound) buf (Err cause)
+unfolding judged_so
+stops s half source bytes known notes old inbound buf cause is right opens =
+    let P : Bool → Type 0 = λ (b : Bool).
+    AcceptsTo (judged_so s (known half) notes half source bytes b (is_wrong_source s.flags (known half) source)) half source s known notes old (with_inbound old inbound) buf (Err cause) in
+    let Q : Bool → Type 0 = λ (b : Bool).
+    AcceptsTo (judged_so s (known half) notes half source bytes true b) half source s known notes old (with_inbound old inbound) buf (Err cause) in
+    subst P (sym is) (subst Q (sym right) (stops_case s half source known notes old inbound buf cause (opened_by s.inbound notes half bytes) opens))
 
 -- A leg.
 

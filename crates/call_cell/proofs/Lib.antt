@@ -13,6 +13,7 @@ pub mod Shields
 pub mod Steps
 pub mod Plain
 mod rows
+pub mod HeadLemmas
 pub mod BothHalves
 pub mod Protecting
 pub mod Accepting

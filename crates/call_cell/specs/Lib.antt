@@ -5,6 +5,7 @@ pub mod Deeds
 pub mod Asked
 pub mod Counting
 pub mod Good
+pub mod Heads
 pub mod Contexts
 pub mod Parts
 pub mod LegKeys

@@ -8,6 +8,7 @@ ghost use Rattle.call_cell.specs.Committing.{LegCommitsBy, LegsCommit, contexts_
 ghost use Rattle.call_cell.specs.Expiring.{is_ago};
 
 use crate::gone::Gone;
+use crate::heads::read_head;
 use crate::in_contexts::InContexts;
 use crate::joining::{join, put_keys};
 use crate::leg::{Leg, place_of, place_of_opposite};
@@ -100,7 +101,8 @@ fn relay_legs<O: OutEnd>(legs: &mut [Leg<O>], packet: &Incoming, buf: &mut [u8; 
     let Some(at) = place_of(legs, &packet.holder) else {
         return Outcome::Refused(Refused::Stale);
     };
-    let len = match legs[at].accept(packet.half, packet.source, buf, packet.len) {
+    let head = read_head(packet.half, &buf[..packet.len]);
+    let len = match legs[at].accept(packet.half, head, packet.source, buf, packet.len) {
         Ok(len) => len,
         Err(cause) => return Outcome::Refused(cause),
     };
@@ -108,7 +110,7 @@ fn relay_legs<O: OutEnd>(legs: &mut [Leg<O>], packet: &Incoming, buf: &mut [u8; 
     let Some(to) = place_of_opposite(legs, &holder) else {
         return Outcome::Lost(Lost::Hold);
     };
-    legs[to].forward(packet.half, buf, len)
+    legs[to].forward(packet.half, head, buf, len)
 }
 
 /// Whether that moment is at least so long ago.

@@ -1,27 +1,20 @@
-ghost use Rattle.std.specs.Prelude.{ℕ, ◌≡◌, ◌+◌, ◌≤◌, [], true, List, take, IfOk};
+ghost use Rattle.std.specs.Prelude.{ℕ, ◌≡◌, ◌+◌, ◌≤◌, [], List, Some, take, IfOk};
+ghost use Rattle.rtp_packet.specs.Head.{rtp_head, rtcp_ssrc};
 ghost use Rattle.sdes_lines.specs.declared.crypto_line.Suite.{Suite};
 ghost use Rattle.rtp_packet.specs.declared.head.Half.TheVariants.{Rtp, Rtcp};
 ghost use Rattle.srtp_sources.specs.Notes.{Note};
 ghost use Rattle.port_pool.specs.Signals.{NewKey};
-ghost use Rattle.call_cell.specs.Keyed.{is_packet, opened_under, wrapped_under, refused_by, lost_by};
+ghost use Rattle.call_cell.specs.Keyed.{opened_under, wrapped_under, refused_by, lost_by};
 ghost use Rattle.call_cell.specs.Contexts.{no_packet};
+ghost use Rattle.call_cell.specs.Heads.{head_of, half_of, IsHead};
 
+use crate::heads::Head;
 use crate::outcome::{Lost, Refused};
-use rtp_packet::{Half, rtcp, rtp};
+use rtp_packet::{Half, RtpHead};
 use sdes_lines::Suite;
 use srtcp_context::{InRtcp, OutRtcp};
 use srtp_context::{InRtp, OutRtp};
 use srtp_keys::{DrawnKey, ProtectFault, UnprotectFault};
-
-/// Whether the bytes have the head of an RTP or of an RTCP packet.
-pub(crate) fn is_packet(half: Half, packet: &[u8]) -> bool
-    ensures { result ≡ is_packet half packet.now }
-{
-    match half {
-        Half::Rtp => rtp(packet).is_some(),
-        Half::Rtcp => rtcp(packet).is_some(),
-    }
-}
 
 fn refused_by(cause: UnprotectFault) -> Refused
     ensures { result ≡ refused_by cause }
@@ -76,48 +69,61 @@ impl Inbound {
         }
     }
 
-    /// Checks and opens an RTP packet in place.
-    fn unprotect_rtp(&mut self, buf: &mut [u8; 2064], len: usize) -> Result<usize, Refused>
+    /// Checks and opens in place an RTP packet with this head.
+    fn unprotect_rtp(
+        &mut self,
+        buf: &mut [u8; 2064],
+        len: usize,
+        found: RtpHead,
+    ) -> Result<usize, Refused>
         requires held { len ≤ 2064 }
-        requires packet { is_packet Rtp (take len buf.old) ≡ true }
+        requires head { rtp_head (take len buf.old) ≡ Some found }
         ensures fits { IfOk result (λ size. size ≤ len) }
+        ensures head { IfOk result (λ size. rtp_head (take size buf.new) ≡ Some found) }
         ensures opens { (key : List ℕ × Suite) (notes : List Note) → InboundFor key self.old notes → OpensTo (opened_under key notes Rtp (take len buf.old)) key notes self.old self.new buf.new result }
     {
-        match self.rtp.unprotect(buf, len) {
+        match self.rtp.unprotect_with_head(buf, len, found) {
             Ok(size) => Ok(size),
             Err(cause) => Err(refused_by(cause)),
         }
     }
 
-    /// Checks and opens an RTCP packet in place.
-    fn unprotect_rtcp(&mut self, buf: &mut [u8; 2064], len: usize) -> Result<usize, Refused>
+    /// Checks and opens in place an RTCP packet of this sender.
+    fn unprotect_rtcp(
+        &mut self,
+        buf: &mut [u8; 2064],
+        len: usize,
+        ssrc: u32,
+    ) -> Result<usize, Refused>
         requires held { len ≤ 2064 }
-        requires packet { is_packet Rtcp (take len buf.old) ≡ true }
+        requires head { rtcp_ssrc (take len buf.old) ≡ Some ssrc }
         ensures fits { IfOk result (λ size. size ≤ len) }
+        ensures head { IfOk result (λ size. rtcp_ssrc (take size buf.new) ≡ Some ssrc) }
         ensures opens { (key : List ℕ × Suite) (notes : List Note) → InboundFor key self.old notes → OpensTo (opened_under key notes Rtcp (take len buf.old)) key notes self.old self.new buf.new result }
     {
-        match self.rtcp.unprotect(buf, len) {
+        match self.rtcp.unprotect_with_ssrc(buf, len, ssrc) {
             Ok(size) => Ok(size),
             Err(cause) => Err(refused_by(cause)),
         }
     }
 
-    /// Checks and opens in place the packet in the buffer's first `len` bytes, and returns the length of the plain packet.
-    /// After a refusal nothing has changed.
+    /// Checks and opens in place the packet with this head in the buffer's first `len` bytes, and returns the length of the
+    /// plain packet, which has the same head. After a refusal nothing has changed.
     pub(crate) fn unprotect(
         &mut self,
-        half: Half,
+        head: Head,
         buf: &mut [u8; 2064],
         len: usize,
     ) -> Result<usize, Refused>
         requires held { len ≤ 2064 }
-        requires packet { is_packet half (take len buf.old) ≡ true }
+        requires head { IsHead head (take len buf.old) }
         ensures fits { IfOk result (λ size. size ≤ len) }
-        ensures opens { (key : List ℕ × Suite) (notes : List Note) → InboundFor key self.old notes → OpensTo (opened_under key notes half (take len buf.old)) key notes self.old self.new buf.new result }
+        ensures head { IfOk result (λ size. IsHead head (take size buf.new)) }
+        ensures opens { (key : List ℕ × Suite) (notes : List Note) → InboundFor key self.old notes → OpensTo (opened_under key notes (half_of head) (take len buf.old)) key notes self.old self.new buf.new result }
     {
-        match half {
-            Half::Rtp => self.unprotect_rtp(buf, len),
-            Half::Rtcp => self.unprotect_rtcp(buf, len),
+        match head {
+            Head::Rtp(found) => self.unprotect_rtp(buf, len, found),
+            Head::Rtcp(ssrc) => self.unprotect_rtcp(buf, len, ssrc),
         }
     }
 }
@@ -154,53 +160,60 @@ impl Outbound {
         self.number
     }
 
-    /// Protects an RTP packet in place.
-    fn protect_rtp(&mut self, buf: &mut [u8; 2064], len: usize) -> Result<usize, Lost>
+    /// Protects in place an RTP packet with this head.
+    fn protect_rtp(
+        &mut self,
+        buf: &mut [u8; 2064],
+        len: usize,
+        found: RtpHead,
+    ) -> Result<usize, Lost>
         requires held { len ≤ 2000 }
-        requires packet { is_packet Rtp (take len buf.old) ≡ true }
+        requires head { rtp_head (take len buf.old) ≡ Some found }
         ensures fits { IfOk result (λ size. size ≤ 2064) }
         ensures number { self.new.number ≡ self.old.number }
         ensures wraps { (key : NewKey) (notes : List Note) → OutboundFor key self.old notes → WrapsTo (wrapped_under key notes Rtp (take len buf.old)) key notes self.old self.new buf.new result }
     {
-        match self.rtp.protect(buf, len) {
+        match self.rtp.protect_with_head(buf, len, found) {
             Ok((size, _)) => Ok(size),
             Err(cause) => Err(lost_by(cause)),
         }
     }
 
-    /// Protects an RTCP packet in place.
-    fn protect_rtcp(&mut self, buf: &mut [u8; 2064], len: usize) -> Result<usize, Lost>
+    /// Protects in place an RTCP packet of this sender.
+    fn protect_rtcp(&mut self, buf: &mut [u8; 2064], len: usize, ssrc: u32) -> Result<usize, Lost>
         requires held { len ≤ 2000 }
-        requires packet { is_packet Rtcp (take len buf.old) ≡ true }
+        requires head { rtcp_ssrc (take len buf.old) ≡ Some ssrc }
         ensures fits { IfOk result (λ size. size ≤ 2064) }
         ensures number { self.new.number ≡ self.old.number }
         ensures wraps { (key : NewKey) (notes : List Note) → OutboundFor key self.old notes → WrapsTo (wrapped_under key notes Rtcp (take len buf.old)) key notes self.old self.new buf.new result }
     {
-        match self.rtcp.protect(buf, len) {
+        match self.rtcp.protect_with_ssrc(buf, len, ssrc) {
             Ok((size, _)) => Ok(size),
             Err(cause) => Err(lost_by(cause)),
         }
     }
 
-    /// Protects in place the packet in the buffer's first `len` bytes, and returns the length of the protected packet.
-    /// After a refusal nothing has changed.
+    /// Protects in place the packet of a half in the buffer's first `len` bytes, which has this head, and returns the length
+    /// of the protected packet. After a refusal nothing has changed.
     pub(crate) fn protect(
         &mut self,
         half: Half,
+        head: Option<Head>,
         buf: &mut [u8; 2064],
         len: usize,
     ) -> Result<usize, Lost>
         requires held { len ≤ 2000 }
+        requires head { head ≡ head_of half (take len buf.old) }
         ensures fits { IfOk result (λ size. size ≤ 2064) }
         ensures number { self.new.number ≡ self.old.number }
         ensures wraps { (key : NewKey) (notes : List Note) → OutboundFor key self.old notes → WrapsTo (wrapped_under key notes half (take len buf.old)) key notes self.old self.new buf.new result }
     {
-        if !is_packet(half, &buf[..len]) {
+        let Some(head) = head else {
             return Err(no_packet(half));
-        }
-        match half {
-            Half::Rtp => self.protect_rtp(buf, len),
-            Half::Rtcp => self.protect_rtcp(buf, len),
+        };
+        match head {
+            Head::Rtp(found) => self.protect_rtp(buf, len, found),
+            Head::Rtcp(ssrc) => self.protect_rtcp(buf, len, ssrc),
         }
     }
 }

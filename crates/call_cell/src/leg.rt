@@ -5,12 +5,14 @@ ghost use Rattle.srtp_sources.specs.Notes.{Note};
 ghost use Rattle.port_pool.specs.Signals.{NewKey, same_leg, side_eq};
 ghost use Rattle.call_cell.specs.Cells.{is_opposite};
 ghost use Rattle.call_cell.specs.Deeds.{judged_leg};
+ghost use Rattle.call_cell.specs.Heads.{head_of};
 ghost use Rattle.call_cell.specs.Parts.{learner_in};
 ghost use Rattle.call_cell.specs.Standing.{port_by, outcome_of, in_force_with};
 ghost use Rattle.call_cell.specs.Ending.{parts_of};
 
 use crate::contexts::Outbound;
 use crate::counts::Counts;
+use crate::heads::Head;
 use crate::in_contexts::InContexts;
 use crate::outcome::{Lost, Outcome, Refused};
 use crate::receiving::Receiving;
@@ -180,24 +182,27 @@ impl<O: OutEnd> Leg<O> {
     ghost use Rattle.call_cell.specs.Parts.{ReceivingFor, SendingFor, HasNamed, SameNumbers};
     ghost use Rattle.call_cell.specs.Standing.{outbound_of, LegAccepts, LegForwardsBy};
 
-    /// Judges the packet in the buffer's first `len` bytes, which the leg received, opens it in place, learns its source and
-    /// counts it. Returns the plain packet's length. After a refusal nothing has changed.
+    /// Judges the packet in the buffer's first `len` bytes, which the leg received and which has this head, opens it in place,
+    /// learns its source and counts it. Returns the plain packet's length. After a refusal nothing has changed.
     pub(crate) fn accept(
         &mut self,
         half: Half,
+        head: Option<Head>,
         source: Addr,
         buf: &mut [u8; 2064],
         len: usize,
     ) -> Result<usize, Refused>
         requires held { len ≤ 2000 }
+        requires head { head ≡ head_of half (take len buf.old) }
         ensures fits { IfOk result (λ size. size ≤ 2000) }
+        ensures head { IfOk result (λ size. head ≡ head_of half (take size buf.new)) }
         ensures accepts { (known : Half → Option Addr) (notes : List Note) → ReceivingFor self.old.signal self.old.receiving known notes →
             LegAccepts (judged_leg self.old.signal (known half) notes half source (take len buf.old)) half source known notes self.old self.new buf.new result }
     {
         let Some(signal) = self.signal else {
             return Err(Refused::NotAnswered);
         };
-        match self.receiving.accept(&signal, half, source, buf, len) {
+        match self.receiving.accept(&signal, half, head, source, buf, len) {
             Err(cause) => Err(cause),
             Ok(size) => {
                 self.counts.accept(half);
@@ -206,10 +211,17 @@ impl<O: OutEnd> Leg<O> {
         }
     }
 
-    /// Sends the plain packet in the buffer's first `len` bytes to the leg's side, protected under the key in force, and counts
-    /// it where it was sent.
-    pub(crate) fn forward(&mut self, half: Half, buf: &mut [u8; 2064], len: usize) -> Outcome
+    /// Sends the plain packet in the buffer's first `len` bytes, which has this head, to the leg's side, protected under the key
+    /// in force, and counts it where it was sent.
+    pub(crate) fn forward(
+        &mut self,
+        half: Half,
+        head: Option<Head>,
+        buf: &mut [u8; 2064],
+        len: usize,
+    ) -> Outcome
         requires held { len ≤ 2000 }
+        requires head { head ≡ head_of half (take len buf.old) }
         ensures numbers { SameNumbers self.old.sending self.new.sending }
         ensures forwards { (keys : ℕ → Option NewKey) (notes : ℕ → List Note) → SendingFor self.old.holder keys notes self.old.sending →
             HasNamed (outbound_of self.old.signal) keys self.old.sending →
@@ -220,7 +232,9 @@ impl<O: OutEnd> Leg<O> {
         };
         let to = learner.endpoint();
         let port = port_by(half, self.lease.rtp_port());
-        let sent = self.sending.forward(&signal, half, port, to, buf, len);
+        let sent = self
+            .sending
+            .forward(&signal, half, head, port, to, buf, len);
         self.counts.finish(half, &sent);
         outcome_of(port, to, sent)
     }

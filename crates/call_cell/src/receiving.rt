@@ -4,13 +4,15 @@ ghost use Rattle.endpoint_learn.specs.Learning.{taught};
 ghost use Rattle.rtp_packet.specs.declared.head.Half.{Half};
 ghost use Rattle.sdes_lines.specs.declared.crypto_line.Suite.{Suite};
 ghost use Rattle.srtp_sources.specs.Notes.{Note};
-ghost use Rattle.call_cell.specs.Keyed.{is_packet, opened_by};
+ghost use Rattle.call_cell.specs.Keyed.{opened_by};
+ghost use Rattle.call_cell.specs.Heads.{head_of, half_of, IsHead};
 ghost use Rattle.call_cell.specs.Deeds.{judged_leg};
 ghost use Rattle.call_cell.specs.Parts.{InboundIn, OpensIn, OpensUnder, boxed_in, inbound_of, learner_of, is_wrong_for};
 ghost use Rattle.call_cell.specs.Parts as parts;
 ghost use Rattle.call_cell.specs.Committing.{relearned, renoted, is_inbound_anew};
 
-use crate::contexts::{Inbound, is_packet};
+use crate::contexts::Inbound;
+use crate::heads::Head;
 use crate::in_contexts::InContexts;
 use crate::outcome::Refused;
 use crate::signals::{address, is_new_key};
@@ -54,41 +56,43 @@ fn is_wrong_source(learner: Option<Learner>, source: Addr) -> bool
     }
 }
 
-/// Checks and opens a packet in place, under these contexts, where there are any.
+/// Checks and opens a packet with this head in place, under these contexts, where there are any.
 fn open_under(
     inbound: &mut Option<Inbound>,
-    half: Half,
+    head: Head,
     buf: &mut [u8; 2064],
     len: usize,
 ) -> Result<usize, Refused>
     requires held { len ≤ 2064 }
-    requires packet { is_packet half (take len buf.old) ≡ true }
+    requires head { IsHead head (take len buf.old) }
     ensures fits { IfOk result (λ size. size ≤ len) }
+    ensures head { IfOk result (λ size. IsHead head (take size buf.new)) }
     ensures opens { (key : Option (List ℕ × Suite)) (notes : List Note) → InboundIn key inbound.old notes →
-        OpensUnder (opened_by key notes half (take len buf.old)) key notes inbound.old inbound.new buf.new result }
+        OpensUnder (opened_by key notes (half_of head) (take len buf.old)) key notes inbound.old inbound.new buf.new result }
 {
     match inbound {
         None => Ok(len),
-        Some(contexts) => contexts.unprotect(half, buf, len),
+        Some(contexts) => contexts.unprotect(head, buf, len),
     }
 }
 
-/// Checks and opens a packet in place, under the inbound key, where there is one.
+/// Checks and opens a packet with this head in place, under the inbound key, where there is one.
 fn open(
     inbound: &mut Option<Box<Option<Inbound>>>,
-    half: Half,
+    head: Head,
     buf: &mut [u8; 2064],
     len: usize,
 ) -> Result<usize, Refused>
     requires held { len ≤ 2064 }
-    requires packet { is_packet half (take len buf.old) ≡ true }
+    requires head { IsHead head (take len buf.old) }
     ensures fits { IfOk result (λ size. size ≤ len) }
+    ensures head { IfOk result (λ size. IsHead head (take size buf.new)) }
     ensures opens { (key : Option (List ℕ × Suite)) (notes : List Note) → InboundIn key (boxed_in inbound.old) notes →
-        OpensIn (opened_by key notes half (take len buf.old)) key notes inbound.old inbound.new buf.new result }
+        OpensIn (opened_by key notes (half_of head) (take len buf.old)) key notes inbound.old inbound.new buf.new result }
 {
     match inbound {
         None => Ok(len),
-        Some(place) => open_under(&mut **place, half, buf, len),
+        Some(place) => open_under(&mut **place, head, buf, len),
     }
 }
 
@@ -189,29 +193,36 @@ impl Receiving {
         recommit(&mut self.inbound, earlier, signal, contexts);
     }
 
-    /// Judges the packet in the buffer's first `len` bytes for a leg with that in force, opens it in place and learns its
-    /// source, and returns the plain packet's length. After a refusal nothing has changed.
+    /// Judges the packet in the buffer's first `len` bytes, which has this head, for a leg with that in force, opens it in place
+    /// and learns its source, and returns the plain packet's length. After a refusal nothing has changed.
     pub(crate) fn accept(
         &mut self,
         signal: &LegSignal,
         half: Half,
+        head: Option<Head>,
         source: Addr,
         buf: &mut [u8; 2064],
         len: usize,
     ) -> Result<usize, Refused>
         requires held { len ≤ 2064 }
+        requires head { head ≡ head_of half (take len buf.old) }
         ensures fits { IfOk result (λ size. size ≤ len) }
+        ensures head { IfOk result (λ size. head ≡ head_of half (take size buf.new)) }
         ensures accepts { (known : Half → Option Addr) (notes : List Note) → ReceivingFor (Some signal.now) self.old known notes →
             AcceptsTo (judged_leg (Some signal.now) (known half) notes half source (take len buf.old)) half source signal.now known notes self.old self.new buf.new result }
     {
-        if !is_packet(half, &buf[..len]) {
+        let Some(head) = head else {
             return Err(Refused::Malformed);
-        }
+        };
         if is_wrong_source(self.learner(half), source) {
             return Err(Refused::WrongSource);
         }
-        let size = open(&mut self.inbound, half, buf, len)?;
-        self.learn(half, source);
-        Ok(size)
+        match open(&mut self.inbound, head, buf, len) {
+            Err(cause) => Err(cause),
+            Ok(size) => {
+                self.learn(half, source);
+                Ok(size)
+            }
+        }
     }
 }

@@ -4,9 +4,11 @@ ghost use Rattle.srtp_sources.specs.Notes.{Note};
 ghost use Rattle.port_pool.specs.declared.holder.Holder.{Holder};
 ghost use Rattle.port_pool.specs.Signals.{NewKey};
 ghost use Rattle.call_cell.specs.Keyed.{wrapped_with};
+ghost use Rattle.call_cell.specs.Heads.{head_of};
 ghost use Rattle.call_cell.specs.Parts.{OutboundIn, WrapsUnder, WrapsInTo, boxed_in, is_numbered, number_in, send_answer};
 
 use crate::contexts::Outbound;
+use crate::heads::Head;
 use crate::outcome::Lost;
 use port_pool::LegSignal;
 use relay_outside::{Addr, OutEnd};
@@ -49,10 +51,12 @@ fn protect_so(
     contexts: &mut Option<Outbound>,
     number: u64,
     half: Half,
+    head: Option<Head>,
     buf: &mut [u8; 2064],
     len: usize,
 ) -> Result<usize, Lost>
     requires held { len ≤ 2000 }
+    requires head { head ≡ head_of half (take len buf.old) }
     ensures fits { IfOk result (λ size. size ≤ 2064) }
     ensures number { number_in contexts.new ≡ number_in contexts.old }
     ensures wraps { (leg : Holder) (suite : Suite) (keys : ℕ → Option NewKey) (notes : ℕ → List Note) → OutboundIn leg suite keys notes contexts.old →
@@ -61,7 +65,7 @@ fn protect_so(
 {
     match contexts {
         None => Err(Lost::KeySpent),
-        Some(contexts) => contexts.protect(half, buf, len),
+        Some(contexts) => contexts.protect(half, head, buf, len),
     }
 }
 
@@ -70,10 +74,12 @@ fn protect_under(
     place: &mut Option<Box<Option<Outbound>>>,
     number: u64,
     half: Half,
+    head: Option<Head>,
     buf: &mut [u8; 2064],
     len: usize,
 ) -> Result<usize, Lost>
     requires held { len ≤ 2000 }
+    requires head { head ≡ head_of half (take len buf.old) }
     ensures fits { IfOk result (λ size. size ≤ 2064) }
     ensures number { number_in (boxed_in place.new) ≡ number_in (boxed_in place.old) }
     ensures wraps { (leg : Holder) (suite : Suite) (keys : ℕ → Option NewKey) (notes : ℕ → List Note) → OutboundIn leg suite keys notes (boxed_in place.old) →
@@ -82,7 +88,7 @@ fn protect_under(
 {
     match place {
         None => Err(Lost::KeySpent),
-        Some(contexts) => protect_so(&mut **contexts, number, half, buf, len),
+        Some(contexts) => protect_so(&mut **contexts, number, half, head, buf, len),
     }
 }
 
@@ -147,10 +153,12 @@ impl<O: OutEnd> Sending<O> {
         &mut self,
         number: u64,
         half: Half,
+        head: Option<Head>,
         buf: &mut [u8; 2064],
         len: usize,
     ) -> Result<usize, Lost>
         requires held { len ≤ 2000 }
+        requires head { head ≡ head_of half (take len buf.old) }
         ensures fits { IfOk result (λ size. size ≤ 2064) }
         ensures ends { SameEnds self.old self.new }
         ensures numbers { SameNumbers self.old self.new }
@@ -158,10 +166,10 @@ impl<O: OutEnd> Sending<O> {
             ProtectsTo (wrapped_with (keys number) (notes number) half (take len buf.old)) leg keys notes self.old self.new buf.new result }
     {
         if is_numbered(&self.tag80, number) {
-            return protect_under(&mut self.tag80, number, half, buf, len);
+            return protect_under(&mut self.tag80, number, half, head, buf, len);
         }
         if is_numbered(&self.tag32, number) {
-            return protect_under(&mut self.tag32, number, half, buf, len);
+            return protect_under(&mut self.tag32, number, half, head, buf, len);
         }
         Err(Lost::KeySpent)
     }
@@ -172,10 +180,12 @@ impl<O: OutEnd> Sending<O> {
         &mut self,
         number: Option<u64>,
         half: Half,
+        head: Option<Head>,
         buf: &mut [u8; 2064],
         len: usize,
     ) -> Result<usize, Lost>
         requires held { len ≤ 2000 }
+        requires head { head ≡ head_of half (take len buf.old) }
         ensures fits { IfOk result (λ size. size ≤ 2064) }
         ensures ends { SameEnds self.old self.new }
         ensures numbers { SameNumbers self.old self.new }
@@ -184,7 +194,7 @@ impl<O: OutEnd> Sending<O> {
     {
         match number {
             None => Ok(len),
-            Some(number) => self.protect_numbered(number, half, buf, len),
+            Some(number) => self.protect_numbered(number, half, head, buf, len),
         }
     }
 
@@ -205,12 +215,14 @@ impl<O: OutEnd> Sending<O> {
         &mut self,
         signal: &LegSignal,
         half: Half,
+        head: Option<Head>,
         port: u16,
         to: Addr,
         buf: &mut [u8; 2064],
         len: usize,
     ) -> Result<usize, Lost>
         requires held { len ≤ 2000 }
+        requires head { head ≡ head_of half (take len buf.old) }
         ensures numbers { SameNumbers self.old self.new }
         ensures forwards { (leg : Holder) (keys : ℕ → Option NewKey) (notes : ℕ → List Note) → SendingFor leg keys notes self.old → HasNamed signal.now.outbound keys self.old →
             ForwardsTo O.told O.faults (wrapped_for keys notes signal.now half (take len buf.old)) leg keys notes half port to self.old self.new buf.new result }
@@ -218,7 +230,7 @@ impl<O: OutEnd> Sending<O> {
         if signal.hold {
             return Err(Lost::Hold);
         }
-        match self.protect(signal.outbound, half, buf, len) {
+        match self.protect(signal.outbound, half, head, buf, len) {
             Err(cause) => Err(cause),
             Ok(size) => send_answer(port, size, self.send(half, to, &buf[..size])),
         }

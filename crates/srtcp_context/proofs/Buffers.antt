@@ -1,12 +1,13 @@
 -- What enciphering, deciphering and tagging in place leave in a buffer.
-use Rattle.std.proofs.Common.{◌≡◌, ◌≢◌, false, ℕ, ◌+◌, ◌-◌, ◌<◌, ◌≤◌, Bool, true, List, [], ◌∷◌, ◌++◌, length, take, drop, Option, Some, None, arith, sym, ◌∙◌, ap, subst, refl, append_assoc, length-append, length-drop, length-take-le, take-take, drop-drop, take-append-drop}
-use Rattle.std.specs.Prelude.{◌==◌, ◌/◌, ◌%◌, ◌^◌, if◌then◌else◌}
+use Rattle.std.proofs.Common.{◌≡◌, ◌≢◌, false, ℕ, ◌+◌, ◌-◌, ◌≤◌, true, List, [], ◌++◌, length, take, drop, Some, arith, sym, ◌∙◌, ap, subst, append_assoc, length-append, length-drop, length-take-le, take-take, drop-drop, take-append-drop}
+use Rattle.std.specs.Prelude.{◌/◌, ◌%◌, ◌^◌, if◌then◌else◌}
 use Rattle.std.specs.Option.{option_map_or}
 use Rattle.std.specs.Str.{bytes_eq}
 use Rattle.std.proofs.lemmas.List.{take_at, drop_at}
 use borrow.Rule.Slice.PartMut.{put_mid}
 use Rattle.std.proofs.lemmas.Slice.{between_is, between_to_end}
 use Rattle.rtp_packet.specs.Head.{rtcp_ssrc}
+use Rattle.rtp_packet.proofs.HeadLemmas.{rtcp_ssrc-front}
 use Rattle.aes_ctr.specs.Keystream.{xored}
 use Rattle.srtcp_context.specs.Packets.{packet_keystream, ciphered, trailer, code_of, tag_of, tagged, protect, body, is_authentic, word_of, is_enciphered, carried_index, opened, Writes}
 use Rattle.srtcp_context.proofs.PacketLemmas.{length-tag_of, length-trailer, length-ciphered, equal, differ}
@@ -36,6 +37,25 @@ ciphered_in_place master ssrc index buf payload end head held changed =
     ∙ ap (λ l. take 8 buf ++ (l ++ drop end buf)) now
     ∙ sym (append_assoc (take 8 buf) _ (drop end buf))
     ∙ ap (λ l. (l ++ xored (drop 8 (take end buf)) (packet_keystream master ssrc index (length (take end buf) - 8))) ++ drop end buf) (sym front)
+
+-- a packet of which what follows its first 8 bytes was changed in place has its sender as before
+pub ssrc_stands : (ssrc len end : ℕ) (buf rest : List ℕ) → rtcp_ssrc (take len buf) ≡ Some ssrc → len ≤ length buf
+    → 8 ≤ len → 8 ≤ end → end ≤ length (take 8 buf ++ rest) → rtcp_ssrc (take end (take 8 buf ++ rest)) ≡ Some ssrc
+ssrc_stands ssrc len end buf rest head held clear before long =
+    let new = take 8 buf ++ rest in
+    let size : length (take 8 buf) ≡ 8 = length-take-le 8 buf (omega arith) in
+    let front : take 8 (take end new) ≡ take 8 (take len buf) =
+    take-take 8 end new before ∙ take_at (take 8 buf) rest 8 size ∙ sym (take-take 8 len buf clear) in
+    let kept : length (take end new) ≡ end = length-take-le end new long in
+    rtcp_ssrc-front (take len buf) (take end new) ssrc head front (omega (arith, kept))
+
+-- the front of a packet has its sender
+pub ssrc_kept : (ssrc len end : ℕ) (buf : List ℕ) → rtcp_ssrc (take len buf) ≡ Some ssrc → 8 ≤ end → end ≤ len → len ≤ length buf
+    → rtcp_ssrc (take end buf) ≡ Some ssrc
+ssrc_kept ssrc len end buf head clear within held =
+    let kept : length (take end buf) ≡ end = length-take-le end buf (omega arith) in
+    rtcp_ssrc-front (take len buf) (take end buf) ssrc head
+    (take-take 8 end buf clear ∙ sym (take-take 8 len buf (omega arith))) (omega (arith, kept))
 
 pub is_authentic-is : (master bytes code : List ℕ) → code ≡ code_of master (take (length bytes - 10) bytes)
     → bytes_eq (take (length bytes - (length bytes - 10)) (drop (length bytes - 10) bytes)) (take 10 code) ≡ is_authentic master bytes

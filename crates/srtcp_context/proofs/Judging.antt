@@ -1,5 +1,5 @@
 -- How a received packet is judged: which answer comes in which case, and that a packet that is taken has a fresh index.
-use Rattle.std.proofs.Common.{◌≡◌, ◌≢◌, ℕ, ◌+◌, ◌<◌, ◌≤◌, Bool, true, false, List, ◌∷◌, length, take, Option, Some, None, arith, sym, ◌∙◌, ap, subst, refl}
+use Rattle.std.proofs.Common.{◌≡◌, ℕ, ◌<◌, ◌≤◌, Bool, true, false, List, ◌∷◌, length, take, Some, arith, sym, ◌∙◌, ap, subst, refl}
 use Rattle.std.specs.Prelude.{Result, Ok, Err, nat_lt, if◌then◌else◌}
 use Rattle.std.specs.Option.{option_map_or}
 use Rattle.std.proofs.lemmas.Bool.Decides.{nat_tests}

@@ -1,6 +1,6 @@
 -- How a packet that is to be sent is judged: which answer comes in which case, and which
 -- index it gets.
-use Rattle.std.proofs.Common.{◌≡◌, ◌≢◌, ℕ, ◌+◌, ◌<◌, ◌≤◌, Bool, true, false, List, ◌∷◌, length, take, Option, Some, None, arith, sym, ◌∙◌, ap, subst, refl}
+use Rattle.std.proofs.Common.{◌≡◌, ℕ, ◌<◌, ◌≤◌, Bool, true, false, List, ◌∷◌, take, Some, arith, sym, ◌∙◌, ap, subst, refl}
 use Rattle.std.specs.Prelude.{◌^◌, nat_lt, Result, Ok, Err, if◌then◌else◌}
 use Rattle.std.specs.Option.{option_map_or}
 use Rattle.rtp_packet.specs.declared.head.Half.TheVariants.{Rtcp}

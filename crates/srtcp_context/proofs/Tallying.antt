@@ -1,17 +1,18 @@
 -- What a table of counts returns and what a count changes, for the notes that it stands for.
-use Rattle.std.proofs.Common.{◌≡◌, ◌≢◌, ℕ, ◌+◌, ◌<◌, ◌≤◌, ◌⊎◌, inl, inr, Bool, true, false, List, [], ◌∷◌, ◌++◌, length, Option, Some, None, arith, sym, ◌∙◌, ap, refl, take, get_or, get_or-take, length-take-le, get_or-set_other, get_or-set_same}
+use Rattle.std.proofs.Common.{◌≡◌, ◌≢◌, ℕ, ◌+◌, ◌<◌, ◌≤◌, ◌⊎◌, inl, inr, Bool, true, false, List, [], ◌∷◌, ◌++◌, length, Option, Some, None, IfSome, arith, sym, ◌∙◌, ap, refl, take, get_or-take, length-take-le, get_or-set_other, get_or-set_same}
 use Rattle.std.specs.Prelude.{◌==◌, ◌||◌, nat_lt, slice_index, slice_set, is_some, position}
-use Rattle.std.specs.List.{list_any}
 use Rattle.std.proofs.lemmas.Bool.{cases_lt, cases_eq}
 use Rattle.std.proofs.lemmas.Bool.Decides.{nat_tests}
 use Rattle.std.proofs.lemmas.List.{take_more_set}
 use Rattle.std.proofs.lemmas.List.Folds.{list_any_at}
+use Rattle.std.proofs.lemmas.List.Quantifiers.{position-Some}
 use Rattle.rtp_packet.specs.declared.head.Half.TheVariants.{Rtcp}
 use Rattle.srtp_sources.specs.Notes.{Note, indices, sources, has_room, is_room_in}
-use Rattle.srtp_sources.proofs.Knowing.{has, equal, any-position, indices-unknown, note_of, sources-known, sources-new, indices-noted, indices-other, same_source}
+use Rattle.srtp_sources.proofs.Knowing.{has, equal, equal_if, any-position, indices-unknown, note_of, sources-known, sources-new, indices-noted, indices-other, same_source}
 use Rattle.srtcp_context.specs.declared.counts.Counts.{Counts}
+use Rattle.srtcp_context.specs.declared.counts.Sender.{Sender}
 use Rattle.srtcp_context.specs.Wrapping.{next_index}
-use Rattle.srtcp_context.specs.Counting.{CountsFor, can_count}
+use Rattle.srtcp_context.specs.Counting.{CountsFor, IsPlaced, can_count}
 
 pub none_known : (table : Counts) → table.count ≡ 0 → CountsFor table []
 unfolding sources
@@ -19,6 +20,20 @@ none_known table none = record {
   known = ap (λ n. take n table.ssrcs) none;
   each = λ place below. absurd (omega arith);
 }
+
+-- where a source stands that was found
+pub stands_there : (table : Counts) (sender : Sender) → length table.ssrcs ≡ 32 → table.count ≤ 32 → IsPlaced table sender
+    → IfSome sender.place (λ place. (place < table.count) × (slice_index table.ssrcs place ≡ sender.ssrc))
+stands_there table sender places within placed = by_place sender.place placed
+  where
+    by_place : (found : Option ℕ) → found ≡ position (λ known. known == sender.ssrc) (take table.count table.ssrcs)
+        → IfSome found (λ place. (place < table.count) × (slice_index table.ssrcs place ≡ sender.ssrc))
+    by_place None is = tt
+    by_place (Some place) is =
+        let at = position-Some (λ known. known == sender.ssrc) (take table.count table.ssrcs) place 0 (sym is) in
+        let size : length (take table.count table.ssrcs) ≡ table.count = length-take-le table.count table.ssrcs (omega arith) in
+        let below : place < table.count = omega (arith, at.0, size) in
+        (below, sym (get_or-take table.count table.ssrcs place 0 below) ∙ equal_if _ sender.ssrc at.1)
 
 -- a source that the table does not find has sent nothing
 pub not_found : (table : Counts) (ssrc : ℕ) (notes : List Note) → CountsFor table notes

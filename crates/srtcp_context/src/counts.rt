@@ -15,12 +15,22 @@ pub(crate) struct Counts {
     ghost within: { count ≤ 32 },
 }
 
+/// A source as `Counts::find` found it in a table: where it stands there, if it is known. It holds until the table counts a
+/// packet.
+#[derive(Clone, Copy, Drop)]
+pub(crate) struct Sender {
+    /// The source's SSRC.
+    ssrc: u32,
+    /// Its place among the known sources.
+    place: Option<usize>,
+}
+
 impl Counts {
     ghost use Rattle.std.specs.Prelude.{◌≡◌, ◌<◌, ◌^◌, ◌+◌, ◌==◌, List, [], ◌∷◌, ℕ, IfSome, position, slice_index, slice_set, true, take, length};
     ghost use Rattle.rtp_packet.specs.declared.head.Half.TheVariants.{Rtcp};
     ghost use Rattle.srtp_sources.specs.Notes.{Note, has_room};
     ghost use Rattle.srtcp_context.specs.Wrapping.{next_index};
-    ghost use Rattle.srtcp_context.specs.Counting.{CountsFor, can_count};
+    ghost use Rattle.srtcp_context.specs.Counting.{CountsFor, IsPlaced, can_count};
 
     /// A table without a source.
     pub(crate) fn new() -> Counts
@@ -33,43 +43,56 @@ impl Counts {
         }
     }
 
-    // Where a known source stands.
-    fn place(&self, ssrc: u32) -> Option<usize>
-        ensures first { result ≡ position (λ known. known == ssrc) (take self.now.count self.now.ssrcs) }
-        ensures found { IfSome result (λ place. (place < self.now.count) × (slice_index self.now.ssrcs place ≡ ssrc)) }
+    /// Looks a source up. The calls that take the answer look no further.
+    pub(crate) fn find(&self, ssrc: u32) -> Sender
+        ensures ssrc { result.ssrc ≡ ssrc }
+        ensures placed { IsPlaced self.now result }
     {
-        self.ssrcs[..self.count]
+        let place = self.ssrcs[..self.count]
             .iter()
-            .position(|known| *known == ssrc)
+            .position(|known| *known == ssrc);
+        Sender { ssrc, place }
     }
 
-    /// The index of a source's next packet: how many it has sent.
-    pub(crate) fn next(&self, ssrc: u32) -> u32
-        ensures { (notes : List Note) → CountsFor self.now notes → result ≡ next_index ssrc notes }
+    // Where a source that was found stands.
+    fn place(&self, sender: Sender) -> Option<usize>
+        requires { IsPlaced self.now sender }
+        ensures first { result ≡ position (λ known. known == sender.ssrc) (take self.now.count self.now.ssrcs) }
+        ensures found { IfSome result (λ place. (place < self.now.count) × (slice_index self.now.ssrcs place ≡ sender.ssrc)) }
     {
-        match self.place(ssrc) {
+        sender.place
+    }
+
+    /// The index of the next packet of a source that was found: how many it has sent.
+    pub(crate) fn next(&self, sender: Sender) -> u32
+        requires { IsPlaced self.now sender }
+        ensures { (notes : List Note) → CountsFor self.now notes → result ≡ next_index sender.ssrc notes }
+    {
+        match self.place(sender) {
             Some(place) => self.sent[place],
             None => 0,
         }
     }
 
-    /// Whether the source is known or may still come in.
-    pub(crate) fn has_room(&self, ssrc: u32) -> bool
-        ensures room { result ≡ can_count self.now ssrc }
-        ensures notes { (notes : List Note) → CountsFor self.now notes → result ≡ has_room Rtcp ssrc notes }
+    /// Whether a source that was looked up is known or may still come in.
+    pub(crate) fn has_room(&self, sender: Sender) -> bool
+        requires { IsPlaced self.now sender }
+        ensures room { result ≡ can_count self.now sender.ssrc }
+        ensures notes { (notes : List Note) → CountsFor self.now notes → result ≡ has_room Rtcp sender.ssrc notes }
     {
-        self.count < MOST || self.place(ssrc).is_some()
+        self.count < MOST || self.place(sender).is_some()
     }
 
-    /// Counts a packet of a source; `next` is what that call returns.
-    pub(crate) fn advance(&mut self, ssrc: u32, next: u32)
+    /// Counts a packet of a source that was found; `next` is what that call returns.
+    pub(crate) fn advance(&mut self, sender: Sender, next: u32)
+        requires placed { IsPlaced self.old sender }
         requires next { next < 2 ^ 31 }
-        requires room { can_count self.old ssrc ≡ true }
-        ensures { (notes : List Note) → CountsFor self.old notes → next ≡ next_index ssrc notes → CountsFor self.new (record { half = Rtcp; ssrc = ssrc; index = next } ∷ notes) }
+        requires room { can_count self.old sender.ssrc ≡ true }
+        ensures { (notes : List Note) → CountsFor self.old notes → next ≡ next_index sender.ssrc notes → CountsFor self.new (record { half = Rtcp; ssrc = sender.ssrc; index = next } ∷ notes) }
     {
-        match self.place(ssrc) {
+        match self.place(sender) {
             Some(place) => self.set(place, next + 1),
-            None => self.enter(ssrc, next + 1),
+            None => self.enter(sender.ssrc, next + 1),
         }
     }
 

@@ -1,10 +1,10 @@
-ghost use Rattle.std.specs.Prelude.{ℕ, [], true, ◌≡◌, ◌+◌, ◌<◌, ◌≤◌, ◌^◌, List, length, take, IsSome, IfOk, OnErr};
+ghost use Rattle.std.specs.Prelude.{ℕ, [], true, ◌≡◌, ◌+◌, ◌<◌, ◌≤◌, ◌^◌, List, Some, length, take, IsSome, IfOk, OnErr};
 ghost use Rattle.rtp_packet.specs.Head.{rtcp_ssrc};
 ghost use Rattle.srtp_sources.specs.Notes.{Note};
 ghost use Rattle.srtcp_context.specs.Wrapping.{wrapping, sent_index};
-ghost use Rattle.srtcp_context.specs.Counting.{CountsFor, can_count};
+ghost use Rattle.srtcp_context.specs.Counting.{CountsFor, IsPlaced, can_count};
 
-use crate::counts::Counts;
+use crate::counts::{Counts, Sender};
 use crate::session::RtcpSession;
 use rtp_packet::rtcp;
 use srtp_keys::{ProtectFault, RtcpKey};
@@ -48,26 +48,45 @@ impl OutRtcp {
         let Some(ssrc) = rtcp(&buf[..len]) else {
             unreachable!();
         };
-        match self.sent_index(ssrc) {
+        self.protect_with_ssrc(buf, len, ssrc)
+    }
+
+    /// Does what `protect` does, with the SSRC of the packet's sender, which the caller has read.
+    pub fn protect_with_ssrc(
+        &mut self,
+        buf: &mut [u8],
+        len: usize,
+        ssrc: u32,
+    ) -> Result<(usize, u64), ProtectFault>
+        requires room { len + 14 ≤ length buf.old }
+        requires size { len < 2 ^ 31 }
+        requires head { rtcp_ssrc (take len buf.old) ≡ Some ssrc }
+        ensures fits { IfOk result (λ sent. sent.0 ≡ len + 14) }
+        ensures refused { OnErr result ((self.new ≡ self.old) × (buf.new ≡ buf.old)) }
+        ensures wraps { (master : List ℕ) (notes : List Note) → OutFor master self.old notes → WrapsTo (wrapping master notes (take len buf.old)) master notes self.old self.new buf.old buf.new result }
+    {
+        let sender = self.counts.find(ssrc);
+        match self.sent_index(sender) {
             Err(cause) => Err(cause),
             Ok(index) => {
                 let size = self.session.wrap(buf, len, ssrc, index);
-                self.counts.advance(ssrc, index);
+                self.counts.advance(sender, index);
                 Ok((size, u64::from(index)))
             }
         }
     }
 
     // The index under which the next packet of this source is sent.
-    fn sent_index(&self, ssrc: u32) -> Result<u32, ProtectFault>
+    fn sent_index(&self, sender: Sender) -> Result<u32, ProtectFault>
+        requires { IsPlaced self.now.counts sender }
         ensures index { IfOk result (λ index. index < 2 ^ 31) }
-        ensures room { IfOk result (λ _. can_count self.now.counts ssrc ≡ true) }
-        ensures sent { (notes : List Note) → CountsFor self.now.counts notes → result ≡ sent_index notes ssrc }
+        ensures room { IfOk result (λ _. can_count self.now.counts sender.ssrc ≡ true) }
+        ensures sent { (notes : List Note) → CountsFor self.now.counts notes → result ≡ sent_index notes sender.ssrc }
     {
-        if !self.counts.has_room(ssrc) {
+        if !self.counts.has_room(sender) {
             return Err(ProtectFault::TooManySources);
         }
-        let next = self.counts.next(ssrc);
+        let next = self.counts.next(sender);
         if next >= INDICES {
             return Err(ProtectFault::KeySpent);
         }

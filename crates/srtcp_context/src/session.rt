@@ -122,6 +122,7 @@ impl RtcpSession {
         requires head { rtcp_ssrc (take len buf.old) ≡ Some ssrc }
         requires long { 22 ≤ len }
         ensures fits { result ≤ len }
+        ensures head { rtcp_ssrc (take result buf.new) ≡ Some ssrc }
         ensures writes { (master : List ℕ) → SessionFor master self.now → Writes (opened master (take len buf.old)) buf.old buf.new result }
     {
         let word = read_word(&buf[..len]);

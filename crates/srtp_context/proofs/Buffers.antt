@@ -1,5 +1,5 @@
 -- What enciphering, deciphering and tagging in place leave in a buffer.
-use Rattle.std.proofs.Common.{◌≡◌, ℕ, ◌+◌, ◌-◌, ◌<◌, ◌≤◌, Bool, true, List, [], ◌∷◌, ◌++◌, length, take, drop, Option, Some, None, arith, sym, ◌∙◌, ap, subst, refl, append_assoc, length-append, length-drop, length-take-le, take-take, drop-drop}
+use Rattle.std.proofs.Common.{◌≡◌, ℕ, ◌+◌, ◌-◌, ◌≤◌, List, [], ◌++◌, length, take, drop, Some, arith, sym, ◌∙◌, ap, subst, append_assoc, length-append, length-drop, length-take-le, take-take, drop-drop}
 use Rattle.std.specs.Option.{option_map_or}
 use Rattle.std.specs.Str.{bytes_eq}
 use Rattle.std.proofs.lemmas.List.{take_at, drop_at}
@@ -7,6 +7,7 @@ use borrow.Rule.Slice.PartMut.{put_mid}
 use Rattle.std.proofs.lemmas.Slice.{between_is, between_to_end}
 use Rattle.rtp_packet.specs.declared.head.RtpHead.{RtpHead}
 use Rattle.rtp_packet.specs.Head.{rtp_head}
+use Rattle.rtp_packet.proofs.HeadLemmas.{rtp_head-front}
 use Rattle.sdes_lines.specs.declared.crypto_line.Suite.{Suite}
 use Rattle.aes_ctr.specs.Keystream.{xored}
 use Rattle.srtp_context.specs.Packets.{tag_size, packet_keystream, ciphered, code_of, tag_of, tagged, protect, body, is_authentic, opened, Writes}
@@ -37,6 +38,18 @@ ciphered_in_place master found index buf payload end head held changed =
     ∙ ap (λ l. take found.head buf ++ (l ++ drop end buf)) now
     ∙ sym (append_assoc (take found.head buf) _ (drop end buf))
     ∙ ap (λ l. (l ++ xored (drop found.head (take end buf)) (packet_keystream master found.ssrc index (length (take end buf) - found.head))) ++ drop end buf) (sym front)
+
+-- a packet of which what follows the head was changed in place has its head as before
+pub head_stands : (found : RtpHead) (len end : ℕ) (buf rest : List ℕ) → rtp_head (take len buf) ≡ Some found → len ≤ length buf
+    → found.head ≤ len → found.head ≤ end → end ≤ length (take found.head buf ++ rest)
+    → rtp_head (take end (take found.head buf ++ rest)) ≡ Some found
+head_stands found len end buf rest head held within before long =
+    let new = take found.head buf ++ rest in
+    let size : length (take found.head buf) ≡ found.head = length-take-le found.head buf (omega arith) in
+    let front : take found.head (take end new) ≡ take found.head (take len buf) =
+    take-take found.head end new before ∙ take_at (take found.head buf) rest found.head size ∙ sym (take-take found.head len buf within) in
+    let kept : length (take end new) ≡ end = length-take-le end new long in
+    rtp_head-front (take len buf) (take end new) found head front (omega (arith, kept))
 
 pub is_authentic-is : (master : List ℕ) (suite : Suite) (bytes code : List ℕ) (index size : ℕ) → size ≡ tag_size suite
     → code ≡ code_of master (take (length bytes - size) bytes) index

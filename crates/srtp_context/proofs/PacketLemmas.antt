@@ -1,5 +1,5 @@
 -- Protected packets: their lengths and heads, and that what was enciphered and tagged opens again.
-use Rattle.std.proofs.Common.{◌≡◌, ℕ, ◌+◌, ◌-◌, ◌<◌, ◌≤◌, Bool, true, List, [], ◌∷◌, ◌++◌, length, take, drop, Option, Some, None, arith, sym, ◌∙◌, ap, subst, refl, take_at, drop_at, append_assoc, length-append, length-drop, length-take-le, take-append-drop}
+use Rattle.std.proofs.Common.{◌≡◌, ℕ, ◌+◌, ◌-◌, ◌≤◌, true, List, [], ◌++◌, length, take, drop, Some, arith, sym, ◌∙◌, ap, subst, refl, take_at, drop_at, length-append, length-drop, length-take-le, take-append-drop}
 use Rattle.std.proofs.lemmas.List.{take-append-le}
 use Rattle.std.specs.Option.{option_map_or}
 use Rattle.std.specs.Str.{bytes_eq}
@@ -9,7 +9,7 @@ use Rattle.rtp_packet.specs.Head.{rtp_head}
 use Rattle.rtp_packet.proofs.HeadLemmas.{rtp_head-within, rtp_head-front}
 use Rattle.sdes_lines.specs.declared.crypto_line.Suite.{Suite}
 use Rattle.sdes_lines.specs.declared.crypto_line.Suite.TheVariants.{Tag80, Tag32}
-use Rattle.aes_ctr.specs.Keystream.{keystream, xored}
+use Rattle.aes_ctr.specs.Keystream.{xored}
 use Rattle.aes_ctr.proofs.StreamLemmas.{length-xored, xored-xored, length-keystream}
 use Rattle.sha1.specs.Sha1.{sha1, digest_bytes}
 use Rattle.srtp_keys.specs.Hmac.{hmac}

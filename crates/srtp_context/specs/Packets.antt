@@ -1,6 +1,6 @@
 -- SRTP packets as lists of bytes (RFC 3711, sections 3.1, 4.1 and 4.2): what protecting makes of a packet under a master
 -- key, a suite and an index, when a packet is authentic, and what it holds.
-use Rattle.std.specs.Prelude.{ℕ, ◌≡◌, ◌+◌, ◌-◌, ◌/◌, List, [], ◌++◌, Bool, true, ◌&&◌, length, take, drop, nat_le}
+use Rattle.std.specs.Prelude.{ℕ, ◌≡◌, ◌-◌, ◌/◌, List, [], ◌++◌, Bool, true, length, take, drop}
 use Rattle.std.specs.Int.{w32, to_be_bytes}
 use Rattle.std.specs.Option.{option_map_or}
 use Rattle.std.specs.Str.{bytes_eq}

@@ -4,7 +4,7 @@ ghost use Rattle.sdes_lines.specs.declared.crypto_line.Suite.{Suite};
 ghost use Rattle.rtp_packet.specs.declared.head.Half.TheVariants.{Rtp};
 ghost use Rattle.replay_window.specs.Indices.{fresh};
 ghost use Rattle.srtp_sources.specs.Notes.{Note, indices};
-ghost use Rattle.srtp_sources.specs.Tables.{SourcesFor, can_note};
+ghost use Rattle.srtp_sources.specs.Tables.{SourcesFor, IsPlaced, can_note};
 ghost use Rattle.srtp_context.specs.Packets.{tag_size};
 ghost use Rattle.srtp_context.specs.Opening.{opening, taken_index, index_by};
 
@@ -13,7 +13,7 @@ use replay_window::{Fresh, Near};
 use rtp_packet::{RtpHead, rtp};
 use sdes_lines::Suite;
 use srtp_keys::UnprotectFault;
-use srtp_sources::Sources;
+use srtp_sources::{Source, Sources};
 
 /// The state of received RTP packets under one master key. It can't be cloned.
 #[derive(Drop)]
@@ -50,34 +50,60 @@ impl InRtp {
         let Some(found) = rtp(&buf[..len]) else {
             unreachable!();
         };
-        match self.taken_index(&buf[..len], found) {
+        self.unprotect_with_head(buf, len, found)
+    }
+
+    /// Does what `unprotect` does, with the packet's head, which the caller has read, and which is that of the plain packet too.
+    pub fn unprotect_with_head(
+        &mut self,
+        buf: &mut [u8],
+        len: usize,
+        found: RtpHead,
+    ) -> Result<usize, UnprotectFault>
+        requires held { len ≤ length buf.old }
+        requires size { len < 2 ^ 31 }
+        requires head { rtp_head (take len buf.old) ≡ Some found }
+        ensures fits { IfOk result (λ size. size ≤ len) }
+        ensures head { IfOk result (λ size. rtp_head (take size buf.new) ≡ Some found) }
+        ensures refused { OnErr result ((self.new ≡ self.old) × (buf.new ≡ buf.old)) }
+        ensures opens { (master : List ℕ) (suite : Suite) (notes : List Note) → InFor master suite self.old notes → OpensTo (opening master suite notes (take len buf.old)) master suite notes self.old self.new buf.old buf.new result }
+    {
+        let source = self.sources.find(found.ssrc);
+        match self.taken_index(&buf[..len], found, source) {
             Err(cause) => Err(cause),
             Ok(index) => {
                 let size = self.session.open(buf, len, found, index);
-                self.sources.note(found.ssrc, index);
+                self.sources.note_for(source, index);
                 Ok(size)
             }
         }
     }
 
-    // The index under which a packet with this head is taken.
-    fn taken_index(&self, bytes: &[u8], found: RtpHead) -> Result<u64, UnprotectFault>
+    // The index under which a packet with this head, of this source, is taken.
+    fn taken_index(
+        &self,
+        bytes: &[u8],
+        found: RtpHead,
+        source: Source,
+    ) -> Result<u64, UnprotectFault>
         requires size { length bytes.now < 2 ^ 31 }
         requires within { found.head ≤ length bytes.now }
+        requires ssrc { source.ssrc ≡ found.ssrc }
+        requires placed { IsPlaced self.now.sources source }
         ensures index { IfOk result (λ index. index < 2 ^ 48) }
         ensures tag { IfOk result (λ _. found.head + tag_size self.now.session.suite ≤ length bytes.now) }
-        ensures room { IfOk result (λ _. can_note self.now.sources found.ssrc ≡ true) }
+        ensures room { IfOk result (λ _. can_note self.now.sources source.ssrc ≡ true) }
         ensures taken { (master : List ℕ) (suite : Suite) (notes : List Note) → InFor master suite self.now notes → result ≡ taken_index master suite notes bytes.now found }
     {
         if bytes.len() < found.head + tag_size(self.session.suite) {
             return Err(UnprotectFault::Short);
         }
-        match self.sources.near(found.ssrc, found.seq) {
+        match self.sources.near_of(source, found.seq) {
             Near::At(index) => {
                 if !self.session.is_authentic(bytes, index) {
                     return Err(UnprotectFault::NotAuthentic);
                 }
-                self.allowed(found.ssrc, index)
+                self.allowed(source, index)
             }
             Near::Below => Err(UnprotectFault::TooOld),
             Near::Beyond => Err(UnprotectFault::TooOld),
@@ -85,17 +111,18 @@ impl InRtp {
     }
 
     // The index, where the window allows it and its source is known or has room.
-    fn allowed(&self, ssrc: u32, index: u64) -> Result<u64, UnprotectFault>
-        requires { index < 2 ^ 48 }
+    fn allowed(&self, source: Source, index: u64) -> Result<u64, UnprotectFault>
+        requires placed { IsPlaced self.now.sources source }
+        requires index { index < 2 ^ 48 }
         ensures index { IfOk result (λ allowed. allowed ≡ index) }
-        ensures room { IfOk result (λ _. can_note self.now.sources ssrc ≡ true) }
-        ensures allowed { (notes : List Note) → SourcesFor Rtp self.now.sources notes → result ≡ index_by ssrc notes index (fresh (indices Rtp ssrc notes) index) }
+        ensures room { IfOk result (λ _. can_note self.now.sources source.ssrc ≡ true) }
+        ensures allowed { (notes : List Note) → SourcesFor Rtp self.now.sources notes → result ≡ index_by source.ssrc notes index (fresh (indices Rtp source.ssrc notes) index) }
     {
-        match self.sources.fresh(ssrc, index) {
+        match self.sources.fresh_of(source, index) {
             Fresh::TooOld => Err(UnprotectFault::TooOld),
             Fresh::Used => Err(UnprotectFault::Replayed),
             Fresh::Yes => {
-                if !self.sources.has_room(ssrc) {
+                if !self.sources.has_room_for(source) {
                     return Err(UnprotectFault::TooManySources);
                 }
                 Ok(index)

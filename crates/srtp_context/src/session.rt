@@ -105,6 +105,7 @@ impl RtpSession {
         requires tag { found.head + tag_size self.now.suite ≤ len }
         requires index { index < 2 ^ 48 }
         ensures fits { result ≤ len }
+        ensures head { rtp_head (take result buf.new) ≡ Some found }
         ensures writes { (master : List ℕ) (suite : Suite) → SessionFor master suite self.now → Writes (opened master suite (take len buf.old) index) buf.old buf.new result }
     {
         let end = len - tag_size(self.suite);

@@ -1,7 +1,8 @@
 -- What a table's results and changes mean for the notes that it stands for.
-use Rattle.std.proofs.Common.{◌≡◌, ◌≢◌, ℕ, ◌+◌, ◌<◌, ◌≤◌, ◌⊎◌, inl, inr, Bool, true, false, List, [], ◌∷◌, ◌++◌, length, Some, None, arith, sym, ◌∙◌, ap, subst, refl, take, get_or-take, length-take-le, get_or-set_other, get_or-set_same}
+use Rattle.std.proofs.Common.{◌≡◌, ◌≢◌, ℕ, ◌+◌, ◌<◌, ◌≤◌, ◌⊎◌, inl, inr, Bool, true, false, List, [], ◌∷◌, ◌++◌, length, Option, Some, None, IfSome, arith, sym, ◌∙◌, ap, subst, refl, take, get_or-take, length-take-le, get_or-set_other, get_or-set_same}
 use Rattle.std.proofs.lemmas.List.{take_more_set}
 use Rattle.std.proofs.lemmas.List.Folds.{list_any_at}
+use Rattle.std.proofs.lemmas.List.Quantifiers.{position-Some}
 use Rattle.std.proofs.lemmas.Bool.{cases_lt, cases_eq}
 use Rattle.std.proofs.lemmas.Bool.Decides.{nat_tests}
 use Rattle.std.specs.Prelude.{◌==◌, ◌||◌, nat_lt, slice_index, slice_index_or, slice_set, is_some, position}
@@ -11,12 +12,27 @@ use Rattle.replay_window.specs.declared.answers.Near.TheVariants.{At}
 use Rattle.replay_window.specs.declared.answers.Fresh.TheVariants.{Yes}
 use Rattle.replay_window.specs.Indices.{near, fresh}
 use Rattle.replay_window.specs.Windows.{StandsFor}
+use Rattle.srtp_sources.specs.declared.sources.Source.{Source}
 use Rattle.srtp_sources.specs.declared.sources.Sources.{Sources}
 use Rattle.std.specs.Prelude.{◌&&◌, if◌then◌else◌}
 use Rattle.std.specs.List.{cons_option, filter_map}
 use Rattle.srtp_sources.specs.Notes.{Note, is_half, once, source_under, indices, sources, has_room, is_room_in}
-use Rattle.srtp_sources.specs.Tables.{SourcesFor, can_note}
-use Rattle.srtp_sources.proofs.Knowing.{has, equal, any-position, indices-unknown, note_of, sources-known, sources-new, indices-noted, indices-other, same_source}
+use Rattle.srtp_sources.specs.Tables.{SourcesFor, IsPlaced, can_note}
+use Rattle.srtp_sources.proofs.Knowing.{has, equal, equal_if, any-position, indices-unknown, note_of, sources-known, sources-new, indices-noted, indices-other, same_source}
+
+-- where a source stands that was found
+pub stands_there : (table : Sources) (source : Source) → length table.ssrcs ≡ 32 → table.count ≤ 32 → IsPlaced table source
+    → IfSome source.place (λ place. (place < table.count) × (slice_index table.ssrcs place ≡ source.ssrc))
+stands_there table source places within placed = by_place source.place placed
+  where
+    by_place : (found : Option ℕ) → found ≡ position (λ known. known == source.ssrc) (take table.count table.ssrcs)
+        → IfSome found (λ place. (place < table.count) × (slice_index table.ssrcs place ≡ source.ssrc))
+    by_place None is = tt
+    by_place (Some place) is =
+        let at = position-Some (λ known. known == source.ssrc) (take table.count table.ssrcs) place 0 (sym is) in
+        let size : length (take table.count table.ssrcs) ≡ table.count = length-take-le table.count table.ssrcs (omega arith) in
+        let below : place < table.count = omega (arith, at.0, size) in
+        (below, sym (get_or-take table.count table.ssrcs place 0 below) ∙ equal_if _ source.ssrc at.1)
 
 -- a source that the table does not find has no index
 pub not_found : (half : Half) (table : Sources) (ssrc : ℕ) (notes : List Note) → SourcesFor half table notes
@@ -196,6 +212,14 @@ pub found_stands : (half : Half) (table : Sources) (ssrc place : ℕ) (notes : L
 found_stands half table ssrc place notes for at other =
     let P : ℕ → Type 0 = λ s. StandsFor (slice_index_or table.windows place other) (indices half s notes) in
     subst P at.1 (for.each place other at.0)
+
+-- what noting an index of a source that was found means for the SSRC that was looked up
+pub noted_found : (half : Half) (new : Sources) (ssrc found index : ℕ) (notes : List Note) → found ≡ ssrc
+    → (fresh (indices half found notes) index ≡ Yes → SourcesFor half new (note_of half found index ∷ notes))
+    → fresh (indices half ssrc notes) index ≡ Yes → SourcesFor half new (note_of half ssrc index ∷ notes)
+noted_found half new ssrc found index notes same noted allowed =
+    let P : ℕ → Type 0 = λ s. SourcesFor half new (note_of half s index ∷ notes) in
+    subst P same (noted (ap (λ s. fresh (indices half s notes) index) same ∙ allowed))
 
 pub fresh_first : (index : ℕ) → fresh [] index ≡ Yes
 unfolding fresh

@@ -1,8 +1,9 @@
 -- What a table of sources keeps of the notes.
-use Rattle.std.specs.Prelude.{ℕ, ◌≡◌, ◌<◌, Bool, List, take, slice_index, slice_index_or}
+use Rattle.std.specs.Prelude.{ℕ, ◌≡◌, ◌<◌, ◌==◌, Bool, List, take, position, slice_index, slice_index_or}
 use Rattle.rtp_packet.specs.declared.head.Half.{Half}
 use Rattle.replay_window.specs.declared.window.Window.{Window}
 use Rattle.replay_window.specs.Windows.{StandsFor}
+use Rattle.srtp_sources.specs.declared.sources.Source.{Source}
 use Rattle.srtp_sources.specs.declared.sources.Sources.{Sources}
 use Rattle.srtp_sources.specs.Notes.{Note, sources, indices, is_room_in}
 
@@ -15,3 +16,7 @@ pub record SourcesFor (half : Half) (table : Sources) (notes : List Note) : Type
 -- the table knows the source, or has a place for it
 unfoldable pub can_note : Sources → ℕ → Bool
 can_note table ssrc = is_room_in (take table.count table.ssrcs) ssrc
+
+-- the source is at the place of this table where its SSRC stands first, and at none where the table doesn't know it
+abbrev pub IsPlaced : Sources → Source → Type 0
+IsPlaced table source = source.place ≡ position (λ known. known == source.ssrc) (take table.count table.ssrcs)

@@ -17,6 +17,16 @@ pub struct Sources {
     ghost within: { count ≤ 32 },
 }
 
+/// A source as `Sources::find` found it in a table: where it stands there, if it is known. It holds until the table notes an
+/// index.
+#[derive(Clone, Copy, Drop)]
+pub struct Source {
+    /// The source's SSRC.
+    ssrc: u32,
+    /// Its place among the known sources.
+    place: Option<usize>,
+}
+
 impl Sources {
     ghost use Rattle.std.specs.Prelude.{◌≡◌, ◌<◌, ◌^◌, ◌==◌, List, [], ◌∷◌, ℕ, IfSome, position, slice_index, slice_index_or, slice_set, ◌+◌, true, take};
     ghost use Rattle.replay_window.specs.declared.window.Window.{Window};
@@ -25,7 +35,7 @@ impl Sources {
     ghost use Rattle.replay_window.specs.Indices.{near, fresh};
     ghost use Rattle.replay_window.specs.Windows.{IsIndex, StandsFor};
     ghost use Rattle.srtp_sources.specs.Notes.{Note, indices, has_room};
-    ghost use Rattle.srtp_sources.specs.Tables.{SourcesFor, can_note};
+    ghost use Rattle.srtp_sources.specs.Tables.{SourcesFor, IsPlaced, can_note};
 
     /// A table without a source.
     pub fn new() -> Sources
@@ -38,14 +48,70 @@ impl Sources {
         }
     }
 
-    // Where a known source stands.
-    fn place(&self, ssrc: u32) -> Option<usize>
-        ensures first { result ≡ position (λ known. known == ssrc) (take self.now.count self.now.ssrcs) }
-        ensures found { IfSome result (λ place. (place < self.now.count) × (slice_index self.now.ssrcs place ≡ ssrc)) }
+    /// Looks a source up. The calls that take the answer look no further.
+    pub fn find(&self, ssrc: u32) -> Source
+        ensures ssrc { result.ssrc ≡ ssrc }
+        ensures placed { IsPlaced self.now result }
     {
-        self.ssrcs[..self.count]
+        let place = self.ssrcs[..self.count]
             .iter()
-            .position(|known| *known == ssrc)
+            .position(|known| *known == ssrc);
+        Source { ssrc, place }
+    }
+
+    // Where a source that was found stands.
+    fn place(&self, source: Source) -> Option<usize>
+        requires { IsPlaced self.now source }
+        ensures first { result ≡ position (λ known. known == source.ssrc) (take self.now.count self.now.ssrcs) }
+        ensures found { IfSome result (λ place. (place < self.now.count) × (slice_index self.now.ssrcs place ≡ source.ssrc)) }
+    {
+        source.place
+    }
+
+    /// The index that a sequence number of a source that was found most likely stands for.
+    pub fn near_of(&self, source: Source, seq: u16) -> Near
+        requires { IsPlaced self.now source }
+        ensures nearest { (half : Half) (notes : List Note) → SourcesFor half self.now notes → result ≡ near (indices half source.ssrc notes) seq }
+        ensures index { IsIndex result }
+    {
+        match self.place(source) {
+            Some(place) => self.windows[place].near(seq),
+            None => Near::At(u64::from(seq)),
+        }
+    }
+
+    /// Whether an index of a source that was found may be taken.
+    pub fn fresh_of(&self, source: Source, index: u64) -> Fresh
+        requires placed { IsPlaced self.now source }
+        requires index { index < 2 ^ 48 }
+        ensures { (half : Half) (notes : List Note) → SourcesFor half self.now notes → result ≡ fresh (indices half source.ssrc notes) index }
+    {
+        match self.place(source) {
+            Some(place) => self.windows[place].fresh(index),
+            None => Fresh::Yes,
+        }
+    }
+
+    /// Whether a source that was looked up is known or may still come in.
+    pub fn has_room_for(&self, source: Source) -> bool
+        requires { IsPlaced self.now source }
+        ensures room { result ≡ can_note self.now source.ssrc }
+        ensures notes { (half : Half) (notes : List Note) → SourcesFor half self.now notes → result ≡ has_room half source.ssrc notes }
+    {
+        self.count < MOST || self.place(source).is_some()
+    }
+
+    /// Notes an index of a source that was found, which `fresh_of` has to allow.
+    pub fn note_for(&mut self, source: Source, index: u64)
+        requires placed { IsPlaced self.old source }
+        requires index { index < 2 ^ 48 }
+        requires room { can_note self.old source.ssrc ≡ true }
+        ensures { (half : Half) (notes : List Note) → SourcesFor half self.old notes → fresh (indices half source.ssrc notes) index ≡ Yes → SourcesFor half self.new (record { half = half; ssrc = source.ssrc; index = index } ∷ notes) }
+    {
+        match self.place(source) {
+            Some(place) => note_at(&mut self.windows, place, index),
+            None => self.enter(source.ssrc, index),
+        }
     }
 
     /// The index that a sequence number of a source most likely stands for.
@@ -53,10 +119,7 @@ impl Sources {
         ensures nearest { (half : Half) (notes : List Note) → SourcesFor half self.now notes → result ≡ near (indices half ssrc notes) seq }
         ensures index { IsIndex result }
     {
-        match self.place(ssrc) {
-            Some(place) => self.windows[place].near(seq),
-            None => Near::At(u64::from(seq)),
-        }
+        self.near_of(self.find(ssrc), seq)
     }
 
     /// Whether an index of a source may be taken.
@@ -64,10 +127,7 @@ impl Sources {
         requires { index < 2 ^ 48 }
         ensures { (half : Half) (notes : List Note) → SourcesFor half self.now notes → result ≡ fresh (indices half ssrc notes) index }
     {
-        match self.place(ssrc) {
-            Some(place) => self.windows[place].fresh(index),
-            None => Fresh::Yes,
-        }
+        self.fresh_of(self.find(ssrc), index)
     }
 
     /// Whether the source is known or may still come in.
@@ -75,7 +135,7 @@ impl Sources {
         ensures room { result ≡ can_note self.now ssrc }
         ensures notes { (half : Half) (notes : List Note) → SourcesFor half self.now notes → result ≡ has_room half ssrc notes }
     {
-        self.count < MOST || self.place(ssrc).is_some()
+        self.has_room_for(self.find(ssrc))
     }
 
     /// Notes an index of a source, which `fresh` has to allow.
@@ -84,10 +144,8 @@ impl Sources {
         requires room { can_note self.old ssrc ≡ true }
         ensures { (half : Half) (notes : List Note) → SourcesFor half self.old notes → fresh (indices half ssrc notes) index ≡ Yes → SourcesFor half self.new (record { half = half; ssrc = ssrc; index = index } ∷ notes) }
     {
-        match self.place(ssrc) {
-            Some(place) => note_at(&mut self.windows, place, index),
-            None => self.enter(ssrc, index),
-        }
+        let source = self.find(ssrc);
+        self.note_for(source, index);
     }
 
     // Takes in a new source with its first index.

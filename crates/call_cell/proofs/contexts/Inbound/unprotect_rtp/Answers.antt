@@ -4,10 +4,10 @@ use Rattle.call_cell.proofs.contexts.Inbound.unprotect_rtp.Goals as goal
 
 pub returns-in-Ok-clause-opens : goal.returns-in-Ok-clause-opens
 returns-in-Ok-clause-opens c key notes for =
-    opens_rtp key notes (take c.args.len c.args.buf.now) c.args.self.now c.unprotect.new.self c.args.buf.now c.unprotect.new.buf
+    opens_rtp key notes (take c.args.len c.args.buf.now) c.args.self.now c.unprotect_with_head.new.self c.args.buf.now c.unprotect_with_head.new.buf
     (Ok c.in-Ok.size) (Ok c.in-Ok.size) refl for (c.in-Ok.ensures.opens key.0 key.1 notes for.rtp)
 
 pub returns-in-Err-clause-opens : goal.returns-in-Err-clause-opens
 returns-in-Err-clause-opens c key notes for =
-    opens_rtp key notes (take c.args.len c.args.buf.now) c.args.self.now c.unprotect.new.self c.args.buf.now c.unprotect.new.buf
+    opens_rtp key notes (take c.args.len c.args.buf.now) c.args.self.now c.unprotect_with_head.new.self c.args.buf.now c.unprotect_with_head.new.buf
     (Err c.in-Err.cause) (Err c.refused_by.result) (ap refusal c.refused_by.ensures) for (c.in-Err.ensures.opens key.0 key.1 notes for.rtp)

@@ -4,10 +4,10 @@ use Rattle.call_cell.proofs.contexts.Outbound.protect_rtcp.Goals as goal
 
 pub returns-in-Ok-clause-wraps : goal.returns-in-Ok-clause-wraps
 returns-in-Ok-clause-wraps c key notes for =
-    wraps_rtcp key notes (take c.args.len c.args.buf.now) c.args.self.now c.protect.new.self c.args.buf.now c.protect.new.buf
+    wraps_rtcp key notes (take c.args.len c.args.buf.now) c.args.self.now c.protect_with_ssrc.new.self c.args.buf.now c.protect_with_ssrc.new.buf
     (Ok (c.in-Ok.size, c.in-Ok.field-0-1)) (Ok c.in-Ok.size) refl for (c.in-Ok.ensures.wraps key.bytes notes for.rtcp)
 
 pub returns-in-Err-clause-wraps : goal.returns-in-Err-clause-wraps
 returns-in-Err-clause-wraps c key notes for =
-    wraps_rtcp key notes (take c.args.len c.args.buf.now) c.args.self.now c.protect.new.self c.args.buf.now c.protect.new.buf
+    wraps_rtcp key notes (take c.args.len c.args.buf.now) c.args.self.now c.protect_with_ssrc.new.self c.args.buf.now c.protect_with_ssrc.new.buf
     (Err c.in-Err.cause) (Err c.lost_by.result) (ap loss c.lost_by.ensures) for (c.in-Err.ensures.wraps key.bytes notes for.rtcp)

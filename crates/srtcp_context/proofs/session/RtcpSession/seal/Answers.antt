@@ -1,7 +1,6 @@
-use Rattle.std.proofs.Common.{◌∙◌, ap, ◌≡◌, ◌+◌, ◌-◌, arith, take, length}
+use Rattle.std.proofs.Common.{◌∙◌, ap, ◌≡◌, ◌+◌, ◌-◌, arith, take}
 use borrow.Rule.Slice.PartMut.{put_mid}
 use Rattle.srtcp_context.specs.Packets.{ciphered, trailer}
-use Rattle.srtcp_context.proofs.PacketLemmas.{length-ciphered}
 use Rattle.srtcp_context.proofs.Buffers.{ciphered_in_place, written_behind, taken_size}
 use Rattle.srtcp_context.proofs.session.RtcpSession.seal.Goals as goal
 

@@ -1,4 +1,3 @@
-use Rattle.std.proofs.Common.{◌∙◌, ap, ◌≡◌}
 use Rattle.srtp_context.specs.Packets.{packet_keystream}
 use Rattle.srtp_context.proofs.session.RtpSession.cipher.Goals as goal
 

@@ -1,4 +1,3 @@
-use Rattle.std.proofs.Common.{◌∙◌, ap, ◌≡◌}
 use Rattle.srtp_context.specs.Packets.{code_of}
 use Rattle.srtp_context.proofs.session.RtpSession.code.Goals as goal
 

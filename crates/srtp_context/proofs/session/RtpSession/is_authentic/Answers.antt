@@ -1,4 +1,4 @@
-use Rattle.std.proofs.Common.{◌∙◌, ap, ◌≡◌}
+use Rattle.std.proofs.Common.{◌∙◌, ap}
 use Rattle.srtp_context.specs.Packets.{tag_size}
 use Rattle.srtp_context.proofs.Buffers.{is_authentic-is}
 use Rattle.srtp_context.proofs.session.RtpSession.is_authentic.Goals as goal

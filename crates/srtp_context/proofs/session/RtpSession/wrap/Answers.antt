@@ -1,4 +1,4 @@
-use Rattle.std.proofs.Common.{◌∙◌, ap, ◌≡◌, ◌+◌, ◌-◌, arith, refl}
+use Rattle.std.proofs.Common.{◌∙◌, ap, ◌≡◌, ◌+◌, ◌-◌, arith}
 use borrow.Rule.Slice.PartMut.{put_mid}
 use Rattle.srtp_context.specs.Packets.{tag_size}
 use Rattle.srtp_context.proofs.Buffers.{ciphered_in_place, protected_in_place}

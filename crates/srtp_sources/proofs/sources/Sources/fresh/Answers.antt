@@ -1,7 +1,8 @@
-use Rattle.std.proofs.Common.{sym}
-use Rattle.srtp_sources.proofs.Tabling.{not_found, fresh_nothing}
+use Rattle.std.proofs.Common.{◌∙◌, ap}
+use Rattle.replay_window.specs.Indices.{fresh}
+use Rattle.srtp_sources.specs.Notes.{indices}
 use Rattle.srtp_sources.proofs.sources.Sources.fresh.Goals as goal
 
-pub returns-in-None : goal.returns-in-None
-returns-in-None c half notes for =
-    fresh_nothing half c.args.ssrc c.args.index notes (not_found half c.args.self.now c.args.ssrc notes for (sym c.in-None.ensures.first))
+pub returns : goal.returns
+returns c half notes for =
+    c.fresh_of.ensures half notes for ∙ ap (λ s. fresh (indices half s notes) c.args.index) c.find.ensures.ssrc

@@ -1,19 +1,11 @@
-use Rattle.std.proofs.Common.{rules, sym, ap, ◌∙◌}
-use Rattle.srtp_sources.proofs.Tabling.{less, can_note-below, can_note-full, can_note-is}
-use Rattle.std.specs.Prelude.{is_some}
+use Rattle.std.proofs.Common.{◌∙◌, ap}
+use Rattle.srtp_sources.specs.Notes.{has_room}
+use Rattle.srtp_sources.specs.Tables.{can_note}
 use Rattle.srtp_sources.proofs.sources.Sources.has_room.Goals as goal
 
-pub returns-then-self-lt-MOST-clause-room : goal.returns-then-self-lt-MOST-clause-room
-returns-then-self-lt-MOST-clause-room c = less c.args.self.now.count 32 c.if-self-lt-MOST.true ∙ sym (can_note-below c.args.self.now c.args.ssrc (search rules) c.if-self-lt-MOST.true)
+pub returns-clause-room : goal.returns-clause-room
+returns-clause-room c = c.has_room_for.ensures.room ∙ ap (can_note c.args.self.now) c.find.ensures.ssrc
 
-pub returns-then-self-lt-MOST-clause-notes : goal.returns-then-self-lt-MOST-clause-notes
-returns-then-self-lt-MOST-clause-notes c half notes for =
-    returns-then-self-lt-MOST-clause-room c ∙ can_note-is half c.args.self.now c.args.ssrc notes for
-
-pub returns-else-self-lt-MOST-clause-room : goal.returns-else-self-lt-MOST-clause-room
-returns-else-self-lt-MOST-clause-room c =
-    c.is_some.ensures ∙ ap is_some c.place.ensures.first ∙ sym (can_note-full c.args.self.now c.args.ssrc (search rules) (search rules) c.if-self-lt-MOST.false)
-
-pub returns-else-self-lt-MOST-clause-notes : goal.returns-else-self-lt-MOST-clause-notes
-returns-else-self-lt-MOST-clause-notes c half notes for =
-    returns-else-self-lt-MOST-clause-room c ∙ can_note-is half c.args.self.now c.args.ssrc notes for
+pub returns-clause-notes : goal.returns-clause-notes
+returns-clause-notes c half notes for =
+    c.has_room_for.ensures.notes half notes for ∙ ap (λ s. has_room half s notes) c.find.ensures.ssrc

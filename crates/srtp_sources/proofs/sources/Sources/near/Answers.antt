@@ -1,9 +1,8 @@
-use Rattle.std.proofs.Common.{◌∙◌, sym, ap}
-use Rattle.replay_window.specs.declared.answers.Near.TheVariants.{At}
-use Rattle.srtp_sources.proofs.Tabling.{not_found, near_nothing}
+use Rattle.std.proofs.Common.{◌∙◌, ap}
+use Rattle.replay_window.specs.Indices.{near}
+use Rattle.srtp_sources.specs.Notes.{indices}
 use Rattle.srtp_sources.proofs.sources.Sources.near.Goals as goal
 
-pub returns-in-None-clause-nearest : goal.returns-in-None-clause-nearest
-returns-in-None-clause-nearest c half notes for =
-    ap At c.from.ensures
-    ∙ near_nothing half c.args.ssrc c.args.seq notes (not_found half c.args.self.now c.args.ssrc notes for (sym c.in-None.ensures.first))
+pub returns-clause-nearest : goal.returns-clause-nearest
+returns-clause-nearest c half notes for =
+    c.near_of.ensures.nearest half notes for ∙ ap (λ s. near (indices half s notes) c.args.seq) c.find.ensures.ssrc
