@@ -6,7 +6,7 @@ ghost use Rattle.board_turns.specs.Between.{IsBetween};
 use crate::first_relay::{CONFIG, QuietRelay, begin};
 use crate::quiet_devices::{Mute, OneAsked, QuietPorts, SameKey};
 use call_cell::Gone;
-use control_turns::{ControlTurn, control_turn};
+use control_turns::{ControlTurn, Devices, control_turn};
 use relay_core::close_relay;
 use std::alloc::Global;
 use std::process::Abort;
@@ -87,19 +87,26 @@ fn is_answered<R: Wait + Abort>(
         panic!(rt; "no memory");
     };
     let mut link = OneAsked::new(datagram, want);
-    let turn = control_turn(
-        rt,
-        alloc,
-        turns,
-        hand,
-        &CONFIG,
-        room.as_mut_slice(),
-        gone,
-        &mut link,
-        &mut QuietPorts,
-        &mut SameKey,
-        0,
-    );
+    let mut ports = QuietPorts;
+    let mut keys = SameKey;
+    let turn = {
+        let mut devices = Devices {
+            link: &mut link,
+            ports: &mut ports,
+            keys: &mut keys,
+            gone,
+        };
+        control_turn(
+            rt,
+            alloc,
+            turns,
+            hand,
+            &CONFIG,
+            room.as_mut_slice(),
+            &mut devices,
+            0,
+        )
+    };
     turn == ControlTurn::Replied && link.is_replied()
 }
 

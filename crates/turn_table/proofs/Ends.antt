@@ -1,5 +1,6 @@
 -- The step that makes an event keeps the rule.
 use Rattle.std.proofs.Common.{◌≡◌, ◌≢◌, ℕ, suc, ◌+◌, ◌*◌, ◌^◌, ◌<◌, ◌≤◌, true, false, List, [], ◌∷◌, ◌++◌, length, set, Option, Some, slice_get, sym, refl, ap, ◌∙◌, subst, inl, inr, ⊎_elim, arith, le_refl, lt_of_not-le, length-set, length-append, get_or-set_other, get_or-set_same}
+use Rattle.std.proofs.lemmas.Option.{slice_get_within}
 use mathlib.Core.Option.{some, none}
 use mathlib.Core.Logic.{dite}
 use mathlib.Core.Path.{Path}
@@ -12,11 +13,12 @@ use Rattle.turn_table.specs.declared.view.View.{View}
 use Rattle.turn_table.specs.declared.view.Phase.{Phase}
 use Rattle.turn_table.specs.declared.view.Phase.TheVariants.{Out, Counted}
 use Rattle.turn_table.specs.Histories.{one_if, below, seen_at, phase_at, is_at, times, Named, Leaves}
+use Rattle.turn_table.specs.Layout.{rows_of, spot_of}
 use Rattle.turn_table.specs.Kept.{Matches, Stands, PlaceOk, SeatOk, Kept}
-use Rattle.turn_table.specs.Steps.{Sat, noted, phased, gained, entry, number_of, finished}
+use Rattle.turn_table.specs.Steps.{Sat, IsCount, noted, phased, gained, entry, number_of, finished}
 use Rattle.turn_table.proofs.Lists.{total_append, in_split, in_one, get_longer, get_last, get_snoc, put, put_here, put_else, put_all, seen_here, seen_else, phase_here, phase_else, at_here, at_place, at_number, below_in, below_out}
 use Rattle.turn_table.proofs.Moved.{Grows, moved}
-use Rattle.turn_table.proofs.Keeps.{mine_is, begun, far_count, double_more}
+use Rattle.turn_table.proofs.Keeps.{IsAt, mine_is, begun, there_ok, far_count, count_of}
 
 module _ {S E O : Type 0} (relates : S → E → O → S → Type 0) where
   pub leaves_snoc : (h : List (Entry E O)) (e : Entry E O) (a x y : S) → Leaves relates a h x → relates x e.event e.outcome y → Leaves relates a (h ++ e ∷ []) y
@@ -39,9 +41,9 @@ module _ {S E O : Type 0} (relates : S → E → O → S → Type 0) (reserved :
   abbrev Rule : St → Type 0
   Rule = Kept relates reserved starts
 
-  module _ (slots id k : ℕ) (v : View S E O) (inside : k < slots) (live : 0 < v.parts) (n m : ℕ) (next : m ≡ suc n) (x y : S) (phase : phase_at v.turns k ≡ Out n x) (low : n < 2 ^ 56)
+  module _ (id k spot : ℕ) (v : View S E O) (lies : IsAt v k spot) (live : 0 < v.parts) (n m : ℕ) (next : m ≡ suc n) (x y : S) (phase : phase_at v.turns k ≡ Out n x) (low : n < 2 ^ 56)
       (event : E) (outcome : O) (related : relates x event outcome y) (right : reserved event → v.main ≡ true)
-      (s : St) (r : Rule s) (deep : length s.homes ≡ slots) (at : get_elem? s.views id ≡ some v) (a : S) (start : slice_get starts k ≡ Some a) where
+      (s : St) (r : Rule s) (at : get_elem? s.views id ≡ some v) (a : S) (start : slice_get starts k ≡ Some a) (is : spot ≡ spot_of (rows_of (length starts)) k) (long : spot < length s.homes) where
     abbrev e : Entry E O
     e = entry k n event outcome
 
@@ -54,14 +56,14 @@ module _ {S E O : Type 0} (relates : S → E → O → S → Type 0) (reserved :
     abbrev w : View S E O
     w = phased k (Counted y) (noted k m (gained e v))
 
-    ok : PlaceOk relates s.words s.homes (r.log k) (r.cells k) k a
-    ok = r.place k a start
+    ok : PlaceOk relates s.words s.homes (r.log k) (r.cells k) k spot a
+    ok = there_ok relates reserved starts s r k spot a start is
 
     mine : ((r.cells k).0 ≡ suc id) × ((r.cells k).1 ≡ Out n x)
     mine = mine_is (r.cells k) id (phase_at v.turns k) (Out n x) ((r.seat id v at).turns k) phase (λ e. absurd cc)
 
-    out : Stands relates s.homes k (r.log k) a (Out n x)
-    out = subst (Stands relates s.homes k (r.log k) a) mine.1 ok.stands
+    out : Stands relates s.homes spot (r.log k) a (Out n x)
+    out = subst (Stands relates s.homes spot (r.log k) a) mine.1 ok.stands
 
     longer : length log' ≡ suc n
     longer = let l = length-append (r.log k) (e ∷ []) in let c = out.1 in omega arith
@@ -84,7 +86,7 @@ module _ {S E O : Type 0} (relates : S → E → O → S → Type 0) (reserved :
           (let p = seen_here v.seen k m in let h = was.seen k in let l = longer in let c = out.1 in let t : length (put r.log k log' k) ≡ length log' = ap length (put_here r.log k log') in omega arith))
           (λ (ne : j ≢ k). let p = seen_else v.seen k m j ne in let h = was.seen j in let t : length (put r.log k log' j) ≡ length (r.log j) = ap length (put_else r.log k log' j ne) in omega arith);
       tied = λ f h. ⊎_elim (λ old. let t = was.tied f old in (t.0, (grown f.place).1 f.number f t.1))
-          (λ new. let same : e ≡ f = sym (in_one new) in subst (λ (z : Entry E O). (z.place < length starts) × (slice_get (put r.log k log' z.place) z.number ≡ Some z)) same (let l = r.long in omega arith, new_there))
+          (λ new. let same : e ≡ f = sym (in_one new) in subst (λ (z : Entry E O). (z.place < length starts) × (slice_get (put r.log k log' z.place) z.number ≡ Some z)) same (slice_get_within starts k a start, new_there))
           (in_split v.entries h);
       plain = λ side f h is. ⊎_elim (λ old. was.plain side f old is)
           (λ new. let same : f ≡ e = in_one new in let p = right (subst (λ (z : Entry E O). reserved z.event) same is) in let t : true ≡ false = sym p ∙ side in cc)
@@ -104,18 +106,18 @@ module _ {S E O : Type 0} (relates : S → E → O → S → Type 0) (reserved :
     named : Named k log'
     named i f there = ⊎_elim (λ old. ok.named i f old) (λ (new : (i ≡ length (r.log k)) × (e ≡ f)). (sym (ap (λ (z : Entry E O). z.place) new.1), sym (ap (λ (z : Entry E O). z.number) new.1) ∙ (out.1 ∙ sym new.0))) (get_snoc (r.log k) e i f there)
 
-    kept : Rule record { words = set s.words (16 * k + 1) m; homes = set s.homes k (some (Some y)); views = set s.views id w }
+    kept : Rule record { words = set s.words (16 * spot + 1) m; homes = set s.homes spot (some (Some y)); views = set s.views id w }
     kept = let wide = r.wide in
-        moved relates reserved starts s r k a start id v w at log' cell' (set s.words (16 * k + 1) m) (set s.homes k (some (Some y))) (length-set s.words (16 * k + 1) m) (length-set s.homes k (some (Some y)))
-        (λ j ne. let f = far_count s.words k m j ne in (f.0, f.1, set_else s.homes k j (some (Some y)) ne))
+        moved relates reserved starts s r k a start spot is id v w at log' cell' (set s.words (16 * spot + 1) m) (set s.homes spot (some (Some y))) (length-set s.words (16 * spot + 1) m) (length-set s.homes spot (some (Some y)))
+        (λ j ne. let f = far_count s.words spot m j ne in (f.0, f.1, set_else s.homes spot j (some (Some y)) ne))
         record {
-          mark = get_or-set_other s.words (16 * k + 1) (16 * k) m 0 (λ q. omega arith) ∙ (let q = ok.mark in let z = mine.0 in omega arith);
-          count = get_or-set_same s.words (16 * k + 1) m 0 (omega arith) ∙ (next ∙ sym longer);
+          mark = get_or-set_other s.words (16 * spot + 1) (16 * spot) m 0 (λ q. omega arith) ∙ (let q = ok.mark in let z = mine.0 in omega arith);
+          count = get_or-set_same s.words (16 * spot + 1) m 0 (omega arith) ∙ (next ∙ sym longer);
           low = let l = longer in omega arith;
           named = named;
           free = λ z. absurd (omega arith);
           held = λ _ z. absurd cc;
-          stands = (set_here s.homes k (some (Some y)) (omega arith), leaves_snoc relates (r.log k) e a x y out.2 related);
+          stands = (set_here s.homes spot (some (Some y)) long, leaves_snoc relates (r.log k) e a x y out.2 related);
         }
         record {
           was = inr mine.0;
@@ -127,20 +129,20 @@ module _ {S E O : Type 0} (relates : S → E → O → S → Type 0) (reserved :
           once = once;
         }
 
-    told : (j : ℕ) → 16 * k + 1 ≡ 16 * j + 1 → Path (Sat S E O) (w, []) (phased j (Counted y) (noted j m (gained (entry j (number_of (phase_at v.turns j)) event outcome) v)), []) × (seen_at v.seen j ≤ number_of (phase_at v.turns j))
+    told : (j : ℕ) → IsCount v j (16 * spot + 1) → Path (Sat S E O) (w, []) (phased j (Counted y) (noted j m (gained (entry j (number_of (phase_at v.turns j)) event outcome) v)), []) × (seen_at v.seen j ≤ number_of (phase_at v.turns j))
     told j q = let n' : n ≡ number_of (phase_at v.turns k) = sym (ap number_of phase) in
-        subst (λ i. Path (Sat S E O) (w, []) (phased i (Counted y) (noted i m (gained (entry i (number_of (phase_at v.turns i)) event outcome) v)), []) × (seen_at v.seen i ≤ number_of (phase_at v.turns i))) (double_more k j q)
+        subst (λ i. Path (Sat S E O) (w, []) (phased i (Counted y) (noted i m (gained (entry i (number_of (phase_at v.turns i)) event outcome) v)), []) × (seen_at v.seen i ≤ number_of (phase_at v.turns i))) (count_of v k j spot lies q).0
         (ap (λ z. (phased k (Counted y) (noted k m (gained (entry k z event outcome) v)), [])) n', let h = (r.seat id v at).seen k in let c = out.1 in omega arith)
 
   -- kind 7
-  pub ends : (slots id k : ℕ) (v : View S E O) → k < slots → 0 < v.parts → (n m : ℕ) → m ≡ suc n → (x y : S) → phase_at v.turns k ≡ Out n x → n < 2 ^ 56
+  pub ends : (slots id k spot : ℕ) (v : View S E O) → IsAt v k spot → 0 < v.parts → (n m : ℕ) → m ≡ suc n → (x y : S) → phase_at v.turns k ≡ Out n x → n < 2 ^ 56
       → (event : E) (outcome : O) → relates x event outcome y → (reserved event → v.main ≡ true)
-      → Allows Rule slots id (v, (k, Some y) ∷ []) (16 * k + 1) (λ _. m) (λ _. finished event outcome (step slots (16 * k + 1) m 0 none) (v, (k, Some y) ∷ []) m)
-  ends slots id k v inside live n m next x y phase low event outcome related right s r deep at small =
-      let b = begun relates reserved starts s r k slots deep inside in (
+      → Allows Rule slots id (v, (spot, Some y) ∷ []) (16 * spot + 1) (λ _. m) (λ _. finished event outcome (step slots (16 * spot + 1) m 0 none) (v, (spot, Some y) ∷ []) m)
+  ends slots id k spot v lies live n m next x y phase low event outcome related right s r deep at small =
+      let b = begun relates reserved starts s r id k spot v at live lies in (
         phased k (Counted y) (noted k m (gained (entry k n event outcome) v)),
         gives,
         tt,
-        kept slots id k v inside live n m next x y phase low event outcome related right s r deep at b.0 b.1,
-        told slots id k v inside live n m next x y phase low event outcome related right s r deep at b.0 b.1,
+        kept id k spot v lies live n m next x y phase low event outcome related right s r at b.0 b.1 b.2 b.3,
+        told id k spot v lies live n m next x y phase low event outcome related right s r at b.0 b.1 b.2 b.3,
       )

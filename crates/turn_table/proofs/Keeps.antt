@@ -16,9 +16,11 @@ use Rattle.turn_table.specs.declared.view.View.{View}
 use Rattle.turn_table.specs.declared.view.Phase.{Phase}
 use Rattle.turn_table.specs.declared.view.Phase.TheVariants.{Nothing, Marked, Out, Held, Counted}
 use Rattle.turn_table.specs.Histories.{In, one_if, seen_at, phase_at, times, Leaves}
+use Rattle.turn_table.specs.Layout.{rows_of, spot_of}
 use Rattle.turn_table.specs.Kept.{Matches, Stands, PlaceOk, Kept, spent_view}
-use Rattle.turn_table.specs.Steps.{Sat, noted, tried, phased, with_count, emptied_phase, reached_phase, number_of, WasTaken, Given, marked, looked, counted, returned, emptied, reached, freed}
+use Rattle.turn_table.specs.Steps.{Sat, spot_in, IsMark, IsCount, noted, tried, phased, with_count, emptied_phase, reached_phase, number_of, WasTaken, Given, marked, looked, counted, returned, emptied, reached, freed}
 use Rattle.turn_table.proofs.Lists.{total_two, total_some, get_there, seen_here, seen_else, phase_here, phase_else, times_in, below_in}
+use Rattle.turn_table.proofs.Spots.{rows_hold, spot_low, one_spot}
 use Rattle.turn_table.proofs.Moved.{Homes, rephased, reviewed}
 
 -- the cell of a turn that the seat has
@@ -31,13 +33,28 @@ pub not_held : {S : Type 0} (cell : ℕ × Phase S) (id : ℕ) (p : Phase S) →
 not_held cell id p (inl m) e held is = held (omega arith) (m.1 ∙ e)
 not_held cell id p (inr m) e held is = m.0 is
 
+-- the place k of the table lies at this spot
+abbrev pub IsAt : {S E O : Type 0} → View S E O → ℕ → ℕ → Type 0
+IsAt v k spot = (k < length v.starts) × (spot ≡ spot_in v k)
+
 double : (k j : ℕ) → 16 * k ≡ 16 * j → k ≡ j
 double k j e = omega arith
 
-pub double_more : (k j : ℕ) → 16 * k + 1 ≡ 16 * j + 1 → k ≡ j
+double_more : (k j : ℕ) → 16 * k + 1 ≡ 16 * j + 1 → k ≡ j
 double_more k j e = omega arith
 
--- the other places' words after a write of one of this place's
+-- the one place whose mark, or whose count, the word is
+same_place : {S E O : Type 0} (v : View S E O) (k j spot : ℕ) → IsAt v k spot → IsAt v j spot → k ≡ j
+same_place v k j spot at at' = let h = rows_hold (length v.starts) in let low = at.0 in let low' = at'.0 in
+    one_spot (rows_of (length v.starts)) k j (omega arith) (omega arith) (sym at.1 ∙ at'.1)
+
+mark_of : {S E O : Type 0} (v : View S E O) (k j spot : ℕ) → IsAt v k spot → IsMark v j (16 * spot) → (k ≡ j) × (spot ≡ spot_in v j)
+mark_of v k j spot at is = let q = double spot (spot_in v j) is.1 in (same_place v k j spot at (is.0, q), q)
+
+pub count_of : {S E O : Type 0} (v : View S E O) (k j spot : ℕ) → IsAt v k spot → IsCount v j (16 * spot + 1) → (k ≡ j) × (spot ≡ spot_in v j)
+count_of v k j spot at is = let q = double_more spot (spot_in v j) is.1 in (same_place v k j spot at (is.0, q), q)
+
+-- the other spots' words after a write of one of this spot's
 far_mark : (ws : List ℕ) (k n : ℕ) → (j : ℕ) → j ≢ k → (get_or (set ws (16 * k) n) (16 * j) 0 ≡ get_or ws (16 * j) 0) × (get_or (set ws (16 * k) n) (16 * j + 1) 0 ≡ get_or ws (16 * j + 1) 0)
 far_mark ws k n j ne = (get_or-set_other ws (16 * k) (16 * j) n 0 (λ e. ne (omega arith)), get_or-set_other ws (16 * k) (16 * j + 1) n 0 (λ e. omega arith))
 
@@ -51,9 +68,21 @@ module _ {S E O : Type 0} (relates : S → E → O → S → Type 0) (reserved :
   abbrev Rule : St → Type 0
   Rule = Kept relates reserved starts
 
-  -- the place, with its start state
-  pub begun : (s : St) (r : Rule s) (k slots : ℕ) → length s.homes ≡ slots → k < slots → (a : S) × (slice_get starts k ≡ Some a)
-  begun s r k slots deep h = let e = r.long in get_there starts k (omega arith)
+  abbrev rows : ℕ
+  rows = rows_of (length starts)
+
+  -- the place, with its start state, and its spot in the table
+  pub begun : (s : St) (r : Rule s) (id k spot : ℕ) (v : View S E O) → get_elem? s.views id ≡ some v → 0 < v.parts → IsAt v k spot → (a : S) × (slice_get starts k ≡ Some a) × (spot ≡ spot_of rows k) × (spot < length s.homes)
+  begun s r id k spot v at live lies =
+      let same = (r.seat id v at).same live in
+      let inside : k < length starts = subst (λ (l : List S). k < length l) same lies.0 in
+      let is : spot ≡ spot_of rows k = lies.1 ∙ ap (λ (l : List S). spot_of (rows_of (length l)) k) same in
+      let h = rows_hold (length starts) in
+      let low : spot_of rows k < length s.homes = subst (λ n. spot_of rows k < n) (sym r.long) (spot_low rows k (omega arith)) in
+      let b = get_there starts k inside in (b.0, b.1, is, subst (λ i. i < length s.homes) (sym is) low)
+
+  pub there_ok : (s : St) (r : Rule s) (k spot : ℕ) (a : S) → slice_get starts k ≡ Some a → spot ≡ spot_of rows k → PlaceOk relates s.words s.homes (r.log k) (r.cells k) k spot a
+  there_ok s r k spot a start is = subst (λ i. PlaceOk relates s.words s.homes (r.log k) (r.cells k) k i a) (sym is) (r.place k a start)
 
   -- what the seat noted is no more than the counts, also after a look at the place k
   noted_low : (s : St) (r : Rule s) (id : ℕ) (v : View S E O) → get_elem? s.views id ≡ some v → (k n : ℕ) → n ≡ length (r.log k) → (j : ℕ) → seen_at ((k, n) ∷ v.seen) j ≤ length (r.log j)
@@ -63,58 +92,58 @@ module _ {S E O : Type 0} (relates : S → E → O → S → Type 0) (reserved :
       (λ (ne : j ≢ k). let p = seen_else v.seen k n j ne in omega arith)
 
   -- kind 3, won or not
-  module _ (slots id k : ℕ) (v : View S E O) (inside : k < slots) (live : 0 < v.parts) (none_yet : phase_at v.turns k ≡ Nothing)
-      (s : St) (r : Rule s) (deep : length s.homes ≡ slots) (at : get_elem? s.views id ≡ some v) (a : S) (start : slice_get starts k ≡ Some a) where
+  module _ (id k spot : ℕ) (v : View S E O) (lies : IsAt v k spot) (live : 0 < v.parts) (none_yet : phase_at v.turns k ≡ Nothing)
+      (s : St) (r : Rule s) (at : get_elem? s.views id ≡ some v) (a : S) (start : slice_get starts k ≡ Some a) (is : spot ≡ spot_of rows k) (long : spot < length s.homes) where
     abbrev Found : Bool → Type 0
-    Found b = (w : View S E O) × (act : Act (Option S)) × Valid s.homes [] act × Rule (stepped s (16 * k) (either b 1 (get_or s.words (16 * k) 0)) id [] w act)
-        × ((j : ℕ) → 16 * k ≡ 16 * j → MatchBool b ((x : S) × Path (Sat S E O) (w, carried_after [] act) (phased j (Marked x) (tried j 0 v), (j, Some x) ∷ [])) ((get_or s.words (16 * k) 0 ≡ 1) × Path (Sat S E O) (w, carried_after [] act) (tried j 1 v, []) × WasTaken relates reserved j v))
+    Found b = (w : View S E O) × (act : Act (Option S)) × Valid s.homes [] act × Rule (stepped s (16 * spot) (either b 1 (get_or s.words (16 * spot) 0)) id [] w act)
+        × ((j : ℕ) → IsMark v j (16 * spot) → MatchBool b ((x : S) × Path (Sat S E O) (w, carried_after [] act) (phased j (Marked x) (tried j 0 v), (spot_in v j, Some x) ∷ [])) ((get_or s.words (16 * spot) 0 ≡ 1) × Path (Sat S E O) (w, carried_after [] act) (tried j 1 v, []) × WasTaken relates reserved j v))
 
-    abbrev ok : PlaceOk relates s.words s.homes (r.log k) (r.cells k) k a
-    ok = r.place k a start
+    ok : PlaceOk relates s.words s.homes (r.log k) (r.cells k) k spot a
+    ok = there_ok s r k spot a start is
 
-    won : get_or s.words (16 * k) 0 ≡ 0 → Found true
+    won : get_or s.words (16 * spot) 0 ≡ 0 → Found true
     won zero_there =
         let empty : (r.cells k).0 ≡ 0 = let m = ok.mark in omega arith in
-        let h = subst (Stands relates s.homes k (r.log k) a) (ok.free empty) ok.stands in
+        let h = subst (Stands relates s.homes spot (r.log k) a) (ok.free empty) ok.stands in
         let x : S = h.0 in
-        let wide = r.wide in let long : k < length s.homes = omega arith in (
+        let wide = r.wide in (
           phased k (Marked x) (tried k 0 v),
-          takes k (Some x),
+          takes spot (Some x),
           h.1,
-          rephased relates reserved starts s r k a start id v at live v.seen ((k, 0) ∷ v.tries) ((k, Marked x) ∷ v.turns) (suc id, Marked x) (set s.words (16 * k) 1) (set s.homes k none) (length-set s.words (16 * k) 1) (length-set s.homes k none)
-              (λ j ne. let f = far_mark s.words k 1 j ne in (f.0, f.1, set_else s.homes k j none ne))
+          rephased relates reserved starts s r k a start spot is id v at live v.seen ((k, 0) ∷ v.tries) ((k, Marked x) ∷ v.turns) (suc id, Marked x) (set s.words (16 * spot) 1) (set s.homes spot none) (length-set s.words (16 * spot) 1) (length-set s.homes spot none)
+              (λ j ne. let f = far_mark s.words spot 1 j ne in (f.0, f.1, set_else s.homes spot j none ne))
               record {
-                mark = get_or-set_same s.words (16 * k) 1 0 (omega arith) ∙ (omega arith);
-                count = get_or-set_other s.words (16 * k) (16 * k + 1) 1 0 (λ e. omega arith) ∙ ok.count;
+                mark = get_or-set_same s.words (16 * spot) 1 0 (omega arith) ∙ (omega arith);
+                count = get_or-set_other s.words (16 * spot) (16 * spot + 1) 1 0 (λ e. omega arith) ∙ ok.count;
                 low = ok.low;
                 named = ok.named;
                 free = λ e. absurd (omega arith);
                 held = λ _ e. absurd cc;
-                stands = (set_here s.homes k none long, h.2);
+                stands = (set_here s.homes spot none long, h.2);
               }
               (inl empty) (inr refl) (r.seat id v at).seen (inl (refl, sym (phase_here v.turns k (Marked x)))) (λ j ne. phase_else v.turns k (Marked x) j ne),
-          λ j e. (x, ap (λ i. (phased i (Marked x) (tried i 0 v), (i, Some x) ∷ [])) (double k j e)),
+          λ j e. let q = mark_of v k j spot lies e in (x, λ i. (phased (q.0 i) (Marked x) (tried (q.0 i) 0 v), (q.1 i, Some x) ∷ [])),
         )
 
-    lost : get_or s.words (16 * k) 0 ≢ 0 → Found false
+    lost : get_or s.words (16 * spot) 0 ≢ 0 → Found false
     lost there =
         let m = ok.mark in let some_one : 0 < (r.cells k).0 = omega arith in
         let o = r.owned k some_one in
         let theirs = r.seat o.0 o.1 o.3 in
         let their_phase : (r.cells k).1 ≡ phase_at o.1.turns k = ⊎_elim (λ t. t.1) (λ t. absurd (t.0 o.2)) (theirs.turns k) in
-        let one : get_or s.words (16 * k) 0 ≡ 1 = omega arith in (
+        let one : get_or s.words (16 * spot) 0 ≡ 1 = omega arith in (
           tried k 1 v,
           keeps,
           tt,
-          subst (λ ws. Rule record { words = ws; homes = s.homes; views = set s.views id (tried k 1 v) }) (sym (set-get_or s.words (16 * k) 0))
+          subst (λ ws. Rule record { words = ws; homes = s.homes; views = set s.views id (tried k 1 v) }) (sym (set-get_or s.words (16 * spot) 0))
               (reviewed relates reserved starts s r id v at live v.seen ((k, 1) ∷ v.tries) (r.seat id v at).seen),
           λ j e. (
             one,
-            ap (λ i. (tried i 1 v, [])) (double k j e),
-            subst (λ i. WasTaken relates reserved i v) (double k j e) record {
+            ap (λ i. (tried i 1 v, [])) (mark_of v k j spot lies e).0,
+            subst (λ i. WasTaken relates reserved i v) (mark_of v k j spot lies e).0 record {
               state = s;
               kept = subst (λ z. Kept relates reserved z s) (sym ((r.seat id v at).same live)) r;
-              mark = one;
+              mark = ap (λ i. get_or s.words (16 * i) 0) (sym lies.1) ∙ one;
               seat = id;
               mine = at;
               other = o.0;
@@ -126,31 +155,31 @@ module _ {S E O : Type 0} (relates : S → E → O → S → Type 0) (reserved :
           ),
         )
 
-    found : Found (eqb (get_or s.words (16 * k) 0) 0)
-    found = dite (ℕ_discrete (get_or s.words (16 * k) 0) 0)
-        (λ e. subst Found (sym (eq-eqb (get_or s.words (16 * k) 0) 0 e)) (won e))
-        (λ ne. subst Found (sym (ne_eqb (get_or s.words (16 * k) 0) 0 ne)) (lost ne))
+    found : Found (eqb (get_or s.words (16 * spot) 0) 0)
+    found = dite (ℕ_discrete (get_or s.words (16 * spot) 0) 0)
+        (λ e. subst Found (sym (eq-eqb (get_or s.words (16 * spot) 0) 0 e)) (won e))
+        (λ ne. subst Found (sym (ne_eqb (get_or s.words (16 * spot) 0) 0 ne)) (lost ne))
 
-  pub marks : (slots id k : ℕ) (v : View S E O) → k < slots → 0 < v.parts → phase_at v.turns k ≡ Nothing
-      → Allows Rule slots id (v, []) (16 * k) (λ n. either (eqb n 0) 1 n) (marked relates reserved (step slots (16 * k) 0 1 none) (v, []))
-  marks slots id k v inside live none_yet s r deep at small = let b = begun s r k slots deep inside in found slots id k v inside live none_yet s r deep at b.0 b.1
+  pub marks : (slots id k spot : ℕ) (v : View S E O) → IsAt v k spot → 0 < v.parts → phase_at v.turns k ≡ Nothing
+      → Allows Rule slots id (v, []) (16 * spot) (λ n. either (eqb n 0) 1 n) (marked relates reserved (step slots (16 * spot) 0 1 none) (v, []))
+  marks slots id k spot v lies live none_yet s r deep at small = let b = begun s r id k spot v at live lies in found id k spot v lies live none_yet s r at b.0 b.1 b.2 b.3
 
   -- kind 4, by a hand that lost
-  pub looks : (slots id k : ℕ) (v : View S E O) → k < slots → 0 < v.parts
-      → Allows Rule slots id (v, []) (16 * k + 1) (λ n. n) (looked (step slots (16 * k + 1) 0 0 none) (v, []))
-  looks slots id k v inside live s r deep at small =
-      let b = begun s r k slots deep inside in
-      let ok = r.place k b.0 b.1 in
-      let n : ℕ = get_or s.words (16 * k + 1) 0 in
+  pub looks : (slots id k spot : ℕ) (v : View S E O) → IsAt v k spot → 0 < v.parts
+      → Allows Rule slots id (v, []) (16 * spot + 1) (λ n. n) (looked (step slots (16 * spot + 1) 0 0 none) (v, []))
+  looks slots id k spot v lies live s r deep at small =
+      let b = begun s r id k spot v at live lies in
+      let ok = there_ok s r k spot b.0 b.1 b.2 in
+      let n : ℕ = get_or s.words (16 * spot + 1) 0 in
       let count : n ≡ length (r.log k) = ok.count in
       let low = ok.low in
       let seen = (r.seat id v at).seen k in (
         noted k n v,
         keeps,
         tt,
-        subst (λ ws. Rule record { words = ws; homes = s.homes; views = set s.views id (noted k n v) }) (sym (set-get_or s.words (16 * k + 1) 0))
+        subst (λ ws. Rule record { words = ws; homes = s.homes; views = set s.views id (noted k n v) }) (sym (set-get_or s.words (16 * spot + 1) 0))
             (reviewed relates reserved starts s r id v at live ((k, n) ∷ v.seen) v.tries (noted_low s r id v at k n count)),
-        λ j e. subst (λ i. Path (Sat S E O) (noted k n v, []) (noted i n v, []) × (seen_at v.seen i ≤ n) × (n ≤ 2 ^ 56)) (double_more k j e) (refl, omega arith, omega arith),
+        λ j e. subst (λ i. Path (Sat S E O) (noted k n v, []) (noted i n v, []) × (seen_at v.seen i ≤ n) × (n ≤ 2 ^ 56)) (count_of v k j spot lies e).0 (refl, omega arith, omega arith),
       )
 
   one_main : (s : St) (r : Rule s) (i j : ℕ) (v w : View S E O) → get_elem? s.views i ≡ some v → get_elem? s.views j ≡ some w → v.main ≡ true → w.main ≡ true → v ≡ w
@@ -193,9 +222,9 @@ module _ {S E O : Type 0} (relates : S → E → O → S → Type 0) (reserved :
       (λ q. subst (λ (z : View S E O). In e z.entries) (some-injective o.1 v (sym o.2 ∙ (ap (get_elem? s.views) q ∙ at))) o.3)
       (λ ne. elim (subst (λ (z : View S E O). In e z.entries) (others_spent s r id v at all o.0 o.1 ne o.2) o.3) [ ])
 
-  given : (s : St) (r : Rule s) (id : ℕ) (v : View S E O) → get_elem? s.views id ≡ some v → 0 < v.parts → (k : ℕ) (a : S) → slice_get starts k ≡ Some a → PlaceOk relates s.words s.homes (r.log k) (r.cells k) k a
+  given : (s : St) (r : Rule s) (id : ℕ) (v : View S E O) → get_elem? s.views id ≡ some v → 0 < v.parts → (k spot : ℕ) (a : S) → slice_get starts k ≡ Some a → PlaceOk relates s.words s.homes (r.log k) (r.cells k) k spot a
       → (n : ℕ) → n ≡ length (r.log k) → (x : S) → Leaves relates a (r.log k) x → Given relates reserved k v n x
-  given s r id v at live k a start ok n count x leaves =
+  given s r id v at live k spot a start ok n count x leaves =
       let own : (e : Entry E O) → In e v.entries → e.place ≡ k → slice_get (r.log k) e.number ≡ Some e = λ e h p. subst (λ j. slice_get (r.log j) e.number ≡ Some e) p ((r.seat id v at).tied e h).1 in record {
         history = r.log k;
         long = sym count;
@@ -210,24 +239,24 @@ module _ {S E O : Type 0} (relates : S → E → O → S → Type 0) (reserved :
       }
 
   -- kind 4, by the hand that has the mark
-  pub counts : (slots id k : ℕ) (v : View S E O) (c : List (ℕ × Option S)) → k < slots → 0 < v.parts → (x : S) → phase_at v.turns k ≡ Marked x
-      → Allows Rule slots id (v, c) (16 * k + 1) (λ n. n) (counted relates reserved (step slots (16 * k + 1) 0 0 none) (v, c))
-  counts slots id k v c inside live x phase s r deep at small =
-      let b = begun s r k slots deep inside in
-      let ok = r.place k b.0 b.1 in
-      let n : ℕ = get_or s.words (16 * k + 1) 0 in
+  pub counts : (slots id k spot : ℕ) (v : View S E O) (c : List (ℕ × Option S)) → IsAt v k spot → 0 < v.parts → (x : S) → phase_at v.turns k ≡ Marked x
+      → Allows Rule slots id (v, c) (16 * spot + 1) (λ n. n) (counted relates reserved (step slots (16 * spot + 1) 0 0 none) (v, c))
+  counts slots id k spot v c lies live x phase s r deep at small =
+      let b = begun s r id k spot v at live lies in
+      let ok = there_ok s r k spot b.0 b.1 b.2 in
+      let n : ℕ = get_or s.words (16 * spot + 1) 0 in
       let count : n ≡ length (r.log k) = ok.count in
       let low = ok.low in
       let seen = (r.seat id v at).seen k in
       let m = mine_is (r.cells k) id (phase_at v.turns k) (Marked x) ((r.seat id v at).turns k) phase (λ e. absurd cc) in
-      let h = subst (Stands relates s.homes k (r.log k) b.0) m.1 ok.stands in
+      let h = subst (Stands relates s.homes spot (r.log k) b.0) m.1 ok.stands in
       let w : View S E O = phased k (Out n x) (noted k n v) in
       let now : phased k (with_count n (phase_at v.turns k)) (noted k n v) ≡ w = ap (λ p. phased k (with_count n p) (noted k n v)) phase in (
         w,
         keeps,
         tt,
-        subst (λ ws. Rule record { words = ws; homes = s.homes; views = set s.views id w }) (sym (set-get_or s.words (16 * k + 1) 0))
-            (rephased relates reserved starts s r k b.0 b.1 id v at live ((k, n) ∷ v.seen) v.tries ((k, Out n x) ∷ v.turns) (suc id, Out n x) s.words s.homes refl refl (λ j ne. (refl, refl, refl))
+        subst (λ ws. Rule record { words = ws; homes = s.homes; views = set s.views id w }) (sym (set-get_or s.words (16 * spot + 1) 0))
+            (rephased relates reserved starts s r k b.0 b.1 spot b.2 id v at live ((k, n) ∷ v.seen) v.tries ((k, Out n x) ∷ v.turns) (suc id, Out n x) s.words s.homes refl refl (λ j ne. (refl, refl, refl))
             record {
               mark = let q = ok.mark in let z = m.0 in omega arith;
               count = count;
@@ -238,25 +267,25 @@ module _ {S E O : Type 0} (relates : S → E → O → S → Type 0) (reserved :
               stands = (h.0, count, h.1);
             }
             (inr m.0) (inr refl) (noted_low s r id v at k n count) (inl (refl, sym (phase_here v.turns k (Out n x)))) (λ j ne. phase_else v.turns k (Out n x) j ne)),
-        λ j e. subst (λ i. Path (Sat S E O) (w, c) (phased i (with_count n (phase_at v.turns i)) (noted i n v), c) × (seen_at v.seen i ≤ n) × (n ≤ 2 ^ 56) × ((y : S) → phase_at v.turns i ≡ Marked y → Given relates reserved i v n y)) (double_more k j e) (
+        λ j e. subst (λ i. Path (Sat S E O) (w, c) (phased i (with_count n (phase_at v.turns i)) (noted i n v), c) × (seen_at v.seen i ≤ n) × (n ≤ 2 ^ 56) × ((y : S) → phase_at v.turns i ≡ Marked y → Given relates reserved i v n y)) (count_of v k j spot lies e).0 (
           ap (λ u. (u, c)) (sym now),
           omega arith,
           omega arith,
-          λ y q. let same : Marked x ≡ Marked y = sym phase ∙ q in let x≡y : x ≡ y = cc in subst (Given relates reserved k v n) x≡y (given s r id v at live k b.0 b.1 ok n count x h.1),
+          λ y q. let same : Marked x ≡ Marked y = sym phase ∙ q in let x≡y : x ≡ y = cc in subst (Given relates reserved k v n) x≡y (given s r id v at live k spot b.0 b.1 ok n count x h.1),
         ),
       )
 
   -- a step by the hand that has the place, which moves the slot and the phase alone
-  turned_to : (slots id k : ℕ) (v : View S E O) → k < slots → 0 < v.parts → (p q : Phase S) → p ≢ Nothing → q ≢ Nothing → phase_at v.turns k ≡ p
+  turned_to : (slots id k spot : ℕ) (v : View S E O) → IsAt v k spot → 0 < v.parts → (p q : Phase S) → p ≢ Nothing → q ≢ Nothing → phase_at v.turns k ≡ p
       → (s : St) (r : Rule s) → length s.homes ≡ slots → get_elem? s.views id ≡ some v → (homes' : Homes S) → length homes' ≡ length s.homes
-      → ((j : ℕ) → j ≢ k → get_elem? homes' j ≡ get_elem? s.homes j)
-      → ((a : S) → Stands relates s.homes k (r.log k) a p → Stands relates homes' k (r.log k) a q)
+      → ((i : ℕ) → i ≢ spot → get_elem? homes' i ≡ get_elem? s.homes i)
+      → ((a : S) → Stands relates s.homes spot (r.log k) a p → Stands relates homes' spot (r.log k) a q)
       → Rule record { words = s.words; homes = homes'; views = set s.views id (phased k q v) }
-  turned_to slots id k v inside live p q some_p some_q phase s r deep at homes' as_deep same stands =
-      let b = begun s r k slots deep inside in
-      let ok = r.place k b.0 b.1 in
+  turned_to slots id k spot v lies live p q some_p some_q phase s r deep at homes' as_deep same stands =
+      let b = begun s r id k spot v at live lies in
+      let ok = there_ok s r k spot b.0 b.1 b.2 in
       let m = mine_is (r.cells k) id (phase_at v.turns k) p ((r.seat id v at).turns k) phase some_p in
-      rephased relates reserved starts s r k b.0 b.1 id v at live v.seen v.tries ((k, q) ∷ v.turns) (suc id, q) s.words homes' refl as_deep (λ j ne. (refl, refl, same j ne))
+      rephased relates reserved starts s r k b.0 b.1 spot b.2 id v at live v.seen v.tries ((k, q) ∷ v.turns) (suc id, q) s.words homes' refl as_deep (λ j ne. (refl, refl, same j ne))
       record {
         mark = let e = ok.mark in let z = m.0 in omega arith;
         count = ok.count;
@@ -264,84 +293,85 @@ module _ {S E O : Type 0} (relates : S → E → O → S → Type 0) (reserved :
         named = ok.named;
         free = λ e. absurd (omega arith);
         held = λ _. some_q;
-        stands = stands b.0 (subst (Stands relates s.homes k (r.log k) b.0) m.1 ok.stands);
+        stands = stands b.0 (subst (Stands relates s.homes spot (r.log k) b.0) m.1 ok.stands);
       }
       (inr m.0) (inr refl) (r.seat id v at).seen (inl (refl, sym (phase_here v.turns k q))) (λ j ne. phase_else v.turns k q j ne)
 
   -- kind 6, after which the slot is home and empty
-  pub empties : (slots id k : ℕ) (v : View S E O) → k < slots → 0 < v.parts → (n : ℕ) (x : S) → phase_at v.turns k ≡ Out n x → n < 2 ^ 56
-      → Allows Rule slots id (v, (k, None) ∷ []) (16 * k) (λ n. n) (emptied (step slots (16 * k) 0 0 none) (v, (k, None) ∷ []))
-  empties slots id k v inside live n x phase low s r deep at small =
+  pub empties : (slots id k spot : ℕ) (v : View S E O) → IsAt v k spot → 0 < v.parts → (n : ℕ) (x : S) → phase_at v.turns k ≡ Out n x → n < 2 ^ 56
+      → Allows Rule slots id (v, (spot, None) ∷ []) (16 * spot) (λ n. n) (emptied (step slots (16 * spot) 0 0 none) (v, (spot, None) ∷ []))
+  empties slots id k spot v lies live n x phase low s r deep at small =
       let w : View S E O = phased k (Held n x) v in (
         w,
         gives,
         tt,
-        subst (λ ws. Rule record { words = ws; homes = set s.homes k (some None); views = set s.views id w }) (sym (set-get_or s.words (16 * k) 0))
-            (turned_to slots id k v inside live (Out n x) (Held n x) (λ e. absurd cc) (λ e. absurd cc) phase s r deep at (set s.homes k (some None)) (length-set s.homes k (some None))
-            (λ j ne. set_else s.homes k j (some None) ne) (λ a h. (set_here s.homes k (some None) (omega arith), h.1, low, h.2))),
-        λ j e. subst (λ i. Path (Sat S E O) (w, []) (phased i (emptied_phase (phase_at v.turns i)) v, [])) (double k j e) (ap (λ p. (phased k (emptied_phase p) v, [])) (sym phase)),
+        subst (λ ws. Rule record { words = ws; homes = set s.homes spot (some None); views = set s.views id w }) (sym (set-get_or s.words (16 * spot) 0))
+            (turned_to slots id k spot v lies live (Out n x) (Held n x) (λ e. absurd cc) (λ e. absurd cc) phase s r deep at (set s.homes spot (some None)) (length-set s.homes spot (some None))
+            (λ j ne. set_else s.homes spot j (some None) ne) (λ a h. (set_here s.homes spot (some None) (begun s r id k spot v at live lies).3, h.1, low, h.2))),
+        λ j e. subst (λ i. Path (Sat S E O) (w, []) (phased i (emptied_phase (phase_at v.turns i)) v, [])) (mark_of v k j spot lies e).0 (ap (λ p. (phased k (emptied_phase p) v, [])) (sym phase)),
       )
 
   -- the empty slot is fetched
-  pub reaches : (slots id k : ℕ) (v : View S E O) → k < slots → 0 < v.parts → (n : ℕ) (x : S) → phase_at v.turns k ≡ Held n x
-      → Allows Rule slots id (v, []) (16 * k) (λ n. n) (reached (step slots (16 * k) 0 0 none) (v, []))
-  reaches slots id k v inside live n x phase s r deep at small =
+  pub reaches : (slots id k spot : ℕ) (v : View S E O) → IsAt v k spot → 0 < v.parts → (n : ℕ) (x : S) → phase_at v.turns k ≡ Held n x
+      → Allows Rule slots id (v, []) (16 * spot) (λ n. n) (reached (step slots (16 * spot) 0 0 none) (v, []))
+  reaches slots id k spot v lies live n x phase s r deep at small =
       let w : View S E O = phased k (Out n x) v in
-      let b = begun s r k slots deep inside in
-      let ok = r.place k b.0 b.1 in
+      let b = begun s r id k spot v at live lies in
+      let ok = there_ok s r k spot b.0 b.1 b.2 in
       let m = mine_is (r.cells k) id (phase_at v.turns k) (Held n x) ((r.seat id v at).turns k) phase (λ e. absurd cc) in
-      let h = subst (Stands relates s.homes k (r.log k) b.0) m.1 ok.stands in (
+      let h = subst (Stands relates s.homes spot (r.log k) b.0) m.1 ok.stands in (
         w,
-        takes k None,
+        takes spot None,
         h.0,
-        subst (λ ws. Rule record { words = ws; homes = set s.homes k none; views = set s.views id w }) (sym (set-get_or s.words (16 * k) 0))
-            (turned_to slots id k v inside live (Held n x) (Out n x) (λ e. absurd cc) (λ e. absurd cc) phase s r deep at (set s.homes k none) (length-set s.homes k none)
-            (λ j ne. set_else s.homes k j none ne) (λ a h'. (set_here s.homes k none (omega arith), h'.1, h'.3))),
-        λ j e. subst (λ i. Path (Sat S E O) (w, (k, None) ∷ []) (phased i (reached_phase (phase_at v.turns i)) v, (i, None) ∷ []) × ((n' : ℕ) (y : S) → phase_at v.turns i ≡ Held n' y → n' < 2 ^ 56)) (double k j e)
-            (ap (λ p. (phased k (reached_phase p) v, (k, None) ∷ [])) (sym phase), λ n' y q. let same : Held n x ≡ Held n' y = sym phase ∙ q in let e' : n ≡ n' = ap number_of same in let l = h.2 in omega arith),
+        subst (λ ws. Rule record { words = ws; homes = set s.homes spot none; views = set s.views id w }) (sym (set-get_or s.words (16 * spot) 0))
+            (turned_to slots id k spot v lies live (Held n x) (Out n x) (λ e. absurd cc) (λ e. absurd cc) phase s r deep at (set s.homes spot none) (length-set s.homes spot none)
+            (λ j ne. set_else s.homes spot j none ne) (λ a h'. (set_here s.homes spot none b.3, h'.1, h'.3))),
+        λ j e. let lies' = mark_of v k j spot lies e in
+            subst (λ (z : ℕ × ℕ). Path (Sat S E O) (w, (spot, None) ∷ []) (phased z.0 (reached_phase (phase_at v.turns z.0)) v, (z.1, None) ∷ []) × ((n' : ℕ) (y : S) → phase_at v.turns z.0 ≡ Held n' y → n' < 2 ^ 56)) (λ i. (lies'.0 i, lies'.1 i))
+            (ap (λ p. (phased k (reached_phase p) v, (spot, None) ∷ [])) (sym phase), λ n' y q. let same : Held n x ≡ Held n' y = sym phase ∙ q in let e' : n ≡ n' = ap number_of same in let l = h.2 in omega arith),
       )
 
   -- kind 8: the mark is free, and the state is home, or goes home unchanged
-  released : (slots id k : ℕ) (v : View S E O) → k < slots → 0 < v.parts → (p : Phase S) → p ≢ Nothing → phase_at v.turns k ≡ p
+  released : (slots id k spot : ℕ) (v : View S E O) → IsAt v k spot → 0 < v.parts → (p : Phase S) → p ≢ Nothing → phase_at v.turns k ≡ p
       → (s : St) (r : Rule s) → length s.homes ≡ slots → get_elem? s.views id ≡ some v → (homes' : Homes S) → length homes' ≡ length s.homes
-      → ((j : ℕ) → j ≢ k → get_elem? homes' j ≡ get_elem? s.homes j)
-      → ((a : S) → Stands relates s.homes k (r.log k) a p → Stands relates homes' k (r.log k) a Nothing)
-      → Rule record { words = set s.words (16 * k) 0; homes = homes'; views = set s.views id (phased k Nothing v) }
-  released slots id k v inside live p some_p phase s r deep at homes' as_deep same stands =
-      let b = begun s r k slots deep inside in
-      let ok = r.place k b.0 b.1 in
+      → ((i : ℕ) → i ≢ spot → get_elem? homes' i ≡ get_elem? s.homes i)
+      → ((a : S) → Stands relates s.homes spot (r.log k) a p → Stands relates homes' spot (r.log k) a Nothing)
+      → Rule record { words = set s.words (16 * spot) 0; homes = homes'; views = set s.views id (phased k Nothing v) }
+  released slots id k spot v lies live p some_p phase s r deep at homes' as_deep same stands =
+      let b = begun s r id k spot v at live lies in
+      let ok = there_ok s r k spot b.0 b.1 b.2 in
       let wide = r.wide in
       let m = mine_is (r.cells k) id (phase_at v.turns k) p ((r.seat id v at).turns k) phase some_p in
-      rephased relates reserved starts s r k b.0 b.1 id v at live v.seen v.tries ((k, Nothing) ∷ v.turns) (0, Nothing) (set s.words (16 * k) 0) homes' (length-set s.words (16 * k) 0) as_deep
-      (λ j ne. let f = far_mark s.words k 0 j ne in (f.0, f.1, same j ne))
+      rephased relates reserved starts s r k b.0 b.1 spot b.2 id v at live v.seen v.tries ((k, Nothing) ∷ v.turns) (0, Nothing) (set s.words (16 * spot) 0) homes' (length-set s.words (16 * spot) 0) as_deep
+      (λ j ne. let f = far_mark s.words spot 0 j ne in (f.0, f.1, same j ne))
       record {
-        mark = get_or-set_same s.words (16 * k) 0 0 (omega arith) ∙ (omega arith);
-        count = get_or-set_other s.words (16 * k) (16 * k + 1) 0 0 (λ e. omega arith) ∙ ok.count;
+        mark = get_or-set_same s.words (16 * spot) 0 0 (let low = b.3 in omega arith) ∙ (omega arith);
+        count = get_or-set_other s.words (16 * spot) (16 * spot + 1) 0 0 (λ e. omega arith) ∙ ok.count;
         low = ok.low;
         named = ok.named;
         free = λ _. refl;
         held = λ e. absurd (omega arith);
-        stands = stands b.0 (subst (Stands relates s.homes k (r.log k) b.0) m.1 ok.stands);
+        stands = stands b.0 (subst (Stands relates s.homes spot (r.log k) b.0) m.1 ok.stands);
       }
       (inr m.0) (inl refl) (r.seat id v at).seen (inr ((λ e. omega arith), phase_here v.turns k Nothing)) (λ j ne. phase_else v.turns k Nothing j ne)
 
-  pub frees : (slots id k : ℕ) (v : View S E O) → k < slots → 0 < v.parts → (y : S) → phase_at v.turns k ≡ Counted y
-      → Allows Rule slots id (v, []) (16 * k) (λ _. 0) (λ _. freed (step slots (16 * k) 0 0 none) (v, []) 0)
-  frees slots id k v inside live y phase s r deep at small = (
+  pub frees : (slots id k spot : ℕ) (v : View S E O) → IsAt v k spot → 0 < v.parts → (y : S) → phase_at v.turns k ≡ Counted y
+      → Allows Rule slots id (v, []) (16 * spot) (λ _. 0) (λ _. freed (step slots (16 * spot) 0 0 none) (v, []) 0)
+  frees slots id k spot v lies live y phase s r deep at small = (
     phased k Nothing v,
     keeps,
     tt,
-    released slots id k v inside live (Counted y) (λ e. absurd cc) phase s r deep at s.homes refl (λ j ne. refl) (λ a h. (y, h.0, h.1)),
-    λ j e. ap (λ i. (phased i Nothing v, [])) (double k j e),
+    released slots id k spot v lies live (Counted y) (λ e. absurd cc) phase s r deep at s.homes refl (λ j ne. refl) (λ a h. (y, h.0, h.1)),
+    λ j e. ap (λ i. (phased i Nothing v, [])) (mark_of v k j spot lies e).0,
   )
 
-  pub returns : (slots id k : ℕ) (v : View S E O) → k < slots → 0 < v.parts → (n : ℕ) (x : S) → phase_at v.turns k ≡ Out n x
-      → Allows Rule slots id (v, (k, Some x) ∷ []) (16 * k) (λ _. 0) (λ _. returned (step slots (16 * k) 0 0 none) (v, (k, Some x) ∷ []) 0)
-  returns slots id k v inside live n x phase s r deep at small = (
+  pub returns : (slots id k spot : ℕ) (v : View S E O) → IsAt v k spot → 0 < v.parts → (n : ℕ) (x : S) → phase_at v.turns k ≡ Out n x
+      → Allows Rule slots id (v, (spot, Some x) ∷ []) (16 * spot) (λ _. 0) (λ _. returned (step slots (16 * spot) 0 0 none) (v, (spot, Some x) ∷ []) 0)
+  returns slots id k spot v lies live n x phase s r deep at small = (
     phased k Nothing v,
     gives,
     tt,
-    released slots id k v inside live (Out n x) (λ e. absurd cc) phase s r deep at (set s.homes k (some (Some x))) (length-set s.homes k (some (Some x))) (λ j ne. set_else s.homes k j (some (Some x)) ne)
-        (λ a h. (x, set_here s.homes k (some (Some x)) (omega arith), h.2)),
-    λ j e. ap (λ i. (phased i Nothing v, [])) (double k j e),
+    released slots id k spot v lies live (Out n x) (λ e. absurd cc) phase s r deep at (set s.homes spot (some (Some x))) (length-set s.homes spot (some (Some x))) (λ j ne. set_else s.homes spot j (some (Some x)) ne)
+        (λ a h. (x, set_here s.homes spot (some (Some x)) (begun s r id k spot v at live lies).3, h.2)),
+    λ j e. ap (λ i. (phased i Nothing v, [])) (mark_of v k j spot lies e).0,
   )

@@ -1,4 +1,6 @@
 pub mod Lists
+pub mod Spots
+pub mod Casing
 pub mod Moved
 pub mod Keeps
 pub mod Ends

@@ -1,5 +1,5 @@
 -- A step of one seat on one place keeps the rule.
-use Rattle.std.proofs.Common.{◌≡◌, ◌≢◌, ◌⊎◌, ℕ, suc, ◌+◌, ◌*◌, ◌<◌, ◌≤◌, List, length, set, get_or, Option, Some, slice_get, sym, refl, ap, ◌∙◌, subst, inl, inr, ⊎_elim, arith, le_trans, le_refl}
+use Rattle.std.proofs.Common.{◌≡◌, ◌≢◌, ◌⊎◌, ℕ, suc, ◌+◌, ◌*◌, ◌<◌, ◌≤◌, List, length, set, get_or, Option, Some, None, slice_get, sym, refl, ap, ◌∙◌, subst, inl, inr, ⊎_elim, arith, le_trans, le_refl}
 use Rattle.std.proofs.lemmas.Option.{slice_get_within}
 use mathlib.Core.Option.{some, none}
 use mathlib.Core.Option as maybe
@@ -13,8 +13,10 @@ use Rattle.turn_table.specs.declared.view.View.{View}
 use Rattle.turn_table.specs.declared.view.Phase.{Phase}
 use Rattle.turn_table.specs.declared.view.Phase.TheVariants.{Nothing, Marked, Out, Held, Counted}
 use Rattle.turn_table.specs.Histories.{one_if, below, seen_at, phase_at, times}
+use Rattle.turn_table.specs.Layout.{rows_of, spot_of}
 use Rattle.turn_table.specs.Kept.{Matches, Stands, PlaceOk, SeatOk, Kept}
 use Rattle.turn_table.proofs.Lists.{total_set, put, put_here, put_else, put_all, within}
+use Rattle.turn_table.proofs.Spots.{rows_hold, one_spot}
 
 abbrev pub Homes : Type 0 → Type 0
 Homes S = List (maybe.Option (Option S))
@@ -23,35 +25,42 @@ Homes S = List (maybe.Option (Option S))
 abbrev pub Grows : {A : Type 0} → List A → List A → Type 0
 Grows {A = A} xs ys = (length xs ≤ length ys) × ((i : ℕ) (x : A) → slice_get xs i ≡ Some x → slice_get ys i ≡ Some x)
 
+-- other spots' words and slots are as they were
+abbrev pub Apart : {S : Type 0} → ℕ → List ℕ → List ℕ → Homes S → Homes S → Type 0
+Apart spot words words' homes homes' = (i : ℕ) → i ≢ spot → (get_or words' (16 * i) 0 ≡ get_or words (16 * i) 0) × (get_or words' (16 * i + 1) 0 ≡ get_or words (16 * i + 1) 0) × (get_elem? homes' i ≡ get_elem? homes i)
+
 pub not_mine : (c id other : ℕ) → other ≢ id → (c ≡ 0) ⊎ (c ≡ suc id) → c ≢ suc other
 not_mine c id other ne (inl z) e = absurd (omega arith)
 not_mine c id other ne (inr z) e = ne (omega arith)
 
 module _ {S E O : Type 0} (relates : S → E → O → S → Type 0) where
-  pub stands_there : (homes homes' : Homes S) (k : ℕ) (log : List (Entry E O)) (a : S) → get_elem? homes' k ≡ get_elem? homes k → (p : Phase S) → Stands relates homes k log a p → Stands relates homes' k log a p
-  stands_there homes homes' k log a e Nothing h = (h.0, e ∙ h.1, h.2)
-  stands_there homes homes' k log a e (Marked x) h = (e ∙ h.0, h.1)
-  stands_there homes homes' k log a e (Out n x) h = (e ∙ h.0, h.1, h.2)
-  stands_there homes homes' k log a e (Held n x) h = (e ∙ h.0, h.1, h.2, h.3)
-  stands_there homes homes' k log a e (Counted x) h = (e ∙ h.0, h.1)
+  pub stands_there : (homes homes' : Homes S) (spot : ℕ) (log : List (Entry E O)) (a : S) → get_elem? homes' spot ≡ get_elem? homes spot → (p : Phase S) → Stands relates homes spot log a p → Stands relates homes' spot log a p
+  stands_there homes homes' spot log a e Nothing h = (h.0, e ∙ h.1, h.2)
+  stands_there homes homes' spot log a e (Marked x) h = (e ∙ h.0, h.1)
+  stands_there homes homes' spot log a e (Out n x) h = (e ∙ h.0, h.1, h.2)
+  stands_there homes homes' spot log a e (Held n x) h = (e ∙ h.0, h.1, h.2, h.3)
+  stands_there homes homes' spot log a e (Counted x) h = (e ∙ h.0, h.1)
 
   -- a place that the step does not touch
-  pub stays : (words words' : List ℕ) (homes homes' : Homes S) (log : List (Entry E O)) (cell : ℕ × Phase S) (k : ℕ) (a : S)
-      → (get_or words' (16 * k) 0 ≡ get_or words (16 * k) 0) × (get_or words' (16 * k + 1) 0 ≡ get_or words (16 * k + 1) 0) × (get_elem? homes' k ≡ get_elem? homes k)
-      → PlaceOk relates words homes log cell k a → PlaceOk relates words' homes' log cell k a
-  stays words words' homes homes' log cell k a same ok = record {
+  pub stays : (words words' : List ℕ) (homes homes' : Homes S) (log : List (Entry E O)) (cell : ℕ × Phase S) (k spot : ℕ) (a : S)
+      → (get_or words' (16 * spot) 0 ≡ get_or words (16 * spot) 0) × (get_or words' (16 * spot + 1) 0 ≡ get_or words (16 * spot + 1) 0) × (get_elem? homes' spot ≡ get_elem? homes spot)
+      → PlaceOk relates words homes log cell k spot a → PlaceOk relates words' homes' log cell k spot a
+  stays words words' homes homes' log cell k spot a same ok = record {
     mark = same.0 ∙ ok.mark;
     count = same.1 ∙ ok.count;
     low = ok.low;
     named = ok.named;
     free = ok.free;
     held = ok.held;
-    stands = stands_there homes homes' k log a same.2 cell.1 ok.stands;
+    stands = stands_there homes homes' spot log a same.2 cell.1 ok.stands;
   }
 
 module _ {S E O : Type 0} (relates : S → E → O → S → Type 0) (reserved : E → Type 0) (starts : List S) where
   abbrev St : Type 0
   St = State (Option S) (View S E O)
+
+  abbrev rows : ℕ
+  rows = rows_of (length starts)
 
   -- the rest of what `moved` needs of a step on the place k by the seat id, from the view v to w
   pub record Moves (s : St) (r : Kept relates reserved starts s) (k id : ℕ) (v w : View S E O) (log' : List (Entry E O)) (cell' : ℕ × Phase S) : Type 0 where
@@ -80,16 +89,25 @@ module _ {S E O : Type 0} (relates : S → E → O → S → Type 0) (reserved :
           (inr (not_mine cell'.0 id other ne is, ⊎_elim (λ m. absurd (not_mine (r.cells k).0 id other ne was m.0)) (λ m. m.1) (ok.turns k))) (λ _. ok.turns j);
     }
 
-    there : (words' : List ℕ) (homes' : Homes S) (a : S) → slice_get starts k ≡ Some a
-        → ((j : ℕ) → j ≢ k → (get_or words' (16 * j) 0 ≡ get_or s.words (16 * j) 0) × (get_or words' (16 * j + 1) 0 ≡ get_or s.words (16 * j + 1) 0) × (get_elem? homes' j ≡ get_elem? s.homes j))
-        → PlaceOk relates words' homes' log' cell' k a → (j : ℕ) (b : S) → slice_get starts j ≡ Some b → PlaceOk relates words' homes' (put r.log k log' j) (put r.cells k cell' j) j b
-    there words' homes' a start same ok j b start' = dite (ℕ_discrete j k)
+    there : (words' : List ℕ) (homes' : Homes S) (a : S) → slice_get starts k ≡ Some a → (spot : ℕ) → spot ≡ spot_of rows k → Apart spot s.words words' s.homes homes'
+        → PlaceOk relates words' homes' log' cell' k spot a → (j : ℕ) (b : S) → slice_get starts j ≡ Some b → PlaceOk relates words' homes' (put r.log k log' j) (put r.cells k cell' j) j (spot_of rows j) b
+    there words' homes' a start spot is same ok j b start' = dite (ℕ_discrete j k)
         (λ e. let p : Some a ≡ Some b = sym start ∙ (ap (slice_get starts) (sym e) ∙ start') in let q : a ≡ b = cc in
-        subst (λ (z : List (Entry E O) × (ℕ × Phase S) × ℕ × S). PlaceOk relates words' homes' z.0 z.1 z.2 z.3)
-        (λ i. ((sym (put_here r.log k log') ∙ ap (put r.log k log') (sym e)) i, (sym (put_here r.cells k cell') ∙ ap (put r.cells k cell') (sym e)) i, sym e i, q i)) ok)
-        (λ ne. subst (λ (z : List (Entry E O) × (ℕ × Phase S)). PlaceOk relates words' homes' z.0 z.1 j b)
+        subst (λ (z : List (Entry E O) × (ℕ × Phase S) × ℕ × ℕ × S). PlaceOk relates words' homes' z.0 z.1 z.2 z.3 z.4)
+        (λ i. ((sym (put_here r.log k log') ∙ ap (put r.log k log') (sym e)) i, (sym (put_here r.cells k cell') ∙ ap (put r.cells k cell') (sym e)) i, sym e i, (is ∙ ap (spot_of rows) (sym e)) i, q i)) ok)
+        (λ ne. subst (λ (z : List (Entry E O) × (ℕ × Phase S)). PlaceOk relates words' homes' z.0 z.1 j (spot_of rows j) b)
         (λ i. (sym (put_else r.log k log' j ne) i, sym (put_else r.cells k cell' j ne) i))
-        (stays relates s.words words' s.homes homes' (r.log j) (r.cells j) j b (same j ne) (r.place j b start')))
+        (stays relates s.words words' s.homes homes' (r.log j) (r.cells j) j (spot_of rows j) b (same (spot_of rows j) (λ e. ne (one_spot rows j k (inside_of j b start') (inside_of k a start) (e ∙ is)))) (r.place j b start')))
+      where
+        inside_of : (j : ℕ) (b : S) → slice_get starts j ≡ Some b → j < 16 * rows
+        inside_of j b at = let w = slice_get_within starts j b at in let h = rows_hold (length starts) in omega arith
+
+    -- no step touches a spare slot
+    vacant : (words' : List ℕ) (homes' : Homes S) → length homes' ≡ length s.homes → k < length starts → (spot : ℕ) → spot ≡ spot_of rows k → Apart spot s.words words' s.homes homes'
+        → (j : ℕ) → length starts ≤ j → j < length homes' → get_elem? homes' (spot_of rows j) ≡ some (some None)
+    vacant words' homes' as_deep inside spot is same j past low =
+        let l = r.long in let h = rows_hold (length starts) in
+        (same (spot_of rows j) (λ e. let q = one_spot rows j k (omega arith) (omega arith) (e ∙ is) in omega arith)).2 ∙ r.spare j past (omega arith)
 
     holder : (id : ℕ) (v w : View S E O) → get_elem? s.views id ≡ some v → (cell'.0 ≡ 0) ⊎ (cell'.0 ≡ suc id) → (j : ℕ) → 0 < (put r.cells k cell' j).0
         → (i : ℕ) × (u : View S E O) × ((put r.cells k cell' j).0 ≡ suc i) × (get_elem? (set s.views id w) i ≡ some u)
@@ -99,18 +117,19 @@ module _ {S E O : Type 0} (relates : S → E → O → S → Type 0) (reserved :
         (λ e. (id, w, o.2 ∙ ap suc e, set_here s.views id w (within s.views id v at)))
         (λ ne. (o.0, o.1, o.2, set_else s.views id o.0 w ne ∙ o.3)))
 
-  pub moved : (s : St) (r : Kept relates reserved starts s) (k : ℕ) (a : S) → slice_get starts k ≡ Some a → (id : ℕ) (v w : View S E O) → get_elem? s.views id ≡ some v
+  pub moved : (s : St) (r : Kept relates reserved starts s) (k : ℕ) (a : S) → slice_get starts k ≡ Some a → (spot : ℕ) → spot ≡ spot_of rows k → (id : ℕ) (v w : View S E O) → get_elem? s.views id ≡ some v
       → (log' : List (Entry E O)) (cell' : ℕ × Phase S) (words' : List ℕ) (homes' : Homes S)
       → length words' ≡ length s.words → length homes' ≡ length s.homes
-      → ((j : ℕ) → j ≢ k → (get_or words' (16 * j) 0 ≡ get_or s.words (16 * j) 0) × (get_or words' (16 * j + 1) 0 ≡ get_or s.words (16 * j + 1) 0) × (get_elem? homes' j ≡ get_elem? s.homes j))
-      → PlaceOk relates words' homes' log' cell' k a → Moves s r k id v w log' cell'
+      → Apart spot s.words words' s.homes homes'
+      → PlaceOk relates words' homes' log' cell' k spot a → Moves s r k id v w log' cell'
       → Kept relates reserved starts (record { words = words'; homes = homes'; views = set s.views id w })
-  moved s r k a start id v w at log' cell' words' homes' as_wide as_deep same ok m = record {
+  moved s r k a start spot is id v w at log' cell' words' homes' as_wide as_deep same ok m = record {
     log = put r.log k log';
     cells = put r.cells k cell';
     wide = as_wide ∙ (r.wide ∙ ap (λ n. 16 * n) (sym as_deep));
-    long = r.long ∙ sym as_deep;
-    place = there s r k log' cell' words' homes' a start same ok;
+    long = as_deep ∙ r.long;
+    place = there s r k log' cell' words' homes' a start spot is same ok;
+    spare = vacant s r k log' cell' words' homes' as_deep (slice_get_within starts k a start) spot is same;
     seat = λ j u at'. ⊎_elim
         (λ (t : (j ≡ id) × (w ≡ u)). subst (λ (z : ℕ × View S E O). SeatOk reserved starts (put r.log k log') (put r.cells k cell') z.0 z.1) (λ i. (sym t.0 i, t.1 i)) m.mine)
         (λ (t : (j ≢ id) × (get_elem? s.views j ≡ some u)). others s r k log' cell' id j u t.0 m.grows m.was m.is (r.seat j u t.1))
@@ -127,17 +146,17 @@ module _ {S E O : Type 0} (relates : S → E → O → S → Type 0) (reserved :
   put_same f k j = put_all (λ j a. a ≡ f j) f k (f k) j refl (λ _. refl)
 
   -- a step of the place that adds no entry: the seat notes what it saw and tried, and the phase
-  pub rephased : (s : St) (r : Kept relates reserved starts s) (k : ℕ) (a : S) → slice_get starts k ≡ Some a → (id : ℕ) (v : View S E O) → get_elem? s.views id ≡ some v → 0 < v.parts
+  pub rephased : (s : St) (r : Kept relates reserved starts s) (k : ℕ) (a : S) → slice_get starts k ≡ Some a → (spot : ℕ) → spot ≡ spot_of rows k → (id : ℕ) (v : View S E O) → get_elem? s.views id ≡ some v → 0 < v.parts
       → (ns rs : List (ℕ × ℕ)) (ts : List (ℕ × Phase S)) (cell' : ℕ × Phase S) (words' : List ℕ) (homes' : Homes S)
       → length words' ≡ length s.words → length homes' ≡ length s.homes
-      → ((j : ℕ) → j ≢ k → (get_or words' (16 * j) 0 ≡ get_or s.words (16 * j) 0) × (get_or words' (16 * j + 1) 0 ≡ get_or s.words (16 * j + 1) 0) × (get_elem? homes' j ≡ get_elem? s.homes j))
-      → PlaceOk relates words' homes' (r.log k) cell' k a
+      → Apart spot s.words words' s.homes homes'
+      → PlaceOk relates words' homes' (r.log k) cell' k spot a
       → ((r.cells k).0 ≡ 0) ⊎ ((r.cells k).0 ≡ suc id) → (cell'.0 ≡ 0) ⊎ (cell'.0 ≡ suc id)
       → ((j : ℕ) → seen_at ns j ≤ length (r.log j)) → Matches cell' id (phase_at ts k) → ((j : ℕ) → j ≢ k → phase_at ts j ≡ phase_at v.turns j)
       → Kept relates reserved starts (record { words = words'; homes = homes'; views = set s.views id (record v { seen = ns; tries = rs; turns = ts }) })
-  rephased s r k a start id v at live ns rs ts cell' words' homes' as_wide as_deep same ok was is seen now else =
+  rephased s r k a start spot lies id v at live ns rs ts cell' words' homes' as_wide as_deep same ok was is seen now else =
       let mine = r.seat id v at in
-      moved s r k a start id v (record v { seen = ns; tries = rs; turns = ts }) at (r.log k) cell' words' homes' as_wide as_deep same ok record {
+      moved s r k a start spot lies id v (record v { seen = ns; tries = rs; turns = ts }) at (r.log k) cell' words' homes' as_wide as_deep same ok record {
         was = was;
         is = is;
         grows = (le_refl _, λ i x e. e);
@@ -166,6 +185,7 @@ module _ {S E O : Type 0} (relates : S → E → O → S → Type 0) (reserved :
         wide = r.wide;
         long = r.long;
         place = r.place;
+        spare = r.spare;
         beyond = r.beyond;
         seat = λ j u at'. ⊎_elim
             (λ (t : (j ≡ id) × (w ≡ u)). subst (λ (z : ℕ × View S E O). SeatOk reserved starts r.log r.cells z.0 z.1) (λ i. (sym t.0 i, t.1 i))

@@ -1,5 +1,6 @@
 -- A table begins, hands are cut and joined, and a table ends.
-use Rattle.std.proofs.Common.{◌≡◌, ◌≢◌, ℕ, zero, suc, ◌+◌, ◌*◌, ◌<◌, false, List, [], ◌∷◌, ◌++◌, map, length, set, get_or, Option, Some, None, slice_get, sym, refl, ap, ◌∙◌, subst, inr, ⊎_elim, arith, lt_of_not-le, length-set, eq-zero-or-pos}
+use Rattle.std.proofs.Common.{◌≡◌, ◌≢◌, ℕ, zero, suc, ◌+◌, ◌*◌, ◌<◌, ◌≤◌, false, List, [], ◌∷◌, ◌++◌, map, length, set, get_or, Option, Some, None, slice_get, sym, refl, ap, ◌∙◌, subst, inr, ⊎_elim, arith, lt_of_not-le, length-set, eq-zero-or-pos}
+use Rattle.std.proofs.lemmas.Option.{slice_get_within}
 use mathlib.Core.Option.{some, some-injective, some-ne-none}
 use mathlib.Core.Logic.{dite}
 use native.Mathlib.Decide.{ℕ_discrete, dec_le}
@@ -10,33 +11,53 @@ use Rattle.turn_table.specs.declared.machine.Entry.{Entry}
 use Rattle.turn_table.specs.declared.view.View.{View}
 use Rattle.turn_table.specs.declared.view.Phase.TheVariants.{Nothing}
 use Rattle.turn_table.specs.Histories.{one_if, phase_at, is_at, times, Leaves, IsHistory}
+use Rattle.turn_table.specs.Layout.{rows_of, spot_of}
 use Rattle.turn_table.specs.Kept.{Stands, SeatOk, Kept, first_view, spent_view}
 use Rattle.turn_table.specs.Steps.{cut_left, cut_right, glued, WasTaken}
 use Rattle.turn_table.proofs.Lists.{total_set, total_append, total_alone, in_split, get_there, seen_append, below_out, within, at_end}
+use Rattle.turn_table.proofs.Spots.{rows_hold}
 use Rattle.turn_table.proofs.Keeps.{not_held, others_spent, all_own}
 
-home_there : {S : Type 0} (xs : List S) (k : ℕ) (a : S) → slice_get xs k ≡ Some a → get_elem? (map some (map (λ (x : S). Some x) xs)) k ≡ some (some (Some a))
-home_there [] k a e = absurd (let n : None ≡ Some a = e in cc)
-home_there (x ∷ xs) zero a e = ap some (ap some e)
-home_there (x ∷ xs) (suc k) a e = home_there xs k a e
+-- the slots of a new table are home
+home_there : {A : Type 0} (xs : List A) (i : ℕ) (x : A) → get_elem? xs i ≡ some x → get_elem? (map some xs) i ≡ some (some x)
+home_there [] i x e = absurd (some-ne-none x (sym e))
+home_there (y ∷ ys) zero x e = ap some e
+home_there (y ∷ ys) (suc i) x e = home_there ys i x e
+
+aside_in : {S : Type 0} (xs : List S) (k : ℕ) (a : S) → slice_get xs k ≡ Some a → get_or (map (λ (x : S). Some x) xs) k None ≡ Some a
+aside_in [] k a e = absurd (let n : None ≡ Some a = e in cc)
+aside_in (x ∷ xs) zero a e = e
+aside_in (x ∷ xs) (suc k) a e = aside_in xs k a e
+
+aside_out : {S : Type 0} (xs : List S) (k : ℕ) → length xs ≤ k → get_or (map (λ (x : S). Some x) xs) k None ≡ None
+aside_out [] k h = refl
+aside_out (x ∷ xs) zero h = absurd (omega arith)
+aside_out (x ∷ xs) (suc k) h = aside_out xs k (omega arith)
 
 module _ {S E O : Type 0} (relates : S → E → O → S → Type 0) (reserved : E → Type 0) where
-  pub opens : (starts : List S) (ws : List ℕ) (xs : List (Option S)) → length ws ≡ 16 * length starts → ((i : ℕ) → get_or ws i 0 ≡ 0) → xs ≡ map (λ (x : S). Some x) starts
+  pub opens : (starts : List S) (ws : List ℕ) (xs : List (Option S)) → length ws ≡ 256 * rows_of (length starts) → ((i : ℕ) → get_or ws i 0 ≡ 0) → length xs ≡ 16 * rows_of (length starts)
+      → ((k : ℕ) → k < 16 * rows_of (length starts) → get_elem? xs (spot_of (rows_of (length starts)) k) ≡ some (get_or (map (λ (x : S). Some x) starts) k None))
       → Kept relates reserved starts (opening ws xs (first_view {E = E} {O = O} starts))
-  opens starts ws xs wide clear is = record {
+  opens starts ws xs wide clear deep laid = record {
     log = λ k. [];
     cells = λ k. (0, Nothing);
-    wide = wide ∙ ap (λ n. 16 * n) (sym long ∙ refl);
-    long = sym long;
+    wide = let l = long in omega arith;
+    long = long ∙ deep;
     place = λ k a start. record {
-      mark = clear (16 * k);
-      count = clear (16 * k + 1);
+      mark = clear (16 * spot_of (rows_of (length starts)) k);
+      count = clear (16 * spot_of (rows_of (length starts)) k + 1);
       low = omega arith;
       named = λ i e there. absurd (let n : None ≡ Some e = there in cc);
       free = λ _. refl;
       held = λ h. absurd (omega arith);
-      stands = (a, ap (λ l. get_elem? (map some l) k) is ∙ home_there starts k a start, refl);
+      stands = (
+        a,
+        home_there xs (spot_of (rows_of (length starts)) k) (Some a)
+            (laid k (let w = slice_get_within starts k a start in let h = rows_hold (length starts) in omega arith) ∙ ap some (aside_in starts k a start)),
+        refl,
+      );
     };
+    spare = λ k past low. home_there xs (spot_of (rows_of (length starts)) k) None (laid k (let l = long in omega arith) ∙ ap some (aside_out starts k past));
     beyond = λ k h. refl;
     seat = first;
     owned = λ k h. absurd (omega arith);
@@ -45,8 +66,8 @@ module _ {S E O : Type 0} (relates : S → E → O → S → Type 0) (reserved :
     once = λ k i. let b = below_out i 0 (omega arith) in omega arith;
   }
     where
-      long : length (map some xs) ≡ length starts
-      long = length-map xs (λ (y : Option S). some y) ∙ (ap length is ∙ length-map starts (λ (x : S). Some x))
+      long : length (map some xs) ≡ length xs
+      long = length-map xs (λ (y : Option S). some y)
 
       first : (j : ℕ) (u : View S E O) → get_elem? (first_view starts ∷ []) j ≡ some u → SeatOk reserved starts (λ k. []) (λ k. (0, Nothing)) j u
       first zero u at = subst (λ (z : View S E O). SeatOk reserved starts (λ k. []) (λ k. (0, Nothing)) 0 z) (some-injective (first_view starts) u at) record {
@@ -82,6 +103,7 @@ module _ {S E O : Type 0} (relates : S → E → O → S → Type 0) (reserved :
     wide = r.wide;
     long = r.long;
     place = r.place;
+    spare = r.spare;
     beyond = r.beyond;
     seat = seat;
     owned = λ k p. let o = r.owned k p in dite (ℕ_discrete o.0 id)
@@ -130,6 +152,7 @@ module _ {S E O : Type 0} (relates : S → E → O → S → Type 0) (reserved :
     wide = r.wide;
     long = r.long;
     place = r.place;
+    spare = r.spare;
     beyond = r.beyond;
     seat = seat;
     owned = λ k p. let o = r.owned k p in dite (ℕ_discrete o.0 id)
@@ -199,10 +222,10 @@ module _ {S E O : Type 0} (relates : S → E → O → S → Type 0) (reserved :
 
   -- the place k at the end: its history stands in the last hand's list, and its state is home
   pub closes : (s : St) (r : Rule s) (id : ℕ) (v : View S E O) → get_elem? s.views id ≡ some v → v.parts ≡ 1024 → ((k : ℕ) → phase_at v.turns k ≡ Nothing) → (k : ℕ) (a : S) → slice_get starts k ≡ Some a
-      → (x : S) × (get_elem? s.homes k ≡ some (some (Some x))) × Leaves relates a (r.log k) x × IsHistory v.entries k (r.log k)
+      → (x : S) × (get_elem? s.homes (spot_of (rows_of (length starts)) k) ≡ some (some (Some x))) × Leaves relates a (r.log k) x × IsHistory v.entries k (r.log k)
   closes s r id v at all idle k a start =
       let ok = r.place k a start in
-      let h = subst (Stands relates s.homes k (r.log k) a) (ok.free (nobody s r id v at all idle k)) ok.stands in (
+      let h = subst (Stands relates s.homes (spot_of (rows_of (length starts)) k) (r.log k) a) (ok.free (nobody s r id v at all idle k)) ok.stands in (
         h.0,
         h.1,
         h.2,

@@ -1,5 +1,6 @@
 -- The rule that holds between any two atomic steps.
--- A place k has two words and a slot. Word 16 * k is its mark, 0 or 1. Word 16 * k + 1 is its count, the front. The words up to 16 * (k + 1) are spare.
+-- A place has a spot (Layout), and at the spot i two words and a slot. Word 16 * i is its mark, 0 or 1. Word 16 * i + 1 is its count, the front. The words up to 16 * (i + 1) are spare.
+-- A spot that no place has is spare: its slot is empty.
 -- Of each place there is a history, and a cell: 0 where the place is free, or 1 more than the number of the seat that has its turn, with the phase of that turn.
 -- A seat is a hand as the base crate sees it: its number never changes, and its view, what the hand knows, changes in the hand's own steps alone.
 use Rattle.std.specs.Prelude.{◌≡◌, ◌≢◌, ◌⊎◌, ℕ, suc, ◌+◌, ◌*◌, ◌^◌, ◌<◌, ◌≤◌, min, true, false, List, [], length, slice_index, slice_get, Option, Some, None}
@@ -12,6 +13,7 @@ use Rattle.turn_table.specs.declared.view.View.{View}
 use Rattle.turn_table.specs.declared.view.Phase.{Phase}
 use Rattle.turn_table.specs.declared.view.Phase.TheVariants.{Nothing, Marked, Out, Held, Counted}
 use Rattle.turn_table.specs.Histories.{In, total, one_if, below, seen_at, phase_at, times, Named, Leaves}
+use Rattle.turn_table.specs.Layout.{rows_of, spot_of}
 
 module _ {S E O : Type 0} where
   -- what the first hand knows: it is the main one, and has all parts
@@ -27,25 +29,25 @@ abbrev pub Matches : {S : Type 0} → ℕ × Phase S → ℕ → Phase S → Typ
 Matches cell id p = ((cell.0 ≡ suc id) × (cell.1 ≡ p)) ⊎ ((cell.0 ≢ suc id) × (p ≡ Nothing))
 
 module _ {S E O : Type 0} (relates : S → E → O → S → Type 0) where
-  -- where the state is that the history leaves from the start state a
+  -- where the state is that the history leaves from the start state a, at a place with this spot
   abbrev pub Stands : List (maybe.Option (Option S)) → ℕ → List (Entry E O) → S → Phase S → Type 0
-  Stands homes k log a Nothing = (x : S) × (get_elem? homes k ≡ some (some (Some x))) × Leaves relates a log x
-  Stands homes k log a (Marked x) = (get_elem? homes k ≡ some none) × Leaves relates a log x
-  Stands homes k log a (Out n x) = (get_elem? homes k ≡ some none) × (n ≡ length log) × Leaves relates a log x
-  Stands homes k log a (Held n x) = (get_elem? homes k ≡ some (some None)) × (n ≡ length log) × (n < 2 ^ 56) × Leaves relates a log x
-  Stands homes k log a (Counted x) = (get_elem? homes k ≡ some (some (Some x))) × Leaves relates a log x
+  Stands homes spot log a Nothing = (x : S) × (get_elem? homes spot ≡ some (some (Some x))) × Leaves relates a log x
+  Stands homes spot log a (Marked x) = (get_elem? homes spot ≡ some none) × Leaves relates a log x
+  Stands homes spot log a (Out n x) = (get_elem? homes spot ≡ some none) × (n ≡ length log) × Leaves relates a log x
+  Stands homes spot log a (Held n x) = (get_elem? homes spot ≡ some (some None)) × (n ≡ length log) × (n < 2 ^ 56) × Leaves relates a log x
+  Stands homes spot log a (Counted x) = (get_elem? homes spot ≡ some (some (Some x))) × Leaves relates a log x
 
--- a place, with its history and its cell
-pub record PlaceOk {S E O : Type 0} (relates : S → E → O → S → Type 0) (words : List ℕ) (homes : List (maybe.Option (Option S))) (log : List (Entry E O)) (cell : ℕ × Phase S) (k : ℕ) (a : S) : Type 0 where
+-- a place, with its history, its cell and its spot
+pub record PlaceOk {S E O : Type 0} (relates : S → E → O → S → Type 0) (words : List ℕ) (homes : List (maybe.Option (Option S))) (log : List (Entry E O)) (cell : ℕ × Phase S) (k spot : ℕ) (a : S) : Type 0 where
   -- the mark is 1 exactly where a seat has the place's turn, and the count is the length of the history
-  pub mark : slice_index words (16 * k) ≡ min cell.0 1
-  pub count : slice_index words (16 * k + 1) ≡ length log
+  pub mark : slice_index words (16 * spot) ≡ min cell.0 1
+  pub count : slice_index words (16 * spot + 1) ≡ length log
   pub low : length log ≤ 2 ^ 56
   pub named : Named k log
   -- no event is under way at a free place, and one is at a place that a seat has
   pub free : cell.0 ≡ 0 → cell.1 ≡ Nothing
   pub held : 0 < cell.0 → cell.1 ≢ Nothing
-  pub stands : Stands relates homes k log a cell.1
+  pub stands : Stands relates homes spot log a cell.1
 
 -- what is true of the knowledge of one seat
 pub record SeatOk {S E O : Type 0} (reserved : E → Type 0) (starts : List S) (log : ℕ → List (Entry E O)) (cells : ℕ → ℕ × Phase S) (id : ℕ) (v : View S E O) : Type 0 where
@@ -63,10 +65,12 @@ pub record SeatOk {S E O : Type 0} (reserved : E → Type 0) (starts : List S) (
 pub record Kept {S E O : Type 0} (relates : S → E → O → S → Type 0) (reserved : E → Type 0) (starts : List S) (s : State (Option S) (View S E O)) : Type 0 where
   pub log : ℕ → List (Entry E O)
   pub cells : ℕ → ℕ × Phase S
-  -- 16 words and a slot for each start state
+  -- 16 words and a slot for each spot
   pub wide : length s.words ≡ 16 * length s.homes
-  pub long : length starts ≡ length s.homes
-  pub place : (k : ℕ) (a : S) → slice_get starts k ≡ Some a → PlaceOk relates s.words s.homes (log k) (cells k) k a
+  pub long : length s.homes ≡ 16 * rows_of (length starts)
+  pub place : (k : ℕ) (a : S) → slice_get starts k ≡ Some a → PlaceOk relates s.words s.homes (log k) (cells k) k (spot_of (rows_of (length starts)) k) a
+  -- the slots of the spots beyond the places are home and empty
+  pub spare : (k : ℕ) → length starts ≤ k → k < length s.homes → get_elem? s.homes (spot_of (rows_of (length starts)) k) ≡ some (some None)
   pub seat : (id : ℕ) (v : View S E O) → get_elem? s.views id ≡ some v → SeatOk reserved starts log cells id v
   -- beyond the places no seat has a turn, and each turn is some seat's
   pub beyond : (k : ℕ) → length starts ≤ k → (cells k).0 ≡ 0

@@ -1,4 +1,5 @@
 pub mod Histories
+pub mod Layout
 pub mod Kept
 pub mod Steps
 pub mod Hands

@@ -9,6 +9,7 @@ use Rattle.turn_table.specs.declared.view.View.{View}
 use Rattle.turn_table.specs.declared.view.Phase.{Phase}
 use Rattle.turn_table.specs.declared.view.Phase.TheVariants.{Nothing, Marked, Out, Held, Counted}
 use Rattle.turn_table.specs.Histories.{In, seen_at, phase_at, Named, Leaves}
+use Rattle.turn_table.specs.Layout.{rows_of, spot_of}
 use Rattle.turn_table.specs.Kept.{Kept}
 
 abbrev pub Sat : Type 0 → Type 0 → Type 0 → Type 0
@@ -47,6 +48,17 @@ module _ {S : Type 0} where
   counted_phase c = Nothing
 
 module _ {S E O : Type 0} where
+  -- where the place k lies, by the start states that the hand knows
+  abbrev pub spot_in : View S E O → ℕ → ℕ
+  spot_in v k = spot_of (rows_of (length v.starts)) k
+
+  -- the word is the mark, or the count, of the place k of the table
+  abbrev pub IsMark : View S E O → ℕ → ℕ → Type 0
+  IsMark v k word = (k < length v.starts) × (word ≡ 16 * spot_in v k)
+
+  abbrev pub IsCount : View S E O → ℕ → ℕ → Type 0
+  IsCount v k word = (k < length v.starts) × (word ≡ 16 * spot_in v k + 1)
+
   abbrev pub noted : ℕ → ℕ → View S E O → View S E O
   noted k n v = record v { seen = (k, n) ∷ v.seen }
 
@@ -74,7 +86,7 @@ module _ {S E O : Type 0} where
 pub record WasTaken {S E O : Type 0} (relates : S → E → O → S → Type 0) (reserved : E → Type 0) (k : ℕ) (v : View S E O) : Type 0 where
   pub state : State (Option S) (View S E O)
   pub kept : Kept relates reserved v.starts state
-  pub mark : slice_index state.words (16 * k) ≡ 1
+  pub mark : slice_index state.words (16 * spot_in v k) ≡ 1
   pub seat : ℕ
   pub mine : get_elem? state.views seat ≡ some v
   pub other : ℕ
@@ -100,33 +112,33 @@ pub record Given {S E O : Type 0} (relates : S → E → O → S → Type 0) (re
 module _ {S E O : Type 0} where
   -- The compare-exchange of a mark, the one step that adds to the tries. It notes what it found there: 0, and the mark is set, and the state is out with this seat; or 1, and another hand had the turn
   abbrev pub marked : (S → E → O → S → Type 0) → (E → Type 0) → At S → Sat S E O → ℕ → Sat S E O → Type 0
-  marked relates reserved st m e m' = (k : ℕ) → st.word ≡ 16 * k →
-      MatchBool (eqb e 0) ((x : S) × (m' ≡ (phased k (Marked x) (tried k 0 m.0), (k, Some x) ∷ m.1))) ((e ≡ 1) × (m' ≡ (tried k 1 m.0, m.1)) × WasTaken relates reserved k m.0)
+  marked relates reserved st m e m' = (k : ℕ) → IsMark m.0 k st.word →
+      MatchBool (eqb e 0) ((x : S) × (m' ≡ (phased k (Marked x) (tried k 0 m.0), (spot_in m.0 k, Some x) ∷ m.1))) ((e ≡ 1) × (m' ≡ (tried k 1 m.0, m.1)) × WasTaken relates reserved k m.0)
 
   abbrev pub looked : At S → Sat S E O → ℕ → Sat S E O → Type 0
-  looked st m e m' = (k : ℕ) → st.word ≡ 16 * k + 1 → (m' ≡ (noted k e m.0, m.1)) × (seen_at m.0.seen k ≤ e) × (e ≤ 2 ^ 56)
+  looked st m e m' = (k : ℕ) → IsCount m.0 k st.word → (m' ≡ (noted k e m.0, m.1)) × (seen_at m.0.seen k ≤ e) × (e ≤ 2 ^ 56)
 
   abbrev pub counted : (S → E → O → S → Type 0) → (E → Type 0) → At S → Sat S E O → ℕ → Sat S E O → Type 0
-  counted relates reserved st m e m' = (k : ℕ) → st.word ≡ 16 * k + 1 →
+  counted relates reserved st m e m' = (k : ℕ) → IsCount m.0 k st.word →
       (m' ≡ (phased k (with_count e (phase_at m.0.turns k)) (noted k e m.0), m.1)) × (seen_at m.0.seen k ≤ e) × (e ≤ 2 ^ 56)
       × ((x : S) → phase_at m.0.turns k ≡ Marked x → Given relates reserved k m.0 e x)
 
   -- the state goes home unchanged, and the mark is free
   abbrev pub returned : At S → Sat S E O → ℕ → Sat S E O → Type 0
-  returned st m e m' = (k : ℕ) → st.word ≡ 16 * k → m' ≡ (phased k Nothing m.0, rest m.1)
+  returned st m e m' = (k : ℕ) → IsMark m.0 k st.word → m' ≡ (phased k Nothing m.0, rest m.1)
 
   abbrev pub emptied : At S → Sat S E O → ℕ → Sat S E O → Type 0
-  emptied st m e m' = (k : ℕ) → st.word ≡ 16 * k → m' ≡ (phased k (emptied_phase (phase_at m.0.turns k)) m.0, rest m.1)
+  emptied st m e m' = (k : ℕ) → IsMark m.0 k st.word → m' ≡ (phased k (emptied_phase (phase_at m.0.turns k)) m.0, rest m.1)
 
   abbrev pub reached : At S → Sat S E O → ℕ → Sat S E O → Type 0
-  reached st m e m' = (k : ℕ) → st.word ≡ 16 * k →
-      (m' ≡ (phased k (reached_phase (phase_at m.0.turns k)) m.0, (k, None) ∷ m.1)) × ((n : ℕ) (x : S) → phase_at m.0.turns k ≡ Held n x → n < 2 ^ 56)
+  reached st m e m' = (k : ℕ) → IsMark m.0 k st.word →
+      (m' ≡ (phased k (reached_phase (phase_at m.0.turns k)) m.0, (spot_in m.0 k, None) ∷ m.1)) × ((n : ℕ) (x : S) → phase_at m.0.turns k ≡ Held n x → n < 2 ^ 56)
 
   -- the new state goes home, the count is raised, and the entry is this hand's
   abbrev pub finished : E → O → At S → Sat S E O → ℕ → Sat S E O → Type 0
-  finished event outcome st m e m' = (k : ℕ) → st.word ≡ 16 * k + 1 →
+  finished event outcome st m e m' = (k : ℕ) → IsCount m.0 k st.word →
       (m' ≡ (phased k (counted_phase m.1) (noted k e (gained (entry k (number_of (phase_at m.0.turns k)) event outcome) m.0)), rest m.1))
       × (seen_at m.0.seen k ≤ number_of (phase_at m.0.turns k))
 
   abbrev pub freed : At S → Sat S E O → ℕ → Sat S E O → Type 0
-  freed st m e m' = (k : ℕ) → st.word ≡ 16 * k → m' ≡ (phased k Nothing m.0, m.1)
+  freed st m e m' = (k : ℕ) → IsMark m.0 k st.word → m' ≡ (phased k Nothing m.0, m.1)

@@ -1,11 +1,14 @@
 //! A state in a box, so that a turn moves one word whatever the state's size, and the slot that the box lies in.
 //!
 //! Each has spare bytes, so that at any address no two states, and no two slots' boxes, share a cache line of 64 bytes.
-ghost use Rattle.std.specs.Prelude.{◌≡◌, ℕ, ◌+◌, ◌<◌, ◌≤◌, true, [], map, length, slice_index, slice_get, IfOk, Some, Option, vec_len, vec_capacity};
+ghost use Rattle.std.specs.Prelude.{◌≡◌, ℕ, ◌*◌, ◌^◌, ◌<◌, ◌≤◌, [], ◌++◌, map, length, slice_index_or, slice_set, slice_get, IfOk, Some, None, Option, vec_len, vec_capacity};
+ghost use Rattle.std.specs.Option.{option_to_list};
 ghost use Rattle.std.specs.Slots.{slots_items, slots_len, IsFull};
 ghost use mathlib.Core.Option.{some};
 ghost use lib.ListN.{get_elem?};
+ghost use Rattle.turn_table.specs.Layout.{spot_of};
 
+use crate::layout;
 use atomic_table::Closed;
 use std::alloc::{AllocError, Global};
 use std::marker::Model;
@@ -72,13 +75,18 @@ impl<S> Model for Slot<S> {
 }
 
 impl<S> Slot<S> {
-    fn full(cased: Cased<S>) -> Slot<S>
-        ensures { result ≡ Some cased }
+    /// A slot with this state in a box, or an empty one.
+    fn new(alloc: Global, state: Option<S>) -> Result<Slot<S>, AllocError>
+    where
+        S: Drop,
+        ensures { IfOk result (λ slot. slot ≡ state) }
     {
-        Slot {
-            cased: Some(cased),
-            spare: [0; 7],
-        }
+        let cased = match state {
+            Some(value) => Some(Cased::new(alloc, value)?),
+            None => None,
+        };
+        let spare = [0; 7];
+        Ok(Slot { cased, spare })
     }
 
     /// Puts a box or nothing in, and gives what was there.
@@ -96,38 +104,85 @@ impl<S> Slot<S> {
     }
 }
 
-/// Boxes the states, in order, and leaves their vector empty with its room.
-pub(crate) fn case_all<S: Drop>(
+/// Sets the states aside by their places, and leaves their vector empty with its room.
+pub(crate) fn set_aside<S: Drop>(
     alloc: Global,
     states: &mut Vec<S>,
-) -> Result<Vec<Slot<S>>, AllocError>
-    ensures cased { IfOk result (λ v. v.items ≡ map (λ x. Some x) states.old.items) }
+) -> Result<Vec<Option<S>>, AllocError>
+    ensures aside { IfOk result (λ v. v.items ≡ map (λ x. Some x) states.old.items) }
     ensures empty { IfOk result (λ _. (states.new.items ≡ []) × (vec_capacity states.new ≡ vec_capacity states.old)) }
 {
-    let mut slots = Vec::with_capacity(alloc, states.len())?;
-    while !states.is_empty() {
-        let cased = Cased::new(alloc, states.take_last())?;
-        slots.push_reserved(Slot::full(cased));
+    let mut aside = Vec::with_capacity(alloc, states.len())?;
+    'moves: while !states.is_empty() {
+        aside.push_reserved(Some(states.take_last()));
     }
-    slots.reverse();
+    aside.reverse();
+    Ok(aside)
+}
+
+/// What was set aside for a place, where there is such a place.
+fn taken<S>(aside: &mut Vec<Option<S>>, place: usize) -> Option<S>
+    ensures state { result ≡ slice_index_or aside.old.items place None }
+    ensures others { aside.new.items ≡ slice_set aside.old.items place None }
+{
+    if place < aside.len() {
+        mem::replace(&mut aside[place], None)
+    } else {
+        None
+    }
+}
+
+/// Boxes the states in the order of their spots, so that the boxes of one column come from the allocator one after the
+/// other. Spare slots are empty.
+pub(crate) fn case_all<S: Drop>(
+    alloc: Global,
+    mut aside: Vec<Option<S>>,
+    rows: usize,
+) -> Result<Vec<Slot<S>>, AllocError>
+    requires rows { rows ≤ 2 ^ 55 }
+    ensures length { IfOk result (λ v. length v.items ≡ 16 * rows) }
+    ensures cased { IfOk result (λ v. (k : ℕ) → k < 16 * rows → get_elem? v.items (spot_of rows k) ≡ some (slice_index_or aside.items k None)) }
+{
+    let spots = 16 * rows;
+    let mut slots = Vec::with_capacity(alloc, spots)?;
+    'boxes: for spot in 0..spots {
+        let state = taken(&mut aside, layout::place(rows, spot));
+        let slot = Slot::new(alloc, state)?;
+        slots.push_reserved(slot);
+    }
     Ok(slots)
 }
 
-/// Moves the states out of a table that is closed, in order, into an empty vector with room.
-pub(crate) fn uncase_all<S>(mut closed: Closed<Slot<S>, Global>, mut states: Vec<S>) -> Vec<S>
-    requires full { IsFull closed.slots }
-    requires home { (k : ℕ) → k < slots_len closed.slots → (x : S) × (get_elem? (slots_items closed.slots) k ≡ some (Some x)) }
-    requires empty { states.items ≡ [] }
-    requires room { slots_len closed.slots ≤ vec_capacity states }
-    ensures length { vec_len result ≡ slots_len closed.slots }
-    ensures states { (k : ℕ) (x : S) → get_elem? (slots_items closed.slots) k ≡ some (Some x) → slice_get result.items k ≡ Some x }
+/// Puts the state that lies in a slot, where there is one, behind the others.
+fn uncase<S>(slot: Slot<S>, states: &mut Vec<S>)
+    requires { (x : S) → slot ≡ Some x → vec_len states.old < vec_capacity states.old }
+    ensures items { states.new.items ≡ states.old.items ++ option_to_list slot }
+    ensures capacity { vec_capacity states.new ≡ vec_capacity states.old }
 {
-    for i in 0..closed.slot_count() {
-        let slot = closed.take(i);
-        let Some(cased) = slot.into_inner() else {
-            unreachable!()
-        };
+    if let Some(cased) = slot.into_inner() {
         states.push_reserved(cased.into_inner());
+    }
+}
+
+/// Moves the states out of a table that is closed, in the order of their places, into an empty vector with room.
+pub(crate) fn uncase_all<S>(
+    mut closed: Closed<Slot<S>, Global>,
+    places: usize,
+    rows: usize,
+    mut states: Vec<S>,
+) -> Vec<S>
+    requires full { IsFull closed.slots }
+    requires rows { (places ≤ 16 * rows) × (rows ≤ 2 ^ 55) × (slots_len closed.slots ≡ 16 * rows) }
+    requires home { (k : ℕ) → k < places → (x : S) × (get_elem? (slots_items closed.slots) (spot_of rows k) ≡ some (Some x)) }
+    requires spare { (k : ℕ) → places ≤ k → k < 16 * rows → get_elem? (slots_items closed.slots) (spot_of rows k) ≡ some None }
+    requires empty { states.items ≡ [] }
+    requires room { places ≤ vec_capacity states }
+    ensures length { vec_len result ≡ places }
+    ensures states { (k : ℕ) (x : S) → k < places → get_elem? (slots_items closed.slots) (spot_of rows k) ≡ some (Some x) → slice_get result.items k ≡ Some x }
+{
+    'takes: for place in 0..closed.slot_count() {
+        let slot = closed.take(layout::spot(rows, place));
+        uncase(slot, &mut states);
     }
     closed.free();
     states

@@ -1,5 +1,6 @@
 //! The table, the hands that step on it, and a turn.
 ghost use Rattle.std.specs.Prelude.{◌≡◌, ◌*◌, ◌^◌, ◌<◌, ◌≤◌, [], length};
+ghost use Rattle.turn_table.specs.Layout.{rows_of};
 
 use crate::cased::{Cased, Slot};
 use crate::machine::Machine;
@@ -21,9 +22,15 @@ pub struct Turns<M: Machine> {
         Global,
     >,
     pub(crate) room: Room<M::State>,
+    /// How many places there are.
+    pub(crate) places: usize,
+    /// How many spots each of the 16 columns has.
+    pub(crate) rows: usize,
     ghost wide: { table.shared.table_id.words ≡ 16 * table.shared.table_id.slots },
-    ghost few: { (0 < table.shared.table_id.slots) × (table.shared.table_id.slots < 2 ^ 59) },
-    ghost roomy: { table.shared.table_id.slots ≤ room.table.shared.key },
+    ghost deep: { table.shared.table_id.slots ≡ 16 * rows },
+    ghost few: { (0 < rows) × (rows ≤ 2 ^ 55) },
+    ghost counts: { (places ≡ length table.shared.key.value.items) × (rows ≡ rows_of places) },
+    ghost roomy: { places ≤ room.table.shared.key },
 }
 
 /// What a thread makes its turns with. It is moved, never copied.
@@ -36,7 +43,7 @@ pub struct Hand<M: Machine> {
     pub(crate) seat: Seat<Slot<M::State>, View<M::State, M::Event, M::Outcome>>,
     ghost empty: { seat.me.1 ≡ [] },
     ghost live: { 0 < seat.me.0.parts },
-    ghost long: { length seat.me.0.starts ≡ seat.table_id.slots },
+    ghost long: { seat.table_id.slots ≡ 16 * rows_of (length seat.me.0.starts) },
 }
 
 /// The right to change the state of one place, which no other hand has meanwhile. It has to be put back.

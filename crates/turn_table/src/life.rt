@@ -1,8 +1,9 @@
 //! A table begins with one hand, hands are split and joined, and the last hand closes the table.
 ghost use Rattle.std.specs.Prelude.{◌≡◌, ℕ, ◌+◌, ◌-◌, ◌<◌, ◌++◌, [], max, length, IfOk, vec_len, ◌*◌, get_or};
 
-use crate::cased::{case_all, uncase_all};
+use crate::cased::{case_all, set_aside, uncase_all};
 use crate::hands::{Hand, OutOfMemory, Turns};
+use crate::layout;
 use crate::machine::Machine;
 use crate::plays::{Cut, Glue};
 use crate::room::Room;
@@ -38,11 +39,15 @@ impl<M: Machine> Turns<M> {
         if places >= MOST {
             return Err(OutOfMemory);
         }
+        let rows = layout::row_count(places);
         let key = Snapshot::of(&states);
-        let Ok(words) = clear_words(alloc, 16 * places) else {
+        let Ok(words) = clear_words(alloc, 256 * rows) else {
             return Err(OutOfMemory);
         };
-        let Ok(slots) = case_all(alloc, &mut states) else {
+        let Ok(aside) = set_aside(alloc, &mut states) else {
+            return Err(OutOfMemory);
+        };
+        let Ok(slots) = case_all(alloc, aside, rows) else {
             return Err(OutOfMemory);
         };
         let Ok((table, seat)) = Table::new(alloc, words.as_slice(), slots, &key) else {
@@ -51,7 +56,13 @@ impl<M: Machine> Turns<M> {
         let Ok(room) = Room::keep(alloc, states, places) else {
             return Err(OutOfMemory);
         };
-        Ok((Turns { table, room }, Hand { seat }))
+        let turns = Turns {
+            table,
+            room,
+            places,
+            rows,
+        };
+        Ok((turns, Hand { seat }))
     }
 
     /// Gives one of the hand's parts to a new hand, which has no entries and has seen what this one has.
@@ -87,7 +98,13 @@ impl<M: Machine> Turns<M> {
         ensures length { length result.items ≡ length (starts hand) }
         ensures states { IsClosed M.relates hand result.items }
     {
-        let Turns { table, room } = self;
-        uncase_all(table.close_with(hand.into_seat()), room.take())
+        let Turns {
+            table,
+            room,
+            places,
+            rows,
+        } = self;
+        let closed = table.close_with(hand.into_seat());
+        uncase_all(closed, places, rows, room.take())
     }
 }

@@ -1,10 +1,11 @@
 //! A turn is taken and put back, each in a few atomic steps.
 //!
-//! A place's mark is the word `16 * place`, and its count the next one. The 14 words up to the next place's are spare, so
-//! that at any address no two places' words share a cache line of 64 bytes.
+//! The mark of a place at the spot `spot` (`layout`) is the word `16 * spot`, and its count the next one. The 14 words up
+//! to the next spot's are spare, so that at any address no two places' words share a cache line of 64 bytes.
 ghost use Rattle.std.specs.Prelude.{◌≡◌, ℕ, ◌+◌, ◌^◌, IfErr, MatchResult};
 
 use crate::hands::{Busy, Hand, Turn, Turns};
+use crate::layout;
 use crate::machine::{Machine, Said};
 use crate::plays::{Count, Empty, Finish, Free, Look, Mark, Reach, Return};
 use std::snapshot::Snapshot;
@@ -27,21 +28,22 @@ impl<M: Machine> Turns<M> {
         ensures free { parts hand.old ≡ 1024 → TriedOnce place 0 hand.old hand.new }
         ensures turn { MatchResult result (λ t. GainsTurn place t hand.old hand.new × IsGiven M.relates M.reserved hand.old place (front_of t) (state_of t)) (λ b. IsBusy M.relates M.reserved place b.front hand.old hand.new) }
     {
+        let spot = layout::spot(self.rows, place);
         let table = &self.table.shared;
         let seat = &mut hand.seat;
-        if table.compare_exchange::<Mark<M>>(seat, 16 * place, 0, 1) != 0 {
-            let front = table.load::<Look>(seat, 16 * place + 1);
+        if table.compare_exchange::<Mark<M>>(seat, 16 * spot, 0, 1) != 0 {
+            let front = table.load::<Look>(seat, 16 * spot + 1);
             return Err(Busy { front });
         }
-        let front = table.load::<Count<M>>(seat, 16 * place + 1);
+        let front = table.load::<Count<M>>(seat, 16 * spot + 1);
         if front == LAST {
-            table.store::<Return>(seat, 16 * place, 0);
+            table.store::<Return>(seat, 16 * spot, 0);
             return Err(Busy { front });
         }
-        let Some(state) = seat.slot_mut(table, place).swap(None) else {
+        let Some(state) = seat.slot_mut(table, spot).swap(None) else {
             unreachable!()
         };
-        table.load::<Empty>(seat, 16 * place);
+        table.load::<Empty>(seat, 16 * spot);
         let taken = Snapshot::of(state.get());
         Ok(Turn {
             state,
@@ -68,13 +70,14 @@ impl<M: Machine> Turns<M> {
             place,
             front,
         } = turn;
+        let spot = layout::spot(self.rows, place);
         let table = &self.table.shared;
         let seat = &mut hand.seat;
-        table.load::<Reach>(seat, 16 * place);
-        let nothing = seat.slot_mut(table, place).swap(Some(state));
+        table.load::<Reach>(seat, 16 * spot);
+        let nothing = seat.slot_mut(table, spot).swap(Some(state));
         let None = nothing else { unreachable!() };
-        table.store::<Finish<M, X>>(seat, 16 * place + 1, front + 1);
-        table.store::<Free>(seat, 16 * place, 0);
+        table.store::<Finish<M, X>>(seat, 16 * spot + 1, front + 1);
+        table.store::<Free>(seat, 16 * spot, 0);
         front
     }
 }

@@ -1,12 +1,12 @@
-use Rattle.std.proofs.Common.{◌≡◌, ◌+◌, ◌++◌, map, reverse, Some, vec_len, vec_capacity}
+use Rattle.std.proofs.Common.{◌≡◌, ◌*◌, ◌≤◌, vec_len, vec_capacity}
+use Rattle.turn_table.proofs.Casing.{Left, Laid}
 use Rattle.turn_table.proofs.cased.case_all.Given as goal
 
-abbrev pub invariant-loop-alloc : goal.invariant-loop-alloc
-invariant-loop-alloc g l = record {
-  whole : map (λ x. Some x) l.initial.states.items ≡ map (λ x. Some x) l.states.items ++ reverse l.slots.items;
-  room : vec_len l.slots + vec_len l.states ≡ vec_capacity l.slots;
-  kept : vec_capacity l.states ≡ vec_capacity l.initial.states;
+abbrev pub invariant-boxes : goal.invariant-boxes
+invariant-boxes g l = record {
+  low : l.spot ≤ 16 * l.rows;
+  count : vec_len l.slots ≡ l.spot;
+  room : vec_capacity l.slots ≡ 16 * l.rows;
+  left : Left l.rows l.initial.aside.items l.spot l.aside.items;
+  laid : Laid l.rows l.initial.aside.items l.spot l.slots.items;
 }
-
-abbrev pub decreases-loop-alloc : goal.decreases-loop-alloc
-decreases-loop-alloc g l = vec_len l.states

@@ -1,50 +1,71 @@
-use Rattle.std.proofs.Common.{arith, ◌≡◌, ℕ, ◌+◌, ◌<◌, false, List, [], ◌∷◌, ◌++◌, length, set, get_or, Some, slice_get, sym, ap, ◌∙◌, subst, get_or-set_other, get_or-set_same}
-use Rattle.std.specs.Slots.{slots_items, slots_filled}
-use mathlib.Core.Option.{some, some-injective}
-use mathlib.Core.Logic.{dite}
-use native.Mathlib.Decide.{ℕ_discrete}
+use Rattle.std.proofs.Common.{rules, arith, ◌+◌, ◌*◌, ◌<◌, false, length, set, get_or, sym, refl, ap, ◌∙◌, subst}
+use Rattle.std.specs.Slots.{slots_items, slots_filled, slots_len}
 use lib.ListN.{get_elem?}
-use Rattle.turn_table.proofs.Lists.{get_longer, get_last, within}
+use Rattle.turn_table.specs.Layout.{spot_of}
+use Rattle.turn_table.proofs.Casing.{Full, Taken, Back, full_first, full_less, taken_none, taken_more, all_taken, room_left, count_more, back_none, back_more}
 use Rattle.turn_table.proofs.cased.uncase_all.Goals as goal
 
--- one more state was moved
-moved_more : {S : Type 0} (P : ℕ → S → Type 0) (xs : List S) (y : S) (i : ℕ) → length xs ≡ i → ((k : ℕ) (x : S) → k < i → P k x → slice_get xs k ≡ Some x) → ((x : S) → P i x → x ≡ y)
-    → (k : ℕ) (x : S) → k < i + 1 → P k x → slice_get (xs ++ y ∷ []) k ≡ Some x
-moved_more P xs y i long before now k x low p = dite (ℕ_discrete k i)
-    (λ e. ap (slice_get (xs ++ y ∷ [])) (e ∙ sym long) ∙ (get_last xs y ∙ ap (λ z. Some z) (sym (now x (subst (λ j. P j x) e p)))))
-    (λ ne. get_longer xs (y ∷ []) k x (before k x (omega arith) p))
+pub takes-init : goal.takes-init
+takes-init g c = record {
+  same = refl;
+  long = refl;
+  end = search rules;
+  count = search rules;
+  room = refl;
+  full = full_first c.args.rows (slots_filled c.args.closed.slots) (slots_len c.args.closed.slots) c.requires.full c.requires.rows.2;
+  taken = taken_none c.args.rows (slots_filled c.args.closed.slots);
+  back = back_none c.args.rows c.args.places (slots_items c.args.closed.slots) c.args.states.items;
+}
 
-pub unreachable-requires : goal.unreachable-requires
-unreachable-requires g c =
-    let inv = c.loop-i.invariant in let low = c.loop-i-test.true in let end = inv.end in
-    let h = c.requires.home c.loop-i.i (omega arith) in
-    c.in_default.not-Some h.0 (c.into_inner.ensures ∙ some-injective _ _ (sym c.take-slot.ensures.value ∙ (ap (λ xs. get_elem? xs c.loop-i.i) inv.same ∙ h.1)))
+pub spot-requires-clause-place : goal.spot-requires-clause-place
+spot-requires-clause-place g c = let inv = c.takes.invariant in let low = c.takes-test.true in let end = inv.end in let deep = c.requires.rows.2 in omega arith
 
-pub loop-i-preserved : goal.loop-i-preserved
-loop-i-preserved g c =
-    let inv = c.loop-i.invariant in let low = c.loop-i-test.true in let end = inv.end in let long = inv.long in let count = inv.count in
+pub take-slot-requires : goal.take-slot-requires
+take-slot-requires g c =
+    let inv = c.takes.invariant in let low = c.takes-test.true in let end = inv.end in let long = inv.long in let deep = c.requires.rows.2 in let spot = c.spot.ensures.low in
+    let inside : c.takes.place < 16 * c.args.rows = omega arith in
+    (omega arith, ap (λ i. get_or (slots_filled c.takes.closed.slots) i false) c.spot.ensures.value ∙ inv.full c.takes.place inside (omega arith))
+
+pub uncase-requires : goal.uncase-requires
+uncase-requires g c = λ x full.
+    let inv = c.takes.invariant in let low = c.takes-test.true in let end = inv.end in let deep = c.requires.rows.2 in let place = c.takes.place in
+    let inside : place < 16 * c.args.rows = omega arith in
+    let at = sym (ap (λ xs. get_elem? xs (spot_of c.args.rows place)) inv.same) ∙ (ap (get_elem? (slots_items c.takes.closed.slots)) (sym c.spot.ensures.value) ∙ c.take-slot.ensures.value) in
+    let early = room_left c.args.rows c.args.places (slots_items c.args.closed.slots) c.requires.spare place c.take-slot.result x full inside at in
+    let count = inv.count in let room = inv.room in let wide = c.requires.room in omega arith
+
+pub takes-preserved : goal.takes-preserved
+takes-preserved g c =
+    let inv = c.takes.invariant in let low = c.takes-test.true in let end = inv.end in let long = inv.long in let deep = c.requires.rows.2 in
+    let rows = c.args.rows in let places = c.args.places in let place = c.takes.place in let there = slots_items c.args.closed.slots in
+    let inside : place < 16 * rows = omega arith in
+    let at = sym (ap (λ xs. get_elem? xs (spot_of rows place)) inv.same) ∙ (ap (get_elem? (slots_items c.takes.closed.slots)) (sym c.spot.ensures.value) ∙ c.take-slot.ensures.value) in
+    let counted = sym c.takes.states.ok.0 ∙ inv.count in
     let others = c.take-slot.ensures.others in
-    let filled = slots_filled c.loop-i.closed.slots in
-    let counts = c.loop-i.closed.slots.ok in let wide = counts.1 in
-    let pushed = c.push_reserved.ensures.len in record {
+    let filled = slots_filled c.takes.closed.slots in
+    let emptied = others.1 ∙ ap (λ i. set filled i false) c.spot.ensures.value in
+    let in_filled : spot_of rows place < length filled = subst (λ i. i < length filled) c.spot.ensures.value (let s = c.spot.ensures.low in let w = c.takes.closed.slots.ok.1 in omega arith) in record {
       same = others.0 ∙ inv.same;
       long = others.2 ∙ inv.long;
       end = inv.end;
-      count = omega arith;
-      room = c.push_reserved.ensures.capacity ∙ inv.room;
-      full = λ j a b. let o = others.2 in ap (λ f. get_or f j false) others.1 ∙ (get_or-set_other filled c.loop-i.i j false false (λ e. omega arith) ∙ inv.full j (omega arith) (omega arith));
-      taken = λ j a. ap (λ f. get_or f j false) others.1 ∙ dite (ℕ_discrete j c.loop-i.i)
-          (λ e. ap (λ (z : ℕ). get_or (set filled c.loop-i.i false) z false) e ∙ get_or-set_same filled c.loop-i.i false false (omega arith))
-          (λ ne. get_or-set_other filled c.loop-i.i j false false ne ∙ inv.taken j (omega arith));
-      moved = λ k x a at. ap (λ xs. slice_get xs k) c.push_reserved.ensures.items ∙
-          moved_more (λ k x. get_elem? (slots_items c.args.closed.slots) k ≡ some (Some x)) c.loop-i.states.items c.into_inner-in-loop-i.result c.loop-i.i (sym c.loop-i.states.ok.0 ∙ inv.count) inv.moved
-          (λ x at. let found : Some x ≡ Some c.in-Some.cased = some-injective _ _ (sym at ∙ (sym (ap (λ xs. get_elem? xs c.loop-i.i) inv.same) ∙ c.take-slot.ensures.value)) ∙ (sym c.into_inner.ensures ∙ c.in-Some.is) in
-          let p : x ≡ c.in-Some.cased = cc in p ∙ sym c.into_inner-in-loop-i.ensures) k x a at;
+      count = c.uncase.new.states.ok.0 ∙ (ap length c.uncase.ensures.items ∙ count_more rows places there c.requires.home c.requires.spare place c.takes.states.items c.take-slot.result inside at counted);
+      room = c.uncase.ensures.capacity ∙ inv.room;
+      full = subst (Full rows (place + 1)) (sym emptied) (full_less rows place filled inside inv.full);
+      taken = subst (Taken rows (place + 1)) (sym emptied) (taken_more rows place filled inside in_filled inv.taken);
+      back = subst (Back rows places there (place + 1)) (sym c.uncase.ensures.items) (back_more rows places there c.requires.home c.requires.spare place c.takes.states.items c.take-slot.result inside at counted inv.back);
     }
 
+pub free-requires : goal.free-requires
+free-requires g c = λ k low.
+    let inv = c.takes.invariant in let high = c.takes-test.false in let end = inv.end in let long = inv.long in let deep = c.requires.rows.2 in
+    all_taken c.args.rows c.takes.place (slots_filled c.takes.closed.slots) (omega arith) inv.taken k (omega arith)
+
+pub returns-clause-length : goal.returns-clause-length
+returns-clause-length g c =
+    let inv = c.takes.invariant in let high = c.takes-test.false in let end = inv.end in let deep = c.requires.rows.2 in let few = c.requires.rows.0 in
+    let count = inv.count in omega arith
+
 pub returns-clause-states : goal.returns-clause-states
-returns-clause-states g c = λ k x at.
-    let inv = c.loop-i.invariant in let high = c.loop-i-test.false in let end = inv.end in
-    let low = within (slots_items c.args.closed.slots) k (Some x) at in
-    let counts = c.args.closed.slots.ok in let wide = counts.0 in
-    inv.moved k x (omega arith) at
+returns-clause-states g c = λ k x inside at.
+    let inv = c.takes.invariant in let high = c.takes-test.false in let end = inv.end in let deep = c.requires.rows.2 in let few = c.requires.rows.0 in
+    inv.back k x (omega arith) inside at

@@ -1,4 +1,7 @@
-use Rattle.std.proofs.Common.{◌≡◌, ◌*◌, map, length, get_or, Some, sym, ap, ◌∙◌}
+use Rattle.std.proofs.Common.{◌≡◌, ◌*◌, ◌<◌, map, length, get_or, Some, None, sym, ap, ◌∙◌, subst}
+use mathlib.Core.Option.{some}
+use lib.ListN.{get_elem?}
+use Rattle.turn_table.specs.Layout.{rows_of, spot_of}
 use Rattle.turn_table.proofs.Spans.{opens}
 use Rattle.turn_table.proofs.hands.Turns.start.Goals as goal
 
@@ -6,8 +9,15 @@ pub new-requires : goal.new-requires
 new-requires g c =
     let is = ap (λ v. v.items) c.of-key.ensures in
     let words = c.as_slice.ensures.value in
-    let places : c.len-places.result ≡ length c.of-key.result.value.items = c.len-places.ensures ∙ (c.args.states.ok.0 ∙ ap length (sym is)) in
-    opens g.M.Machine.relates g.M.Machine.reserved c.of-key.result.value.items c.as_slice.result.now c.in-Ok-case_all.slots.items
-    (ap length words ∙ (c.in-Ok.ensures.length ∙ ap (λ n. 16 * n) places))
+    let starts = c.of-key.result.value.items in
+    let places : c.len-places.result ≡ length starts = c.len-places.ensures ∙ (c.args.states.ok.0 ∙ ap length (sym is)) in
+    let rows : c.row_count-rows.result ≡ rows_of (length starts) = c.row_count-rows.ensures ∙ ap rows_of places in
+    let aside : c.in-Ok-set_aside.aside.items ≡ map (λ x. Some x) starts = c.in-Ok-set_aside.ensures.aside ∙ ap (map (λ x. Some x)) (sym is) in
+    let slots = c.in-Ok-case_all.slots.items in
+    opens g.M.Machine.relates g.M.Machine.reserved starts c.as_slice.result.now slots
+    (ap length words ∙ (c.in-Ok.ensures.length ∙ ap (λ n. 256 * n) rows))
     (λ i. ap (λ l. get_or l i 0) words ∙ c.in-Ok.ensures.clear i)
-    (c.in-Ok-case_all.ensures.cased ∙ ap (map (λ x. Some x)) (sym is))
+    (c.in-Ok-case_all.ensures.length ∙ ap (λ n. 16 * n) rows)
+    (λ k low. subst (λ xs. get_elem? slots (spot_of (rows_of (length starts)) k) ≡ some (get_or xs k None)) aside
+    (subst (λ n. get_elem? slots (spot_of n k) ≡ some (get_or c.in-Ok-set_aside.aside.items k None)) rows
+    (c.in-Ok-case_all.ensures.cased k (subst (λ n. k < 16 * n) (sym rows) low))))
