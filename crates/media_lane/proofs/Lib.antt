@@ -8,3 +8,4 @@ pub mod Visiting
 pub mod Counting
 pub mod Loops
 pub mod Marks
+pub mod Strides

@@ -10,3 +10,4 @@ pub mod Sweeping
 pub mod Looping
 pub mod Visited
 pub mod Covering
+pub mod Columns

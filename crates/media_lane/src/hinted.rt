@@ -1,12 +1,14 @@
 //! The part of a sweep that goes by hints: where datagrams stand, first.
-ghost use Rattle.std.specs.Prelude.{◌≡◌, ◌<◌, ◌≤◌, ◌%◌, ◌*◌, ◌+◌, ◌/◌, ℕ, MatchOption};
+ghost use Rattle.std.specs.Prelude.{◌≡◌, ◌<◌, ◌≤◌, ◌%◌, ◌*◌, ◌+◌, ◌⊎◌, ℕ, MatchOption};
 ghost use Rattle.rtp_packet.specs.declared.head.Half.{Half};
 ghost use Rattle.port_pool.specs.Ports as ports;
 ghost use Rattle.port_pool.specs.Ports.{pair_count, half_port};
 ghost use Rattle.turn_table.specs.Hands.{IsHandOf};
 ghost use Rattle.media_lane.specs.Lanes.{hand_of, config_of, index_of, lanes_of};
 ghost use Rattle.media_lane.specs.Covering.{Covers};
+ghost use Rattle.media_lane.specs.Columns.{IsStride};
 
+use crate::columns::{Spot, stride_of};
 use crate::lane::Lane;
 use crate::order::Order;
 use crate::sweeping::Progress;
@@ -59,22 +61,33 @@ impl<I: InEnd, O: OutEnd> Lane<I, O> {
         Some((pair, half))
     }
 
-    /// The lane's own half with this number, from the lowest pair upwards, its half for RTP first; `None` after the last.
-    fn own_half(&self, number: u32) -> Option<(u32, Half)>
+    /// The lane's own half at this spot of the table, where its pairs in one column are a stride apart; `None` beyond the end of the
+    /// column, and beyond the last column.
+    fn own_half(&self, stride: u64, spot: Spot) -> Option<(u32, Half)>
+        requires { IsStride (lanes_of self.now) stride }
         ensures { MatchOption result
-            (pair_count (config_of self.now) ≤ index_of self.now + lanes_of self.now * (number / 2))
-            (λ at. (at.0 < pair_count (config_of self.now)) × (at.0 < 32768) × (at.0 ≡ index_of self.now + lanes_of self.now * (number / 2)) × (at.0 % lanes_of self.now ≡ index_of self.now)) }
+            ((stride ≤ index_of self.now + lanes_of self.now * spot.column) ⊎ (pair_count (config_of self.now) ≤ index_of self.now + lanes_of self.now * spot.column + stride * spot.row))
+            (λ at. (index_of self.now + lanes_of self.now * spot.column < stride) × (at.0 < pair_count (config_of self.now)) × (at.0 < 32768) × (at.0 ≡ index_of self.now + lanes_of self.now * spot.column + stride * spot.row) × (at.0 % lanes_of self.now ≡ index_of self.now) × (at.1 ≡ spot.half)) }
     {
-        let pair = u64::from(self.index) + u64::from(self.lanes) * u64::from(number / 2);
-        if pair >= u64::from(count_pairs(&self.config)) {
+        let first = u64::from(self.index) + u64::from(self.lanes) * u64::from(spot.column);
+        let pair = first + stride * u64::from(spot.row);
+        if first >= stride || pair >= u64::from(count_pairs(&self.config)) {
             return None;
         }
-        let half = if number % 2 == 0 {
-            Half::Rtp
-        } else {
-            Half::Rtcp
-        };
-        Some((pair as u32, half))
+        Some((pair as u32, spot.half))
+    }
+
+    /// The next of the lane's own halves that is looked at for a cold one, column by column of the table; `None` after the last.
+    fn next_half(&self, order: &mut Order) -> Option<(u32, Half)>
+        ensures { MatchOption result (Unit {0})
+            (λ at. (at.0 < pair_count (config_of self.now)) × (at.0 < 32768) × (at.0 % lanes_of self.now ≡ index_of self.now)) }
+    {
+        let stride = stride_of(self.lanes);
+        if let Some(found) = self.own_half(stride, order.look()) {
+            return Some(found);
+        }
+        // (the column ends there)
+        self.own_half(stride, order.look_beside())
     }
 
     /// Visits the halves with these ports in turn, up to the first port that isn't of an own pair or whose half was visited before.
@@ -118,7 +131,7 @@ impl<I: InEnd, O: OutEnd> Lane<I, O> {
         ensures { Covers (C.range clock.now) (G.passed gate.now) self.old self.new progress.old progress.new }
     {
         for _ in 0..COLD_HALVES {
-            let Some((pair, half)) = self.own_half(order.look()) else {
+            let Some((pair, half)) = self.next_half(order) else {
                 order.warm(clock.now());
                 return !order.is_over();
             };

@@ -6,17 +6,19 @@
 //!
 //! Module `receipt` has what a take gave, `answers` what the calls return, `lane` the lane, `receiving` and `relaying` its two
 //! steps, `sweeping` a round over its pairs, which may wait and keeps each datagram in the lane's room, `hinted` its part that goes
-//! by the clock's hints, `order` when that visits what, and how long it waits, `visited` the halves that it was at, `looping` sweep
-//! after sweep until the lane is told to end, `puts` the way to put each kind of turn, `laws` what callers know.
+//! by the clock's hints, `order` when that visits what, and how long it waits, `columns` in which order it goes through its pairs,
+//! `visited` the halves that it was at, `looping` sweep after sweep until the lane is told to end, `puts` the way to put each kind of
+//! turn, `laws` what callers know.
 //!
 //! `specs/Starts.antt` says what the places of a lane's table begin as, `specs/Lanes.antt` what contracts see in a lane,
 //! `specs/Receipts.antt` what a receipt of a hand's list is, `specs/Busy.antt` what a busy call does, `specs/Taking.antt` and
 //! `specs/Relaying.antt` what a take and a relay add to the list of its hand, `specs/Visits.antt` and `specs/Sweeping.antt` what a
-//! sweep adds, `specs/Visited.antt` and `specs/Covering.antt` how far it has come, `specs/Looping.antt` what sweep after sweep adds,
-//! `specs/Gated.antt` at whose cells a gate was passed.
+//! sweep adds, `specs/Visited.antt` and `specs/Covering.antt` how far it has come, `specs/Columns.antt` which pairs it visits one after
+//! the other, `specs/Looping.antt` what sweep after sweep adds, `specs/Gated.antt` at whose cells a gate was passed.
 #![tactic(auto)]
 
 mod answers;
+mod columns;
 mod hinted;
 mod lane;
 mod laws;

@@ -2,6 +2,7 @@
 ghost use Rattle.std.specs.Prelude.{◌≡◌, ◌<◌, ◌||◌};
 ghost use Rattle.media_lane.specs.Visited.{is_marked};
 
+use crate::columns::Spot;
 use crate::visited::Visited;
 use rtp_packet::Half;
 use std::mem;
@@ -45,9 +46,9 @@ pub(crate) struct Order {
     was_hinted: bool,
     /// Whether this one was.
     is_hinted: bool,
-    /// How many of the lane's own halves were looked at for a cold one.
-    looked: u32,
-    /// How many hot ones among them wait for their hints.
+    /// Where the next of the lane's own halves is that is looked at for a cold one.
+    next: Spot,
+    /// How many hot ones among those before it wait for their hints.
     left: u32,
 }
 
@@ -68,7 +69,7 @@ impl Order {
             stage: Stage::Quiet,
             was_hinted: false,
             is_hinted: false,
-            looked: 0,
+            next: Spot::first_of(0),
             left: 0,
         }
     }
@@ -88,7 +89,7 @@ impl Order {
         self.stage = Stage::Quiet;
         self.was_hinted = self.is_hinted;
         self.is_hinted = false;
-        self.looked = 0;
+        self.next = Spot::first_of(0);
         self.left = 0;
     }
 
@@ -137,12 +138,18 @@ impl Order {
         matches!(self.stage, Stage::Warm) && self.left == 0
     }
 
-    /// The number of the next of the lane's own halves that is looked at for a cold one, from 0.
-    pub(crate) fn look(&mut self) -> u32 {
-        let number = self.looked;
-        self.looked = number.saturating_add(1);
+    /// Where the next of the lane's own halves is that is looked at for a cold one, in the column of the one before.
+    pub(crate) fn look(&mut self) -> Spot {
+        let spot = self.next;
+        self.next = spot.after();
         self.stage = Stage::Cold;
-        number
+        spot
+    }
+
+    /// The same, in the next column.
+    pub(crate) fn look_beside(&mut self) -> Spot {
+        self.next = Spot::first_of(self.next.column.saturating_add(1));
+        self.look()
     }
 
     /// A hot half that wasn't visited is left to its hint.

@@ -9,9 +9,11 @@ ghost use Rattle.media_lane.specs.Gated.{GainsGated};
 ghost use Rattle.media_lane.specs.Visits.{Visit, AreTotals, CountsRelay};
 ghost use Rattle.media_lane.specs.Visited.{is_marked};
 ghost use Rattle.media_lane.specs.Covering.{Covers};
+ghost use Rattle.media_lane.specs.Columns.{IsStride, IsInColumn};
 ghost use Rattle.media_lane.specs.Sweeping.{VisitsOnce, Sweeps};
 
 use crate::answers::Totals;
+use crate::columns::stride_of;
 use crate::hinted::count_pairs;
 use crate::lane::Lane;
 use crate::order::Order;
@@ -112,7 +114,35 @@ impl<I: InEnd, O: OutEnd> Lane<I, O> {
         true
     }
 
-    /// Visits each half of the lane's own pairs that the sweep hasn't visited yet, from the lowest pair upwards.
+    /// Visits each half that the sweep hasn't visited yet of the lane's own pairs in one column of the table: of the first pair, and of
+    /// each that is a stride further.
+    fn visit_column<W: Wait, G: Gate, C: Clock>(
+        &mut self,
+        rt: &W,
+        turns: &Turns<Relay<I, O>>,
+        gate: &G,
+        clock: &C,
+        first: u64,
+        stride: u64,
+        progress: &mut Progress,
+    )
+        requires table { IsHandOf turns.now (hand_of self.old) }
+        requires own { first % lanes_of self.old ≡ index_of self.old }
+        requires apart { IsStride (lanes_of self.old) stride }
+        requires begins { first < stride }
+        ensures covered { Covers (C.range clock.now) (G.passed gate.now) self.old self.new progress.old progress.new }
+        ensures column { (pair : ℕ) (half : Half) → IsInColumn first stride pair → pair < pair_count (config_of self.old) → is_marked progress.new.visited pair half ≡ true }
+    {
+        let pairs = u64::from(count_pairs(&self.config));
+        let mut pair = first;
+        while pair < pairs {
+            self.visit_once(rt, turns, gate, clock, pair as u32, Half::Rtp, progress);
+            self.visit_once(rt, turns, gate, clock, pair as u32, Half::Rtcp, progress);
+            pair += stride;
+        }
+    }
+
+    /// Visits each half of the lane's own pairs that the sweep hasn't visited yet, column by column of the table.
     fn visit_rest<W: Wait, G: Gate, C: Clock>(
         &mut self,
         rt: &W,
@@ -125,13 +155,12 @@ impl<I: InEnd, O: OutEnd> Lane<I, O> {
         ensures covered { Covers (C.range clock.now) (G.passed gate.now) self.old self.new progress.old progress.new }
         ensures all { (pair : ℕ) (half : Half) → pair % lanes_of self.old ≡ index_of self.old → pair < pair_count (config_of self.old) → is_marked progress.new.visited pair half ≡ true }
     {
-        let pairs = u64::from(count_pairs(&self.config));
         let lanes = u64::from(self.lanes);
-        let mut pair = u64::from(self.index);
-        while pair < pairs {
-            self.visit_once(rt, turns, gate, clock, pair as u32, Half::Rtp, progress);
-            self.visit_once(rt, turns, gate, clock, pair as u32, Half::Rtcp, progress);
-            pair += lanes;
+        let stride = stride_of(self.lanes);
+        let mut first = u64::from(self.index);
+        while first < stride {
+            self.visit_column(rt, turns, gate, clock, first, stride, progress);
+            first += lanes;
         }
     }
 
@@ -139,8 +168,8 @@ impl<I: InEnd, O: OutEnd> Lane<I, O> {
     /// relays each datagram, handed a moment of the clock, before the next take. It may wait, where another hand has a turn, and for
     /// the clock's hints, 200 milliseconds at most.
     ///
-    /// The halves at whose ports the clock hints come first, in the order of its hints, and then all others, from the lowest pair
-    /// upwards; some of these before, where the hints pause.
+    /// The halves at whose ports the clock hints come first, in the order of its hints, and then all others, in the order in which
+    /// their places lie in the table's memory; some of these before, where the hints pause.
     pub fn sweep<W: Wait, G: Gate, C: Clock>(
         &mut self,
         rt: &W,

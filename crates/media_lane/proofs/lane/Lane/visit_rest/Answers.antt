@@ -1,36 +1,32 @@
-use Rattle.std.proofs.Common.{◌≡◌, ◌∙◌, sym, subst, arith, ℕ, ◌+◌, ◌%◌, ◌<◌, true}
+use Rattle.std.proofs.Common.{◌≡◌, sym, ◌∙◌, ap, subst, ℕ, ◌+◌, ◌%◌}
 use Rattle.std.proofs.Math.Nat.{add-mod_right, mod-eq_of_lt}
-use Rattle.rtp_packet.specs.declared.head.Half.{Half}
 use Rattle.media_lane.specs.Lanes.{index_of, lanes_of}
-use Rattle.media_lane.specs.Visited.{is_marked}
-use Rattle.media_lane.proofs.Counting.{none_before, covers_nothing, covers_both, next_marked}
+use Rattle.media_lane.proofs.Counting.{covers_nothing, covers_both}
+use Rattle.media_lane.proofs.Strides.{Before, none_yet, next_column}
 use Rattle.media_lane.proofs.lane.Lane.visit_rest.Goals as goal
 
-pub loop-pair-init : goal.loop-pair-init
-loop-pair-init g c = record {
-  covered = covers_nothing (g.C.Clock.range c.args.clock.now) (g.G.Gate.passed c.args.gate.now) c.args.self.now c.args.progress.now;
-  below = λ pair half own before. absurd (none_before (lanes_of c.args.self.now) (index_of c.args.self.now) pair c.args.self.now.one_of own (omega arith));
-  own = subst (λ (n : ℕ). c.from-pair.result % n ≡ index_of c.args.self.now) (sym c.from-lanes.ensures)
-      (subst (λ (n : ℕ). n % lanes_of c.args.self.now ≡ index_of c.args.self.now) (sym c.from-pair.ensures) (mod-eq_of_lt c.args.self.now.one_of));
-}
+pub loop-first-init : goal.loop-first-init
+loop-first-init g c =
+    let lane = c.args.self.now in
+    let progress = c.args.progress.now in
+    record {
+      covered = covers_nothing (g.C.Clock.range c.args.clock.now) (g.G.Gate.passed c.args.gate.now) lane progress;
+      before = subst (λ (n : ℕ). Before lane progress (index_of lane) (lanes_of lane) c.stride_of-stride.result n) (sym c.from-first.ensures)
+          (none_yet lane progress (index_of lane) (lanes_of lane) c.stride_of-stride.result lane.one_of c.stride_of-stride.ensures.of_lane);
+      own = subst (λ (n : ℕ). n % lanes_of lane ≡ index_of lane) (sym c.from-first.ensures) (mod-eq_of_lt lane.one_of);
+    }
 
-pub loop-pair-preserved : goal.loop-pair-preserved
-loop-pair-preserved g c =
+pub loop-first-preserved : goal.loop-first-preserved
+loop-first-preserved g c =
     let range = g.C.Clock.range c.args.clock.now in
     let gate = g.G.Gate.passed c.args.gate.now in
-    let first = c.visit_once.ensures in
-    let second = c.visit_once-in-loop-pair.ensures in
-    let lanes : c.from-lanes.result ≡ lanes_of c.args.self.now = c.from-lanes.ensures in
-    let own : c.loop-pair.pair % lanes_of c.args.self.now ≡ index_of c.args.self.now
-    = subst (λ (n : ℕ). c.loop-pair.pair % n ≡ index_of c.args.self.now) lanes c.loop-pair.invariant.own in
+    let lane = c.args.self.now in
+    let kept = c.loop-first.invariant in
+    let lanes : c.from-lanes.result ≡ lanes_of lane = c.from-lanes.ensures in
     record {
-      covered = covers_both range gate c.args.self.now c.visit_once.new.self c.visit_once-in-loop-pair.new.self c.args.progress.now c.visit_once.new.progress c.visit_once-in-loop-pair.new.progress
-          (covers_both range gate c.args.self.now c.loop-pair.self c.visit_once.new.self c.args.progress.now c.loop-pair.progress c.visit_once.new.progress c.loop-pair.invariant.covered first.covered)
-          second.covered;
-      below = subst (λ (n : ℕ). (pair : ℕ) (half : Half) → pair % lanes_of c.args.self.now ≡ index_of c.args.self.now → pair < c.loop-pair.pair + n
-          → is_marked c.visit_once-in-loop-pair.new.progress.visited pair half ≡ true)
-          (sym lanes)
-          (next_marked range gate c.loop-pair.self c.visit_once.new.self c.visit_once-in-loop-pair.new.self c.loop-pair.progress c.visit_once.new.progress c.visit_once-in-loop-pair.new.progress
-          (index_of c.args.self.now) (lanes_of c.args.self.now) c.loop-pair.pair first.covered second.covered first.marked second.marked own c.loop-pair.invariant.below);
-      own = add-mod_right c.loop-pair.pair c.from-lanes.result ∙ c.loop-pair.invariant.own;
+      covered = covers_both range gate lane c.loop-first.self c.visit_column.new.self c.args.progress.now c.loop-first.progress c.visit_column.new.progress kept.covered c.visit_column.ensures.covered;
+      before = subst (λ (n : ℕ). Before lane c.visit_column.new.progress (index_of lane) (lanes_of lane) c.stride_of-stride.result (c.loop-first.first + n)) (sym lanes)
+          (next_column range gate lane c.loop-first.self c.visit_column.new.self c.loop-first.progress c.visit_column.new.progress (index_of lane) (lanes_of lane) c.stride_of-stride.result c.loop-first.first
+          c.visit_column.ensures.covered kept.covered.same.config_is c.stride_of-stride.ensures.of_lane kept.own kept.before c.visit_column.ensures.column);
+      own = ap (λ (n : ℕ). (c.loop-first.first + n) % lanes_of lane) lanes ∙ add-mod_right c.loop-first.first (lanes_of lane) ∙ kept.own;
     }

@@ -1,16 +1,15 @@
-use Rattle.std.proofs.Common.{◌≡◌, ◌-◌, ◌%◌, ◌<◌, ℕ, true}
-use Rattle.rtp_packet.specs.declared.head.Half.{Half}
+use Rattle.std.proofs.Common.{◌≡◌, ◌-◌, ◌%◌}
 use Rattle.media_lane.specs.Lanes.{index_of, lanes_of}
-use Rattle.media_lane.specs.Visited.{is_marked}
 use Rattle.media_lane.specs.Covering.{Covers}
+use Rattle.media_lane.proofs.Strides.{Before}
 use Rattle.media_lane.proofs.lane.Lane.visit_rest.Given as goal
 
-abbrev pub invariant-loop-pair : goal.invariant-loop-pair
-invariant-loop-pair g l = record {
+abbrev pub invariant-loop-first : goal.invariant-loop-first
+invariant-loop-first g l = record {
   covered : Covers (g.C.Clock.range l.clock) (g.G.Gate.passed l.gate) l.initial.self l.self l.initial.progress l.progress;
-  below : (pair : ℕ) (half : Half) → pair % lanes_of l.initial.self ≡ index_of l.initial.self → pair < l.pair → is_marked l.progress.visited pair half ≡ true;
-  own : l.pair % l.lanes ≡ index_of l.initial.self;
+  before : Before l.initial.self l.progress (index_of l.initial.self) (lanes_of l.initial.self) l.stride l.first;
+  own : l.first % lanes_of l.initial.self ≡ index_of l.initial.self;
 }
 
-abbrev pub decreases-loop-pair : goal.decreases-loop-pair
-decreases-loop-pair g l = l.pairs - l.pair
+abbrev pub decreases-loop-first : goal.decreases-loop-first
+decreases-loop-first g l = l.stride - l.first
