@@ -1,7 +1,8 @@
 """Offers, answers and deletes calls over UDP, waiting for each reply, and prints nanoseconds a call.
 
-Usage: bench/calls.py PORT CALLS [OTHERS] [KEPT] [bencode | json]. Before, it offers and answers that many other calls, which stay, and
-sends that many pings, so that their replies are kept. The datagrams are made before the time begins.
+Usage: bench/calls.py PORT CALLS [OTHERS] [KEPT] [bencode | json] [newest | oldest]. Before, it offers and answers that many other calls,
+and sends that many pings, so that their replies are kept. After each call's answer it deletes that call, so that the others stay, or the
+oldest of all. The datagrams are made before the time begins.
 """
 import json
 import socket
@@ -9,7 +10,8 @@ import sys
 import time
 
 port, calls, others, kept = (int(word) for word in [*sys.argv[1:5], "0", "0"][:4])
-in_json = sys.argv[5:] == ["json"]
+in_json = sys.argv[5:6] == ["json"]
+oldest = sys.argv[6:] == ["oldest"]
 link = socket.socket(socket.AF_INET, socket.SOCK_DGRAM)
 link.settimeout(5)
 link.connect(("127.0.0.1", port))
@@ -50,10 +52,12 @@ other_calls = range(first_other, first_other + others)
 for other in other_calls:
     ask(set_up(other))
 ask(datagram("p", ping, command="ping") for ping in range(kept))
-measured = [it for call in range(calls) for it in set_up(call) + end(call)]
+# each call is ended, the others first where the oldest goes
+ends = [*other_calls, *range(calls)] if oldest else [*range(calls), *other_calls]
+measured = [it for call in range(calls) for it in set_up(call) + end(ends[call])]
 start = time.perf_counter_ns()
 ask(measured)
 taken = time.perf_counter_ns() - start
-for other in other_calls:
-    ask(end(other))
+for call in ends[calls:]:
+    ask(end(call))
 print(taken // calls, "ns a call")

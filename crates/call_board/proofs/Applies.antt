@@ -1,5 +1,5 @@
 -- What a board becomes by a plan that is taken in.
-use Rattle.std.proofs.Common.{◌≡◌, ◌∙◌, refl, ap, sym, subst, ℕ, zero, suc, ◌+◌, ◌-◌, ◌<◌, ◌≤◌, Bool, true, false, cond, List, [], ◌∷◌, ◌++◌, map, length, filter, Some, get_or, set, arith}
+use Rattle.std.proofs.Common.{◌≡◌, ◌∙◌, refl, ap, sym, subst, ℕ, zero, suc, ◌+◌, ◌-◌, ◌<◌, ◌≤◌, Bool, true, false, cond, List, [], ◌∷◌, ◌++◌, map, length, filter, Some, get_or, set, arith, if◌then◌else◌}
 use Rattle.std.specs.Prelude.{◌==◌, position}
 use Rattle.std.proofs.lemmas.List.{length-set, get_or-set_same, get_or-set_other, map_push}
 use Rattle.std.proofs.lemmas.List.Quantifiers.{position-Some}
@@ -87,6 +87,12 @@ one_more_call config [] (d ∷ cs) call c s one = elim s [ ]
 one_more_call config (x ∷ calls) [] call c s one = elim s [ ]
 one_more_call config (x ∷ calls) (d ∷ cs) call c s one = (s.0, one_more_call config calls cs call c s.1 one)
 
+-- the same, where it came since it wasn't there
+pub one_more_pushed : (config : Config) (calls new : List LiveCall) (cs : List CallView) (call : LiveCall) (c : CallView) (there : Bool) →
+    new ≡ (if there then calls else calls ++ call ∷ []) → there ≡ false → CallsFor config calls cs → CallFor config call c → CallsFor config new (cs ++ c ∷ [])
+one_more_pushed config calls new cs call c true is absent s one = absurd (let f = absent in cc)
+one_more_pushed config calls new cs call c false is absent s one = subst (λ (those : List LiveCall). CallsFor config those (cs ++ c ∷ [])) (sym is) (one_more_call config calls cs call c s one)
+
 has-push : (xs : List ℕ) (p q : ℕ) → has (xs ++ p ∷ []) q ≡ cond (p == q) true (has xs q)
 has-push [] p q = refl
 has-push (x ∷ xs) p q = ap (λ (b : Bool). cond (x == q) true b) (has-push xs p q) ∙ swap (x == q) (p == q) (has xs q)
@@ -118,6 +124,6 @@ cells_more config taken cs c s low high = record {
         ∙ sym (ap (λ (b : Bool). cond b true (has (cells cs) (1 + k))) is)
 
 -- what is kept of a call that begins by this round
-pub begins_by : (config : Config) (id : List ℕ) (round : Round) (new : NewCall) → BeginsBy config id round new → (new.id.list ≡ id) × DialogFor config new.dialog [] × AwaitsRound new.dialog round
+pub begins_by : (config : Config) (id : List ℕ) (round : Round) (new : NewCall) → BeginsBy config id round new → (new.id.list ≡ id) × DialogFor config new.dialog.value [] × AwaitsRound new.dialog.value round
 begins_by config id (Offered ask legs keys) new b = (b.id_is, b.dialog_for, b.awaits)
 begins_by config id (Answered ask) new b = elim b [ ]

@@ -1,6 +1,6 @@
 -- Calls under their call-ids: a look-up, what goes and what comes.
 use Rattle.std.proofs.Common.{◌≡◌, ◌∙◌, refl, sym, ap, ℕ, zero, suc, ◌+◌, ◌<◌, List, [], ◌∷◌, ◌++◌, length, map, set, remove, get_or, Bool, true, false, cond, not, nat_eq, nat_lt, Option, Some, None, Result, Ok, Err, IsOk, OnOk, Vec, slice_get, position, arith, if◌then◌else◌}
-use Rattle.std.specs.Prelude.{◌||◌}
+use Rattle.std.specs.Prelude.{◌||◌, is_some}
 use Rattle.std.specs.Cmp.Lexicographic.{pointwise, bytes_decides}
 use Rattle.std.specs.List.{list_any, position_or_len}
 use Rattle.std.specs.Map.{keys_of, values_of, lookup}
@@ -9,6 +9,7 @@ use Rattle.std.proofs.lemmas.Map.Entries.{length-keys_of, length-values_of}
 use Rattle.indexmap.specs.IndexMap.{insert_entry, set_value_at}
 use Rattle.call_board.specs.declared.live_call.LiveCall.{LiveCall}
 use Rattle.call_board.specs.Keyed.{AreUnderTheirIds}
+use Rattle.call_board.proofs.Placed.{any-position}
 
 one_test : (a b : Bool) → (a ≡ true → b ≡ true) → (b ≡ true → a ≡ true) → a ≡ b
 one_test true true f g = refl
@@ -118,3 +119,18 @@ module _ {A : Type 0} where
 pub on_ok : {X Y : Type 0} (r : Result X Y) (P : Type 0) → IsOk r → OnOk r P → P
 on_ok (Ok x) P is h = h
 on_ok (Err y) P is h = cc
+
+picked : {X : Type 0} (there : Bool) (which : Bool) (x y new : X) → there ≡ which → new ≡ (if which then x else y) → new ≡ (if there then x else y)
+picked there which x y new same is = is ∙ ap (λ (b : Bool). if b then x else y) (sym same)
+
+-- one more call comes where the search for its call-id ended so
+pub one_more_where_none : (test : LiveCall → Bool) (calls new : List LiveCall) (call : LiveCall) → position test calls ≡ None → (list_any test calls ≡ false → new ≡ calls ++ call ∷ []) →
+    new ≡ (if list_any test calls then calls else calls ++ call ∷ [])
+one_more_where_none test calls new call absent more =
+    let none : list_any test calls ≡ false = any-position test calls ∙ ap is_some absent in picked (list_any test calls) false calls (calls ++ call ∷ []) new none (more none)
+
+-- and none where it ended so
+pub none_more_where_some : (test : LiveCall → Bool) (calls new : List LiveCall) (call : LiveCall) (at : ℕ) → position test calls ≡ Some at → new ≡ calls →
+    new ≡ (if list_any test calls then calls else calls ++ call ∷ [])
+none_more_where_some test calls new call at there same =
+    picked (list_any test calls) true calls (calls ++ call ∷ []) new (any-position test calls ∙ ap is_some there) same

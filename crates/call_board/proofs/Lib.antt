@@ -7,6 +7,7 @@ pub mod Lowest
 pub mod Cells
 pub mod Ids
 mod Keyed
+mod Numbered
 pub mod Keys
 pub mod Held
 pub mod Free

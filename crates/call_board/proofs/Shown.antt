@@ -6,6 +6,9 @@ use Rattle.std.specs.Str.{bytes_eq}
 use Rattle.std.proofs.lemmas.List.Quantifiers.{position-Some}
 use Rattle.relay_outside.specs.declared.settings.Config.{Config}
 use Rattle.histories.specs.Words.{first}
+use Rattle.offer_answer.specs.Rounds.{Round}
+use Rattle.offer_answer.specs.Dialogs.{DialogFor}
+use Rattle.offer_answer.specs.declared.dialog.Dialog.{Dialog}
 use Rattle.call_board.proofs.Placed.{any-position}
 use Rattle.call_board.specs.declared.live_call.LiveCall.{LiveCall}
 use Rattle.call_board.specs.Views.{CallView, View, is_of_id, is_numbered, call_numbered}
@@ -135,3 +138,7 @@ same_one {A} {o} {x} {y} e f = let q : Some x ≡ Some y = sym e ∙ f in cc
 -- the call that is shown is that of this number
 pub shown_is : (config : Config) (v : View) (number : ℕ) (call : LiveCall) (c : CallView) → ShowsCall config v number call → call_numbered v number ≡ Some c → CallFor config call c
 shown_is config v number call c shown e = subst (λ (of : CallView). CallFor config call of) (same_one shown.found e) shown.call_for
+
+-- a dialog that a box lends stands for what the box's does
+pub lent_for : {config : Config} {rounds : List Round} {dialog lent : Dialog} → lent ≡ dialog → DialogFor config dialog rounds → DialogFor config lent rounds
+lent_for {config} {rounds} {dialog} {lent} is stands = subst (λ (d : Dialog). DialogFor config d rounds) (sym is) stands

@@ -56,5 +56,6 @@ pub record WentOn (old new : List LiveCall) (place : ℕ) (plan : Plan) (now : �
   pub after : LiveCall
   pub before_is : before ≡ slice_index_or old place before
   pub list_is : new ≡ slice_set old place after
+  pub number_is : after.number ≡ before.number
   pub taken : (config : Config) (c : CallView) (round : Round) → CallFor config before c → is_begun c.rounds ≡ true → IsPlanOf config c.rounds round plan →
       CallFor config after (with_round round now c)

@@ -19,7 +19,7 @@ pub record CallFor (config : Config) (call : LiveCall) (c : CallView) : Type 0 w
   pub number_is : call.number ≡ c.of.number
   pub cell_is : call.cell ≡ c.of.cell
   pub id_is : call.id.list ≡ c.of.id
-  pub dialog_for : DialogFor config call.dialog c.rounds
+  pub dialog_for : DialogFor config call.dialog.value c.rounds
   pub first_is : call.first_moment ≡ c.first
   pub last_is : call.last_moment ≡ c.last
 

@@ -10,6 +10,7 @@ pub mod Answers
 pub mod Fits
 pub mod Views
 pub mod Keyed
+pub mod Numbered
 pub mod Boards
 pub mod Planned
 pub mod Lending

@@ -76,8 +76,8 @@ target v id = target_by v id (call_of_id v id)
 -- what is kept for a call that is to begin
 pub record NewFor (config : Config) (id tag : List ℕ) (new : NewCall) : Type 0 where
   pub id_is : new.id.list ≡ id
-  pub dialog_for : DialogFor config new.dialog []
-  pub awaits : Awaits new.dialog tag
+  pub dialog_for : DialogFor config new.dialog.value []
+  pub awaits : Awaits new.dialog.value tag
 
 abbrev pub BeginsFor : Config → Target → List ℕ → Option NewCall → Type 0
 BeginsFor config t tag None = t.begins ≡ false

@@ -36,7 +36,7 @@ impl Board {
         ensures writes { IfOk result (λ p. WritesFrom p.plan sdp.now) }
     {
         let call = self.calls.at(place);
-        match answer(alloc, &self.config, &call.dialog, input, sdp) {
+        match answer(alloc, &self.config, &*call.dialog, input, sdp) {
             Ok(plan) => Ok(BoardPlan {
                 plan,
                 call: call.number,

@@ -28,11 +28,11 @@ impl Board {
     }
 
     /// Takes in the first offer of a call.
-    fn begin(&mut self, new: NewCall, plan: Plan, call: u64, cell: u32, now: u64)
+    fn begin(&mut self, new: NewCall, plan: Plan, cell: u32, now: u64)
         requires room { 0 < self.old.calls.spare }
         requires few { self.old.begun < 2 ^ 63 }
         ensures replies { KeepsReplies self.old self.new }
-        ensures taken { (config : Config) (v : View) (of : Call) (round : Round) → Shows config self.old v → IsNext config v of → call ≡ of.number → cell ≡ of.cell →
+        ensures taken { (config : Config) (v : View) (of : Call) (round : Round) → Shows config self.old v → IsNext config v of → cell ≡ of.cell →
             BeginsBy config of.id round new → IsPlanOf config [] round plan →
             Shows config self.new (with_new_call v (record { of = of; rounds = round ∷ []; first = now; last = now })) }
     {
@@ -43,7 +43,7 @@ impl Board {
         } = new;
         dialog.apply(plan);
         let begun = LiveCall {
-            number: call,
+            number: self.begun,
             cell,
             id,
             dialog,
@@ -51,8 +51,8 @@ impl Board {
             last_moment: now,
         };
         self.calls.push(key, begun);
-        mark_cell(self.taken.as_mut_slice(), cell, true);
         self.begun += 1;
+        mark_cell(self.taken.as_mut_slice(), cell, true);
     }
 
     /// Takes in a plan at the moment `now`, in milliseconds: that of an offer once its pairs are leased and it is filled, that of
@@ -72,7 +72,7 @@ impl Board {
             leases: _,
         } = plan;
         match begun {
-            Some(new) => self.begin(new, plan, call, cell, now),
+            Some(new) => self.begin(new, plan, cell, now),
             None => self.go_on(plan, call, now),
         }
     }

@@ -1,17 +1,6 @@
 //! The board.
 
-ghost use Rattle.std.specs.Prelude.{◌≡◌, ◌<◌, ◌+◌, ◌^◌, ℕ, [], ◌∷◌, false, max, map, length, Some, None, IfOk, MatchOption, OnOk, slice_get, option_map, position, ◌==◌};
-ghost use Rattle.relay_outside.specs.declared.settings.Config.{Config};
-ghost use Rattle.cookie_cache.specs.Keepings.{IsCookie};
-ghost use Rattle.cookie_cache.specs.Keepings as keepings;
-ghost use Rattle.cookie_cache.specs.Caches.{HasSparePlace};
-ghost use Rattle.indexmap.specs.IndexMap.{keys, values};
-ghost use Rattle.histories.specs.Words.{has};
-ghost use Rattle.port_pool.specs.Pools.{generation};
-ghost use Rattle.offer_answer.specs.Dialogs.{DialogFor};
-ghost use Rattle.offer_answer.specs.Plan as plan;
-ghost use Rattle.call_board.specs.Views.{View, CallView, at_moment, with_keeping, one_drawn, with_returned, without_call, call_of_id, call_numbered};
-ghost use Rattle.call_board.specs.Boards.{Shows, ShowsCall, CallsFor, BoardFor, IsLive, KeepsCalls, KeepsReplies};
+ghost use Rattle.call_board.specs.Numbered.{AreBelow, AreBelow-prop};
 
 use crate::live_call::LiveCall;
 use crate::live_calls::LiveCalls;
@@ -45,9 +34,23 @@ pub struct Board {
     pub(crate) pool: Pool,
     /// The kept replies.
     pub(crate) replies: CookieCache,
+    ghost numbers: { AreBelow 0 calls.list begun } by { AreBelow-prop 0 calls.list begun },
 }
 
 impl Board {
+    ghost use Rattle.std.specs.Prelude.{◌≡◌, ◌<◌, ◌+◌, ◌^◌, ℕ, [], ◌∷◌, false, max, map, length, Some, None, IfOk, MatchOption, OnOk, slice_get, option_map, position, ◌==◌};
+    ghost use Rattle.relay_outside.specs.declared.settings.Config.{Config};
+    ghost use Rattle.cookie_cache.specs.Keepings.{IsCookie};
+    ghost use Rattle.cookie_cache.specs.Keepings as keepings;
+    ghost use Rattle.cookie_cache.specs.Caches.{HasSparePlace};
+    ghost use Rattle.indexmap.specs.IndexMap.{keys, values};
+    ghost use Rattle.histories.specs.Words.{has};
+    ghost use Rattle.port_pool.specs.Pools.{generation};
+    ghost use Rattle.offer_answer.specs.Dialogs.{DialogFor};
+    ghost use Rattle.offer_answer.specs.Plan as plan;
+    ghost use Rattle.call_board.specs.Views.{View, CallView, at_moment, with_keeping, one_drawn, with_returned, without_call, call_of_id, call_numbered};
+    ghost use Rattle.call_board.specs.Boards.{Shows, ShowsCall, CallsFor, BoardFor, IsLive, KeepsCalls, KeepsReplies};
+
     /// The board before the first datagram, with memory for all pairs of the configuration.
     pub fn new(alloc: Global, config: &Config) -> Result<Board, OutOfMemory>
         ensures { IfOk result (λ board. BoardFor config.now board []) }
@@ -265,7 +268,7 @@ impl Board {
         ensures { (config : Config) (v : View) (c : CallView) → Shows config self.now v → call_numbered v call ≡ Some c →
             DialogFor config result.now c.rounds }
     {
-        &self.live(call).dialog
+        &*self.live(call).dialog
     }
 
     /// The moments of the first and of the last accepted offer or answer of a live call, in milliseconds.

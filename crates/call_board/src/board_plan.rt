@@ -15,7 +15,7 @@ pub(crate) struct NewCall {
     /// The same bytes, as the key under which it is to be found.
     pub key: Vec<u8>,
     /// Its dialog, before its first offer.
-    pub dialog: Dialog,
+    pub dialog: Box<Dialog>,
     ghost key_is: { key.items ≡ id.list },
 }
 

@@ -14,8 +14,8 @@ pub struct LiveCall {
     pub(crate) cell: u32,
     /// Its call-id.
     pub(crate) id: Text,
-    /// The state that its accepted offers and answers lead to.
-    pub(crate) dialog: Dialog,
+    /// The state that its accepted offers and answers lead to. It is boxed, so that a call is small where it stands among others.
+    pub(crate) dialog: Box<Dialog>,
     /// The moment of the first of them, in milliseconds.
     pub(crate) first_moment: u64,
     /// The moment of the last of them.
@@ -35,6 +35,7 @@ impl LiveCall {
         ensures taken { (config : Config) (c : CallView) (round : Round) → CallFor config self.old c → is_begun c.rounds ≡ true → IsPlanOf config c.rounds round plan →
             CallFor config self.new (with_round round now c) }
         ensures id { self.new.id ≡ self.old.id }
+        ensures number { self.new.number ≡ self.old.number }
     {
         self.dialog.apply(plan);
         self.last_moment = now;

@@ -1,6 +1,6 @@
 //! The live calls of a board.
 
-ghost use Rattle.std.specs.Prelude.{◌≡◌, ◌<◌, ◌==◌, ◌++◌, [], ◌∷◌, false, length, position, remove, slice_index_or, IfSome, OnOk};
+ghost use Rattle.std.specs.Prelude.{◌≡◌, ◌<◌, ◌==◌, ◌++◌, [], ◌∷◌, false, if◌then◌else◌, length, position, remove, slice_index_or, IfSome, OnOk};
 ghost use Rattle.std.specs.List.{list_any};
 ghost use Rattle.std.specs.Str.{bytes_eq};
 
@@ -36,6 +36,7 @@ impl LiveCalls {
     ghost use Rattle.std.specs.Prelude.{map};
     ghost use Rattle.indexmap.specs.IndexMap.{keys, values};
     ghost use Rattle.call_board.specs.Applied.{WentOn};
+    ghost use Rattle.call_board.specs.Numbered.{NumbersRise};
 
     /// No calls.
     pub fn new(alloc: Global) -> LiveCalls
@@ -69,16 +70,17 @@ impl LiveCalls {
         self.calls.get_index_of(id)
     }
 
-    /// The place of the call with this number, from 0.
+    /// The place of the call with this number, from 0, where their numbers rise.
     pub fn place_of(&self, number: u64) -> Option<usize>
+        requires { NumbersRise self.now.list }
         ensures place { result ≡ position (λ call. call.number == number) self.now.list }
         ensures within { IfSome result (λ at. at < length self.now.list) }
     {
-        self.calls
-            .values()
-            .as_slice()
-            .iter()
-            .position(|call| call.number == number)
+        let calls = self.calls.values().as_slice();
+        match calls.binary_search_by_key(&number, |call| call.number) {
+            Ok(place) => Some(place),
+            Err(_) => None,
+        }
     }
 
     /// The call in a place, from 0.
@@ -108,8 +110,20 @@ impl LiveCalls {
         }
     }
 
-    /// Adds a call after the others, of a call-id that none of them has, under the bytes of its call-id. It takes no memory.
+    /// Adds a call after the others, under the bytes of its call-id, where none of them has that call-id. It takes no memory.
     pub fn push(&mut self, key: Vec<u8>, call: LiveCall)
+        requires room { 0 < self.old.spare }
+        requires key { key.items ≡ call.id.list }
+        ensures { self.new.list ≡ (if list_any (λ live. bytes_eq live.id.list call.id.list) self.old.list then self.old.list else self.old.list ++ call ∷ []) }
+    {
+        match self.place_of_id(key.as_slice()) {
+            Some(_) => (),
+            None => self.append(key, call),
+        }
+    }
+
+    /// Adds a call after the others, of a call-id that none of them has.
+    fn append(&mut self, key: Vec<u8>, call: LiveCall)
         requires room { 0 < self.old.spare }
         requires key { key.items ≡ call.id.list }
         ensures { list_any (λ live. bytes_eq live.id.list call.id.list) self.old.list ≡ false → self.new.list ≡ self.old.list ++ call ∷ [] }

@@ -51,7 +51,10 @@ pub(crate) fn new_call(
 ) -> Result<NewCall, OutOfMemory>
     ensures { (config : Config) → IfOk result (NewFor config call_id.now.list from_tag.now.list) }
 {
-    let dialog = Dialog::new(alloc, from_tag)?;
+    let fresh = Dialog::new(alloc, from_tag)?;
+    let Ok(dialog) = Box::new(alloc, fresh) else {
+        return Err(OutOfMemory);
+    };
     let Ok(id) = Text::copy_of(alloc, call_id.as_slice()) else {
         return Err(OutOfMemory);
     };
@@ -130,7 +133,7 @@ impl Board {
         ensures writes { IfOk result (λ p. WritesFrom p.plan sdp.now) }
     {
         let call = self.calls.at(place);
-        let plan = match offer(alloc, &self.config, &call.dialog, input, sdp) {
+        let plan = match offer(alloc, &self.config, &*call.dialog, input, sdp) {
             Ok(plan) => plan,
             Err(fault) => return Err(fault_by(fault)),
         };
@@ -169,7 +172,7 @@ impl Board {
         let Ok(begun) = new_call(alloc, &input.call_id, &input.from_tag) else {
             return Err(BoardFault::OutOfMemory);
         };
-        let plan = match offer(alloc, &self.config, &begun.dialog, input, sdp) {
+        let plan = match offer(alloc, &self.config, &*begun.dialog, input, sdp) {
             Ok(plan) => plan,
             Err(fault) => return Err(fault_by(fault)),
         };

@@ -8,7 +8,7 @@ pub returns-in-Some-clause-taken : goal.returns-in-Some-clause-taken
 returns-in-Some-clause-taken c = λ config v of round s t.
     let f = subst (λ (o : Option NewCall). TakesIn config v of round c.args.plan o) c.in-Some.is t in
     subst (λ (o : Option NewCall). Shows config c.begin.new.self (taken_in v of round c.args.now c.args.plan o)) (sym c.in-Some.is)
-    (c.begin.ensures.taken config v of round s f.0 f.1 f.2 f.3 f.4)
+    (c.begin.ensures.taken config v of round s f.0 f.2 f.3 f.4)
 
 pub returns-clause-taken : goal.returns-clause-taken
 returns-clause-taken c = λ config v of round s t.

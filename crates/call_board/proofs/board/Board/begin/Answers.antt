@@ -4,13 +4,20 @@ use Rattle.std.specs.Str.{bytes_eq}
 use Rattle.std.proofs.lemmas.List.{with_items_is}
 use Rattle.call_board.specs.declared.live_call.LiveCall.{LiveCall}
 use Rattle.call_board.specs.Views.{CallView, is_of_id}
-use Rattle.call_board.specs.Boards.{CallsFor, CellsFor}
-use Rattle.call_board.proofs.Shown.{asks_id, none_has}
-use Rattle.call_board.proofs.Applies.{applied, begins_by, one_more_call, cells_more}
+use Rattle.call_board.specs.Boards.{CellsFor}
+use Rattle.call_board.proofs.Shown.{asks_id, none_has, lent_for}
+use Rattle.offer_answer.specs.declared.dialog.Dialog.{Dialog}
+use Rattle.call_board.proofs.Applies.{AwaitsRound, applied, begins_by, one_more_pushed, cells_more}
+use Rattle.call_board.proofs.Numbered.{numbers_after}
 use Rattle.call_board.proofs.board.Board.begin.Goals as goal
 
+pub invariant_of-self : goal.invariant_of-self
+invariant_of-self c = record {
+  numbers = numbers_after c.args.self.now.calls.list c.push.new.self.list c.args.self.now.begun _ _ c.push.ensures c.args.self.now.numbers refl;
+}
+
 pub returns-clause-taken : goal.returns-clause-taken
-returns-clause-taken c = λ config v of round s next number cell b p.
+returns-clause-taken c = λ config v of round s next cell b p.
     let view : CallView = record { of = of; rounds = round ∷ []; first = c.args.now; last = c.args.now } in
     let new = begins_by config of.id round c.args.new b in
     let fresh = subst (λ (id : List ℕ). list_any (λ (call : LiveCall). bytes_eq call.id.list id) c.args.self.now.calls.list ≡ false) (sym new.0)
@@ -24,17 +31,16 @@ returns-clause-taken c = λ config v of round s next number cell b p.
       moment_is = s.moment_is;
       begun_is = ap (λ (n : ℕ). n + 1) s.begun_is;
       drawn_is = s.drawn_is;
-      calls_for = subst (λ (calls : List LiveCall). CallsFor config calls (v.calls ++ view ∷ [])) (sym (c.push.ensures fresh))
-          (one_more_call config c.args.self.now.calls.list v.calls
-          (record { number = c.args.call; cell = c.args.cell; id = c.args.new.id; dialog = c.apply.new.self; first_moment = c.args.now; last_moment = c.args.now }) view s.calls_for
-          (record {
-            number_is = number;
-            cell_is = cell;
-            id_is = new.0;
-            dialog_for = applied config c.args.new.dialog c.apply.new.self c.args.plan [] round c.apply.ensures.offered c.apply.ensures.answered new.1 new.2 p;
-            first_is = refl;
-            last_is = refl;
-          }));
+      calls_for = one_more_pushed config c.args.self.now.calls.list c.push.new.self.list v.calls _ view _ c.push.ensures fresh s.calls_for (record {
+        number_is = s.begun_is ∙ sym next.number_is;
+        cell_is = cell;
+        id_is = new.0;
+        dialog_for = applied config c.deref_mut.result.now c.apply.new.self c.args.plan [] round c.apply.ensures.offered c.apply.ensures.answered
+            (lent_for c.deref_mut.ensures.value new.1)
+            (subst (λ (dialog : Dialog). AwaitsRound dialog round) (sym c.deref_mut.ensures.value) new.2) p;
+        first_is = refl;
+        last_is = refl;
+      });
       cells_for = subst (λ (those : List Bool). CellsFor config those (v.calls ++ view ∷ [])) (sym (whole ∙ taken ∙ ap (λ (n : ℕ). set items (n - 1) true) cell))
           (cells_more config items v.calls view s.cells_for next.cell_is_one next.cell_is_there);
       pool_for = s.pool_for;

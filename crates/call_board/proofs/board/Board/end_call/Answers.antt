@@ -6,7 +6,15 @@ use Rattle.call_board.specs.Views.{CallView, without}
 use Rattle.std.specs.Option.{option_map}
 use Rattle.call_board.proofs.Shown.{shown_call}
 use Rattle.call_board.proofs.Ended.{removed, cells_after, is_positive}
+use Rattle.call_board.specs.Numbered.{AreBelow}
+use Rattle.call_board.proofs.Numbered.{without_one}
 use Rattle.call_board.proofs.board.Board.end_call.Goals as goal
+
+pub invariant_of-self : goal.invariant_of-self
+invariant_of-self c = record {
+  numbers = subst (λ (calls : List LiveCall). AreBelow 0 calls c.args.self.now.begun) (sym c.remove-ended.ensures.list)
+      (without_one 0 c.args.self.now.calls.list c.args.self.now.begun c.place-place.result c.args.self.now.numbers);
+}
 
 pub returns-clause-shows : goal.returns-clause-shows
 returns-clause-shows c = λ config v s apart.

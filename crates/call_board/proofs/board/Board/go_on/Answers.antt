@@ -4,7 +4,16 @@ use Rattle.call_board.specs.Views.{CallView, with_round, goes_on}
 use Rattle.call_board.specs.Boards.{CallFor, CallsFor, ShowsCall}
 use Rattle.call_board.proofs.Shown.{shown_call, shown_is, same_one}
 use Rattle.call_board.proofs.Applies.{went_on, cells_stay}
+use Rattle.call_board.specs.Numbered.{AreBelow}
+use Rattle.call_board.proofs.Numbered.{with_changed}
 use Rattle.call_board.proofs.board.Board.go_on.Goals as goal
+
+pub invariant_of-self : goal.invariant_of-self
+invariant_of-self c =
+    let went = c.go_on.ensures in record {
+      numbers = subst (λ (calls : List LiveCall). AreBelow 0 calls c.args.self.now.begun) (sym went.list_is)
+          (with_changed 0 c.args.self.now.calls.list c.args.self.now.begun c.place-place.result went.before went.after c.args.self.now.numbers went.before_is went.number_is);
+    }
 
 pub returns-clause-taken : goal.returns-clause-taken
 returns-clause-taken c = λ config v of round s e begun p.

@@ -3,7 +3,7 @@ use Rattle.std.specs.Str.{bytes_eq}
 use Rattle.call_board.specs.declared.live_call.LiveCall.{LiveCall}
 use Rattle.call_board.specs.Views.{CallView, is_of_id, call_of_id}
 use Rattle.call_board.specs.Boards.{CallFor}
-use Rattle.call_board.proofs.Shown.{IsFirst, call_at_place, no_call_found, asks_id, same_one}
+use Rattle.call_board.proofs.Shown.{IsFirst, call_at_place, no_call_found, asks_id, same_one, lent_for}
 use Rattle.call_board.proofs.board.Board.hear_answer.Goals as goal
 
 pub returns-in-None-clause-heard : goal.returns-in-None-clause-heard
@@ -21,7 +21,7 @@ returns-in-Some-clause-heard c = λ config v of ask s e read is.
     (call_at_place config (λ (call : LiveCall). bytes_eq call.id.list id) (is_of_id id) c.args.self.now.calls.list v.calls c.in-Some.place c.at.result.now
     (asks_id config id) s.calls_for (sym c.place_of_id.ensures.place ∙ c.in-Some.is)) in
     let kept = subst (λ (o : CallView). CallFor config c.at.result.now o) (same_one f.found e) f.call_for in
-    c.hear.ensures config of.rounds ask kept.dialog_for read is
+    c.hear.ensures config of.rounds ask (lent_for c.deref.ensures kept.dialog_for) read is
 
 pub returns-in-Some-clause-nothing : goal.returns-in-Some-clause-nothing
 returns-in-Some-clause-nothing c = λ config v s e.

@@ -3,22 +3,22 @@ use Rattle.relay_outside.specs.declared.settings.Config.{Config}
 use Rattle.offer_answer.specs.Plans.{OfferPlan}
 use Rattle.call_board.specs.Planned.{NewFor, code_of}
 use Rattle.call_board.proofs.Plans.{refused_by, answers_full, answers_short, answers_none, has_session}
-use Rattle.call_board.proofs.Shown.{same_one}
+use Rattle.call_board.proofs.Shown.{same_one, lent_for}
 use Rattle.call_board.proofs.board.Board.plan_first.Goals as goal
 
 pub returns-in-Err-clause-plans : goal.returns-in-Err-clause-plans
 returns-in-Err-clause-plans c = λ config v ask s asks n.
-    let for = (c.in-Ok.ensures c.args.self.now.config).dialog_for in
+    let for = lent_for c.deref.ensures (c.in-Ok.ensures c.args.self.now.config).dialog_for in
     refused_by config v true [] ask c.in-Err.fault (c.in-Err.ensures.answered [] ask for asks) (λ e. n (c.fault_by.ensures ∙ e)) ∙ ap code_of (sym c.fault_by.ensures)
 
 pub returns-then-is_full-clause-plans : goal.returns-then-is_full-clause-plans
 returns-then-is_full-clause-plans c = λ config v ask s asks n.
-    let for = (c.in-Ok.ensures c.args.self.now.config).dialog_for in
+    let for = lent_for c.deref.ensures (c.in-Ok.ensures c.args.self.now.config).dialog_for in
     answers_full config c.args.self.now v [] ask s (c.in-Ok-offer.ensures.answered [] ask for asks).0 (sym c.is_full.ensures ∙ c.if-is_full.true)
 
 pub returns-then-lacks_pairs-clause-plans : goal.returns-then-lacks_pairs-clause-plans
 returns-then-lacks_pairs-clause-plans c = λ config v ask s asks n.
-    let for = (c.in-Ok.ensures c.args.self.now.config).dialog_for in
+    let for = lent_for c.deref.ensures (c.in-Ok.ensures c.args.self.now.config).dialog_for in
     let made = c.in-Ok-offer.ensures.answered [] ask for asks in
     answers_short config c.args.self.now v true [] ask c.in-Ok-offer.plan s (made.0, made.1.demands)
     (inr (sym c.is_full.ensures ∙ c.if-is_full.false)) (sym c.lacks_pairs.ensures ∙ c.if-lacks_pairs.true)
@@ -30,7 +30,7 @@ returns-in_default-lowest_cell-clause-plans c = λ config v ask s asks n.
 
 pub returns-clause-plans : goal.returns-clause-plans
 returns-clause-plans c = λ config v ask s asks.
-    let for = (c.in-Ok.ensures c.args.self.now.config).dialog_for in
+    let for = lent_for c.deref.ensures (c.in-Ok.ensures c.args.self.now.config).dialog_for in
     let made = c.in-Ok-offer.ensures.answered [] ask for asks in
     let full = sym c.is_full.ensures ∙ c.if-is_full.false in (
       answers_none config c.args.self.now v true [] ask c.in-Ok-offer.plan s (made.0, made.1.demands) (inr full) (sym c.lacks_pairs.ensures ∙ c.if-lacks_pairs.false),

@@ -7,7 +7,7 @@ use Rattle.call_board.specs.declared.fault.BoardFault.TheVariants.{NoPair}
 use Rattle.call_board.specs.declared.live_call.LiveCall.{LiveCall}
 use Rattle.call_board.specs.Views.{CallView, is_of_id}
 use Rattle.call_board.specs.Planned.{PlansFor, target_by, code_of}
-use Rattle.call_board.proofs.Shown.{IsFirst, call_at_place, asks_id}
+use Rattle.call_board.proofs.Shown.{IsFirst, call_at_place, asks_id, lent_for}
 use Rattle.call_board.proofs.Plans.{refused_by, answers_short, answers_none}
 use Rattle.call_board.proofs.board.Board.plan_later.Goals as goal
 
@@ -17,7 +17,7 @@ returns-in-Err-clause-plans c = λ config v ask s asks.
     let call = c.at-call.result.now in
     let f = subst (λ (call : LiveCall). IsFirst config (is_of_id id) v.calls call) (sym c.at-call.ensures)
     (call_at_place config (λ (call : LiveCall). bytes_eq call.id.list id) (is_of_id id) c.args.self.now.calls.list v.calls c.args.place call (asks_id config id) s.calls_for c.requires.found) in
-    let dialog = subst (λ (k : Config). DialogFor k call.dialog f.of.rounds) (sym s.config_is) f.call_for.dialog_for in
+    let dialog = lent_for c.deref.ensures (subst (λ (k : Config). DialogFor k call.dialog.value f.of.rounds) (sym s.config_is) f.call_for.dialog_for) in
     subst (λ (o : Option CallView). PlansFor config v (target_by v id o) ask (Err c.fault_by.result)) (sym f.found)
     (λ n. refused_by config v false f.of.rounds ask c.in-Err.fault (c.in-Err.ensures.answered f.of.rounds ask dialog asks) (λ e. n (c.fault_by.ensures ∙ e)) ∙ ap code_of (sym c.fault_by.ensures))
 
@@ -27,7 +27,7 @@ returns-then-lacks_pairs-clause-plans c = λ config v ask s asks.
     let call = c.at-call.result.now in
     let f = subst (λ (call : LiveCall). IsFirst config (is_of_id id) v.calls call) (sym c.at-call.ensures)
     (call_at_place config (λ (call : LiveCall). bytes_eq call.id.list id) (is_of_id id) c.args.self.now.calls.list v.calls c.args.place call (asks_id config id) s.calls_for c.requires.found) in
-    let dialog = subst (λ (k : Config). DialogFor k call.dialog f.of.rounds) (sym s.config_is) f.call_for.dialog_for in
+    let dialog = lent_for c.deref.ensures (subst (λ (k : Config). DialogFor k call.dialog.value f.of.rounds) (sym s.config_is) f.call_for.dialog_for) in
     subst (λ (o : Option CallView). PlansFor config v (target_by v id o) ask (Err NoPair)) (sym f.found)
     (λ n. let made = c.in-Ok.ensures.answered f.of.rounds ask dialog asks in
     answers_short config c.args.self.now v false f.of.rounds ask c.in-Ok.plan s (made.0, made.1.demands)
@@ -39,7 +39,7 @@ returns-clause-plans c = λ config v ask s asks.
     let call = c.at-call.result.now in
     let f = subst (λ (call : LiveCall). IsFirst config (is_of_id id) v.calls call) (sym c.at-call.ensures)
     (call_at_place config (λ (call : LiveCall). bytes_eq call.id.list id) (is_of_id id) c.args.self.now.calls.list v.calls c.args.place call (asks_id config id) s.calls_for c.requires.found) in
-    let dialog = subst (λ (k : Config). DialogFor k call.dialog f.of.rounds) (sym s.config_is) f.call_for.dialog_for in
+    let dialog = lent_for c.deref.ensures (subst (λ (k : Config). DialogFor k call.dialog.value f.of.rounds) (sym s.config_is) f.call_for.dialog_for) in
     let made = c.in-Ok.ensures.answered f.of.rounds ask dialog asks in
     subst (λ (o : Option CallView). PlansFor config v (target_by v id o) ask
     (Ok (record { plan = c.in-Ok.plan; call = call.number; cell = call.cell; begun = None; leases = c.in-Ok-room_for.leases }))) (sym f.found) (

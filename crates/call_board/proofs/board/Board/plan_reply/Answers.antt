@@ -6,7 +6,7 @@ use Rattle.offer_answer.specs.Plans.{AnswerPlan}
 use Rattle.call_board.specs.declared.live_call.LiveCall.{LiveCall}
 use Rattle.call_board.specs.Views.{CallView, is_of_id}
 use Rattle.call_board.specs.Planned.{PlansAnswer, code_of}
-use Rattle.call_board.proofs.Shown.{IsFirst, call_at_place, asks_id}
+use Rattle.call_board.proofs.Shown.{IsFirst, call_at_place, asks_id, lent_for}
 use Rattle.call_board.proofs.Plans.{answer_refused_by}
 use Rattle.call_board.proofs.board.Board.plan_reply.Goals as goal
 
@@ -16,7 +16,7 @@ returns-in-Err-clause-plans c = λ config v s.
     let call = c.at-call.result.now in
     let f = subst (λ (call : LiveCall). IsFirst config (is_of_id id) v.calls call) (sym c.at-call.ensures)
     (call_at_place config (λ (call : LiveCall). bytes_eq call.id.list id) (is_of_id id) c.args.self.now.calls.list v.calls c.args.place call (asks_id config id) s.calls_for c.requires.found) in
-    let dialog = subst (λ (k : Config). DialogFor k call.dialog f.of.rounds) (sym s.config_is) f.call_for.dialog_for in
+    let dialog = lent_for c.deref.ensures (subst (λ (k : Config). DialogFor k call.dialog.value f.of.rounds) (sym s.config_is) f.call_for.dialog_for) in
     subst (λ (o : Option CallView). PlansAnswer config c.args.input.now c.args.sdp.now o (Err c.fault_by.result)) (sym f.found)
     (λ ask asks n. answer_refused_by f.of.rounds ask c.args.sdp.now c.args.self.now.config c.in-Err.fault (c.in-Err.ensures.answered f.of.rounds ask dialog asks) (λ e. n (c.fault_by.ensures ∙ e)) ∙ ap code_of (sym c.fault_by.ensures))
 
@@ -26,7 +26,7 @@ returns-in-Ok-clause-plans c = λ config v s.
     let call = c.at-call.result.now in
     let f = subst (λ (call : LiveCall). IsFirst config (is_of_id id) v.calls call) (sym c.at-call.ensures)
     (call_at_place config (λ (call : LiveCall). bytes_eq call.id.list id) (is_of_id id) c.args.self.now.calls.list v.calls c.args.place call (asks_id config id) s.calls_for c.requires.found) in
-    let dialog = subst (λ (k : Config). DialogFor k call.dialog f.of.rounds) (sym s.config_is) f.call_for.dialog_for in
+    let dialog = lent_for c.deref.ensures (subst (λ (k : Config). DialogFor k call.dialog.value f.of.rounds) (sym s.config_is) f.call_for.dialog_for) in
     subst (λ (o : Option CallView). PlansAnswer config c.args.input.now c.args.sdp.now o
     (Ok (record { plan = c.in-Ok.plan; call = call.number; cell = call.cell; begun = None; leases = None }))) (sym f.found)
     (λ ask asks.

@@ -1,14 +1,16 @@
 use Rattle.std.proofs.Common.{refl}
+use Rattle.call_board.proofs.Shown.{lent_for}
 use Rattle.call_board.proofs.Applies.{applied, begun_awaits}
 use Rattle.call_board.proofs.live_call.LiveCall.go_on.Goals as goal
 
 pub returns-clause-taken : goal.returns-clause-taken
-returns-clause-taken c = λ config of round s begun p. record {
-  number_is = s.number_is;
-  cell_is = s.cell_is;
-  id_is = s.id_is;
-  dialog_for = applied config c.args.self.now.dialog c.apply.new.self c.args.plan of.rounds round c.apply.ensures.offered c.apply.ensures.answered s.dialog_for
-      (begun_awaits config c.args.self.now.dialog of.rounds round s.dialog_for begun) p;
-  first_is = s.first_is;
-  last_is = refl;
-}
+returns-clause-taken c = λ config of round s begun p.
+    let stands = lent_for c.deref_mut.ensures.value s.dialog_for in record {
+      number_is = s.number_is;
+      cell_is = s.cell_is;
+      id_is = s.id_is;
+      dialog_for = applied config c.deref_mut.result.now c.apply.new.self c.args.plan of.rounds round c.apply.ensures.offered c.apply.ensures.answered stands
+          (begun_awaits config c.deref_mut.result.now of.rounds round stands begun) p;
+      first_is = s.first_is;
+      last_is = refl;
+    }

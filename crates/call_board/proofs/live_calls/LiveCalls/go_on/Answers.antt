@@ -21,5 +21,6 @@ returns c = rw (← c.self.view_is) (record {
   after = c.go_on.new.self;
   before_is = sym (get_or_from_slice_get (values_of c.self.inside.calls.entries) c.args.place c.index_mut.result.now c.index_mut.result.now c.index_mut.ensures.value);
   list_is = values-set c.self.inside.calls.entries c.args.place c.go_on.new.self;
+  number_is = c.go_on.ensures.number;
   taken = c.go_on.ensures.taken;
 })

@@ -1,25 +1,18 @@
-use Rattle.std.proofs.Common.{◌≡◌, ◌∙◌, ◌<◌, sym, ap, subst, ℕ, List, false, nat_eq, None}
-use Rattle.std.specs.Cmp.Lexicographic.{pointwise}
-use Rattle.std.specs.List.{list_any}
-use Rattle.std.specs.Map.{lookup, values_of}
-use Rattle.ng_bencode.specs.Room.{Room}
-use Rattle.indexmap.proofs.CallerLemmas.{insert_entry-new}
+use Rattle.std.proofs.Common.{◌∙◌, ap, sym, refl, ℕ, List}
+use Rattle.std.specs.Str.{bytes_eq}
+use Rattle.std.specs.Prelude.{position}
 use Rattle.call_board.specs.declared.live_call.LiveCall.{LiveCall}
-use Rattle.call_board.specs.Keyed.{AreUnderTheirIds}
-use Rattle.call_board.proofs.Keyed.{has_bytes, has_id, not_there, on_ok, under-insert, values-push}
+use Rattle.call_board.proofs.Keyed.{one_more_where_none, none_more_where_some}
 use Rattle.call_board.proofs.live_calls.LiveCalls.push.Goals as goal
 
-pub invariant_of-self : goal.invariant_of-self
-invariant_of-self c =
-    let spare = subst (λ (calls : Room LiveCall). 0 < calls.spare) (sym c.self.view_is) c.requires.room in
-    let put = on_ok c.insert.result _ (c.insert.ensures.succeeds spare) c.insert.ensures.entries in
-    subst AreUnderTheirIds (sym put) (under-insert c.args.key c.args.call c.self.inside.calls.entries c.requires.key c.self.invariant)
+pub returns-in-Some : goal.returns-in-Some
+returns-in-Some c =
+    let id = c.as_slice.ensures.value ∙ c.requires.key in
+    none_more_where_some (λ (live : LiveCall). bytes_eq live.id.list c.args.call.id.list) c.args.self.now.list c.args.self.now.list c.args.call _
+    (sym (ap (λ (bytes : List ℕ). position (λ (live : LiveCall). bytes_eq live.id.list bytes) c.args.self.now.list) id) ∙ sym c.place_of_id.ensures.place ∙ c.in-Some.is) refl
 
-pub returns : goal.returns
-returns c = rw (← c.self.view_is) (λ none.
-    let es = c.self.inside.calls.entries in
-    let spare = subst (λ (calls : Room LiveCall). 0 < calls.spare) (sym c.self.view_is) c.requires.room in
-    let put = on_ok c.insert.result _ (c.insert.ensures.succeeds spare) c.insert.ensures.entries in
-    let fresh = subst (λ (id : List ℕ). list_any (has_id id) (values_of es) ≡ false) (sym c.requires.key) none in
-    let absent : lookup (has_bytes c.args.key.items) es ≡ None = not_there c.args.key.items es c.self.invariant fresh in
-    ap values_of (put ∙ insert_entry-new (λ x y. pointwise nat_eq x.items y.items) c.self.inside.calls c.args.key c.args.call absent) ∙ values-push es (c.args.key, c.args.call))
+pub returns-in-None : goal.returns-in-None
+returns-in-None c =
+    let id = c.as_slice.ensures.value ∙ c.requires.key in
+    one_more_where_none (λ (live : LiveCall). bytes_eq live.id.list c.args.call.id.list) c.args.self.now.list c.append.new.self.list c.args.call
+    (sym (ap (λ (bytes : List ℕ). position (λ (live : LiveCall). bytes_eq live.id.list bytes) c.args.self.now.list) id) ∙ sym c.place_of_id.ensures.place ∙ c.in-None.is) c.append.ensures
