@@ -1,3 +1,4 @@
+pub mod Devices
 pub mod Sending
 pub mod Dealing
 pub mod Turning

@@ -12,13 +12,14 @@ ghost use Rattle.nested_steps.specs.Nesting.{MayNest};
 ghost use Rattle.board_turns.specs.Acting.{InTurn};
 ghost use Rattle.control_entries.specs.Telling.{IsAnew};
 ghost use Rattle.control_entries.specs.Carrying.{hearing_by, Carries};
+ghost use Rattle.control_turns.specs.Devices.{AreSame};
 ghost use Rattle.call_board.specs.Pairs.{free};
 ghost use Rattle.control_entries.specs.Giving.{given_by, IsGivenBy};
 ghost use Rattle.board_turns.specs.Ties.{Ties};
 
+use crate::devices::Devices;
 use answer_command::answer;
 use call_board::Board;
-use call_cell::Gone;
 use control_entries::{CommandOutcome, refused, short, told};
 use control_reading::{Body, Request, read_body};
 use control_replies::pong_datagram;
@@ -46,33 +47,33 @@ pub(crate) struct Carried {
 }
 
 /// Carries out a command, or returns the error that there is in its place.
-fn carry_out_command<P: PortMaker, K: KeySource, R: Wait>(
+fn carry_out_command<N, P: PortMaker, K: KeySource, R: Wait>(
     rt: &R,
     alloc: Global,
     turn: &BoardTurn<P::In, P::Out>,
     hand: &mut Hand<Relay<P::In, P::Out>>,
     board: &mut Board,
-    ports: &mut P,
-    keys: &mut K,
-    gone: &mut Gone<P::Out>,
+    devices: &mut Devices<'_, '_, '_, '_, N, P, K, P::Out>,
     request: &Request,
     command: &Result<Command, ErrorCode>,
 ) -> CommandOutcome
-    requires turn { InTurn turn.now.config.now turn.now.turns.now hand.old turn.now.entry_id board.old (P.told ports.old) }
+    requires turn { InTurn turn.now.config.now turn.now.turns.now hand.old turn.now.entry_id board.old (P.told devices.old.ports.now) }
     requires anew { IsAnew (board_history (made_by hand.old) turn.now.entry_id.number) turn.now.entry_id.moment request.now }
-    requires empty { gone.old ≡ [] }
+    requires empty { devices.old.gone.now ≡ [] }
     requires small { IfOk command.now (λ asks. length (description_in (said asks)) ≤ length request.now.body.now) }
     requires asked { (pairs : Option Entries) × (request.now.too_long ≡ false) × Reads request.now.body.now pairs × (command_in false pairs ≡ said_by command.now) }
+    ensures devices { AreSame devices.old devices.new }
     ensures same { IsSameHand hand.old hand.new × SameTurns hand.old hand.new }
     ensures may { MayNest turn.now.config.now turn.now.turns.now hand.new }
     ensures carries { (pairs : Option Entries) → request.now.too_long ≡ false → Reads request.now.body.now pairs → command_in false pairs ≡ said_by command.now →
-        Carries turn.now.config.now hand.old hand.new turn.now.entry_id (hearing_by request.now pairs result) result.reply board.new (P.told ports.new) }
+        Carries turn.now.config.now hand.old hand.new turn.now.entry_id (hearing_by request.now pairs result) result.reply board.new (P.told devices.new.ports.now) }
+    ensures link { devices.new.link.now ≡ devices.old.link.now }
     ensures replies { KeepsReplies board.old board.new }
-    ensures empty { gone.new ≡ [] }
-    ensures ties { Ties turn.now.config.now (P.told ports.old) (P.told ports.new) (entries hand.old) (entries hand.new) }
-    ensures later { (P.faults ports.old ≤ P.faults ports.new) × (K.faults keys.old ≤ K.faults keys.new) }
+    ensures empty { devices.new.gone.now ≡ [] }
+    ensures ties { Ties turn.now.config.now (P.told devices.old.ports.now) (P.told devices.new.ports.now) (entries hand.old) (entries hand.new) }
+    ensures later { (P.faults devices.old.ports.now ≤ P.faults devices.new.ports.now) × (K.faults devices.old.keys.now ≤ K.faults devices.new.keys.now) }
     ensures given { let h = board_history (made_by hand.old) turn.now.entry_id.number in
-        IsGivenBy turn.now.config.now (free turn.now.config.now h) (given_by result.device_answers) (P.faults ports.old) (P.faults ports.new) (K.faults keys.old) (K.faults keys.new) (P.told ports.old) (P.told ports.new) (K.told keys.old) (K.told keys.new) }
+        IsGivenBy turn.now.config.now (free turn.now.config.now h) (given_by result.device_answers) (P.faults devices.old.ports.now) (P.faults devices.new.ports.now) (K.faults devices.old.keys.now) (K.faults devices.new.keys.now) (P.told devices.old.ports.now) (P.told devices.new.ports.now) (K.told devices.old.keys.now) (K.told devices.new.keys.now) }
 {
     let command = match command {
         Ok(command) => command,
@@ -81,39 +82,68 @@ fn carry_out_command<P: PortMaker, K: KeySource, R: Wait>(
     match command {
         Command::Ping => told(ChosenLines::none(), pong_datagram(alloc, request)),
         Command::Offer(input) => offer(
-            rt, alloc, turn, hand, board, ports, keys, gone, request, input,
+            rt,
+            alloc,
+            turn,
+            hand,
+            board,
+            devices.ports,
+            devices.keys,
+            devices.gone,
+            request,
+            input,
         ),
-        Command::Answer(input) => answer(rt, alloc, turn, hand, board, ports, gone, request, input),
-        Command::Delete(input) => delete(rt, alloc, turn, hand, board, ports, gone, request, input),
+        Command::Answer(input) => answer(
+            rt,
+            alloc,
+            turn,
+            hand,
+            board,
+            devices.ports,
+            devices.gone,
+            request,
+            input,
+        ),
+        Command::Delete(input) => delete(
+            rt,
+            alloc,
+            turn,
+            hand,
+            board,
+            devices.ports,
+            devices.gone,
+            request,
+            input,
+        ),
         Command::Query(input) => query(rt, alloc, turn, hand, board, request, input),
         Command::List(limit) => list(alloc, board, request, *limit),
     }
 }
 
 /// Carries out what a datagram asks.
-pub(crate) fn carry_out<P: PortMaker, K: KeySource, R: Wait>(
+pub(crate) fn carry_out<N, P: PortMaker, K: KeySource, R: Wait>(
     rt: &R,
     alloc: Global,
     turn: &BoardTurn<P::In, P::Out>,
     hand: &mut Hand<Relay<P::In, P::Out>>,
     board: &mut Board,
-    ports: &mut P,
-    keys: &mut K,
-    gone: &mut Gone<P::Out>,
+    devices: &mut Devices<'_, '_, '_, '_, N, P, K, P::Out>,
     request: &Request,
 ) -> Carried
-    requires turn { InTurn turn.now.config.now turn.now.turns.now hand.old turn.now.entry_id board.old (P.told ports.old) }
+    requires turn { InTurn turn.now.config.now turn.now.turns.now hand.old turn.now.entry_id board.old (P.told devices.old.ports.now) }
     requires anew { IsAnew (board_history (made_by hand.old) turn.now.entry_id.number) turn.now.entry_id.moment request.now }
-    requires empty { gone.old ≡ [] }
+    requires empty { devices.old.gone.now ≡ [] }
+    ensures devices { AreSame devices.old devices.new }
     ensures same { IsSameHand hand.old hand.new × SameTurns hand.old hand.new }
     ensures may { MayNest turn.now.config.now turn.now.turns.now hand.new }
-    ensures carries { Carries turn.now.config.now hand.old hand.new turn.now.entry_id (hearing_by request.now (pairs_if result.dictionary) result.done) result.done.reply board.new (P.told ports.new) }
+    ensures carries { Carries turn.now.config.now hand.old hand.new turn.now.entry_id (hearing_by request.now (pairs_if result.dictionary) result.done) result.done.reply board.new (P.told devices.new.ports.now) }
+    ensures link { devices.new.link.now ≡ devices.old.link.now }
     ensures replies { KeepsReplies board.old board.new }
-    ensures empty { gone.new ≡ [] }
-    ensures ties { Ties turn.now.config.now (P.told ports.old) (P.told ports.new) (entries hand.old) (entries hand.new) }
-    ensures later { (P.faults ports.old ≤ P.faults ports.new) × (K.faults keys.old ≤ K.faults keys.new) }
+    ensures empty { devices.new.gone.now ≡ [] }
+    ensures ties { Ties turn.now.config.now (P.told devices.old.ports.now) (P.told devices.new.ports.now) (entries hand.old) (entries hand.new) }
+    ensures later { (P.faults devices.old.ports.now ≤ P.faults devices.new.ports.now) × (K.faults devices.old.keys.now ≤ K.faults devices.new.keys.now) }
     ensures given { let h = board_history (made_by hand.old) turn.now.entry_id.number in
-        IsGivenBy turn.now.config.now (free turn.now.config.now h) (given_by result.done.device_answers) (P.faults ports.old) (P.faults ports.new) (K.faults keys.old) (K.faults keys.new) (P.told ports.old) (P.told ports.new) (K.told keys.old) (K.told keys.new) }
+        IsGivenBy turn.now.config.now (free turn.now.config.now h) (given_by result.done.device_answers) (P.faults devices.old.ports.now) (P.faults devices.new.ports.now) (K.faults devices.old.keys.now) (K.faults devices.new.keys.now) (P.told devices.old.ports.now) (P.told devices.new.ports.now) (K.told devices.old.keys.now) (K.told devices.new.keys.now) }
 {
     if request.too_long {
         let done = refused(alloc, request, ErrorCode::E18, ChosenLines::none());
@@ -132,8 +162,6 @@ pub(crate) fn carry_out<P: PortMaker, K: KeySource, R: Wait>(
         dictionary,
         command,
     } = body;
-    let done = carry_out_command(
-        rt, alloc, turn, hand, board, ports, keys, gone, request, &command,
-    );
+    let done = carry_out_command(rt, alloc, turn, hand, board, devices, request, &command);
     Carried { dictionary, done }
 }

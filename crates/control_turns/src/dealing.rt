@@ -11,6 +11,7 @@ ghost use Rattle.control_entries.specs.Controls.{control_of, moment_at};
 ghost use Rattle.call_board.specs.Pairs.{free};
 ghost use Rattle.call_board.specs.Replies.{fault_datagram};
 ghost use Rattle.control_entries.specs.Giving.{given_by, IsGivenBy, IsUnasked};
+ghost use Rattle.control_turns.specs.Devices.{AreSame};
 ghost use Rattle.control_turns.specs.Sending.{Sends};
 ghost use Rattle.control_entries.specs.Telling.{IsAnew};
 ghost use Rattle.control_turns.specs.Turning.{IsRequest};
@@ -18,11 +19,11 @@ ghost use Rattle.control_turns.specs.Dealing.{hearing_of, Deals, IsTaken, DealsA
 ghost use Rattle.board_turns.specs.Ties.{Ties};
 
 use crate::carrying::{Carried, carry_out};
+use crate::devices::Devices;
 use crate::replying::reply_to;
 use crate::sending::{send, send_shortage};
 use crate::turn_record::TurnRecord;
 use call_board::Board;
-use call_cell::Gone;
 use control_entries::{CommandOutcome, DeviceAnswers};
 use control_reading::Request;
 use nested_steps::{BoardEntryId, BoardTurn};
@@ -68,42 +69,45 @@ fn answer_anew<N: ControlLink, P: PortMaker, K: KeySource, R: Wait>(
     turn: &BoardTurn<P::In, P::Out>,
     hand: &mut Hand<Relay<P::In, P::Out>>,
     board: &mut Board,
-    link: &mut N,
-    ports: &mut P,
-    keys: &mut K,
-    gone: &mut Gone<P::Out>,
+    devices: &mut Devices<'_, '_, '_, '_, N, P, K, P::Out>,
     request: &Request,
 ) -> Answered
-    requires turn { InTurn turn.now.config.now turn.now.turns.now hand.old turn.now.entry_id board.old (P.told ports.old) }
+    requires turn { InTurn turn.now.config.now turn.now.turns.now hand.old turn.now.entry_id board.old (P.told devices.old.ports.now) }
     requires anew { IsAnew (board_history (made_by hand.old) turn.now.entry_id.number) turn.now.entry_id.moment request.now }
-    requires empty { gone.old ≡ [] }
+    requires empty { devices.old.gone.now ≡ [] }
+    ensures devices { AreSame devices.old devices.new }
     ensures same { IsSameHand hand.old hand.new × SameTurns hand.old hand.new }
     ensures may { MayNest turn.now.config.now turn.now.turns.now hand.new }
-    ensures deals { Deals turn.now.config.now hand.old hand.new turn.now.entry_id (hearing_of request.now result.turn_record) board.new (P.told ports.new) }
+    ensures deals { Deals turn.now.config.now hand.old hand.new turn.now.entry_id (hearing_of request.now result.turn_record) board.new (P.told devices.new.ports.now) }
     ensures sent { Sends request.now.source (control_of turn.now.config.now (board_history (made_by hand.old) turn.now.entry_id.number) turn.now.entry_id.moment (hearing_of request.now result.turn_record)).reply
-        result.sent (N.told link.old) (N.told link.new) }
-    ensures cause { HasCause (N.faults link.old) (N.faults link.new) result.sent }
-    ensures empty { gone.new ≡ [] }
-    ensures ties { Ties turn.now.config.now (P.told ports.old) (P.told ports.new) (entries hand.old) (entries hand.new) }
-    ensures later { (P.faults ports.old ≤ P.faults ports.new) × (K.faults keys.old ≤ K.faults keys.new) }
+        result.sent (N.told devices.old.link.now) (N.told devices.new.link.now) }
+    ensures cause { HasCause (N.faults devices.old.link.now) (N.faults devices.new.link.now) result.sent }
+    ensures empty { devices.new.gone.now ≡ [] }
+    ensures ties { Ties turn.now.config.now (P.told devices.old.ports.now) (P.told devices.new.ports.now) (entries hand.old) (entries hand.new) }
+    ensures later { (P.faults devices.old.ports.now ≤ P.faults devices.new.ports.now) × (K.faults devices.old.keys.now ≤ K.faults devices.new.keys.now) }
     ensures given { let h = board_history (made_by hand.old) turn.now.entry_id.number in
-        IsGivenBy turn.now.config.now (free turn.now.config.now h) (given_by result.turn_record.device_answers) (P.faults ports.old) (P.faults ports.new) (K.faults keys.old) (K.faults keys.new) (P.told ports.old) (P.told ports.new) (K.told keys.old) (K.told keys.new) }
+        IsGivenBy turn.now.config.now (free turn.now.config.now h) (given_by result.turn_record.device_answers) (P.faults devices.old.ports.now) (P.faults devices.new.ports.now) (K.faults devices.old.keys.now) (K.faults devices.new.keys.now) (P.told devices.old.ports.now) (P.told devices.new.ports.now) (K.told devices.old.keys.now) (K.told devices.new.keys.now) }
 {
     if board.reserve_reply().is_err() {
-        return answer_short(link, request);
+        return answer_short(devices.link, request);
     }
     let Ok(cookie) = Text::copy_of(alloc, request.cookie) else {
-        return answer_short(link, request);
+        return answer_short(devices.link, request);
     };
-    let Carried { dictionary, done } = carry_out(
-        rt, alloc, turn, hand, board, ports, keys, gone, request,
-    );
+    let Carried { dictionary, done } = carry_out(rt, alloc, turn, hand, board, devices, request);
     let CommandOutcome {
         chosen_lines,
         device_answers,
         reply,
     } = done;
-    let sent = reply_to(board, link, request, turn.entry_id.moment, cookie, reply);
+    let sent = reply_to(
+        board,
+        devices.link,
+        request,
+        turn.entry_id.moment,
+        cookie,
+        reply,
+    );
     let turn_record = TurnRecord {
         dictionary,
         chosen_lines,
@@ -119,29 +123,27 @@ fn deal<N: ControlLink, P: PortMaker, K: KeySource, R: Wait>(
     turn: &BoardTurn<P::In, P::Out>,
     hand: &mut Hand<Relay<P::In, P::Out>>,
     board: &mut Board,
-    link: &mut N,
-    ports: &mut P,
-    keys: &mut K,
-    gone: &mut Gone<P::Out>,
+    devices: &mut Devices<'_, '_, '_, '_, N, P, K, P::Out>,
     request: &Request,
 ) -> Answered
-    requires turn { InTurn turn.now.config.now turn.now.turns.now hand.old turn.now.entry_id board.old (P.told ports.old) }
+    requires turn { InTurn turn.now.config.now turn.now.turns.now hand.old turn.now.entry_id board.old (P.told devices.old.ports.now) }
     requires request { IsRequest request.now }
-    requires empty { gone.old ≡ [] }
+    requires empty { devices.old.gone.now ≡ [] }
+    ensures devices { AreSame devices.old devices.new }
     ensures same { IsSameHand hand.old hand.new × SameTurns hand.old hand.new }
     ensures may { MayNest turn.now.config.now turn.now.turns.now hand.new }
-    ensures deals { Deals turn.now.config.now hand.old hand.new turn.now.entry_id (hearing_of request.now result.turn_record) board.new (P.told ports.new) }
+    ensures deals { Deals turn.now.config.now hand.old hand.new turn.now.entry_id (hearing_of request.now result.turn_record) board.new (P.told devices.new.ports.now) }
     ensures sent { Sends request.now.source (control_of turn.now.config.now (board_history (made_by hand.old) turn.now.entry_id.number) turn.now.entry_id.moment (hearing_of request.now result.turn_record)).reply
-        result.sent (N.told link.old) (N.told link.new) }
-    ensures cause { HasCause (N.faults link.old) (N.faults link.new) result.sent }
-    ensures empty { gone.new ≡ [] }
-    ensures ties { Ties turn.now.config.now (P.told ports.old) (P.told ports.new) (entries hand.old) (entries hand.new) }
-    ensures later { (P.faults ports.old ≤ P.faults ports.new) × (K.faults keys.old ≤ K.faults keys.new) }
+        result.sent (N.told devices.old.link.now) (N.told devices.new.link.now) }
+    ensures cause { HasCause (N.faults devices.old.link.now) (N.faults devices.new.link.now) result.sent }
+    ensures empty { devices.new.gone.now ≡ [] }
+    ensures ties { Ties turn.now.config.now (P.told devices.old.ports.now) (P.told devices.new.ports.now) (entries hand.old) (entries hand.new) }
+    ensures later { (P.faults devices.old.ports.now ≤ P.faults devices.new.ports.now) × (K.faults devices.old.keys.now ≤ K.faults devices.new.keys.now) }
     ensures given { let h = board_history (made_by hand.old) turn.now.entry_id.number in
-        IsGivenBy turn.now.config.now (free turn.now.config.now h) (given_by result.turn_record.device_answers) (P.faults ports.old) (P.faults ports.new) (K.faults keys.old) (K.faults keys.new) (P.told ports.old) (P.told ports.new) (K.told keys.old) (K.told keys.new) }
+        IsGivenBy turn.now.config.now (free turn.now.config.now h) (given_by result.turn_record.device_answers) (P.faults devices.old.ports.now) (P.faults devices.new.ports.now) (K.faults devices.old.keys.now) (K.faults devices.new.keys.now) (P.told devices.old.ports.now) (P.told devices.new.ports.now) (K.told devices.old.keys.now) (K.told devices.new.keys.now) }
 {
     if let Some(kept) = board.find_reply(request.source, request.cookie, turn.entry_id.moment) {
-        let sent = send(link, request.source, kept);
+        let sent = send(devices.link, request.source, kept);
         let turn_record = TurnRecord {
             dictionary: None,
             chosen_lines: ChosenLines::none(),
@@ -149,9 +151,7 @@ fn deal<N: ControlLink, P: PortMaker, K: KeySource, R: Wait>(
         };
         return Answered { turn_record, sent };
     }
-    answer_anew(
-        rt, alloc, turn, hand, board, link, ports, keys, gone, request,
-    )
+    answer_anew(rt, alloc, turn, hand, board, devices, request)
 }
 
 /// Deals with a request where the board's place is given, in a turn of the board that was handed the moment which `turn` says: its
@@ -162,27 +162,25 @@ pub(crate) fn deal_part<N: ControlLink, P: PortMaker, K: KeySource, R: Wait>(
     turn: &BoardTurn<P::In, P::Out>,
     hand: &mut Hand<Relay<P::In, P::Out>>,
     part: &mut Part<P::In, P::Out>,
-    link: &mut N,
-    ports: &mut P,
-    keys: &mut K,
-    gone: &mut Gone<P::Out>,
+    devices: &mut Devices<'_, '_, '_, '_, N, P, K, P::Out>,
     request: &Request,
 ) -> Answered
-    requires taken { IsTaken turn.now.config.now turn.now.turns.now hand.old turn.now.entry_id.number part.old (P.told ports.old) }
+    requires taken { IsTaken turn.now.config.now turn.now.turns.now hand.old turn.now.entry_id.number part.old (P.told devices.old.ports.now) }
     requires request { IsRequest request.now }
-    requires empty { gone.old ≡ [] }
+    requires empty { devices.old.gone.now ≡ [] }
+    ensures devices { AreSame devices.old devices.new }
     ensures same { IsSameHand hand.old hand.new × SameTurns hand.old hand.new }
     ensures may { MayNest turn.now.config.now turn.now.turns.now hand.new }
     ensures deals { let h = board_history (made_by hand.old) turn.now.entry_id.number in
-        DealsAt turn.now.config.now hand.old hand.new turn.now.entry_id.number (moment_at h turn.now.entry_id.moment) (hearing_of request.now result.turn_record) part.new (P.told ports.new) }
+        DealsAt turn.now.config.now hand.old hand.new turn.now.entry_id.number (moment_at h turn.now.entry_id.moment) (hearing_of request.now result.turn_record) part.new (P.told devices.new.ports.now) }
     ensures sent { let h = board_history (made_by hand.old) turn.now.entry_id.number in
-        Sends request.now.source (control_of turn.now.config.now h (moment_at h turn.now.entry_id.moment) (hearing_of request.now result.turn_record)).reply result.sent (N.told link.old) (N.told link.new) }
-    ensures cause { HasCause (N.faults link.old) (N.faults link.new) result.sent }
-    ensures empty { gone.new ≡ [] }
-    ensures ties { Ties turn.now.config.now (P.told ports.old) (P.told ports.new) (entries hand.old) (entries hand.new) }
-    ensures later { (P.faults ports.old ≤ P.faults ports.new) × (K.faults keys.old ≤ K.faults keys.new) }
+        Sends request.now.source (control_of turn.now.config.now h (moment_at h turn.now.entry_id.moment) (hearing_of request.now result.turn_record)).reply result.sent (N.told devices.old.link.now) (N.told devices.new.link.now) }
+    ensures cause { HasCause (N.faults devices.old.link.now) (N.faults devices.new.link.now) result.sent }
+    ensures empty { devices.new.gone.now ≡ [] }
+    ensures ties { Ties turn.now.config.now (P.told devices.old.ports.now) (P.told devices.new.ports.now) (entries hand.old) (entries hand.new) }
+    ensures later { (P.faults devices.old.ports.now ≤ P.faults devices.new.ports.now) × (K.faults devices.old.keys.now ≤ K.faults devices.new.keys.now) }
     ensures given { let h = board_history (made_by hand.old) turn.now.entry_id.number in
-        IsGivenBy turn.now.config.now (free turn.now.config.now h) (given_by result.turn_record.device_answers) (P.faults ports.old) (P.faults ports.new) (K.faults keys.old) (K.faults keys.new) (P.told ports.old) (P.told ports.new) (K.told keys.old) (K.told keys.new) }
+        IsGivenBy turn.now.config.now (free turn.now.config.now h) (given_by result.turn_record.device_answers) (P.faults devices.old.ports.now) (P.faults devices.new.ports.now) (K.faults devices.old.keys.now) (K.faults devices.new.keys.now) (P.told devices.old.ports.now) (P.told devices.new.ports.now) (K.told devices.old.keys.now) (K.told devices.new.keys.now) }
 {
     match part {
         Part::Board(board) => {
@@ -194,9 +192,7 @@ pub(crate) fn deal_part<N: ControlLink, P: PortMaker, K: KeySource, R: Wait>(
                     moment: board.advance(turn.entry_id.moment),
                 },
             };
-            deal(
-                rt, alloc, &turn, hand, board, link, ports, keys, gone, request,
-            )
+            deal(rt, alloc, &turn, hand, board, devices, request)
         }
         Part::Cell(_) => unreachable!(),
         Part::Pair(_) => unreachable!(),

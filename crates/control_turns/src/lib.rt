@@ -10,6 +10,7 @@
 
 mod carrying;
 mod dealing;
+mod devices;
 mod putting;
 mod replying;
 mod sending;
@@ -17,5 +18,6 @@ mod taking;
 mod turn;
 mod turn_record;
 
+pub use devices::Devices;
 pub use taking::{ControlTurn, control_turn};
 pub use turn::answer_datagram;

@@ -23,7 +23,7 @@ ghost use Rattle.board_turns.specs.Ties.{Ties};
 
 use crate::desk::Desk;
 use board_turns::{stop_turn, tick_turn};
-use control_turns::{ControlTurn, control_turn};
+use control_turns::{ControlTurn, Devices, control_turn};
 use relay_core::{Part, Relay, close_relay, parts};
 use relay_outside::{Config, ControlLink, InEnd, KeySource, OutEnd, OutOfMemory, PortMaker};
 use std::alloc::Global;
@@ -108,6 +108,12 @@ impl<P: PortMaker> Server<P> {
         ensures ties { Ties self.now.config (P.told ports.old) (P.told ports.new) (entries hand.old) (entries hand.new) }
         ensures later { (N.faults link.old ≤ N.faults link.new) × (P.faults ports.old ≤ P.faults ports.new) × (K.faults keys.old ≤ K.faults keys.new) }
     {
+        let mut devices = Devices {
+            link,
+            ports,
+            keys,
+            gone: &mut desk.gone,
+        };
         control_turn(
             rt,
             alloc,
@@ -115,10 +121,7 @@ impl<P: PortMaker> Server<P> {
             hand,
             &self.config,
             desk.datagram.as_mut_slice(),
-            &mut desk.gone,
-            link,
-            ports,
-            keys,
+            &mut devices,
             now,
         )
     }

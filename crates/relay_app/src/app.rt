@@ -2,10 +2,12 @@ ghost use Rattle.std.specs.Prelude.{◌≡◌, ◌≤◌, ◌<◌, ◌^◌, [], 
 ghost use Rattle.relay_outside.specs.Told.{Gained, Rose};
 ghost use Rattle.media_ports.specs.Held.{TellsHeld};
 ghost use Rattle.command_line.specs.Words.{settings, replay_settings};
+ghost use Rattle.relay_app.specs.Devices.{AreSame, AreUnasked};
 ghost use Rattle.relay_app.specs.Run.{Serves, PrintsUsage, IsServed, StatusByWords, ReplayedBy, AreOfReplay, TellsNone};
 
+use crate::devices::{Devices, Media, Tells};
 use crate::replaying::replay_script;
-use crate::serve::{close_table, serve_turns};
+use crate::serve::{Prepared, close_table, serve_turns};
 use crate::status::Status;
 use crate::threads::MediaThread;
 use crate::totals::put_totals;
@@ -53,12 +55,8 @@ fn serve<N, P, K, T, C, G, O, R>(
     rt: &R,
     alloc: Global,
     settings: &Settings,
-    control: &mut N,
-    ports: &mut P,
-    keys: &mut K,
-    timer: &mut T,
-    clock: &C,
-    gate: &G,
+    devices: &mut Devices<'_, '_, '_, '_, N, P, K, T>,
+    media: &Media<'_, '_, C, G>,
     out: &mut O,
 ) -> Status
 where
@@ -74,28 +72,16 @@ where
     R: Threads + Wait + Sync,
     requires turns { settings.now.turns < 2 ^ 63 }
     requires threads { settings.now.threads ≤ 16 }
-    requires open { TellsHeld settings.now.config (P.told ports.old) [] }
-    ensures served { Serves (Some settings.now) (C.range clock.now) (G.passed gate.now)
-        (record {
-          link = N.told control.old;
-          link_now = N.told control.new;
-          timer = T.told timer.old;
-          timer_now = T.told timer.new;
-          opened = P.told ports.old;
-          opened_now = P.told ports.new;
-          drew = K.told keys.old;
-          drew_now = K.told keys.new;
-          port_faults = P.faults ports.old;
-          port_faults_now = P.faults ports.new;
-          key_faults = K.faults keys.old;
-          key_faults_now = K.faults keys.new;
-        })
+    requires open { TellsHeld settings.now.config (P.told devices.old.ports.now) [] }
+    ensures same { AreSame devices.old devices.new }
+    ensures served { Serves (Some settings.now) (C.range media.now.clock.now) (G.passed media.now.gate.now)
+        (⟦<Devices<'static, 'static, 'static, 'static, N, P, K, T> as Tells>⟧.outside devices.old devices.new)
         (O.told out.old) (O.told out.new) result }
     ensures status { IsServed result }
-    ensures memory { result ≡ Status.OutOfMemory → (control.new ≡ control.old) × (ports.new ≡ ports.old) × (keys.new ≡ keys.old) × (timer.new ≡ timer.old) × (out.new ≡ out.old) }
-    ensures shut { TellsHeld settings.now.config (P.told ports.new) [] }
-    ensures later { (N.faults control.old ≤ N.faults control.new) × (P.faults ports.old ≤ P.faults ports.new) × (K.faults keys.old ≤ K.faults keys.new) × (O.faults out.old ≤ O.faults out.new) }
-    ensures control_fault { result ≡ Status.ControlFault → Rose (N.faults control.old) (N.faults control.new) }
+    ensures memory { result ≡ Status.OutOfMemory → AreUnasked devices.old devices.new × (out.new ≡ out.old) }
+    ensures shut { TellsHeld settings.now.config (P.told devices.new.ports.now) [] }
+    ensures later { ⟦<Devices<'static, 'static, 'static, 'static, N, P, K, T> as Tells>⟧.later devices.old devices.new × (O.faults out.old ≤ O.faults out.new) }
+    ensures control_fault { result ≡ Status.ControlFault → Rose (N.faults devices.old.link.now) (N.faults devices.new.link.now) }
     ensures print_fault { result ≡ Status.PrintFault → Rose (O.faults out.old) (O.faults out.new) }
 {
     let Ok(mut line) = line_room(alloc) else {
@@ -110,13 +96,12 @@ where
     let Ok((server, hand)) = Server::start(alloc, settings.config) else {
         return Status::OutOfMemory;
     };
-    let Ok(()) = control.bind(settings.listen) else {
+    let Ok(()) = devices.link.bind(settings.listen) else {
         close_table(server, hand);
         return Status::ControlFault;
     };
-    let looped = serve_turns(
-        rt, alloc, settings, server, hand, desk, room, control, ports, keys, timer, clock, gate,
-    );
+    let prepared = Prepared { hand, desk, room };
+    let looped = serve_turns(rt, alloc, settings, server, prepared, devices, media);
     put_totals(&mut line, looped.counts, looped.totals);
     match out.write(line.as_slice()) {
         Ok(()) => looped.status,
@@ -198,9 +183,16 @@ where
     ensures unused { (AreOfReplay (settings (map (λ word. word.now) words.now)) (replay_settings (map (λ word. word.now) words.now)) → ⊥) → script.new ≡ script.old }
 {
     match read_words(alloc, words) {
-        Ok(Task::Serve(settings)) => serve(
-            rt, alloc, &settings, control, ports, keys, timer, clock, gate, out,
-        ),
+        Ok(Task::Serve(settings)) => {
+            let media = Media { clock, gate };
+            let mut devices = Devices {
+                link: control,
+                ports,
+                keys,
+                timer,
+            };
+            serve(rt, alloc, &settings, &mut devices, &media, out)
+        }
         Ok(Task::Replay(settings)) => replay_script(rt, alloc, &settings, script, out),
         Err(Refusal::Usage(usage)) => print_usage(&usage, out),
         Err(Refusal::OutOfMemory) => Status::OutOfMemory,

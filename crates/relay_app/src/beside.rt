@@ -8,104 +8,78 @@ use std::sync::Wait;
 use std::sync::atomic::{AtomicBool, Ordering};
 use std::thread::{self, Threads};
 
-/// The control loop over a server `V`.
-pub(crate) trait ControlWork<V, C, G, N, P, K, T> {
-    ghost can_work: { Self → V → P → Type 0 };
+/// The control loop over a server `V`, which asks the devices `D`.
+pub(crate) trait ControlWork<V, X, D> {
+    ghost can_work: { Self → V → D → Type 0 };
 
-    ghost did: { V → C → G → Self → N → P → K → T → Self → N → P → K → T → Type 0 };
+    ghost did: { V → X → Self → D → Self → D → Type 0 };
 
     /// Makes all control turns.
-    fn work<W: Wait>(
-        &mut self,
-        rt: &W,
-        server: &V,
-        clock: &C,
-        gate: &G,
-        link: &mut N,
-        ports: &mut P,
-        keys: &mut K,
-        timer: &mut T,
-    )
-        requires { can_work self.old server.now ports.old }
-        ensures { did server.now clock.now gate.now self.old link.old ports.old keys.old timer.old self.new link.new ports.new keys.new timer.new };
+    fn work<W: Wait>(&mut self, rt: &W, server: &V, media: &X, devices: &mut D)
+        requires { can_work self.old server.now devices.old }
+        ensures { did server.now media.now self.old devices.old self.new devices.new };
 }
 
-/// A thread of media over a table `S`.
-pub(crate) trait MediaWork<S, C, G> {
+/// A thread of media over a table `S`. Its relays are handed `X`.
+pub(crate) trait MediaWork<S, X> {
     ghost can_work: { Self → S → Type 0 };
 
-    ghost did: { S → C → G → Self → Self → Type 0 };
+    ghost did: { S → X → Self → Self → Type 0 };
 
     /// Relays media until the halt word is set.
-    fn work<W: Wait>(&mut self, rt: &W, turns: &S, clock: &C, gate: &G, halt: &AtomicBool)
+    fn work<W: Wait>(&mut self, rt: &W, turns: &S, media: &X, halt: &AtomicBool)
         requires { can_work self.old turns.now }
-        ensures { did turns.now clock.now gate.now self.old self.new };
+        ensures { did turns.now media.now self.old self.new };
 }
 
 /// Makes all control turns, and then sets the halt word.
-fn control_turns<W, V, C, G, N, P, K, T, M>(
+fn control_turns<W, V, X, D, M>(
     rt: &W,
     server: &V,
-    clock: &C,
-    gate: &G,
-    link: &mut N,
-    ports: &mut P,
-    keys: &mut K,
-    timer: &mut T,
+    media: &X,
+    devices: &mut D,
     control: &mut M,
     halt: &AtomicBool,
 )
 where
     W: Wait,
-    M: ControlWork<V, C, G, N, P, K, T>,
-    requires { M.can_work control.old server.now ports.old }
-    ensures { M.did server.now clock.now gate.now control.old link.old ports.old keys.old timer.old control.new link.new ports.new keys.new timer.new }
+    M: ControlWork<V, X, D>,
+    requires { M.can_work control.old server.now devices.old }
+    ensures { M.did server.now media.now control.old devices.old control.new devices.new }
 {
-    control.work(rt, server, clock, gate, link, ports, keys, timer);
+    control.work(rt, server, media, devices);
     halt.store(true, Ordering::SeqCst);
 }
 
 /// Runs all threads of media, each until the halt word is set, in a thread of its own.
-fn media_threads<R, S, C, G, L>(
-    rt: &R,
-    turns: &S,
-    clock: &C,
-    gate: &G,
-    halt: &AtomicBool,
-    threads: &mut [L],
-)
+fn media_threads<R, S, X, L>(rt: &R, turns: &S, media: &X, halt: &AtomicBool, threads: &mut [L])
 where
     R: Threads + Wait + Sync,
     S: Sync,
-    C: Sync,
-    G: Sync,
-    L: MediaWork<S, C, G> + Send,
+    X: Sync,
+    L: MediaWork<S, X> + Send,
     requires some { 0 < length threads.old }
     requires ready { All (λ thread. L.can_work thread turns.now) threads.old }
-    ensures { (i : ℕ) (d : _) → i < length threads.old → L.did turns.now clock.now gate.now (slice_index_or threads.old i d) (slice_index_or threads.new i d) }
+    ensures { (i : ℕ) (d : _) → i < length threads.old → L.did turns.now media.now (slice_index_or threads.old i d) (slice_index_or threads.new i d) }
 {
     let count = threads.len();
     thread::for_each_mut(
         rt,
         threads,
         count,
-        &|_, thread| { thread.work(rt, turns, clock, gate, halt) },
+        &|_, thread| { thread.work(rt, turns, media, halt) },
     );
 }
 
 /// Makes all control turns in this thread, and relays media in as many others as there are threads of media, until the control turns are
 /// made. Where no thread can be started, the control turns are made first, and each thread of media does its work after them: the library
 /// runs the first of two closures last then, and so the control loop is the second.
-fn side_by_side<R, V, S, C, G, N, P, K, T, M, L>(
+fn side_by_side<R, V, S, X, D, M, L>(
     rt: &R,
     server: &V,
     turns: &S,
-    clock: &C,
-    gate: &G,
-    link: &mut N,
-    ports: &mut P,
-    keys: &mut K,
-    timer: &mut T,
+    media: &X,
+    devices: &mut D,
     control: &mut M,
     threads: &mut [L],
     halt: &AtomicBool,
@@ -113,59 +87,49 @@ fn side_by_side<R, V, S, C, G, N, P, K, T, M, L>(
 where
     R: Threads + Wait + Sync,
     S: Sync,
-    C: Sync,
-    G: Sync,
-    M: ControlWork<V, C, G, N, P, K, T>,
-    L: MediaWork<S, C, G> + Send,
+    X: Sync,
+    M: ControlWork<V, X, D>,
+    L: MediaWork<S, X> + Send,
     requires some { 0 < length threads.old }
-    requires control { M.can_work control.old server.now ports.old }
+    requires control { M.can_work control.old server.now devices.old }
     requires threads { All (λ thread. L.can_work thread turns.now) threads.old }
-    ensures control { M.did server.now clock.now gate.now control.old link.old ports.old keys.old timer.old control.new link.new ports.new keys.new timer.new }
-    ensures threads { (i : ℕ) (d : _) → i < length threads.old → L.did turns.now clock.now gate.now (slice_index_or threads.old i d) (slice_index_or threads.new i d) }
+    ensures control { M.did server.now media.now control.old devices.old control.new devices.new }
+    ensures threads { (i : ℕ) (d : _) → i < length threads.old → L.did turns.now media.now (slice_index_or threads.old i d) (slice_index_or threads.new i d) }
 {
     thread::join_mut(
         rt,
         &mut ||
             requires { (0 < length threads.now) × All (λ thread. L.can_work thread turns.now) threads.now }
-            ensures { (i : ℕ) (d : _) → i < length threads.entry.now → L.did turns.entry.now clock.entry.now gate.entry.now (slice_index_or threads.entry.now i d) (slice_index_or threads.exit.now i d) }
-        { media_threads(rt, turns, clock, gate, halt, threads) },
-        &mut || {
-            control_turns(
-                rt, server, clock, gate, link, ports, keys, timer, control, halt,
-            )
-        },
+            ensures { (i : ℕ) (d : _) → i < length threads.entry.now → L.did turns.entry.now media.entry.now (slice_index_or threads.entry.now i d) (slice_index_or threads.exit.now i d) }
+        { media_threads(rt, turns, media, halt, threads) },
+        &mut || { control_turns(rt, server, media, devices, control, halt) },
     );
 }
 
 /// Makes all control turns while these threads run; without one, in this thread alone.
-pub(crate) fn run_beside<R, V, S, C, G, N, P, K, T, M, L>(
+pub(crate) fn run_beside<R, V, S, X, D, M, L>(
     rt: &R,
     server: &V,
     turns: &S,
-    clock: &C,
-    gate: &G,
-    link: &mut N,
-    ports: &mut P,
-    keys: &mut K,
-    timer: &mut T,
+    media: &X,
+    devices: &mut D,
     control: &mut M,
     threads: &mut Vec<L>,
 )
 where
     R: Threads + Wait + Sync,
     S: Sync,
-    C: Sync,
-    G: Sync,
-    M: ControlWork<V, C, G, N, P, K, T>,
-    L: MediaWork<S, C, G> + Send,
-    requires control { M.can_work control.old server.now ports.old }
+    X: Sync,
+    M: ControlWork<V, X, D>,
+    L: MediaWork<S, X> + Send,
+    requires control { M.can_work control.old server.now devices.old }
     requires threads { All (λ thread. L.can_work thread turns.now) threads.old.items }
-    ensures control { M.did server.now clock.now gate.now control.old link.old ports.old keys.old timer.old control.new link.new ports.new keys.new timer.new }
+    ensures control { M.did server.now media.now control.old devices.old control.new devices.new }
     ensures as_many { length threads.new.items ≡ length threads.old.items }
-    ensures threads { (i : ℕ) (d : _) → i < length threads.old.items → L.did turns.now clock.now gate.now (slice_index_or threads.old.items i d) (slice_index_or threads.new.items i d) }
+    ensures threads { (i : ℕ) (d : _) → i < length threads.old.items → L.did turns.now media.now (slice_index_or threads.old.items i d) (slice_index_or threads.new.items i d) }
 {
     if threads.is_empty() {
-        control.work(rt, server, clock, gate, link, ports, keys, timer);
+        control.work(rt, server, media, devices);
         return;
     }
     let halt = AtomicBool::new(false);
@@ -173,12 +137,8 @@ where
         rt,
         server,
         turns,
-        clock,
-        gate,
-        link,
-        ports,
-        keys,
-        timer,
+        media,
+        devices,
         control,
         threads.as_mut_slice(),
         &halt,

@@ -5,6 +5,7 @@
 
 mod app;
 mod beside;
+mod devices;
 mod replaying;
 mod serve;
 mod status;

@@ -19,11 +19,13 @@ ghost use Rattle.board_turns.specs.Between.{IsBetween};
 ghost use Rattle.board_turns.specs.Ties.{Ties};
 ghost use Rattle.main_sweeps.specs.Totals.{HasTotals};
 ghost use Rattle.ng_server.specs.Servers.{OpensJust, history_of};
+ghost use Rattle.relay_app.specs.Devices.{AreSame};
 ghost use Rattle.relay_app.specs.Rounds.{status_after, is_second_later};
 ghost use Rattle.relay_app.specs.Served.{DidServe};
 ghost use Rattle.relay_app.specs.Turned.{AddsSweep, TicksWhenDue, DidTurns, CanWork, DidWork, IsLoopEnd};
 
 use crate::beside::{ControlWork, run_beside};
+use crate::devices::{Devices, Media, Tells};
 use crate::status::Status;
 use crate::threads::{MediaThread, join_threads, make_threads};
 use crate::totals::{Counts, no_totals};
@@ -86,8 +88,7 @@ fn sweep_alone<P: PortMaker, C: Clock, G: Gate, R: Wait>(
     settings: &Settings,
     server: &Server<P>,
     hand: Hand<Relay<P::In, P::Out>>,
-    clock: &C,
-    gate: &G,
+    media: &Media<'_, '_, C, G>,
     totals: &mut Totals,
 ) -> Hand<Relay<P::In, P::Out>>
     requires config { server.now.config ≡ settings.now.config }
@@ -95,8 +96,8 @@ fn sweep_alone<P: PortMaker, C: Clock, G: Gate, R: Wait>(
     ensures same { IsSameHand hand result }
     ensures between { IsBetween server.now.config server.now.turns result }
     ensures history { history_of result ≡ history_of hand }
-    ensures swept { AddsSweep server.now.config settings.now.threads (C.range clock.now) (entries hand) (entries result) }
-    ensures gated { GainsGated (G.passed gate.now) (made_by hand) (made_by result) }
+    ensures swept { AddsSweep server.now.config settings.now.threads (C.range media.now.clock.now) (entries hand) (entries result) }
+    ensures gated { GainsGated (G.passed media.now.gate.now) (made_by hand) (made_by result) }
     ensures totals { HasTotals (made_by hand) totals.old → HasTotals (made_by result) totals.new }
 {
     if settings.threads > 0 {
@@ -107,8 +108,8 @@ fn sweep_alone<P: PortMaker, C: Clock, G: Gate, R: Wait>(
         server.turns(),
         hand,
         &settings.config,
-        gate,
-        clock,
+        media.gate,
+        media.clock,
         totals,
     )
 }
@@ -166,41 +167,25 @@ fn make_turns<N: ControlLink, P: PortMaker, K: KeySource, T: Timer, C: Clock, G:
     server: &Server<P>,
     hand: Hand<Relay<P::In, P::Out>>,
     desk: &mut Desk<P::Out>,
-    link: &mut N,
-    ports: &mut P,
-    keys: &mut K,
-    timer: &mut T,
-    clock: &C,
-    gate: &G,
+    devices: &mut Devices<'_, '_, '_, '_, N, P, K, T>,
+    media: &Media<'_, '_, C, G>,
 ) -> (Looped, Hand<Relay<P::In, P::Out>>)
     requires limit { settings.now.turns < 2 ^ 63 }
     requires config { server.now.config ≡ settings.now.config }
     requires between { IsBetween server.now.config server.now.turns hand }
     requires nothing { made_by hand ≡ [] }
-    requires open { OpensJust server.now.config (history_of hand) (P.told ports.old) }
+    requires open { OpensJust server.now.config (history_of hand) (P.told devices.old.ports.now) }
+    ensures devices { AreSame devices.old devices.new }
     ensures same { IsSameHand hand result.1 }
     ensures between { IsBetween server.now.config server.now.turns result.1 }
-    ensures open { OpensJust server.now.config (history_of result.1) (P.told ports.new) }
-    ensures did { DidTurns settings.now.turns server.now.config settings.now.threads (C.range clock.now)
-        (record {
-          link = N.told link.old;
-          link_now = N.told link.new;
-          timer = T.told timer.old;
-          timer_now = T.told timer.new;
-          opened = P.told ports.old;
-          opened_now = P.told ports.new;
-          drew = K.told keys.old;
-          drew_now = K.told keys.new;
-          port_faults = P.faults ports.old;
-          port_faults_now = P.faults ports.new;
-          key_faults = K.faults keys.old;
-          key_faults_now = K.faults keys.new;
-        })
+    ensures open { OpensJust server.now.config (history_of result.1) (P.told devices.new.ports.now) }
+    ensures did { DidTurns settings.now.turns server.now.config settings.now.threads (C.range media.now.clock.now)
+        (⟦<Devices<'static, 'static, 'static, 'static, N, P, K, T> as Tells>⟧.outside devices.old devices.new)
         result.0.status result.0.counts (entries result.1) }
-    ensures gated { AreGated (G.passed gate.now) (made_by result.1) }
+    ensures gated { AreGated (G.passed media.now.gate.now) (made_by result.1) }
     ensures totals { HasTotals (made_by result.1) result.0.totals }
-    ensures later { (N.faults link.old ≤ N.faults link.new) × (P.faults ports.old ≤ P.faults ports.new) × (K.faults keys.old ≤ K.faults keys.new) }
-    ensures cause { result.0.status ≡ Status.ControlFault → Rose (N.faults link.old) (N.faults link.new) }
+    ensures later { ⟦<Devices<'static, 'static, 'static, 'static, N, P, K, T> as Tells>⟧.later devices.old devices.new }
+    ensures cause { result.0.status ≡ Status.ControlFault → Rose (N.faults devices.old.link.now) (N.faults devices.new.link.now) }
     ensures ends { IsLoopEnd result.0.status }
 {
     let mut hand = hand;
@@ -212,8 +197,17 @@ fn make_turns<N: ControlLink, P: PortMaker, K: KeySource, T: Timer, C: Clock, G:
     };
     let mut since = None;
     'turns: while counts.turns < settings.turns {
-        let now = timer.now();
-        let turn = server.control_turn(rt, alloc, &mut hand, desk, link, ports, keys, now);
+        let now = devices.timer.now();
+        let turn = server.control_turn(
+            rt,
+            alloc,
+            &mut hand,
+            desk,
+            devices.link,
+            devices.ports,
+            devices.keys,
+            now,
+        );
         counts = counts.with(turn);
         if let Some(status) = find_status(turn) {
             let looped = Looped {
@@ -223,8 +217,8 @@ fn make_turns<N: ControlLink, P: PortMaker, K: KeySource, T: Timer, C: Clock, G:
             };
             return (looped, hand);
         }
-        hand = sweep_alone(rt, settings, server, hand, clock, gate, &mut totals);
-        let next = tick_when_due(rt, server, &mut hand, desk, ports, since, now);
+        hand = sweep_alone(rt, settings, server, hand, media, &mut totals);
+        let next = tick_when_due(rt, server, &mut hand, desk, devices.ports, since, now);
         since = Some(next);
     }
     let looped = Looped {
@@ -248,7 +242,11 @@ where
     looped: Looped,
 }
 
-impl<N, P, K, T, C, G, I, O> ControlWork<Server<P>, C, G, N, P, K, T> for ControlLoop<I, O>
+impl<N, P, K, T, C, G, I, O> ControlWork<
+    Server<P>,
+    Media<'_, '_, C, G>,
+    Devices<'_, '_, '_, '_, N, P, K, T>,
+> for ControlLoop<I, O>
 where
     N: ControlLink,
     P: PortMaker<In = I, Out = O>,
@@ -259,36 +257,19 @@ where
     I: InEnd,
     O: OutEnd,
 {
-    ghost can_work = { λ control server ports. CanWork control.settings server.config server.turns (P.told ports) control.hand };
+    ghost can_work = { λ control server devices. CanWork control.settings server.config server.turns (P.told devices.ports.now) control.hand };
 
-    ghost did = { λ server clock gate old link ports keys timer new link_now ports_now keys_now timer_now.
-        DidWork old.settings server.config server.turns (C.range clock) (G.passed gate)
-        (record {
-          link = N.told link;
-          link_now = N.told link_now;
-          timer = T.told timer;
-          timer_now = T.told timer_now;
-          opened = P.told ports;
-          opened_now = P.told ports_now;
-          drew = K.told keys;
-          drew_now = K.told keys_now;
-          port_faults = P.faults ports;
-          port_faults_now = P.faults ports_now;
-          key_faults = K.faults keys;
-          key_faults_now = K.faults keys_now;
-        })
-        (N.faults link) (N.faults link_now) old.hand new.hand new.looped };
+    ghost did = { λ server media old devices new devices_now. AreSame devices devices_now
+        × DidWork old.settings server.config server.turns (C.range media.clock.now) (G.passed media.gate.now)
+        (⟦<Devices<'static, 'static, 'static, 'static, N, P, K, T> as Tells>⟧.outside devices devices_now)
+        (N.faults devices.link.now) (N.faults devices_now.link.now) old.hand new.hand new.looped };
 
     fn work<W: Wait>(
         &mut self,
         rt: &W,
         server: &Server<P>,
-        clock: &C,
-        gate: &G,
-        link: &mut N,
-        ports: &mut P,
-        keys: &mut K,
-        timer: &mut T,
+        media: &Media<'_, '_, C, G>,
+        devices: &mut Devices<'_, '_, '_, '_, N, P, K, T>,
     ) {
         let Some(hand) = self.hand.take() else {
             unreachable!()
@@ -300,16 +281,25 @@ where
             server,
             hand,
             &mut self.desk,
-            link,
-            ports,
-            keys,
-            timer,
-            clock,
-            gate,
+            devices,
+            media,
         );
         self.looped = looped;
         self.hand = Some(hand);
     }
+}
+
+/// What a run has taken memory for when it begins, besides its server.
+pub(crate) struct Prepared<I: InEnd, O: OutEnd>
+where
+    Relay<I, O>: Machine<State = Part<I, O>, Event = Happening, Outcome = ()>,
+{
+    /// The main hand, which has all parts of the table.
+    pub(crate) hand: Hand<Relay<I, O>>,
+    /// The memory of a control turn.
+    pub(crate) desk: Desk<O>,
+    /// An empty list with room for the threads of media.
+    pub(crate) room: Vec<MediaThread<I, O>>,
 }
 
 /// Closes the table of a server by a hand that has all parts, and lets go what its places hold.
@@ -331,21 +321,15 @@ where
 
 /// Serves with a server that has taken no turn yet: its control turns, with as many threads of media beside them as the settings say, then the
 /// stop, which ends all calls, and the close of its table. Where no thread relays media, a sweep stands after each control turn and before
-/// the stop. The list of threads is empty, and has room for them.
+/// the stop.
 pub(crate) fn serve_turns<N, P, K, T, C, G, R>(
     rt: &R,
     alloc: Global,
     settings: &Settings,
     server: Server<P>,
-    hand: Hand<Relay<P::In, P::Out>>,
-    desk: Desk<P::Out>,
-    room: Vec<MediaThread<P::In, P::Out>>,
-    link: &mut N,
-    ports: &mut P,
-    keys: &mut K,
-    timer: &mut T,
-    clock: &C,
-    gate: &G,
+    prepared: Prepared<P::In, P::Out>,
+    devices: &mut Devices<'_, '_, '_, '_, N, P, K, T>,
+    media: &Media<'_, '_, C, G>,
 ) -> Looped
 where
     N: ControlLink,
@@ -360,34 +344,26 @@ where
     requires limit { settings.now.turns < 2 ^ 63 }
     requires threads { settings.now.threads ≤ 16 }
     requires config { server.config ≡ settings.now.config }
-    requires between { IsBetween server.config server.turns hand }
-    requires nothing { made_by hand ≡ [] }
-    requires all { parts hand ≡ 1024 }
-    requires empty { room.items ≡ [] }
-    requires room { settings.now.threads ≤ vec_capacity room }
-    requires open { TellsHeld server.config (P.told ports.old) [] }
-    ensures did { DidServe [] settings.now.turns server.config settings.now.threads (C.range clock.now) (G.passed gate.now)
-        (record {
-          link = N.told link.old;
-          link_now = N.told link.new;
-          timer = T.told timer.old;
-          timer_now = T.told timer.new;
-          opened = P.told ports.old;
-          opened_now = P.told ports.new;
-          drew = K.told keys.old;
-          drew_now = K.told keys.new;
-          port_faults = P.faults ports.old;
-          port_faults_now = P.faults ports.new;
-          key_faults = K.faults keys.old;
-          key_faults_now = K.faults keys.new;
-        })
+    requires between { IsBetween server.config server.turns prepared.hand }
+    requires nothing { made_by prepared.hand ≡ [] }
+    requires all { parts prepared.hand ≡ 1024 }
+    requires empty { prepared.room.items ≡ [] }
+    requires room { settings.now.threads ≤ vec_capacity prepared.room }
+    requires open { TellsHeld server.config (P.told devices.old.ports.now) [] }
+    ensures same { AreSame devices.old devices.new }
+    ensures did { DidServe [] settings.now.turns server.config settings.now.threads (C.range media.now.clock.now) (G.passed media.now.gate.now)
+        (⟦<Devices<'static, 'static, 'static, 'static, N, P, K, T> as Tells>⟧.outside devices.old devices.new)
         result.status result.counts result.totals }
-    ensures shut { TellsHeld server.config (P.told ports.new) [] }
-    ensures later { (N.faults link.old ≤ N.faults link.new) × (P.faults ports.old ≤ P.faults ports.new) × (K.faults keys.old ≤ K.faults keys.new) }
-    ensures cause { result.status ≡ Status.ControlFault → Rose (N.faults link.old) (N.faults link.new) }
+    ensures shut { TellsHeld server.config (P.told devices.new.ports.now) [] }
+    ensures later { ⟦<Devices<'static, 'static, 'static, 'static, N, P, K, T> as Tells>⟧.later devices.old devices.new }
+    ensures cause { result.status ≡ Status.ControlFault → Rose (N.faults devices.old.link.now) (N.faults devices.new.link.now) }
     ensures ends { IsLoopEnd result.status }
 {
-    let mut hand = hand;
+    let Prepared {
+        mut hand,
+        desk,
+        room,
+    } = prepared;
     let count = settings.threads;
     let mut threads = make_threads(server.turns(), &mut hand, room, count, &settings.config);
     let mut control = ControlLoop {
@@ -401,12 +377,8 @@ where
         rt,
         &server,
         server.turns(),
-        clock,
-        gate,
-        link,
-        ports,
-        keys,
-        timer,
+        media,
+        devices,
         &mut control,
         &mut threads,
     );
@@ -423,8 +395,8 @@ where
         counts,
         mut totals,
     } = looped;
-    let mut hand = sweep_alone(rt, settings, &server, hand, clock, gate, &mut totals);
-    server.stop(rt, &mut hand, &mut desk, ports);
+    let mut hand = sweep_alone(rt, settings, &server, hand, media, &mut totals);
+    server.stop(rt, &mut hand, &mut desk, devices.ports);
     join_threads(server.turns(), &mut hand, threads, &mut totals);
     close_table(server, hand);
     Looped {

@@ -7,6 +7,7 @@ ghost use Rattle.relay_app.specs.Rounds.{all_of};
 ghost use Rattle.relay_app.specs.Threads.{MayJoin, IsFresh, HasWorked, AddsEach, rows_of};
 
 use crate::beside::MediaWork;
+use crate::devices::Media;
 use crate::totals::no_totals;
 use media_lane::{Lane, Totals, lane_loop};
 use relay_core::{Happening, Part, Relay};
@@ -25,21 +26,20 @@ where
     pub(crate) totals: Totals,
 }
 
-impl<I: InEnd, O: OutEnd, C: Clock, G: Gate> MediaWork<Turns<Relay<I, O>>, C, G>
+impl<I: InEnd, O: OutEnd, C: Clock, G: Gate> MediaWork<Turns<Relay<I, O>>, Media<'_, '_, C, G>>
     for MediaThread<I, O> {
     ghost can_work = { λ thread turns. IsHandOf turns (hand_of thread.lane) };
 
-    ghost did = { λ turns clock gate old new. HasWorked (C.range clock) (G.passed gate) old new };
+    ghost did = { λ turns media old new. HasWorked (C.range media.clock.now) (G.passed media.gate.now) old new };
 
     fn work<W: Wait>(
         &mut self,
         rt: &W,
         turns: &Turns<Relay<I, O>>,
-        clock: &C,
-        gate: &G,
+        media: &Media<'_, '_, C, G>,
         halt: &AtomicBool,
     ) {
-        self.totals = lane_loop(rt, &mut self.lane, turns, gate, clock, halt);
+        self.totals = lane_loop(rt, &mut self.lane, turns, media.gate, media.clock, halt);
     }
 }
 

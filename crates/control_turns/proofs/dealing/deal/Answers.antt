@@ -17,7 +17,7 @@ returns-in-Some-clause-deals g c =
     let h = board_history (made_by c.args.hand.now) c.args.turn.now.entry_id.number in
     let found = c.in-Some.ensures config (at_moment (view_of config h) c.args.turn.now.entry_id.moment) c.requires.turn.shows in
     repeat_deals config c.args.turn.now.turns.now c.args.hand.now c.args.turn.now.entry_id c.args.request.now None c.none.result c.in-Some.kept.now c.args.board.now
-    (g.P.PortMaker.told c.args.ports.now) c.requires.turn c.requires.request
+    (g.P.PortMaker.told c.args.devices.now.ports.now) c.requires.turn c.requires.request
     (is_kept_now h c.args.turn.now.entry_id.moment c.args.request.now.source c.args.request.now.cookie.now (Some c.in-Some.kept.now) c.requires.turn.timely found)
 
 pub returns-in-Some-clause-sent : goal.returns-in-Some-clause-sent
@@ -25,7 +25,7 @@ returns-in-Some-clause-sent g c =
     let config = c.args.turn.now.config.now in
     let h = board_history (made_by c.args.hand.now) c.args.turn.now.entry_id.number in
     let found = c.in-Some.ensures config (at_moment (view_of config h) c.args.turn.now.entry_id.moment) c.requires.turn.shows in
-    subst (λ (bytes : List ℕ). Sends c.args.request.now.source bytes c.send-sent.result (g.N.ControlLink.told c.args.link.now) (g.N.ControlLink.told c.send-sent.new.link))
+    subst (λ (bytes : List ℕ). Sends c.args.request.now.source bytes c.send-sent.result (g.N.ControlLink.told c.args.devices.now.link.now) (g.N.ControlLink.told c.send-sent.new.link))
     (sym (repeat_reply config h c.args.turn.now.entry_id.moment c.args.request.now None c.none.result c.in-Some.kept.now
     (is_kept_now h c.args.turn.now.entry_id.moment c.args.request.now.source c.args.request.now.cookie.now (Some c.in-Some.kept.now) c.requires.turn.timely found))) c.send-sent.ensures.sent
 
@@ -44,8 +44,8 @@ answer_anew-requires-clause-anew g c =
 pub returns-in-Some-clause-given : goal.returns-in-Some-clause-given
 returns-in-Some-clause-given g c =
     let config = c.args.turn.now.config.now in
-    unasked_given config (free config (board_history (made_by c.args.hand.now) c.args.turn.now.entry_id.number)) Nothing (g.P.PortMaker.faults c.args.ports.now) (g.P.PortMaker.faults c.args.ports.now) (g.K.KeySource.faults c.args.keys.now)
-    (g.K.KeySource.faults c.args.keys.now) (g.P.PortMaker.told c.args.ports.now) (g.K.KeySource.told c.args.keys.now) tt
+    unasked_given config (free config (board_history (made_by c.args.hand.now) c.args.turn.now.entry_id.number)) Nothing (g.P.PortMaker.faults c.args.devices.now.ports.now) (g.P.PortMaker.faults c.args.devices.now.ports.now) (g.K.KeySource.faults c.args.devices.now.keys.now)
+    (g.K.KeySource.faults c.args.devices.now.keys.now) (g.P.PortMaker.told c.args.devices.now.ports.now) (g.K.KeySource.told c.args.devices.now.keys.now) tt
 
 pub returns-in-Some-clause-ties : goal.returns-in-Some-clause-ties
-returns-in-Some-clause-ties g c = ties_none c.args.turn.now.config.now (g.P.PortMaker.told c.args.ports.now) (entries c.args.hand.now)
+returns-in-Some-clause-ties g c = ties_none c.args.turn.now.config.now (g.P.PortMaker.told c.args.devices.now.ports.now) (entries c.args.hand.now)

@@ -23,10 +23,10 @@ returns-in-Err-clause-turned g c =
     take_failed c.args.config.now c.args.hand.now c.args.now _ _ _ _ _ _ _ _ _ c.take.result _ c.in-Err.field-0 c.requires.room c.in-Err.is c.take.ensures.told
 
 pub returns-in-Ok-Nothing-clause-ties : goal.returns-in-Ok-Nothing-clause-ties
-returns-in-Ok-Nothing-clause-ties g c = ties_none c.args.config.now (g.P.PortMaker.told c.args.ports.now) (entries c.args.hand.now)
+returns-in-Ok-Nothing-clause-ties g c = ties_none c.args.config.now (g.P.PortMaker.told c.args.devices.now.ports.now) (entries c.args.hand.now)
 
 pub returns-in-Ok-End-clause-ties : goal.returns-in-Ok-End-clause-ties
-returns-in-Ok-End-clause-ties g c = ties_none c.args.config.now (g.P.PortMaker.told c.args.ports.now) (entries c.args.hand.now)
+returns-in-Ok-End-clause-ties g c = ties_none c.args.config.now (g.P.PortMaker.told c.args.devices.now.ports.now) (entries c.args.hand.now)
 
 pub returns-in-Err-clause-ties : goal.returns-in-Err-clause-ties
-returns-in-Err-clause-ties g c = ties_none c.args.config.now (g.P.PortMaker.told c.args.ports.now) (entries c.args.hand.now)
+returns-in-Err-clause-ties g c = ties_none c.args.config.now (g.P.PortMaker.told c.args.devices.now.ports.now) (entries c.args.hand.now)

@@ -11,19 +11,19 @@ use Rattle.control_turns.proofs.taking.respond.Goals as goal
 
 pub returns-in_default-clause-responded : goal.returns-in_default-clause-responded
 returns-in_default-clause-responded g c =
-    silent c.args.config.now c.args.hand.now c.args.now c.args.from c.args.datagram.now _ _ _ _ _ _ (g.N.ControlLink.told c.args.link.now) c.in_default.ensures.frame
+    silent c.args.config.now c.args.hand.now c.args.now c.args.datagram.from c.args.datagram.bytes.now _ _ _ _ _ _ (g.N.ControlLink.told c.args.devices.now.link.now) c.in_default.ensures.frame
 
 pub returns-in-Ok-clause-responded : goal.returns-in-Ok-clause-responded
 returns-in-Ok-clause-responded g c =
-    responded c.args.config.now c.args.hand.now c.answer_datagram.new.hand c.args.now c.args.from c.args.datagram.now _ turn.Replied c.answer_datagram.result _ _ _ _ _ _ _ _
-    (g.N.ControlLink.told c.args.link.now) (g.N.ControlLink.told c.answer_datagram.new.link) c.in-Some.ensures.frame refl refl
+    responded c.args.config.now c.args.hand.now c.answer_datagram.new.hand c.args.now c.args.datagram.from c.args.datagram.bytes.now _ turn.Replied c.answer_datagram.result _ _ _ _ _ _ _ _
+    (g.N.ControlLink.told c.args.devices.now.link.now) (g.N.ControlLink.told c.answer_datagram.new.devices.link.now) c.in-Some.ensures.frame refl refl
     (sym (ap (λ (r : Result (Unit {0}) Failed). turn_after (is_done r)) c.in-Ok.is)) c.answer_datagram.ensures.answers
 
 pub returns-in-Err-clause-responded : goal.returns-in-Err-clause-responded
 returns-in-Err-clause-responded g c =
-    responded c.args.config.now c.args.hand.now c.answer_datagram.new.hand c.args.now c.args.from c.args.datagram.now _ turn.ReplyFault c.answer_datagram.result _ _ _ _ _ _ _ _
-    (g.N.ControlLink.told c.args.link.now) (g.N.ControlLink.told c.answer_datagram.new.link) c.in-Some.ensures.frame refl refl
+    responded c.args.config.now c.args.hand.now c.answer_datagram.new.hand c.args.now c.args.datagram.from c.args.datagram.bytes.now _ turn.ReplyFault c.answer_datagram.result _ _ _ _ _ _ _ _
+    (g.N.ControlLink.told c.args.devices.now.link.now) (g.N.ControlLink.told c.answer_datagram.new.devices.link.now) c.in-Some.ensures.frame refl refl
     (sym (ap (λ (r : Result (Unit {0}) Failed). turn_after (is_done r)) c.in-Err.is)) c.answer_datagram.ensures.answers
 
 pub returns-in_default-clause-ties : goal.returns-in_default-clause-ties
-returns-in_default-clause-ties g c = ties_none c.args.config.now (g.P.PortMaker.told c.args.ports.now) (entries c.args.hand.now)
+returns-in_default-clause-ties g c = ties_none c.args.config.now (g.P.PortMaker.told c.args.devices.now.ports.now) (entries c.args.hand.now)

@@ -30,7 +30,7 @@ deal_part-answered-requires-clause-taken g c =
     c.turn-turn.new.hand c.turn-turn.result c.requires.between c.turn-turn.ensures.same c.turn-turn.ensures.turn in
     let l = made_by c.turn-turn.new.hand in
     is_taken c.args.config.now c.args.turns.now c.args.hand.now c.turn-turn.new.hand c.turn-turn.result c.front-number.result c.state.result.now
-    (g.P.PortMaker.told c.args.ports.now) c.turn-turn.ensures.same.1 begins c.front-number.ensures
+    (g.P.PortMaker.told c.args.devices.now.ports.now) c.turn-turn.ensures.same.1 begins c.front-number.ensures
     (moved c.args.config.now (board_history l (front_of c.turn-turn.result)) (state_of c.turn-turn.result) c.state.result.now c.state.ensures.value begins.board)
     c.requires.«open»
 
@@ -43,7 +43,7 @@ put_control-requires-clause-step g c =
     let nested = c.deal_part-answered.new.hand in
     let n = front_of c.turn-turn.result in
     let x = hearing_of c.args.request.now c.deal_part-answered.result.turn_record in
-    let told = g.P.PortMaker.told c.deal_part-answered.new.ports in
+    let told = g.P.PortMaker.told c.deal_part-answered.new.devices.ports.now in
     let deals = deals_turn config mid nested c.front-number.result n c.args.now x c.deal_part-answered.new.part told c.front-number.ensures c.deal_part-answered.ensures.deals in
     let h = board_history (made_by mid) n in
     control_relates g.P.In.InEnd.told g.P.In.InEnd.faults g.P.Out.OutEnd.told g.P.Out.OutEnd.faults config h (board_history (made_by nested) n) (taken_of c.turn-turn.result)
@@ -60,7 +60,7 @@ returns-clause-between g c =
     let nested = c.deal_part-answered.new.hand in
     let n = front_of c.turn-turn.result in
     let x = hearing_of c.args.request.now c.deal_part-answered.result.turn_record in
-    let told = g.P.PortMaker.told c.deal_part-answered.new.ports in
+    let told = g.P.PortMaker.told c.deal_part-answered.new.devices.ports.now in
     let deals = deals_turn config mid nested c.front-number.result n c.args.now x c.deal_part-answered.new.part told c.front-number.ensures c.deal_part-answered.ensures.deals in
     (control_ends config c.args.turns.now c.args.hand.now mid nested c.put_control.new.hand c.turn-turn.result tt c.args.now x c.deal_part-answered.new.part told c.requires.between
     c.turn-turn.ensures.same c.turn-turn.ensures.turn.0 begins c.deal_part-answered.ensures.same deals c.put_control.ensures.same c.put_control.ensures.entry).between
@@ -74,7 +74,7 @@ returns-clause-open g c =
     let nested = c.deal_part-answered.new.hand in
     let n = front_of c.turn-turn.result in
     let x = hearing_of c.args.request.now c.deal_part-answered.result.turn_record in
-    let told = g.P.PortMaker.told c.deal_part-answered.new.ports in
+    let told = g.P.PortMaker.told c.deal_part-answered.new.devices.ports.now in
     let deals = deals_turn config mid nested c.front-number.result n c.args.now x c.deal_part-answered.new.part told c.front-number.ensures c.deal_part-answered.ensures.deals in
     let ended = control_ends config c.args.turns.now c.args.hand.now mid nested c.put_control.new.hand c.turn-turn.result tt c.args.now x c.deal_part-answered.new.part told c.requires.between
     c.turn-turn.ensures.same c.turn-turn.ensures.turn.0 begins c.deal_part-answered.ensures.same deals c.put_control.ensures.same c.put_control.ensures.entry in
@@ -93,13 +93,13 @@ returns-clause-answers g c =
     let nested = c.deal_part-answered.new.hand in
     let n = front_of c.turn-turn.result in
     let x = hearing_of c.args.request.now c.deal_part-answered.result.turn_record in
-    let told = g.P.PortMaker.told c.deal_part-answered.new.ports in
+    let told = g.P.PortMaker.told c.deal_part-answered.new.devices.ports.now in
     let deals = deals_turn config mid nested c.front-number.result n c.args.now x c.deal_part-answered.new.part told c.front-number.ensures c.deal_part-answered.ensures.deals in
     let ended = control_ends config c.args.turns.now c.args.hand.now mid nested c.put_control.new.hand c.turn-turn.result tt c.args.now x c.deal_part-answered.new.part told c.requires.between
     c.turn-turn.ensures.same c.turn-turn.ensures.turn.0 begins c.deal_part-answered.ensures.same deals c.put_control.ensures.same c.put_control.ensures.entry in
-    let is_given : List BoardEntry → Type 0 = λ h. IsGivenBy config (free config h) x.given (g.P.PortMaker.faults c.args.ports.now) (g.P.PortMaker.faults c.deal_part-answered.new.ports)
-    (g.K.KeySource.faults c.args.keys.now) (g.K.KeySource.faults c.deal_part-answered.new.keys) (g.P.PortMaker.told c.args.ports.now) told
-    (g.K.KeySource.told c.args.keys.now) (g.K.KeySource.told c.deal_part-answered.new.keys) in
+    let is_given : List BoardEntry → Type 0 = λ h. IsGivenBy config (free config h) x.given (g.P.PortMaker.faults c.args.devices.now.ports.now) (g.P.PortMaker.faults c.deal_part-answered.new.devices.ports.now)
+    (g.K.KeySource.faults c.args.devices.now.keys.now) (g.K.KeySource.faults c.deal_part-answered.new.devices.keys.now) (g.P.PortMaker.told c.args.devices.now.ports.now) told
+    (g.K.KeySource.told c.args.devices.now.keys.now) (g.K.KeySource.told c.deal_part-answered.new.devices.keys.now) in
     record {
       hearing = x;
       is_heard = record { source_is = refl; cookie_is = refl; body_is = refl; length_is = refl };
@@ -107,10 +107,10 @@ returns-clause-answers g c =
       given = subst is_given (begins_whole config c.args.turns.now c.args.hand.now mid c.turn-turn.result c.turn-turn.ensures.same.1 begins)
           (subst (λ (k : ℕ). is_given (board_history (made_by mid) k)) c.front-number.ensures c.deal_part-answered.ensures.given);
       sends = subst (λ (h : List BoardEntry). Sends c.args.request.now.source (control_of config h (moment_at h c.args.now) x).reply c.deal_part-answered.result.sent
-          (g.N.ControlLink.told c.args.link.now) (g.N.ControlLink.told c.deal_part-answered.new.link))
+          (g.N.ControlLink.told c.args.devices.now.link.now) (g.N.ControlLink.told c.deal_part-answered.new.devices.link.now))
           (begins_whole config c.args.turns.now c.args.hand.now mid c.turn-turn.result c.turn-turn.ensures.same.1 begins)
           (subst (λ (k : ℕ). Sends c.args.request.now.source (control_of config (board_history (made_by mid) k) (moment_at (board_history (made_by mid) k) c.args.now) x).reply
-          c.deal_part-answered.result.sent (g.N.ControlLink.told c.args.link.now) (g.N.ControlLink.told c.deal_part-answered.new.link)) c.front-number.ensures
+          c.deal_part-answered.result.sent (g.N.ControlLink.told c.args.devices.now.link.now) (g.N.ControlLink.told c.deal_part-answered.new.devices.link.now)) c.front-number.ensures
           c.deal_part-answered.ensures.sent);
     }
 
@@ -120,8 +120,8 @@ returns-clause-ties g c =
     let nested = c.deal_part-answered.new.hand in
     let n = front_of c.turn-turn.result in
     let x = hearing_of c.args.request.now c.deal_part-answered.result.turn_record in
-    let told = g.P.PortMaker.told c.args.ports.now in
-    let told_now = g.P.PortMaker.told c.deal_part-answered.new.ports in
+    let told = g.P.PortMaker.told c.args.devices.now.ports.now in
+    let told_now = g.P.PortMaker.told c.deal_part-answered.new.devices.ports.now in
     ties_ended config told told_now (entries c.args.hand.now) (place_of c.turn-turn.result) n (control_made config (board_history (made_by nested) n) c.args.now x) tt nested
     c.put_control.new.hand refl refl c.put_control.ensures.entry
     (subst (λ (rows : List (table.Entry Made (Unit {0}))). Ties config told told_now rows (entries nested)) c.turn-turn.ensures.same.1 c.deal_part-answered.ensures.ties)

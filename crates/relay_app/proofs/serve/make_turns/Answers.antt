@@ -11,11 +11,12 @@ use Rattle.relay_app.proofs.serve.make_turns.Goals as goal
 
 pub turns-init : goal.turns-init
 turns-init g c = record {
+  devices = (refl, refl, refl, refl);
   same = (refl, refl, refl, refl);
   between = c.requires.between;
   opens = c.requires.open;
   running = begins _ _ _ _ _ c.requires.nothing (first_board _ c.requires.nothing) refl refl refl refl;
-  gated = gated_none (g.G.Gate.passed c.args.gate.now) _ c.requires.nothing;
+  gated = gated_none (g.G.Gate.passed c.args.media.now.gate.now) _ c.requires.nothing;
   totals = first_totals _ _ c.requires.nothing c.no_totals-totals.ensures;
   later = omega arith;
   port_later = omega arith;
@@ -30,6 +31,7 @@ tick_when_due-next-requires-clause-open g c = opens_again _ _ _ _ c.sweep_alone-
 
 pub turns-preserved : goal.turns-preserved
 turns-preserved g c = record {
+  devices = c.turns.invariant.devices;
   same =
       same_again c.args.hand c.sweep_alone-hand.result c.tick_when_due-next.new.hand
       (same_again c.args.hand c.control_turn-turn.new.hand c.sweep_alone-hand.result
@@ -45,10 +47,10 @@ turns-preserved g c = record {
       c.sweep_alone-hand.ensures.between c.tick_when_due-next.ensures.between c.tick_when_due-next.ensures.ticks c.tick_when_due-next.ensures.since c.tick_when_due-next.ensures.closes
       c.tick_when_due-next.ensures.ties c.tick_when_due-next.ensures.later;
   gated =
-      ticked_gated (g.G.Gate.passed c.args.gate.now) c.args.server.now.config c.sweep_alone-hand.result c.tick_when_due-next.new.hand _ c.tick_when_due-next.ensures.ticks.ticked
+      ticked_gated (g.G.Gate.passed c.args.media.now.gate.now) c.args.server.now.config c.sweep_alone-hand.result c.tick_when_due-next.new.hand _ c.tick_when_due-next.ensures.ticks.ticked
       c.sweep_alone-hand.ensures.between.orderly c.tick_when_due-next.ensures.ticks.did
-      (gated_more (g.G.Gate.passed c.args.gate.now) (made_by c.control_turn-turn.new.hand) (made_by c.sweep_alone-hand.result)
-      (follows_gated (g.G.Gate.passed c.args.gate.now) c.args.server.now.config c.turns.hand c.control_turn-turn.new.hand _ c.control_turn-turn.result
+      (gated_more (g.G.Gate.passed c.args.media.now.gate.now) (made_by c.control_turn-turn.new.hand) (made_by c.sweep_alone-hand.result)
+      (follows_gated (g.G.Gate.passed c.args.media.now.gate.now) c.args.server.now.config c.turns.hand c.control_turn-turn.new.hand _ c.control_turn-turn.result
       c.control_turn-turn.ensures.turned.made c.turns.invariant.between.orderly c.control_turn-turn.ensures.turned.follows c.turns.invariant.gated)
       c.sweep_alone-hand.ensures.gated);
   totals =
@@ -76,7 +78,7 @@ returns-in-Some-clause-did g c =
 
 pub returns-in-Some-clause-gated : goal.returns-in-Some-clause-gated
 returns-in-Some-clause-gated g c =
-    follows_gated (g.G.Gate.passed c.args.gate.now) c.args.server.now.config c.turns.hand c.control_turn-turn.new.hand _ c.control_turn-turn.result
+    follows_gated (g.G.Gate.passed c.args.media.now.gate.now) c.args.server.now.config c.turns.hand c.control_turn-turn.new.hand _ c.control_turn-turn.result
     c.control_turn-turn.ensures.turned.made c.turns.invariant.between.orderly c.control_turn-turn.ensures.turned.follows c.turns.invariant.gated
 
 pub returns-in-Some-clause-totals : goal.returns-in-Some-clause-totals

@@ -5,33 +5,35 @@ use Rattle.relay_core.specs.Turning.{made_by}
 use Rattle.media_lane.specs.Gated.{AreGated}
 use Rattle.main_sweeps.specs.Totals.{HasTotals}
 use Rattle.ng_server.specs.Servers.{OpensJust, history_of}
+use Rattle.relay_app.specs.Devices.{AreSame}
 use Rattle.relay_app.specs.Turned.{Running}
 use Rattle.relay_app.proofs.serve.make_turns.Given as goal
 
 abbrev pub invariant-turns : goal.invariant-turns
 invariant-turns g l = record {
+  devices : AreSame l.fn.devices l.devices;
   same : IsSameHand l.fn.hand l.hand;
   between : IsBetween l.server.config l.server.turns l.hand;
-  opens : OpensJust l.server.config (history_of l.hand) (g.P.PortMaker.told l.ports);
-  running : Running l.server.config l.settings.threads (g.C.Clock.range l.clock) (entries l.hand) l.counts l.since (record {
-    link = g.N.ControlLink.told l.fn.link;
-    link_now = g.N.ControlLink.told l.link;
-    timer = g.T.Timer.told l.fn.timer;
-    timer_now = g.T.Timer.told l.timer;
-    opened = g.P.PortMaker.told l.fn.ports;
-    opened_now = g.P.PortMaker.told l.ports;
-    drew = g.K.KeySource.told l.fn.keys;
-    drew_now = g.K.KeySource.told l.keys;
-    port_faults = g.P.PortMaker.faults l.fn.ports;
-    port_faults_now = g.P.PortMaker.faults l.ports;
-    key_faults = g.K.KeySource.faults l.fn.keys;
-    key_faults_now = g.K.KeySource.faults l.keys;
+  opens : OpensJust l.server.config (history_of l.hand) (g.P.PortMaker.told l.devices.ports.now);
+  running : Running l.server.config l.settings.threads (g.C.Clock.range l.media.clock.now) (entries l.hand) l.counts l.since (record {
+    link = g.N.ControlLink.told l.fn.devices.link.now;
+    link_now = g.N.ControlLink.told l.devices.link.now;
+    timer = g.T.Timer.told l.fn.devices.timer.now;
+    timer_now = g.T.Timer.told l.devices.timer.now;
+    opened = g.P.PortMaker.told l.fn.devices.ports.now;
+    opened_now = g.P.PortMaker.told l.devices.ports.now;
+    drew = g.K.KeySource.told l.fn.devices.keys.now;
+    drew_now = g.K.KeySource.told l.devices.keys.now;
+    port_faults = g.P.PortMaker.faults l.fn.devices.ports.now;
+    port_faults_now = g.P.PortMaker.faults l.devices.ports.now;
+    key_faults = g.K.KeySource.faults l.fn.devices.keys.now;
+    key_faults_now = g.K.KeySource.faults l.devices.keys.now;
   });
-  gated : AreGated (g.G.Gate.passed l.gate) (made_by l.hand);
+  gated : AreGated (g.G.Gate.passed l.media.gate.now) (made_by l.hand);
   totals : HasTotals (made_by l.hand) l.totals;
-  later : g.N.ControlLink.faults l.fn.link ≤ g.N.ControlLink.faults l.link;
-  port_later : g.P.PortMaker.faults l.fn.ports ≤ g.P.PortMaker.faults l.ports;
-  key_later : g.K.KeySource.faults l.fn.keys ≤ g.K.KeySource.faults l.keys;
+  later : g.N.ControlLink.faults l.fn.devices.link.now ≤ g.N.ControlLink.faults l.devices.link.now;
+  port_later : g.P.PortMaker.faults l.fn.devices.ports.now ≤ g.P.PortMaker.faults l.devices.ports.now;
+  key_later : g.K.KeySource.faults l.fn.devices.keys.now ≤ g.K.KeySource.faults l.devices.keys.now;
   replies : l.counts.replies ≤ l.counts.datagrams;
   datagrams : l.counts.datagrams ≤ l.counts.turns;
   below : l.counts.turns ≤ l.settings.turns;

@@ -16,6 +16,6 @@ returns-clause-between g c =
 pub returns-clause-swept : goal.returns-clause-swept
 returns-clause-swept g c =
     let none = c.if-settings-gt0.false in
-    subst (λ k. AddsSweep k c.args.settings.now.threads (g.C.Clock.range c.args.clock.now) (entries c.args.hand) (entries c.sweep_between.result)) (sym c.requires.config)
-    (sweep_rows c.args.settings.now.config c.args.settings.now.threads (g.C.Clock.range c.args.clock.now) c.args.hand c.sweep_between.result (omega (arith, none))
+    subst (λ k. AddsSweep k c.args.settings.now.threads (g.C.Clock.range c.args.media.now.clock.now) (entries c.args.hand) (entries c.sweep_between.result)) (sym c.requires.config)
+    (sweep_rows c.args.settings.now.config c.args.settings.now.threads (g.C.Clock.range c.args.media.now.clock.now) c.args.hand c.sweep_between.result (omega (arith, none))
     c.sweep_between.ensures.swept)
