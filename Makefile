@@ -28,6 +28,7 @@ build:
 check:
 	tools/crates-txt
 	tools/links
+	tools/refusing-calls
 	tools/man-page
 	rt ci
 

@@ -1,14 +1,43 @@
 #!/usr/bin/env bash
 # What a packet of a replayed script costs: a script of one plain call and many packets, less the same script with its packets
-# as comments. Usage: bench/replay.sh [PACKETS [RUNS]], after `rt run` in crates/rtpengine has built the program.
-# A time is the median of RUNS runs (5 if left out).
+# as comments. Usage, after the program has been built:
+#
+#     bench/replay.sh [PACKETS [RUNS]]           times; each is the median of RUNS runs (40000 packets, 5 runs)
+#     bench/replay.sh --instructions [PACKETS]   instructions a packet (2000 packets), plain and to SRTP, which valgrind counts
+#
+# RTPENGINE names another program than crates/rtpengine/out/rtpengine.
 set -euo pipefail
 top=$(cd "$(dirname "$0")/.." && pwd)
 program=${RTPENGINE:-$top/crates/rtpengine/out/rtpengine}
-packets=${1:-40000}
-runs=${2:-5}
 work=$(mktemp -d)
 trap 'rm -r "$work"' EXIT
+
+# The instructions of one run of a script.
+count() {
+    valgrind --tool=callgrind --callgrind-out-file="$work/callgrind" "$program" replay <"$1" 2>"$work/counted" >"$work/out"
+    if [ "$(grep -c '^sent ' "$work/out" || true)" -ne "$2" ]; then
+        echo "bench/replay.sh: not every packet was sent" >&2
+        exit 1
+    fi
+    sed -n 's/.*Collected : *\([0-9]*\).*/\1/p' "$work/counted"
+}
+
+if [ "${1:-}" = --instructions ]; then
+    packets=${2:-2000}
+    for kind in plain secure; do
+        words=()
+        [ $kind = plain ] || words=(--secure)
+        python3 "$top/bench/scripts.py" "$packets" "${words[@]}" >"$work/packets.script"
+        python3 "$top/bench/scripts.py" "$packets" "${words[@]}" --skipped >"$work/skipped.script"
+        full=$(count "$work/packets.script" "$packets")
+        bare=$(count "$work/skipped.script" 0)
+        echo "$kind: $(((full - bare) / packets)) instructions a packet ($packets packets)"
+    done
+    exit 0
+fi
+
+packets=${1:-40000}
+runs=${2:-5}
 python3 "$top/bench/scripts.py" "$packets" >"$work/packets.script"
 python3 "$top/bench/scripts.py" "$packets" --skipped >"$work/skipped.script"
 
