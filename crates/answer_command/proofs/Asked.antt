@@ -15,13 +15,13 @@ use Rattle.call_board.specs.Calls.{find_call, rounds}
 use Rattle.call_board.specs.Fits.{Hears, HearsAnswer}
 use Rattle.call_board.proofs.Done.{Asks}
 use Rattle.call_board.proofs.Dues.{AsksOf}
-use Rattle.control_reading.specs.declared.request.Request.{Request}
-use Rattle.control_entries.specs.declared.device_answers.DeviceAnswers.{DeviceAnswers}
-use Rattle.control_entries.specs.Controls.{unanswered}
-use Rattle.control_entries.specs.Telling.{IsAnew, IsAsking}
-use Rattle.control_entries.specs.Giving.{given_by}
-use Rattle.control_entries.specs.Carrying.{hearing_as}
-use Rattle.control_entries.proofs.Asking.{asks_so}
+use Rattle.control_messages.specs.declared.request.Request.{Request}
+use Rattle.board_turns.specs.declared.device_answers.DeviceAnswers.{DeviceAnswers}
+use Rattle.board_turns.specs.Controls.{unanswered}
+use Rattle.board_turns.specs.Telling.{IsAnew, IsAsking}
+use Rattle.board_turns.specs.Giving.{given_by}
+use Rattle.board_turns.specs.Carrying.{hearing_as}
+use Rattle.board_turns.proofs.Asking.{asks_so}
 use Rattle.answer_command.specs.Commands.{AsksFor, says_of, ask_of}
 
 -- it asks for the answer

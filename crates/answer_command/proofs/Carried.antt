@@ -30,22 +30,22 @@ use Rattle.relay_core.specs.declared.part.Part.{Part}
 use Rattle.relay_core.specs.Entries.{board_history}
 use Rattle.relay_core.specs.Made.{Made}
 use Rattle.relay_core.specs.Turning.{made_by}
-use Rattle.nested_steps.specs.declared.board_turn.BoardEntryId.{BoardEntryId}
+use Rattle.board_turns.specs.declared.board_turn.BoardEntryId.{BoardEntryId}
 use Rattle.board_turns.specs.Acting.{InTurn, DoesAct}
-use Rattle.control_reading.specs.Bodies.{IsErrorOf}
-use Rattle.control_reading.specs.declared.description.DescriptionFault.{DescriptionFault}
-use Rattle.control_reading.specs.declared.description.DescriptionFault.TheVariants as faults
-use Rattle.control_reading.specs.declared.request.Request.{Request}
-use Rattle.control_entries.specs.declared.device_answers.DeviceAnswers.TheVariants.{Nothing}
-use Rattle.control_entries.specs.declared.command_outcome.CommandOutcome.{CommandOutcome}
-use Rattle.control_entries.specs.Controls.{unanswered, with_answer, entry_with}
-use Rattle.control_entries.specs.Carrying.{hearing_as, hearing_by, Carries}
-use Rattle.control_entries.specs.Telling.{IsAnew, IsAsking, Refuses, Tells, error_in}
-use Rattle.control_entries.proofs.Asking.{asks_misdescribed}
-use Rattle.control_entries.proofs.Plain.{carries_due}
-use Rattle.control_entries.proofs.Tellings.{tells_carries, is_short_carries}
-use Rattle.answer_turns.specs.Due.{IsAnswerOf}
-use Rattle.answer_turns.proofs.Asked.{is_answer}
+use Rattle.control_messages.specs.Bodies.{IsErrorOf}
+use Rattle.control_messages.specs.declared.description.DescriptionFault.{DescriptionFault}
+use Rattle.control_messages.specs.declared.description.DescriptionFault.TheVariants as faults
+use Rattle.control_messages.specs.declared.request.Request.{Request}
+use Rattle.board_turns.specs.declared.device_answers.DeviceAnswers.TheVariants.{Nothing}
+use Rattle.board_turns.specs.declared.command_outcome.CommandOutcome.{CommandOutcome}
+use Rattle.board_turns.specs.Controls.{unanswered, with_answer, entry_with}
+use Rattle.board_turns.specs.Carrying.{hearing_as, hearing_by, Carries}
+use Rattle.board_turns.specs.Telling.{IsAnew, IsAsking, Refuses, Tells, error_in}
+use Rattle.board_turns.proofs.Asking.{asks_misdescribed}
+use Rattle.board_turns.proofs.Plain.{carries_due}
+use Rattle.board_turns.proofs.Tellings.{tells_carries, is_short_carries}
+use Rattle.answer_command.specs.Due.{IsAnswerOf}
+use Rattle.answer_command.proofs.Planned.{is_answer}
 use Rattle.answer_command.specs.Commands.{AsksFor, IsPlanned, ask_of, says_of}
 use Rattle.answer_command.proofs.Asked.{asks_answer, asks_of, hears_answer}
 

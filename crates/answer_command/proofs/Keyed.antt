@@ -3,7 +3,7 @@ use Rattle.std.proofs.Common.{◌≡◌, ap, ℕ, zero, suc, ◌+◌, ◌≤◌,
 use Rattle.std.specs.Prelude.{slice_get}
 use Rattle.std.specs.List.{list_any}
 use Rattle.port_pool.specs.declared.signal.SectionSignal.{SectionSignal}
-use Rattle.nested_steps.specs.InCells.{is_keyed}
+use Rattle.board_turns.specs.InCells.{is_keyed}
 
 -- this section or a later one
 pub keyed_at : (signal : List SectionSignal) (i : ℕ) (s : SectionSignal) → slice_get signal i ≡ Some s

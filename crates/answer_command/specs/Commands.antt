@@ -16,8 +16,8 @@ use Rattle.call_board.specs.Calls.{find_call}
 use Rattle.call_board.specs.Fits.{HearsAnswer}
 use Rattle.call_board.specs.Planned.{PlansAnswer}
 use Rattle.call_board.specs.Views.{view_of, call_of_id}
-use Rattle.control_reading.specs.declared.request.Request.{Request}
-use Rattle.control_entries.specs.Telling.{IsAnew, IsAsking}
+use Rattle.control_messages.specs.declared.request.Request.{Request}
+use Rattle.board_turns.specs.Telling.{IsAnew, IsAsking}
 
 -- what the command says
 abbrev pub says_of : AnswerIn → Said

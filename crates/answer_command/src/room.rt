@@ -1,12 +1,11 @@
 //! The memory of an answer that the board planned.
 ghost use Rattle.std.specs.Prelude.{◌≡◌, ◌≤◌, ◌<◌, ◌^◌, [], IfOk, OnOk, if◌then◌else◌};
 ghost use Rattle.cookie_cache.specs.Keepings.{IsCookie};
-ghost use Rattle.control_replies.specs.Rooms.{IsReplyRoom};
-ghost use Rattle.nested_steps.specs.InCells.{is_keyed, names_inbound};
+ghost use Rattle.control_messages.specs.Rooms.{IsReplyRoom};
+ghost use Rattle.board_turns.specs.InCells.{is_keyed, names_inbound};
 
 use call_cell::InContexts;
-use control_reading::Request;
-use control_replies::reply_room;
+use control_messages::{Request, reply_room};
 use ng_bencode::Text;
 use port_pool::{SectionSignal, Signal};
 use relay_outside::OutOfMemory;

@@ -11,7 +11,7 @@ use Rattle.call_board.specs.Acts.{Call, Queried, Given, Control, BoardEntry}
 use Rattle.call_board.specs.Dialects.{is_json}
 use Rattle.call_board.specs.Kept.{kept}
 use Rattle.call_board.specs.Replies.{Reply, tree_of_reply}
-use Rattle.control_entries.specs.Giving.{draws_of}
+use Rattle.board_turns.specs.Giving.{draws_of}
 
 -- the same datagram, from the same source
 pub record AreOfOne (c d : Control) : Type 0 where

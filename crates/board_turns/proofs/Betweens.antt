@@ -41,9 +41,9 @@ use Rattle.relay_core.proofs.Given.{given_board}
 use Rattle.relay_core.proofs.Gains.{turn_made}
 use Rattle.relay_core.proofs.Known.{IsKnown, known_sound, known_turn}
 use Rattle.media_ports.specs.Held.{TellsHeld}
-use Rattle.nested_steps.specs.declared.board_turn.BoardEntryId.{BoardEntryId}
-use Rattle.nested_steps.specs.Nesting.{MayNest}
-use Rattle.nested_steps.proofs.Nesting.{parts_count, above_rows, same_again}
+use Rattle.board_turns.specs.declared.board_turn.BoardEntryId.{BoardEntryId}
+use Rattle.board_turns.specs.Nesting.{MayNest}
+use Rattle.board_turns.proofs.Nesting.{parts_count, above_rows, same_again}
 use Rattle.board_turns.specs.Acting.{InTurn}
 use Rattle.board_turns.specs.Between.{board_of, IsBetween, MakesTurn}
 use Rattle.board_turns.specs.Ending.{leg_pairs}

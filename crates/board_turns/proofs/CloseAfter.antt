@@ -23,8 +23,8 @@ use Rattle.relay_core.specs.Turning.{IsAbove, GainsNested, made_by}
 use Rattle.relay_core.proofs.Histories.{good_history}
 use Rattle.relay_core.proofs.Shut.{closed_open}
 use Rattle.media_ports.specs.Held.{TellsHeld}
-use Rattle.nested_steps.specs.Nesting.{IsOpen}
-use Rattle.nested_steps.specs.Leaving.{AreLeasesOf}
+use Rattle.board_turns.specs.Nesting.{IsOpen}
+use Rattle.board_turns.specs.Leaving.{AreLeasesOf}
 use Rattle.board_turns.specs.Closing.{CanClose, leases_of}
 use Rattle.board_turns.specs.Ending.{leg_pairs}
 use Rattle.board_turns.proofs.Closed.{still_open}

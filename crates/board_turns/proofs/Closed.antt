@@ -26,7 +26,7 @@ use Rattle.relay_core.specs.Turning.{GainsNested, made_by}
 use Rattle.relay_core.proofs.Gains.{gained_nothing}
 use Rattle.relay_core.proofs.Shut.{same_history}
 use Rattle.media_ports.specs.Held.{OpensHeld}
-use Rattle.nested_steps.specs.Nesting.{IsOpen, closing_of}
+use Rattle.board_turns.specs.Nesting.{IsOpen, closing_of}
 use Rattle.board_turns.specs.Closing.{CanClose, leases_of, closings_of, ClosesLegs, pairs_left}
 use Rattle.board_turns.proofs.Lefts.{has_left}
 

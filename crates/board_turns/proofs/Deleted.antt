@@ -21,7 +21,7 @@ use Rattle.relay_core.specs.Made.{Made}
 use Rattle.relay_core.specs.Scripts.{script, script_of, script_of_act, ending}
 use Rattle.relay_core.specs.Turning.{made_by}
 use Rattle.relay_core.proofs.Turns.{nothing_more}
-use Rattle.nested_steps.specs.declared.board_turn.BoardEntryId.{BoardEntryId}
+use Rattle.board_turns.specs.declared.board_turn.BoardEntryId.{BoardEntryId}
 use Rattle.board_turns.specs.Closing.{pairs_left}
 use Rattle.board_turns.specs.Ending.{CanEnd, leg_pairs, with_end}
 use Rattle.board_turns.specs.Acting.{acted, InTurn}

@@ -20,9 +20,9 @@ use Rattle.relay_core.specs.Scripts.{Owed, closing}
 use Rattle.relay_core.specs.Made.{Made}
 use Rattle.relay_core.specs.Turning.{IsAbove, GainsNested, made_by}
 use Rattle.media_ports.specs.Addresses.{HavePorts}
-use Rattle.nested_steps.specs.Nesting.{IsOpen, closing_of}
-use Rattle.nested_steps.specs.InCells.{in_cell_of}
-use Rattle.nested_steps.specs.Leaving.{AreLeasesOf, AllWent}
+use Rattle.board_turns.specs.Nesting.{IsOpen, closing_of}
+use Rattle.board_turns.specs.InCells.{in_cell_of}
+use Rattle.board_turns.specs.Leaving.{AreLeasesOf, AllWent}
 use Rattle.board_turns.specs.Closing.{CanClose, leases_of, closings_of}
 use Rattle.board_turns.specs.Ending.{CanEnd, leg_pairs}
 use Rattle.board_turns.proofs.Closed.{still_open}

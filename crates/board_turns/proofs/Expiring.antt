@@ -40,8 +40,8 @@ use Rattle.relay_core.proofs.Histories.{at_place}
 use Rattle.relay_core.proofs.Shut.{same_history}
 use Rattle.relay_core.proofs.Lasting.{lasts}
 use Rattle.relay_core.proofs.Turns.{filter_append, nothing_more}
-use Rattle.nested_steps.specs.InCells.{Expires, HasNewKeys, in_cell_of}
-use Rattle.nested_steps.proofs.Nesting.{above_rows}
+use Rattle.board_turns.specs.InCells.{Expires, HasNewKeys, in_cell_of}
+use Rattle.board_turns.proofs.Nesting.{above_rows}
 use Rattle.board_turns.specs.Ending.{CanEnd}
 use Rattle.board_turns.specs.Ticking.{CanExpire, IsDueBy}
 use Rattle.board_turns.proofs.Closed.{list_gained, open_elsewhere}

@@ -1,3 +1,11 @@
+pub mod Nesting
+pub mod Boxing
+pub mod Celling
+pub mod Signalling
+pub mod After
+pub mod Leaving
+pub mod Homing
+pub mod First
 pub mod Lefts
 pub mod Closed
 pub mod Unopened
@@ -18,3 +26,8 @@ pub mod Expiring
 pub mod Ticked
 pub mod TickTurns
 pub mod ReadCalls
+pub mod Plain
+pub mod Asking
+pub mod Tellings
+pub mod Givings
+pub mod FoundCalls

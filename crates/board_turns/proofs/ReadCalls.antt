@@ -11,7 +11,7 @@ use Rattle.call_board.specs.Fits.{IsFitting}
 use Rattle.call_board.specs.Views.{CallView, call_view, view_of, at_moment, call_numbered}
 use Rattle.call_board.proofs.Found.{found_by_number}
 use Rattle.relay_core.specs.Scripts.{Owed}
-use Rattle.nested_steps.specs.InCells.{in_cell_of}
+use Rattle.board_turns.specs.InCells.{in_cell_of}
 use Rattle.board_turns.proofs.Tying.{NothingLeaves}
 
 -- it is found by its number

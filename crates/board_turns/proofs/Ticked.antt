@@ -39,8 +39,8 @@ use Rattle.relay_core.proofs.Histories.{good_history}
 use Rattle.relay_core.proofs.Turns.{filter_append, nothing_more}
 use Rattle.media_ports.specs.Held.{OpensHeld, TellsHeld}
 use Rattle.media_ports.proofs.Leased.{take_next, drop_next}
-use Rattle.nested_steps.specs.declared.board_turn.BoardEntryId.{BoardEntryId}
-use Rattle.nested_steps.proofs.Nesting.{gains_more}
+use Rattle.board_turns.specs.declared.board_turn.BoardEntryId.{BoardEntryId}
+use Rattle.board_turns.proofs.Nesting.{gains_more}
 use Rattle.board_turns.specs.Acting.{InTurn}
 use Rattle.board_turns.specs.Closing.{pairs_left}
 use Rattle.board_turns.specs.Ending.{CanEnd, leg_pairs}

@@ -38,7 +38,7 @@ use Rattle.media_ports.specs.Calls.{ClosesPair}
 use Rattle.media_ports.specs.Ends.{ends_told}
 use Rattle.media_ports.specs.Given.{IsOfPair, Agrees, GivesBackUncalled}
 use Rattle.media_ports.proofs.Given.{joined_to_nothing, first_joined, taken_append, sent_append, agrees_both}
-use Rattle.nested_steps.specs.Nesting.{AddsRow, ends_left, gone_left}
+use Rattle.board_turns.specs.Nesting.{AddsRow, ends_left, gone_left}
 use Rattle.board_turns.specs.Closing.{ClosesLegs, leases_of}
 use Rattle.board_turns.specs.Ties.{AreTakesTied, AreSendsTied, AreTied, Ties, TiesTakes, LegsLeave}
 

@@ -18,8 +18,8 @@ use Rattle.relay_core.specs.Scripts.{script}
 use Rattle.relay_core.specs.Turning.{GainsNested, IsAbove, made_by}
 use Rattle.relay_core.specs.declared.part.Part.{Part}
 use Rattle.media_ports.specs.Held.{TellsHeld}
-use Rattle.nested_steps.specs.declared.board_turn.BoardEntryId.{BoardEntryId}
-use Rattle.nested_steps.specs.Nesting.{MayNest}
+use Rattle.board_turns.specs.declared.board_turn.BoardEntryId.{BoardEntryId}
+use Rattle.board_turns.specs.Nesting.{MayNest}
 use Rattle.board_turns.specs.Ending.{leg_pairs}
 
 -- What an act makes of what the board keeps, but for the reply that is kept.

@@ -17,7 +17,7 @@ use Rattle.relay_core.specs.Entries.{Entry, box_of}
 use Rattle.relay_core.specs.Scripts.{Owed}
 use Rattle.media_ports.specs.Addresses.{port_at, HavePorts}
 use Rattle.media_ports.specs.Held.{OpensHeld}
-use Rattle.nested_steps.specs.Nesting.{IsOpen, closing_of}
+use Rattle.board_turns.specs.Nesting.{IsOpen, closing_of}
 
 -- the leases of the legs
 abbrev pub leases_of : {O : Type 0} → List (Lease × O × O) → List Lease

@@ -17,9 +17,9 @@ use Rattle.relay_core.specs.Entries.{Entry, box_of}
 use Rattle.relay_core.specs.Scripts.{Owed, in_cell, closing}
 use Rattle.relay_core.specs.Turning.{IsAbove}
 use Rattle.media_ports.specs.Held.{OpensHeld}
-use Rattle.nested_steps.specs.Nesting.{IsOpen}
-use Rattle.nested_steps.specs.InCells.{HasNewKeys}
-use Rattle.nested_steps.specs.Leaving.{legs_in, AreLeasesOf}
+use Rattle.board_turns.specs.Nesting.{IsOpen}
+use Rattle.board_turns.specs.InCells.{HasNewKeys}
+use Rattle.board_turns.specs.Leaving.{legs_in, AreLeasesOf}
 use Rattle.board_turns.specs.Closing.{ClosesLegs}
 
 -- the pairs of legs

@@ -1,3 +1,8 @@
+pub mod Nesting
+pub mod Taken
+pub mod InCells
+pub mod Bringing
+pub mod Leaving
 pub mod Acting
 pub mod Between
 pub mod Closing
@@ -5,3 +10,7 @@ pub mod Ending
 pub mod Stopping
 pub mod Ticking
 pub mod Ties
+pub mod Controls
+pub mod Giving
+pub mod Telling
+pub mod Carrying

@@ -8,14 +8,15 @@ ghost use Rattle.call_board.specs.Views.{View, with_returned};
 ghost use Rattle.relay_core.specs.Standing.{GoneHome};
 ghost use Rattle.relay_core.specs.Turning.{GainsNested, made_by};
 ghost use Rattle.media_ports.specs.Held.{OpensHeld};
-ghost use Rattle.nested_steps.specs.Nesting.{MayNest, closing_of};
+ghost use Rattle.board_turns.specs.Nesting.{MayNest, closing_of};
 ghost use Rattle.board_turns.specs.Closing.{CanClose, leases_of, closings_of, ClosesLegs, pairs_left};
 ghost use Rattle.board_turns.specs.Ties.{TiesTakes};
 
+use crate::board_turn::BoardTurn;
+use crate::boxes::shut_box;
 use call_board::Board;
 use call_cell::Gone;
 use media_ports::{PairEnds, close_pair};
-use nested_steps::{BoardTurn, shut_box};
 use port_pool::Lease;
 use relay_core::Relay;
 use relay_outside::{Config, PortMaker};

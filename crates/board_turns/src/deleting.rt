@@ -9,14 +9,14 @@ ghost use Rattle.call_board.specs.Calls.{live};
 ghost use Rattle.relay_core.specs.Entries.{board_history};
 ghost use Rattle.relay_core.specs.Turning.{made_by};
 ghost use Rattle.media_ports.specs.Asked.{OpensNone};
-ghost use Rattle.nested_steps.specs.Nesting.{MayNest};
+ghost use Rattle.board_turns.specs.Nesting.{MayNest};
 ghost use Rattle.board_turns.specs.Acting.{InTurn, DoesAct};
 ghost use Rattle.board_turns.specs.Ties.{Ties};
 
+use crate::board_turn::BoardTurn;
 use crate::ending::end_call;
 use call_board::Board;
 use call_cell::Gone;
-use nested_steps::BoardTurn;
 use relay_core::Relay;
 use relay_outside::PortMaker;
 use std::sync::Wait;

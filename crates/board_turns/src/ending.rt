@@ -9,15 +9,16 @@ ghost use Rattle.call_board.specs.Boards.{Shows, KeepsReplies, CellsApart};
 ghost use Rattle.call_board.specs.Views.{View};
 ghost use Rattle.relay_core.specs.Turning.{GainsNested, made_by};
 ghost use Rattle.media_ports.specs.Held.{OpensHeld};
-ghost use Rattle.nested_steps.specs.Nesting.{MayNest};
+ghost use Rattle.board_turns.specs.Nesting.{MayNest};
 ghost use Rattle.board_turns.specs.Closing.{pairs_left};
 ghost use Rattle.board_turns.specs.Ending.{CanEnd, ClosesTheirs, ending_of, leg_pairs, with_end};
 ghost use Rattle.board_turns.specs.Ties.{Ties};
 
+use crate::board_turn::BoardTurn;
+use crate::cells::end_cell;
 use crate::closing::close_legs;
 use call_board::Board;
 use call_cell::Gone;
-use nested_steps::{BoardTurn, end_cell};
 use relay_core::Relay;
 use relay_outside::{Config, PortMaker};
 use std::sync::Wait;

@@ -1,27 +1,56 @@
-//! What the main hand does in a turn of the board that ends calls, from its first nested step to its last.
+//! What the main hand does in a turn of the board: the nested steps of boxes and cells, the turns that end calls, and the board's entry.
+//!
+//! A nested step is one turn of its own place, made while the hand holds the board's turn, and adds one entry to the hand's list,
+//! which belongs to the board's entry. Module `boxes` opens and shuts the box of a port pair, `cells` ends the call of a cell and
+//! asks it whether it is due and what is told of its legs, `signals` prepares a cell by an offer and commits it by an answer;
+//! `offered_changes` has what an offer brings besides its legs. `puts` puts a turn back, one way for each kind of event. `board_turn` has
+//! the board's turn in which the steps are made, and its entry, to which they belong. `specs/Nesting.antt` says who may make such
+//! steps and what a step tells.
 //!
 //! Module `closing` closes the legs that went from a cell: the box of each pair, its ports, and its lease. `ending` ends a call:
-//! its cell, its place among the live calls, and its legs. `querying` reads the cell of a call that is asked after. `putting` ends the
-//! board's turn with its entry. `stopping` ends all live calls in order, as a stop does, and makes the whole turn of a stop; `ticking`
-//! does so with those live calls alone that are due.
+//! its cell, its place among the live calls, and its legs; `deleting` does so by a delete. `querying` reads the cell of a call that is asked
+//! after. `putting` ends the board's turn with its entry. `stopping` ends all live calls in order, as a stop does, and makes the whole
+//! turn of a stop; `ticking` does so with those live calls alone that are due.
 //! `specs/Closing.antt` and `specs/Ending.antt` say when that may be done and what it tells, `specs/Stopping.antt` has the
-//! board's entry of a stop and `specs/Ticking.antt` that of a tick. `specs/Between.antt` says what is known of the main hand between the board's turns, and what a turn
-//! adds to its list, `specs/Acting.antt` what is known in a turn, and `specs/Ties.antt` how the port maker's calls follow from what is
-//! added to that list.
+//! board's entry of a stop and `specs/Ticking.antt` that of a tick. `specs/Between.antt` says what is known of the main hand between the
+//! board's turns, and what a turn adds to its list, `specs/Acting.antt` what is known in a turn, and `specs/Ties.antt` how the port
+//! maker's calls follow from what is added to that list.
+//!
+//! `specs/Controls.antt` has the board's entry of a control datagram, as a function of the history, of what is recorded of the
+//! datagram and of what the devices returned; `specs/Giving.antt` says what a `DeviceAnswers` means for them; `specs/Carrying.antt` what
+//! the turn of a command does. Module `refusing` makes the replies of the commands that fail and of those that only tell, `faulty`
+//! those to faults of a description and of the board; `proofs/Tellings.antt` shows that their turn does what is due.
 #![tactic(auto)]
 
+mod board_turn;
+mod boxes;
+mod cells;
 mod closing;
+mod command_outcome;
 mod deleting;
+mod device_answers;
 mod ending;
+mod faulty;
+mod offered_changes;
+mod puts;
 mod putting;
 mod querying;
+mod refusing;
+mod signals;
 mod stopping;
 mod ticking;
 
+pub use board_turn::{BoardEntryId, BoardTurn};
+pub use boxes::{open_box, shut_box};
+pub use cells::{end_cell, expire_cell, read_cell};
 pub use closing::close_legs;
+pub use command_outcome::CommandOutcome;
 pub use deleting::delete_call;
-pub use ending::end_call;
-pub use putting::put_entry;
+pub use device_answers::DeviceAnswers;
+pub use faulty::{misdescribed, unplanned};
+pub use offered_changes::OfferedChanges;
 pub use querying::query_call;
-pub use stopping::{end_live, stop_turn};
-pub use ticking::{expire_live, tick_turn};
+pub use refusing::{missing, refused, short, told};
+pub use signals::{commit_cell, prepare_cell};
+pub use stopping::stop_turn;
+pub use ticking::tick_turn;

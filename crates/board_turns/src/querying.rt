@@ -11,12 +11,13 @@ ghost use Rattle.call_board.specs.Calls.{live};
 ghost use Rattle.relay_core.specs.Entries.{board_history};
 ghost use Rattle.relay_core.specs.Scripts.{in_cell};
 ghost use Rattle.relay_core.specs.Turning.{GainsNested, made_by};
-ghost use Rattle.nested_steps.specs.Nesting.{MayNest};
+ghost use Rattle.board_turns.specs.Nesting.{MayNest};
 ghost use Rattle.board_turns.specs.Acting.{InTurn};
 ghost use Rattle.board_turns.specs.Ties.{Ties};
 
+use crate::board_turn::BoardTurn;
+use crate::cells::read_cell;
 use call_board::Board;
-use nested_steps::{BoardTurn, read_cell};
 use port_pool::LegReports;
 use relay_core::Relay;
 use relay_outside::{InEnd, OutEnd};

@@ -19,14 +19,14 @@ use Rattle.relay_core.specs.declared.part.Part.{Part}
 use Rattle.relay_core.specs.Entries.{board_history}
 use Rattle.relay_core.specs.Made.{Made}
 use Rattle.relay_core.specs.Turning.{made_by}
-use Rattle.nested_steps.specs.declared.board_turn.BoardEntryId.{BoardEntryId}
+use Rattle.board_turns.specs.declared.board_turn.BoardEntryId.{BoardEntryId}
 use Rattle.board_turns.specs.Acting.{DoesAct}
-use Rattle.control_reading.specs.declared.request.Request.{Request}
-use Rattle.control_entries.specs.declared.device_answers.DeviceAnswers.TheVariants.{Nothing}
-use Rattle.control_entries.specs.Controls.{entry_with}
-use Rattle.control_entries.specs.Carrying.{hearing_as, Carries}
-use Rattle.control_entries.specs.Telling.{IsAnew, IsAsking}
-use Rattle.control_entries.proofs.Plain.{carries_due}
+use Rattle.control_messages.specs.declared.request.Request.{Request}
+use Rattle.board_turns.specs.declared.device_answers.DeviceAnswers.TheVariants.{Nothing}
+use Rattle.board_turns.specs.Controls.{entry_with}
+use Rattle.board_turns.specs.Carrying.{hearing_as, Carries}
+use Rattle.board_turns.specs.Telling.{IsAnew, IsAsking}
+use Rattle.board_turns.proofs.Plain.{carries_due}
 use Rattle.delete_command.proofs.Missed.{asking_with, asks_delete}
 
 -- what is due to it

@@ -19,13 +19,13 @@ use Rattle.relay_core.specs.Entries.{Entry, board_history}
 use Rattle.relay_core.specs.Made.{Made}
 use Rattle.relay_core.specs.Turning.{IsAbove, made_by}
 use Rattle.media_ports.specs.Held.{TellsHeld}
-use Rattle.nested_steps.specs.declared.board_turn.BoardEntryId.{BoardEntryId}
+use Rattle.board_turns.specs.declared.board_turn.BoardEntryId.{BoardEntryId}
 use Rattle.board_turns.specs.Acting.{InTurn}
 use Rattle.board_turns.specs.Between.{IsBetween}
 use Rattle.board_turns.specs.Ending.{leg_pairs}
 use Rattle.board_turns.proofs.Firsts.{none_open}
-use Rattle.control_reading.specs.declared.request.Request.{Request}
-use Rattle.control_entries.specs.Telling.{IsAsking}
+use Rattle.control_messages.specs.declared.request.Request.{Request}
+use Rattle.board_turns.specs.Telling.{IsAsking}
 
 abbrev pub at_first : BoardEntryId
 at_first = record { number = 0; moment = 0 }

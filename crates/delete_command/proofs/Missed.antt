@@ -21,16 +21,16 @@ use Rattle.relay_core.specs.declared.part.Part.{Part}
 use Rattle.relay_core.specs.Entries.{board_history}
 use Rattle.relay_core.specs.Made.{Made}
 use Rattle.relay_core.specs.Turning.{made_by}
-use Rattle.nested_steps.specs.declared.board_turn.BoardEntryId.{BoardEntryId}
+use Rattle.board_turns.specs.declared.board_turn.BoardEntryId.{BoardEntryId}
 use Rattle.board_turns.specs.Acting.{InTurn}
-use Rattle.control_reading.specs.declared.request.Request.{Request}
-use Rattle.control_entries.specs.declared.device_answers.DeviceAnswers.TheVariants.{Nothing}
-use Rattle.control_entries.specs.declared.command_outcome.CommandOutcome.{CommandOutcome}
-use Rattle.control_entries.specs.Controls.{unanswered}
-use Rattle.control_entries.specs.Carrying.{hearing_as, hearing_by, Carries}
-use Rattle.control_entries.specs.Telling.{IsAnew, IsAsking, Tells, missing_reply}
-use Rattle.control_entries.proofs.Asking.{asks_so}
-use Rattle.control_entries.proofs.Tellings.{tells_carries}
+use Rattle.control_messages.specs.declared.request.Request.{Request}
+use Rattle.board_turns.specs.declared.device_answers.DeviceAnswers.TheVariants.{Nothing}
+use Rattle.board_turns.specs.declared.command_outcome.CommandOutcome.{CommandOutcome}
+use Rattle.board_turns.specs.Controls.{unanswered}
+use Rattle.board_turns.specs.Carrying.{hearing_as, hearing_by, Carries}
+use Rattle.board_turns.specs.Telling.{IsAnew, IsAsking, Tells, missing_reply}
+use Rattle.board_turns.proofs.Asking.{asks_so}
+use Rattle.board_turns.proofs.Tellings.{tells_carries}
 
 -- the datagram of a delete, before its reply
 abbrev pub asking_with : Request → Option Entries → Control

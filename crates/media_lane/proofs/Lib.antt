@@ -9,3 +9,8 @@ pub mod Counting
 pub mod Loops
 pub mod Marks
 pub mod Strides
+pub mod Counts
+pub mod Between
+pub mod Receipts
+pub mod Sweeps
+pub mod Deeds

@@ -11,3 +11,5 @@ pub mod Looping
 pub mod Visited
 pub mod Covering
 pub mod Columns
+pub mod Totals
+pub mod Steps

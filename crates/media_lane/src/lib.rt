@@ -6,15 +6,19 @@
 //!
 //! Module `receipt` has what a take gave, `answers` what the calls return, `lane` the lane, `receiving` and `relaying` its two
 //! steps, `sweeping` a round over its pairs, which may wait and keeps each datagram in the lane's room, `hinted` its part that goes
-//! by the clock's hints, `order` when that visits what, and how long it waits, `columns` in which order it goes through its pairs,
-//! `visited` the halves that it was at, `looping` sweep after sweep until the lane is told to end, `puts` the way to put each kind of
-//! turn, `laws` what callers know.
+//! by the clock's hints, `order` when that visits what, and how long it waits, `visited` the halves that it was at, `looping` sweep
+//! after sweep until the lane is told to end, `puts` the way to put each kind of turn, `laws` what callers know.
 //!
 //! `specs/Starts.antt` says what the places of a lane's table begin as, `specs/Lanes.antt` what contracts see in a lane,
 //! `specs/Receipts.antt` what a receipt of a hand's list is, `specs/Busy.antt` what a busy call does, `specs/Taking.antt` and
 //! `specs/Relaying.antt` what a take and a relay add to the list of its hand, `specs/Visits.antt` and `specs/Sweeping.antt` what a
-//! sweep adds, `specs/Visited.antt` and `specs/Covering.antt` how far it has come, `specs/Columns.antt` which pairs it visits one after
-//! the other, `specs/Looping.antt` what sweep after sweep adds, `specs/Gated.antt` at whose cells a gate was passed.
+//! sweep adds, `specs/Visited.antt` and `specs/Covering.antt` how far it has come, `specs/Looping.antt` what sweep after sweep adds,
+//! `specs/Gated.antt` at whose cells a gate was passed.
+//!
+//! Where no lane has a thread of its own, the main hand relays media between two turns of the board, by a lane of all pairs:
+//! `main_sweep` makes a sweep and adds what came of it to the totals; `main_receiving` takes once at one port, `main_relaying` relays one
+//! packet. `specs/Totals.antt` says which counts over a list of entries the totals are, `specs/Steps.antt` what one take and one relay
+//! add to the list, and which receipts it keeps.
 #![tactic(auto)]
 
 mod answers;
@@ -23,6 +27,9 @@ mod hinted;
 mod lane;
 mod laws;
 mod looping;
+mod main_receiving;
+mod main_relaying;
+mod main_sweep;
 mod order;
 mod puts;
 mod receipt;
@@ -35,4 +42,7 @@ pub use answers::{Received, Relayed, Totals};
 pub use lane::Lane;
 pub use laws::parts_begin_lanes;
 pub use looping::lane_loop;
+pub use main_receiving::receive_between;
+pub use main_relaying::relay_between;
+pub use main_sweep::sweep_between;
 pub use receipt::Receipt;

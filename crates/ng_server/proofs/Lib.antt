@@ -1,2 +1,6 @@
+pub mod Commands
+pub mod Kept
+pub mod Taken
+pub mod Turns
 pub mod Tellings
 mod Errors

@@ -17,13 +17,14 @@ ghost use Rattle.media_ports.specs.Held.{TellsHeld};
 ghost use Rattle.board_turns.specs.Between.{IsBetween, MakesTurn};
 ghost use Rattle.board_turns.specs.Stopping.{stop_entry};
 ghost use Rattle.board_turns.specs.Ticking.{Ticks};
-ghost use Rattle.control_turns.specs.Taking.{Turned};
+ghost use Rattle.ng_server.specs.Taking.{Turned};
 ghost use Rattle.ng_server.specs.Servers.{OpensJust, history_of};
 ghost use Rattle.board_turns.specs.Ties.{Ties};
 
 use crate::desk::Desk;
+use crate::devices::Devices;
+use crate::taking::{ControlTurn, control_turn};
 use board_turns::{stop_turn, tick_turn};
-use control_turns::{ControlTurn, Devices, control_turn};
 use relay_core::{Part, Relay, close_relay, parts};
 use relay_outside::{Config, ControlLink, InEnd, KeySource, OutEnd, OutOfMemory, PortMaker};
 use std::alloc::Global;

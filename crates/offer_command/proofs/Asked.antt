@@ -20,15 +20,15 @@ use Rattle.call_board.specs.Views.{view_of}
 use Rattle.call_board.specs.declared.board_plan.BoardPlan.{BoardPlan}
 use Rattle.call_board.proofs.Done.{Asks}
 use Rattle.call_board.proofs.Dues.{target_in, target_is}
-use Rattle.control_reading.specs.declared.request.Request.{Request}
-use Rattle.control_entries.specs.declared.device_answers.DeviceAnswers.{DeviceAnswers}
-use Rattle.control_entries.specs.Controls.{unanswered}
-use Rattle.control_entries.specs.Giving.{given_by}
-use Rattle.control_entries.specs.Carrying.{hearing_as}
-use Rattle.control_entries.proofs.Asking.{asks_so}
-use Rattle.offer_turns.specs.Offers.{CanOffer, demand_of}
-use Rattle.offer_turns.proofs.Accepted.{can_offer}
-use Rattle.control_entries.specs.Telling.{IsAnew, IsAsking}
+use Rattle.control_messages.specs.declared.request.Request.{Request}
+use Rattle.board_turns.specs.declared.device_answers.DeviceAnswers.{DeviceAnswers}
+use Rattle.board_turns.specs.Controls.{unanswered}
+use Rattle.board_turns.specs.Giving.{given_by}
+use Rattle.board_turns.specs.Carrying.{hearing_as}
+use Rattle.board_turns.proofs.Asking.{asks_so}
+use Rattle.offer_command.specs.Offers.{CanOffer, demand_of}
+use Rattle.offer_command.proofs.Accepted.{can_offer}
+use Rattle.board_turns.specs.Telling.{IsAnew, IsAsking}
 use Rattle.offer_command.specs.Commands.{AsksFor, says_of, ask_of}
 
 -- it asks for the offer

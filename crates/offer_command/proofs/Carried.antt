@@ -33,29 +33,29 @@ use Rattle.relay_core.specs.declared.part.Part.{Part}
 use Rattle.relay_core.specs.Entries.{board_history}
 use Rattle.relay_core.specs.Made.{Made}
 use Rattle.relay_core.specs.Turning.{made_by}
-use Rattle.nested_steps.specs.declared.board_turn.BoardEntryId.{BoardEntryId}
+use Rattle.board_turns.specs.declared.board_turn.BoardEntryId.{BoardEntryId}
 use Rattle.board_turns.specs.Acting.{InTurn, DoesAct}
-use Rattle.control_reading.specs.declared.request.Request.{Request}
-use Rattle.control_entries.specs.declared.device_answers.DeviceAnswers.{DeviceAnswers}
-use Rattle.control_entries.specs.declared.device_answers.DeviceAnswers.TheVariants as device_answers
-use Rattle.control_entries.specs.declared.device_answers.DeviceAnswers.TheVariants.{Nothing}
-use Rattle.control_entries.specs.declared.command_outcome.CommandOutcome.{CommandOutcome}
-use Rattle.control_entries.specs.Controls.{Hearing, unanswered, entry_with}
-use Rattle.control_entries.specs.Giving.{given_by}
-use Rattle.control_entries.specs.Carrying.{hearing_as, hearing_by, Carries}
-use Rattle.control_entries.specs.Telling.{IsAnew, IsAsking, Refuses, Tells, error_in}
-use Rattle.control_entries.proofs.Asking.{asks_misdescribed}
-use Rattle.control_entries.proofs.Plain.{carries_due}
-use Rattle.control_entries.proofs.Tellings.{tells_carries, is_short_carries}
-use Rattle.control_reading.specs.Bodies.{IsErrorOf}
-use Rattle.control_reading.specs.declared.description.DescriptionFault.{DescriptionFault}
-use Rattle.control_reading.specs.declared.description.DescriptionFault.TheVariants as faults
-use Rattle.offer_leases.specs.declared.fault.LeaseFault.{LeaseFault}
-use Rattle.offer_leases.specs.declared.fault.LeaseFault.TheVariants.{Port, Key}
-use Rattle.offer_leases.specs.Leasing.{pairs_of_plan, keys_of_plan}
-use Rattle.offer_leases.specs.Undoing.{ComesEarly, keys_before}
-use Rattle.offer_turns.specs.Offers.{offer_of, demand_of, target_of, pairs_for, text_of, undone_leases}
-use Rattle.offer_turns.proofs.Targets.{pairs_count, keys_count}
+use Rattle.control_messages.specs.declared.request.Request.{Request}
+use Rattle.board_turns.specs.declared.device_answers.DeviceAnswers.{DeviceAnswers}
+use Rattle.board_turns.specs.declared.device_answers.DeviceAnswers.TheVariants as device_answers
+use Rattle.board_turns.specs.declared.device_answers.DeviceAnswers.TheVariants.{Nothing}
+use Rattle.board_turns.specs.declared.command_outcome.CommandOutcome.{CommandOutcome}
+use Rattle.board_turns.specs.Controls.{Hearing, unanswered, entry_with}
+use Rattle.board_turns.specs.Giving.{given_by}
+use Rattle.board_turns.specs.Carrying.{hearing_as, hearing_by, Carries}
+use Rattle.board_turns.specs.Telling.{IsAnew, IsAsking, Refuses, Tells, error_in}
+use Rattle.board_turns.proofs.Asking.{asks_misdescribed}
+use Rattle.board_turns.proofs.Plain.{carries_due}
+use Rattle.board_turns.proofs.Tellings.{tells_carries, is_short_carries}
+use Rattle.control_messages.specs.Bodies.{IsErrorOf}
+use Rattle.control_messages.specs.declared.description.DescriptionFault.{DescriptionFault}
+use Rattle.control_messages.specs.declared.description.DescriptionFault.TheVariants as faults
+use Rattle.offer_command.specs.declared.fault.LeaseFault.{LeaseFault}
+use Rattle.offer_command.specs.declared.fault.LeaseFault.TheVariants.{Port, Key}
+use Rattle.offer_command.specs.Leasing.{pairs_of_plan, keys_of_plan}
+use Rattle.offer_command.specs.Undoing.{ComesEarly, keys_before}
+use Rattle.offer_command.specs.Offers.{offer_of, demand_of, target_of, pairs_for, text_of, undone_leases}
+use Rattle.offer_command.proofs.Targets.{pairs_count, keys_count}
 use Rattle.offer_command.specs.Commands.{AsksFor, Gives, IsReply, ask_of, says_of, undone_code, undone_answers}
 use Rattle.offer_command.proofs.Asked.{asks_offer, hears_offer, demands_offer, none_fails, one_fails}
 

@@ -5,11 +5,11 @@ use Rattle.relay_outside.specs.declared.ports.PortCall.{PortCall}
 use Rattle.relay_outside.specs.declared.settings.Config.{Config}
 use Rattle.relay_outside.specs.Told.{Gained}
 use Rattle.media_ports.specs.Asked.{OpensAt}
-use Rattle.offer_leases.specs.declared.fault.LeaseFault.{LeaseFault}
-use Rattle.offer_leases.specs.declared.fault.LeaseFault.TheVariants.{Port, Key}
-use Rattle.offer_leases.specs.Undoing.{DrawsBefore, HasRisen, opens_before}
-use Rattle.control_entries.specs.Giving.{given_by, IsGivenBy}
-use Rattle.control_entries.proofs.Givings.{ports_given, keys_given}
+use Rattle.offer_command.specs.declared.fault.LeaseFault.{LeaseFault}
+use Rattle.offer_command.specs.declared.fault.LeaseFault.TheVariants.{Port, Key}
+use Rattle.offer_command.specs.Undoing.{DrawsBefore, HasRisen, opens_before}
+use Rattle.board_turns.specs.Giving.{given_by, IsGivenBy}
+use Rattle.board_turns.proofs.Givings.{ports_given, keys_given}
 use Rattle.offer_command.specs.Commands.{undone_answers}
 
 -- one of that many pairs that is undone

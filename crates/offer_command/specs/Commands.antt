@@ -13,13 +13,13 @@ use Rattle.call_board.specs.Acts.{BoardEntry}
 use Rattle.call_board.specs.Answers.{offer_ask}
 use Rattle.call_board.specs.Asked.{sdp_error}
 use Rattle.call_board.specs.Replies.{Reply, reply_datagram}
-use Rattle.offer_leases.specs.declared.fault.LeaseFault.{LeaseFault}
-use Rattle.offer_leases.specs.declared.fault.LeaseFault.TheVariants.{Port, Key}
-use Rattle.control_entries.specs.declared.command_outcome.CommandOutcome.{CommandOutcome}
-use Rattle.control_entries.specs.declared.device_answers.DeviceAnswers.{DeviceAnswers}
-use Rattle.control_entries.specs.declared.device_answers.DeviceAnswers.TheVariants.{PortFault, KeyFault}
-use Rattle.control_reading.specs.declared.request.Request.{Request}
-use Rattle.control_entries.specs.Telling.{IsAnew, IsAsking}
+use Rattle.offer_command.specs.declared.fault.LeaseFault.{LeaseFault}
+use Rattle.offer_command.specs.declared.fault.LeaseFault.TheVariants.{Port, Key}
+use Rattle.board_turns.specs.declared.command_outcome.CommandOutcome.{CommandOutcome}
+use Rattle.board_turns.specs.declared.device_answers.DeviceAnswers.{DeviceAnswers}
+use Rattle.board_turns.specs.declared.device_answers.DeviceAnswers.TheVariants.{PortFault, KeyFault}
+use Rattle.control_messages.specs.declared.request.Request.{Request}
+use Rattle.board_turns.specs.Telling.{IsAnew, IsAsking}
 
 -- what the command says
 abbrev pub says_of : OfferIn → Said

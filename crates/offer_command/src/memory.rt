@@ -1,14 +1,13 @@
 //! The memory of an offer that the board planned.
 ghost use Rattle.std.specs.Prelude.{◌<◌, ◌^◌, IfOk, OnOk};
 ghost use Rattle.cookie_cache.specs.Keepings.{IsCookie};
-ghost use Rattle.control_replies.specs.Rooms.{IsReplyRoom};
-ghost use Rattle.offer_turns.specs.Brings.{HasOfferRoom};
+ghost use Rattle.control_messages.specs.Rooms.{IsReplyRoom};
+ghost use Rattle.offer_command.specs.Brings.{HasOfferRoom};
 
-use control_reading::Request;
-use control_replies::reply_room;
+use crate::room::OfferRoom;
+use control_messages::{Request, reply_room};
 use ng_bencode::Text;
 use offer_answer::Plan;
-use offer_turns::OfferRoom;
 use relay_outside::OutOfMemory;
 use std::alloc::Global;
 

@@ -2,18 +2,17 @@
 ghost use Rattle.std.specs.Prelude.{◌≡◌, ◌<◌, ◌≤◌, ◌^◌, [], length};
 ghost use Rattle.cookie_cache.specs.Keepings.{IsCookie};
 ghost use Rattle.call_board.specs.Replies.{Described, Fault};
-ghost use Rattle.control_replies.specs.Rooms.{described_room};
-ghost use Rattle.control_entries.specs.declared.device_answers.DeviceAnswers.TheVariants as device_answers;
+ghost use Rattle.control_messages.specs.Rooms.{described_room};
+ghost use Rattle.board_turns.specs.declared.device_answers.DeviceAnswers.TheVariants as device_answers;
 ghost use Rattle.offer_command.specs.Commands.{Gives, undone_code, undone_answers};
 
-use control_entries::{CommandOutcome, DeviceAnswers};
-use control_reading::Request;
-use control_replies::{write_described, write_error};
+use crate::acting::AcceptedOffer;
+use crate::fault::LeaseFault;
+use board_turns::{CommandOutcome, DeviceAnswers};
+use control_messages::{Request, write_described, write_error};
 use ng_bencode::Text;
 use ng_reply::ErrorCode;
 use offer_answer::ChosenLines;
-use offer_leases::LeaseFault;
-use offer_turns::AcceptedOffer;
 
 /// The offer was accepted, and opened this many ports. Its reply is written into the room that was made for it. It takes no memory.
 pub(crate) fn accepted(

@@ -12,10 +12,10 @@ use Rattle.relay_outside.specs.declared.link.LinkCall.TheVariants as call
 use Rattle.relay_outside.specs.declared.settings.Config.{Config}
 use Rattle.relay_outside.specs.Link.{datagram_of, sent_of, datagrams, sent}
 use Rattle.call_board.specs.Acts.{BoardEntry}
-use Rattle.control_entries.specs.Controls.{Hearing}
-use Rattle.control_turns.specs.Taking.{turn_after, is_answered, is_too_long, DidReply, DidFollow, DidTurn}
-use Rattle.control_turns.specs.declared.taking.ControlTurn.{ControlTurn}
-use Rattle.control_turns.specs.declared.taking.ControlTurn.TheVariants as turn
+use Rattle.board_turns.specs.Controls.{Hearing}
+use Rattle.ng_server.specs.Taking.{turn_after, is_answered, is_too_long, DidReply, DidFollow, DidTurn}
+use Rattle.ng_server.specs.declared.taking.ControlTurn.{ControlTurn}
+use Rattle.ng_server.specs.declared.taking.ControlTurn.TheVariants as turn
 use Rattle.relay_app.specs.declared.status.Status.{Status}
 use Rattle.relay_app.specs.declared.status.Status.TheVariants as status
 use Rattle.relay_app.specs.declared.totals.Counts.{Counts}

@@ -19,9 +19,9 @@ use Rattle.media_lane.specs.Gated.{AreGated, GainsGated}
 use Rattle.media_lane.specs.Visits.{Row}
 use Rattle.media_lane.proofs.Gates.{gated_more, gated_both}
 use Rattle.board_turns.specs.Between.{MakesTurn}
-use Rattle.control_entries.specs.Controls.{Hearing}
-use Rattle.control_turns.specs.declared.taking.ControlTurn.{ControlTurn}
-use Rattle.control_turns.specs.Taking.{Follows}
+use Rattle.board_turns.specs.Controls.{Hearing}
+use Rattle.ng_server.specs.declared.taking.ControlTurn.{ControlTurn}
+use Rattle.ng_server.specs.Taking.{Follows}
 use Rattle.relay_app.specs.Rounds.{all_of}
 use Rattle.relay_app.specs.Turned.{DidTick}
 

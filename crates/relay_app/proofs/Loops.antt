@@ -24,10 +24,10 @@ use Rattle.media_lane.specs.Visits.{Row}
 use Rattle.board_turns.specs.Between.{board_of, IsBetween}
 use Rattle.board_turns.specs.Ties.{AreTied, Ties}
 use Rattle.board_turns.specs.Ticking.{tick_entry}
-use Rattle.control_entries.specs.Controls.{Hearing}
-use Rattle.control_entries.specs.Giving.{IsGivenBy}
-use Rattle.control_turns.specs.declared.taking.ControlTurn.{ControlTurn}
-use Rattle.control_turns.specs.Taking.{Follows, GaveFor, DidTurn, Turned}
+use Rattle.board_turns.specs.Controls.{Hearing}
+use Rattle.board_turns.specs.Giving.{IsGivenBy}
+use Rattle.ng_server.specs.declared.taking.ControlTurn.{ControlTurn}
+use Rattle.ng_server.specs.Taking.{Follows, GaveFor, DidTurn, Turned}
 use Rattle.relay_app.specs.declared.status.Status.{Status}
 use Rattle.relay_app.specs.declared.status.Status.TheVariants as status
 use Rattle.relay_app.specs.declared.totals.Counts.{Counts}

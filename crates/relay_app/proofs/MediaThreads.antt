@@ -29,8 +29,8 @@ use Rattle.media_lane.specs.Visits.{Row, Visit, ArePassed, all_rows}
 use Rattle.media_lane.specs.Gated.{AreGated}
 use Rattle.media_lane.proofs.Gates.{gated_none, gated_more, gated_both}
 use Rattle.board_turns.specs.Between.{IsBetween}
-use Rattle.main_sweeps.specs.Totals.{HasTotals}
-use Rattle.main_sweeps.proofs.Sweeps.{rows_in, visits_totals}
+use Rattle.media_lane.specs.Totals.{HasTotals}
+use Rattle.media_lane.proofs.Sweeps.{rows_in, visits_totals}
 use Rattle.relay_app.specs.declared.threads.MediaThread.{MediaThread}
 use Rattle.relay_app.specs.Rounds.{AreThreads, all_of}
 use Rattle.relay_app.specs.Threads.{rows_of, MayJoin, AddsEach, IsFresh, HasWorked, IsDone}

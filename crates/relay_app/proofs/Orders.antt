@@ -18,7 +18,7 @@ use Rattle.relay_core.proofs.Turns.{before_left, before_right}
 use Rattle.media_lane.specs.declared.answers.Totals.{Totals}
 use Rattle.media_lane.specs.Looping.{visits_of}
 use Rattle.media_lane.specs.Visits.{Row}
-use Rattle.main_sweeps.proofs.Sweeps.{rows_in}
+use Rattle.media_lane.proofs.Sweeps.{rows_in}
 use Rattle.relay_app.specs.Rounds.{Round, with_heard, tick_of, history_after, entry_due, IsBoardTurn, MakesEntry, SweepsAlone, AreRounds, AreThreads, all_of, IsWhole}
 
 before_across : {A : Type 0} {x y : A} (xs ys : List A) → In x xs → In y ys → Before x y (xs ++ ys)

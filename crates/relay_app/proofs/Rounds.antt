@@ -24,12 +24,12 @@ use Rattle.board_turns.specs.Between.{board_of, IsBetween, MakesTurn}
 use Rattle.board_turns.specs.Stopping.{stop_entry}
 use Rattle.board_turns.specs.Ticking.{tick_entry}
 use Rattle.board_turns.proofs.Grown.{makes_history}
-use Rattle.control_entries.specs.Controls.{Hearing, entry_at, moment_at}
-use Rattle.control_turns.specs.declared.taking.ControlTurn.{ControlTurn}
-use Rattle.control_turns.specs.Taking.{Follows}
-use Rattle.main_sweeps.specs.Totals.{HasTotals}
-use Rattle.main_sweeps.proofs.Between.{lanes_board}
-use Rattle.main_sweeps.proofs.Counts.{turn_totals, told_totals}
+use Rattle.board_turns.specs.Controls.{Hearing, entry_at, moment_at}
+use Rattle.ng_server.specs.declared.taking.ControlTurn.{ControlTurn}
+use Rattle.ng_server.specs.Taking.{Follows}
+use Rattle.media_lane.specs.Totals.{HasTotals}
+use Rattle.media_lane.proofs.Between.{lanes_board}
+use Rattle.media_lane.proofs.Counts.{turn_totals, told_totals}
 use Rattle.ng_server.proofs.Tellings.{told_board}
 use Rattle.relay_app.specs.Rounds.{Round, status_after, entry_due, with_entry, with_heard, tick_of, history_after, with_ticks, latest, earliest, or_else, counted_from, is_tick_due, IsBoardTurn, HasHeard, MakesEntry, AreRounds, AreThreads, all_of, IsWhole}
 use Rattle.relay_app.specs.Turned.{AddsSweep, DidTick}

@@ -23,7 +23,7 @@ use Rattle.media_lane.specs.Gated.{AreGated}
 use Rattle.board_turns.specs.Between.{IsBetween}
 use Rattle.board_turns.specs.Ties.{AreTied, Ties}
 use Rattle.board_turns.proofs.Firsts.{first_board, none_open}
-use Rattle.main_sweeps.specs.Totals.{HasTotals}
+use Rattle.media_lane.specs.Totals.{HasTotals}
 use Rattle.ng_server.specs.Servers.{OpensJust}
 use Rattle.relay_app.specs.declared.status.Status.{Status}
 use Rattle.relay_app.specs.declared.totals.Counts.{Counts}

@@ -17,11 +17,11 @@ use Rattle.media_lane.specs.Looping.{IsSweep, AreSweeps, visits_of}
 use Rattle.board_turns.specs.Between.{board_of}
 use Rattle.board_turns.specs.Stopping.{stop_entry}
 use Rattle.board_turns.specs.Ticking.{tick_entry}
-use Rattle.control_entries.specs.Controls.{Hearing, entry_at, moment_at}
-use Rattle.control_turns.specs.Taking.{is_answered}
-use Rattle.control_turns.specs.declared.taking.ControlTurn.{ControlTurn}
-use Rattle.control_turns.specs.declared.taking.ControlTurn.TheVariants as turn
-use Rattle.main_sweeps.specs.Totals.{HasTotals}
+use Rattle.board_turns.specs.Controls.{Hearing, entry_at, moment_at}
+use Rattle.ng_server.specs.Taking.{is_answered}
+use Rattle.ng_server.specs.declared.taking.ControlTurn.{ControlTurn}
+use Rattle.ng_server.specs.declared.taking.ControlTurn.TheVariants as turn
+use Rattle.media_lane.specs.Totals.{HasTotals}
 use Rattle.relay_app.specs.declared.status.Status.{Status}
 use Rattle.relay_app.specs.declared.status.Status.TheVariants as status
 

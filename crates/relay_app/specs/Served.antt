@@ -13,10 +13,10 @@ use Rattle.media_ports.specs.Asked.{pair_addresses, OpensWith, OpensThese}
 use Rattle.media_ports.specs.Calls as port_calls
 use Rattle.call_board.specs.Acts.{BoardEvent, Turn, Tick, Stop, BoardEntry, Given}
 use Rattle.call_board.specs.Pairs.{free}
-use Rattle.control_entries.specs.Giving.{draws_of}
-use Rattle.control_turns.specs.Taking.{DidTurn}
-use Rattle.control_turns.specs.declared.taking.ControlTurn.{ControlTurn}
-use Rattle.control_turns.specs.declared.taking.ControlTurn.TheVariants as turn
+use Rattle.board_turns.specs.Giving.{draws_of}
+use Rattle.ng_server.specs.Taking.{DidTurn}
+use Rattle.ng_server.specs.declared.taking.ControlTurn.{ControlTurn}
+use Rattle.ng_server.specs.declared.taking.ControlTurn.TheVariants as turn
 use Rattle.media_lane.specs.declared.answers.Totals.{Totals}
 use Rattle.media_lane.specs.Gated.{AreGated}
 use Rattle.relay_app.specs.declared.status.Status.{Status}

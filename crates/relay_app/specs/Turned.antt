@@ -14,7 +14,7 @@ use Rattle.media_lane.specs.Visits.{Row}
 use Rattle.media_lane.specs.Gated.{AreGated}
 use Rattle.board_turns.specs.Between.{board_of, IsBetween, MakesTurn}
 use Rattle.board_turns.specs.Ties.{AreTied}
-use Rattle.main_sweeps.specs.Totals.{HasTotals}
+use Rattle.media_lane.specs.Totals.{HasTotals}
 use Rattle.board_turns.specs.Ticking.{tick_entry}
 use Rattle.ng_server.specs.Servers.{OpensJust, history_of}
 use Rattle.relay_app.specs.declared.status.Status.{Status}

@@ -11,8 +11,8 @@ use Rattle.rtp_packet.specs.declared.head.Half.TheVariants.{Rtp, Rtcp}
 use Rattle.srtp_sources.specs.Notes.{is_half}
 use Rattle.histories.specs.Words.{until}
 use Rattle.port_pool.specs.Ports.{half_port}
-use Rattle.replay_model.specs.Steps as model
-use Rattle.replay_model.specs.Devices.{Happening, Made, Opened, Drew, Replied, Sent, behind, makes_end, makes_at, sends_by, fails_send, next_send, send_fails}
+use Rattle.replay_devices.specs.Steps as model
+use Rattle.replay_devices.specs.Devices.{Happening, Made, Opened, Drew, Replied, Sent, behind, makes_end, makes_at, sends_by, fails_send, next_send, send_fails}
 use Rattle.replay_devices.specs.declared.failures.Stage.{Stage}
 use Rattle.replay_devices.specs.declared.failures.Stage.TheVariants.{Waiting, Counting}
 use Rattle.replay_devices.specs.declared.failures.SendFailure.{SendFailure}

@@ -1,3 +1,4 @@
+pub mod Gaining
 pub mod Counting
 pub mod Failing
 pub mod KeysDue

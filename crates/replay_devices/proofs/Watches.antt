@@ -3,8 +3,8 @@ use Rattle.std.proofs.Common.{◌≡◌, ◌∙◌, refl, sym, ap, ℕ, ◌+◌,
 use Rattle.std.specs.List.{list_any}
 use Rattle.std.proofs.lemmas.Bool.Decides.{nat_tests}
 use Rattle.relay_outside.specs.declared.settings.Config.{Config}
-use Rattle.replay_model.specs.Steps as model
-use Rattle.replay_model.specs.Devices.{Happening, Made, Opened, Drew, Replied, Sent, counts_for, same_kind, fails_nth, fails_behind, fails}
+use Rattle.replay_devices.specs.Steps as model
+use Rattle.replay_devices.specs.Devices.{Happening, Made, Opened, Drew, Replied, Sent, counts_for, same_kind, fails_nth, fails_behind, fails}
 use Rattle.replay_devices.specs.Countdowns.{after_call, next_fails}
 use Rattle.replay_devices.specs.declared.failures.SendFailure.{SendFailure}
 use Rattle.replay_devices.specs.Watch.{asked_now, counts, sends_after, due, WatchState, Notes}

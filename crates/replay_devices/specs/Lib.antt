@@ -1,3 +1,7 @@
+pub mod Steps
+pub mod Devices
+pub mod Finding
+pub mod Scripts
 pub mod Countdowns
 pub mod Due
 pub mod Failures

@@ -7,8 +7,8 @@ use Rattle.relay_script.specs.declared.step.FailKind.{FailKind}
 use Rattle.relay_script.specs.declared.step.FailKind.TheVariants as kind
 use Rattle.relay_script.specs.Steps as line
 use Rattle.relay_script.specs.Steps.{Step}
-use Rattle.replay_model.specs.Steps as model
-use Rattle.replay_model.specs.Devices.{Happening, Made, Opened, Drew, Sent, counts_for, same_kind, unused, streamed, next_key}
+use Rattle.replay_devices.specs.Steps as model
+use Rattle.replay_devices.specs.Devices.{Happening, Made, Opened, Drew, Sent, counts_for, same_kind, unused, streamed, next_key}
 use Rattle.replay_devices.specs.Countdowns.{after_call}
 use Rattle.replay_devices.specs.declared.failures.SendFailure.{SendFailure}
 use Rattle.replay_devices.specs.Failures.{waiting_for, opened_at, sent_at}

@@ -3,8 +3,8 @@ ghost use Rattle.relay_outside.specs.declared.settings.Config.{Config};
 ghost use Rattle.relay_script.specs.Steps.{meaning};
 ghost use Rattle.rtp_packet.specs.declared.head.Half.{Half};
 ghost use Rattle.port_pool.specs.Ports.{half_port};
-ghost use Rattle.replay_model.specs.Steps as model;
-ghost use Rattle.replay_model.specs.Devices.{Happening, Made, Opened, Drew, Replied, Sent, fails, send_fails, unused, streamed};
+ghost use Rattle.replay_devices.specs.Steps as model;
+ghost use Rattle.replay_devices.specs.Devices.{Happening, Made, Opened, Drew, Replied, Sent, fails, send_fails, unused, streamed};
 ghost use Rattle.replay_devices.specs.Watch.{StandsFor, Notes, NotesDraw, kind_of, step_of};
 
 use crate::countdowns::Countdowns;

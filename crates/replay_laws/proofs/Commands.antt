@@ -21,9 +21,9 @@ use Rattle.relay_core.specs.Standing.{told_entry}
 use Rattle.relay_core.specs.Turning.{IsAbove}
 use Rattle.media_ports.specs.Asked.{OpensAt}
 use Rattle.board_turns.specs.Between.{board_of}
-use Rattle.control_entries.specs.Controls.{Hearing, control_of, entry_at, moment_at}
-use Rattle.control_entries.specs.Giving.{draws_of}
-use Rattle.replay_model.specs.Devices.{Happening}
+use Rattle.board_turns.specs.Controls.{Hearing, control_of, entry_at, moment_at}
+use Rattle.board_turns.specs.Giving.{draws_of}
+use Rattle.replay_devices.specs.Devices.{Happening}
 use Rattle.relay_script.specs.Printing as event
 use Rattle.relay_script.specs.Printing.{Printed}
 use Rattle.replay_steps.specs.Steps.{TurnsBoard, IsHeard, Replying, Answers, Controls, OpensAsked, DrawsAsked, filled}

@@ -29,7 +29,7 @@ use Rattle.call_board.specs.Fits.{FitsControl, GivesFor, Hears, HearsAnswer, dem
 use Rattle.call_board.proofs.Fixed.{unless_out_of_memory}
 use Rattle.call_board.proofs.Tells.{leased_case}
 use Rattle.relay_core.specs.Scripts.{Owed, opening, closing, in_cell, reading, reading_out_of_memory, script_of_act, script_of, script}
-use Rattle.control_entries.specs.Controls.{Hearing, unanswered, with_answer, control_of, moment_at}
+use Rattle.board_turns.specs.Controls.{Hearing, unanswered, with_answer, control_of, moment_at}
 use Rattle.replay_laws.proofs.Boards.{SameBoards}
 
 abbrev call_as : ℕ → ℕ → List ℕ → Call

@@ -13,11 +13,11 @@ use Rattle.relay_core.specs.Legal.{Orderly}
 use Rattle.relay_core.specs.Turning.{IsAbove, Rising, IsOfLane}
 use Rattle.relay_core.proofs.Gains.{rising_append}
 use Rattle.relay_core.proofs.Turns.{turn_keeps, lane_keeps}
-use Rattle.main_sweeps.specs.Steps.{take_entry, relay_entry}
+use Rattle.media_lane.specs.Steps.{take_entry, relay_entry}
 use Rattle.relay_script.specs.Steps as step
 use Rattle.relay_script.specs.Steps.{Step}
 use Rattle.relay_script.specs.Printing.{Printed}
-use Rattle.replay_model.specs.Devices.{Happening}
+use Rattle.replay_devices.specs.Devices.{Happening}
 use Rattle.replay_steps.specs.Steps.{Course, Packet, TurnsBoard, TakesPacket, Misses, RelaysPacket, Controls, Makes, Plays, after}
 use Rattle.replay_laws.proofs.Rising.{nothing_behind}
 use Rattle.replay_laws.proofs.Turns.{turn_list}

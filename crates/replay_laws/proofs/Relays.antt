@@ -17,7 +17,7 @@ use Rattle.relay_core.specs.Turning.{IsAbove}
 use Rattle.media_lane.specs.Relaying.{AreSent}
 use Rattle.relay_script.specs.Printing as event
 use Rattle.relay_script.specs.Printing.{Printed}
-use Rattle.replay_model.specs.Devices.{Happening, send_answers, after_send}
+use Rattle.replay_devices.specs.Devices.{Happening, send_answers, after_send}
 use Rattle.replay_steps.specs.Steps.{RelaysPacket}
 use Rattle.replay_laws.proofs.Lists.{told_once}
 

@@ -8,12 +8,12 @@ use Rattle.port_pool.specs.Boxes as box
 use Rattle.call_board.specs.Pairs.{Once}
 use Rattle.relay_core.specs.Entries.{Entry, cell_history}
 use Rattle.relay_core.specs.Turning.{IsAbove}
-use Rattle.main_sweeps.specs.Steps.{take_entry}
+use Rattle.media_lane.specs.Steps.{take_entry}
 use Rattle.relay_script.specs.Steps as step
 use Rattle.relay_script.specs.Steps.{Step}
 use Rattle.relay_script.specs.Printing.{Printed}
-use Rattle.replay_model.specs.Steps as model
-use Rattle.replay_model.specs.Devices.{Happening, fails}
+use Rattle.replay_devices.specs.Steps as model
+use Rattle.replay_devices.specs.Devices.{Happening, fails}
 use Rattle.replay_steps.specs.Steps.{Course, Packet, at_moment, with_entries, with_past, holding, left_with, replied, IsQuiet, TakesPacket, Misses, Holds, HoldsNone, Passes, RelaysHeld, Commands, EndsDueCalls, Makes}
 use Rattle.replay_laws.specs.Alike.{AlikeLists, Alike, NeverOutOfMemory, TellsReports, GoesAlike, but_for_take}
 use Rattle.board_turns.specs.Between.{board_of}

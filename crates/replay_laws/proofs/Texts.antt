@@ -10,8 +10,8 @@ use Rattle.relay_core.proofs.Turns.{nothing_is_orderly}
 use Rattle.relay_script.specs.Steps as step
 use Rattle.relay_script.specs.Steps.{Step}
 use Rattle.relay_script.specs.Printing.{Printed, ScriptFault}
-use Rattle.replay_lines.specs.declared.script.Ending.{Ending}
-use Rattle.replay_lines.specs.declared.script.Ending.TheVariants as ending
+use Rattle.replay_devices.specs.declared.script.Ending.{Ending}
+use Rattle.replay_devices.specs.declared.script.Ending.TheVariants as ending
 use Rattle.replay_steps.specs.declared.ended.Ended.{Ended}
 use Rattle.replay_steps.specs.declared.ended.Ended.TheVariants as ended
 use Rattle.replay_steps.specs.Steps.{Course, Packet, at_first, after, is_under, Makes, IsFaulty, Plays, Stops}

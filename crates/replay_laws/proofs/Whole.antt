@@ -18,15 +18,15 @@ use Rattle.relay_core.specs.Legal.{Orderly}
 use Rattle.relay_core.specs.Scripts.{script}
 use Rattle.relay_core.specs.Turning.{IsAbove}
 use Rattle.relay_core.proofs.Turns.{nothing_is_orderly}
-use Rattle.main_sweeps.specs.Steps.{take_entry, relay_entry}
+use Rattle.media_lane.specs.Steps.{take_entry, relay_entry}
 use Rattle.board_turns.specs.Between.{board_of}
 use Rattle.board_turns.specs.Ticking.{tick_entry, tick_at}
 use Rattle.relay_script.specs.Steps as step
 use Rattle.relay_script.specs.Steps.{Step}
 use Rattle.relay_script.specs.Printing as event
 use Rattle.relay_script.specs.Printing.{Printed}
-use Rattle.replay_model.specs.Steps as model
-use Rattle.replay_model.specs.Devices.{Happening, Made, fails}
+use Rattle.replay_devices.specs.Steps as model
+use Rattle.replay_devices.specs.Devices.{Happening, Made, fails}
 use Rattle.replay_devices.specs.Watch.{step_of}
 use Rattle.replay_steps.specs.Arrivals.{End}
 use Rattle.replay_steps.specs.Steps.{Course, Packet, at_first, at_moment, with_entries, with_past, holding, left_with, TakesPacket, Misses, PrintsTaken, FailsSo, RelaysPacket, TicksAt, Holds, HoldsNone, Passes, RelaysHeld, Commands, EndsDueCalls, Makes, Plays, Stops, is_under, IsFaulty, after}

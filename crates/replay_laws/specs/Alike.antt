@@ -16,7 +16,7 @@ use Rattle.board_turns.specs.Between.{board_of}
 use Rattle.relay_script.specs.Printing.{Printed}
 use Rattle.relay_script.specs.Steps.{Step}
 use Rattle.relay_outside.specs.declared.lines.WriteCall.{WriteCall}
-use Rattle.replay_lines.specs.declared.script.Ending.{Ending}
+use Rattle.replay_devices.specs.declared.script.Ending.{Ending}
 use Rattle.replay_steps.specs.declared.ended.Ended.{Ended}
 use Rattle.replay_steps.specs.declared.ended.Ended.TheVariants as ended
 use Rattle.replay_steps.specs.Steps.{Course, Packet, Stops}

@@ -4,7 +4,7 @@ ghost use Rattle.relay_script.specs.Printing.{Printed};
 ghost use Rattle.relay_script.specs.Steps.{Step};
 ghost use Rattle.replay_steps.specs.Steps.{Course, at_first, Makes, IsFaulty, Plays, Stops};
 ghost use Rattle.relay_outside.specs.declared.lines.WriteCall.{WriteCall};
-ghost use Rattle.replay_lines.specs.declared.script.Ending.{Ending};
+ghost use Rattle.replay_devices.specs.declared.script.Ending.{Ending};
 ghost use Rattle.replay_steps.specs.declared.ended.Ended.{Ended};
 ghost use Rattle.replay_laws.specs.Alike.{Alike, NeverOutOfMemory, TellsReports, GoesAlike, IsWrittenOut, WritesOut, SaysTheSame};
 

@@ -11,8 +11,8 @@ use Rattle.relay_core.specs.Entries.{Entry}
 use Rattle.relay_script.specs.Steps as step
 use Rattle.relay_script.specs.Printing.{event_of}
 use Rattle.relay_script.specs.declared.event.Printed as coded
-use Rattle.replay_model.specs.Steps as model
-use Rattle.replay_model.specs.Devices.{Happening, fails}
+use Rattle.replay_devices.specs.Steps as model
+use Rattle.replay_devices.specs.Devices.{Happening, fails}
 use Rattle.replay_devices.specs.Watch.{WatchState, StandsFor}
 use Rattle.replay_steps.specs.declared.stepping.Stepped.{Stepped}
 use Rattle.replay_steps.specs.declared.stepping.Stepped.TheVariants as stepped

@@ -25,11 +25,11 @@ use Rattle.relay_core.specs.Made.{Made, entry_of, list_of}
 use Rattle.relay_core.specs.Turning.{made_by}
 use Rattle.relay_core.proofs.Known.{turn_list}
 use Rattle.board_turns.specs.Between.{board_of, MakesTurn}
-use Rattle.control_entries.specs.Controls.{Hearing, control_of, entry_at, moment_at}
-use Rattle.control_turns.specs.declared.taking.ControlTurn.{ControlTurn}
-use Rattle.control_turns.specs.declared.taking.ControlTurn.TheVariants as turn
-use Rattle.control_entries.specs.Giving.{draws_of}
-use Rattle.control_turns.specs.Taking.{is_answered, is_too_long, turn_after, Follows, Exchanged, DidReply, DidFollow, DidTurn, GaveFor, Turned}
+use Rattle.board_turns.specs.Controls.{Hearing, control_of, entry_at, moment_at}
+use Rattle.ng_server.specs.declared.taking.ControlTurn.{ControlTurn}
+use Rattle.ng_server.specs.declared.taking.ControlTurn.TheVariants as turn
+use Rattle.board_turns.specs.Giving.{draws_of}
+use Rattle.ng_server.specs.Taking.{is_answered, is_too_long, turn_after, Follows, Exchanged, DidReply, DidFollow, DidTurn, GaveFor, Turned}
 use Rattle.relay_script.specs.declared.event.Printed as coded
 use Rattle.relay_script.specs.Printing as event
 use Rattle.relay_script.specs.Printing.{Printed, event_of}

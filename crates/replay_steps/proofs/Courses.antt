@@ -23,7 +23,7 @@ use Rattle.media_lane.specs.declared.answers.Received.TheVariants as answer
 use Rattle.media_lane.specs.Lanes.{packet_of, pair_of}
 use Rattle.board_turns.specs.Between.{board_of, MakesTurn}
 use Rattle.board_turns.specs.Stopping.{stop_entry}
-use Rattle.main_sweeps.specs.Steps.{take_entry, Took}
+use Rattle.media_lane.specs.Steps.{take_entry, Took}
 use Rattle.relay_script.specs.Steps as step
 use Rattle.relay_script.specs.Steps.{Step}
 use Rattle.relay_script.specs.Printing as event
@@ -31,8 +31,8 @@ use Rattle.relay_script.specs.Printing.{Printed, event_of}
 use Rattle.relay_script.specs.declared.event.Printed as coded
 use Rattle.replay_steps.specs.declared.stepping.Stepped.{Stepped}
 use Rattle.replay_steps.specs.declared.stepping.Stepped.TheVariants as stepped
-use Rattle.replay_model.specs.Steps as model
-use Rattle.replay_model.specs.Devices.{Happening, fails}
+use Rattle.replay_devices.specs.Steps as model
+use Rattle.replay_devices.specs.Devices.{Happening, fails}
 use Rattle.replay_steps.specs.Arrivals.{IsEndAt}
 use Rattle.replay_steps.specs.Holding.{Numbered, ReceiptList, has_number, LacksNumber, TakesOut, taken_by}
 use Rattle.replay_steps.specs.Steps.{Packet, Course, packet_under, course_of, with_past, holding, left_with, after, TurnsBoard, TakesPacket, PrintsTaken, FailsSo, Misses, RelaysPacket, PrintsOne, HoldsNone, Makes, OfStep, is_under, Plays, Stops}

@@ -6,7 +6,7 @@ use Rattle.std.proofs.Math.ListN.{get_or}
 use Rattle.relay_outside.specs.declared.settings.Config.{Config}
 use Rattle.relay_core.specs.Entries.{Entry}
 use Rattle.media_lane.specs.declared.receipt.Receipt.{Receipt}
-use Rattle.main_sweeps.specs.Steps.{IsIn, AreApart, KeepsReceipts, KeepsOthers}
+use Rattle.media_lane.specs.Steps.{IsIn, AreApart, KeepsReceipts, KeepsOthers}
 use Rattle.replay_steps.specs.Holding.{Numbered, ReceiptList, has_number, TakesOut, taken_by, IsApart, AreReceipts}
 
 -- a list about one of its items

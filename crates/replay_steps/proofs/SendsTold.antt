@@ -11,8 +11,8 @@ use Rattle.call_cell.specs.declared.outcome.Outcome.TheVariants as outcomes
 use Rattle.call_cell.specs.Cells.{CellEntry, Receipt, Sending, since_end}
 use Rattle.call_cell.specs.Standing.{sent_ok}
 use Rattle.call_cell.proofs.Sends.{sent, send_failed, refused_sends_none, lost_sends_none}
-use Rattle.main_sweeps.specs.Steps.{deed_after}
-use Rattle.replay_model.specs.Devices.{Happening, Sent, send_fails}
+use Rattle.media_lane.specs.Steps.{deed_after}
+use Rattle.replay_devices.specs.Devices.{Happening, Sent, send_fails}
 use Rattle.replay_devices.specs.Watch.{WatchState, StandsFor, Notes}
 use Rattle.replay_steps.specs.Steps.{SendsAsked}
 use Rattle.replay_steps.specs.Watching.{Watches, send_of}

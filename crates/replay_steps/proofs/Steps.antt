@@ -10,10 +10,10 @@ use Rattle.relay_core.specs.declared.part.Part.{Part}
 use Rattle.relay_core.specs.Made.{Made}
 use Rattle.relay_core.specs.Turning.{made_by}
 use Rattle.board_turns.specs.Between.{IsBetween}
-use Rattle.main_sweeps.specs.Steps.{KeepsReceipts}
+use Rattle.media_lane.specs.Steps.{KeepsReceipts}
 use Rattle.ng_server.specs.Servers.{OpensJust, history_of}
 use Rattle.relay_script.specs.Steps.{Step}
-use Rattle.replay_model.specs.Devices.{Happening}
+use Rattle.replay_devices.specs.Devices.{Happening}
 use Rattle.replay_steps.specs.declared.state.ReplayState.{ReplayState}
 use Rattle.replay_steps.specs.declared.stepping.Stepped.{Stepped}
 use Rattle.replay_steps.specs.Holding.{AreReceipts}

@@ -20,11 +20,11 @@ use Rattle.relay_core.proofs.Turns.{turn_elsewhere}
 use Rattle.relay_core.specs.Joining.{TakesOwnPairs}
 use Rattle.media_lane.specs.Receipts.{IsReceiptOf}
 use Rattle.board_turns.specs.Between.{board_of, IsBetween, MakesTurn}
-use Rattle.control_entries.specs.Controls.{Hearing, entry_at, moment_at}
-use Rattle.control_turns.specs.declared.taking.ControlTurn.{ControlTurn}
-use Rattle.control_turns.specs.Taking.{Follows}
-use Rattle.main_sweeps.specs.Steps.{KeepsReceipts}
-use Rattle.main_sweeps.proofs.Receipts.{Spends, receipt_stays}
+use Rattle.board_turns.specs.Controls.{Hearing, entry_at, moment_at}
+use Rattle.ng_server.specs.declared.taking.ControlTurn.{ControlTurn}
+use Rattle.ng_server.specs.Taking.{Follows}
+use Rattle.media_lane.specs.Steps.{KeepsReceipts}
+use Rattle.media_lane.proofs.Receipts.{Spends, receipt_stays}
 
 nested_no_relay : (v : Event) (x : Relayed) → is_nested v ≡ true → v ≡ Cell (Relay x) → ⊥
 nested_no_relay v x nested is = absurd (let k : false ≡ true = sym (ap is_nested is) ∙ nested in cc)

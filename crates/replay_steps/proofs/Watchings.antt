@@ -8,7 +8,7 @@ use Rattle.relay_outside.specs.declared.keys.KeyCall.TheVariants as key
 use Rattle.relay_outside.specs.declared.ports.PortCall.{PortCall}
 use Rattle.relay_outside.specs.declared.ports.PortCall.TheVariants.{Open, Close}
 use Rattle.relay_outside.specs.declared.settings.Config.{Config}
-use Rattle.replay_model.specs.Devices.{Happening}
+use Rattle.replay_devices.specs.Devices.{Happening}
 use Rattle.replay_devices.specs.Watch.{WatchState, StandsFor}
 use Rattle.replay_steps.specs.declared.stepping.Stepped.{Stepped}
 use Rattle.replay_steps.specs.declared.stepping.Stepped.TheVariants as stepped

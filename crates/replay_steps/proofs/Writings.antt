@@ -7,13 +7,13 @@ use Rattle.relay_outside.specs.declared.settings.Config.{Config}
 use Rattle.relay_outside.proofs.Telling.{gained_none, gained_one}
 use Rattle.relay_core.specs.Entries.{Entry}
 use Rattle.relay_script.specs.Printing.{Printed, ScriptFault, event_of}
-use Rattle.replay_lines.specs.declared.writing.WriteFault.{WriteFault}
-use Rattle.replay_lines.specs.declared.writing.WriteFault.TheVariants as fault
+use Rattle.replay_devices.specs.declared.writing.WriteFault.{WriteFault}
+use Rattle.replay_devices.specs.declared.writing.WriteFault.TheVariants as fault
 use Rattle.relay_outside.specs.declared.lines.LineCall.{LineCall}
 use Rattle.relay_script.specs.Steps.{Step}
-use Rattle.replay_lines.specs.declared.script.Ending.{Ending}
-use Rattle.replay_lines.specs.declared.script.Ending.TheVariants as ending
-use Rattle.replay_lines.specs.Scripts.{Reads}
+use Rattle.replay_devices.specs.declared.script.Ending.{Ending}
+use Rattle.replay_devices.specs.declared.script.Ending.TheVariants as ending
+use Rattle.replay_devices.specs.Scripts.{Reads}
 use Rattle.replay_steps.specs.declared.ended.Ended.{Ended}
 use Rattle.replay_steps.specs.declared.ended.Ended.TheVariants as ended
 use Rattle.replay_steps.specs.declared.stepping.Stepped.{Stepped}

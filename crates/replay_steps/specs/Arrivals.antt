@@ -9,7 +9,7 @@ use Rattle.call_cell.specs.Cells.{Receipt}
 use Rattle.port_pool.specs.Boxes.{holder}
 use Rattle.relay_core.specs.Entries.{Entry, box_of, box_history}
 use Rattle.relay_core.specs.Turning.{IsAbove}
-use Rattle.main_sweeps.specs.Steps.{IsIn, AreApart}
+use Rattle.media_lane.specs.Steps.{IsIn, AreApart}
 use Rattle.replay_steps.specs.declared.arriving.Arrived.{Arrived}
 use Rattle.replay_steps.specs.declared.arriving.Arrived.TheVariants as arrived
 use Rattle.replay_steps.specs.Holding.{taken_by}

@@ -7,8 +7,8 @@ use Rattle.relay_outside.specs.declared.ports.PortCall.{PortCall}
 use Rattle.relay_outside.specs.declared.settings.Config.{Config}
 use Rattle.relay_outside.specs.LinkTape.{last_sent}
 use Rattle.relay_outside.specs.Told.{Gained}
-use Rattle.control_turns.specs.declared.taking.ControlTurn.{ControlTurn}
-use Rattle.control_turns.specs.declared.taking.ControlTurn.TheVariants as turn
+use Rattle.ng_server.specs.declared.taking.ControlTurn.{ControlTurn}
+use Rattle.ng_server.specs.declared.taking.ControlTurn.TheVariants as turn
 use Rattle.relay_core.specs.Entries.{Entry}
 use Rattle.relay_script.specs.declared.event.Printed as coded
 use Rattle.relay_script.specs.Printing as event

@@ -5,7 +5,7 @@ use Rattle.call_cell.specs.Cells as cells
 use Rattle.relay_core.specs.Entries.{Entry}
 use Rattle.media_lane.specs.declared.receipt.Receipt.{Receipt}
 use Rattle.media_lane.specs.Lanes.{pair_of, packet_of}
-use Rattle.main_sweeps.specs.Steps.{IsIn, AreApart}
+use Rattle.media_lane.specs.Steps.{IsIn, AreApart}
 
 -- a receipt under its number
 abbrev pub Numbered : Type 0

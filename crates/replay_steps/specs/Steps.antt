@@ -27,17 +27,17 @@ use Rattle.relay_core.specs.Turning.{IsAbove, IsTurn, with_turn}
 use Rattle.board_turns.specs.Between.{board_of}
 use Rattle.board_turns.specs.Stopping.{stop_entry}
 use Rattle.board_turns.specs.Ticking.{IsDueBy, tick_entry}
-use Rattle.control_entries.specs.Controls.{Hearing, control_of, entry_at, moment_at}
-use Rattle.control_entries.specs.Giving.{draws_of}
-use Rattle.control_turns.specs.Taking.{is_too_long}
+use Rattle.board_turns.specs.Controls.{Hearing, control_of, entry_at, moment_at}
+use Rattle.board_turns.specs.Giving.{draws_of}
+use Rattle.ng_server.specs.Taking.{is_too_long}
 use Rattle.media_ports.specs.Asked.{OpensAt}
-use Rattle.main_sweeps.specs.Steps.{take_entry, deed_after, RelaysBy}
+use Rattle.media_lane.specs.Steps.{take_entry, deed_after, RelaysBy}
 use Rattle.relay_script.specs.Steps as step
 use Rattle.relay_script.specs.Steps.{Step}
 use Rattle.relay_script.specs.Printing as event
 use Rattle.relay_script.specs.Printing.{Printed, event_of}
-use Rattle.replay_model.specs.Steps as model
-use Rattle.replay_model.specs.Devices.{Happening, Made, Opened, Drew, Replied, fails, send_answers, after_send, next_key}
+use Rattle.replay_devices.specs.Steps as model
+use Rattle.replay_devices.specs.Devices.{Happening, Made, Opened, Drew, Replied, fails, send_answers, after_send, next_key}
 use Rattle.replay_devices.specs.Due.{stream_from}
 use Rattle.replay_devices.specs.Watch.{step_of}
 use Rattle.replay_steps.specs.Arrivals.{End, IsEndAt, IsNoEnd}

@@ -5,7 +5,7 @@ ghost use Rattle.replay_devices.specs.Link.{last_taken};
 ghost use Rattle.turn_table.specs.Hands.{IsSameHand};
 ghost use Rattle.relay_core.specs.Turning.{made_by};
 ghost use Rattle.board_turns.specs.Between.{IsBetween};
-ghost use Rattle.main_sweeps.specs.Steps.{KeepsReceipts};
+ghost use Rattle.media_lane.specs.Steps.{KeepsReceipts};
 ghost use Rattle.ng_server.specs.Servers.{OpensJust, history_of};
 ghost use Rattle.relay_script.specs.Printing.{event_of};
 ghost use Rattle.replay_steps.specs.Controlling.{IsReply, TellsTaken, TellsEvent, Controlled};

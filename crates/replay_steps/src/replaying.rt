@@ -11,8 +11,7 @@ use crate::state::ReplayState;
 use ng_server::Server;
 use relay_outside::{Config, LineSink, LineSource};
 use relay_script::Step;
-use replay_devices::Timetable;
-use replay_lines::{Ending, read_script};
+use replay_devices::{Ending, Timetable, read_script};
 use std::alloc::Global;
 use std::sync::Wait;
 

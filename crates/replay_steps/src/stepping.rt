@@ -4,7 +4,7 @@ ghost use Rattle.relay_outside.specs.declared.settings.Config.{Config};
 ghost use Rattle.relay_script.specs.Steps.{meaning};
 ghost use Rattle.relay_script.specs.Steps as line;
 ghost use Rattle.relay_script.specs.Printing.{event_of};
-ghost use Rattle.replay_model.specs.Devices.{Happening};
+ghost use Rattle.replay_devices.specs.Devices.{Happening};
 ghost use Rattle.replay_devices.specs.Watch.{StandsFor};
 ghost use Rattle.replay_steps.specs.Ready.{IsReady};
 ghost use Rattle.replay_steps.specs.Steps.{replied};

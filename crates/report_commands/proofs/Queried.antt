@@ -31,21 +31,21 @@ use Rattle.relay_core.specs.Made.{Made}
 use Rattle.relay_core.specs.Scripts.{Owed, in_cell, reading, reading_out_of_memory}
 use Rattle.relay_core.specs.Turning.{GainsNested, made_by}
 use Rattle.media_ports.specs.Held.{TellsHeld}
-use Rattle.nested_steps.specs.declared.board_turn.BoardEntryId.{BoardEntryId}
+use Rattle.board_turns.specs.declared.board_turn.BoardEntryId.{BoardEntryId}
 use Rattle.board_turns.specs.Acting.{InTurn}
 use Rattle.board_turns.specs.Ending.{leg_pairs}
-use Rattle.control_replies.proofs.Datagrams.{fault_is}
-use Rattle.control_reading.specs.declared.request.Request.{Request}
-use Rattle.control_entries.specs.declared.device_answers.DeviceAnswers.{DeviceAnswers}
-use Rattle.control_entries.specs.declared.device_answers.DeviceAnswers.TheVariants as device_answers
-use Rattle.control_entries.specs.declared.command_outcome.CommandOutcome.{CommandOutcome}
-use Rattle.control_entries.specs.Carrying.{hearing_as, hearing_by, Carries}
-use Rattle.control_entries.specs.Controls.{Hearing, unanswered, with_answer, entry_with}
-use Rattle.control_entries.specs.Giving.{given_by}
-use Rattle.control_entries.specs.Telling.{IsAnew, IsAsking, Tells}
-use Rattle.control_entries.proofs.Asking.{asks_so}
-use Rattle.control_entries.proofs.Plain.{carries_due}
-use Rattle.control_entries.proofs.Tellings.{tells_carries}
+use Rattle.control_messages.proofs.Datagrams.{fault_is}
+use Rattle.control_messages.specs.declared.request.Request.{Request}
+use Rattle.board_turns.specs.declared.device_answers.DeviceAnswers.{DeviceAnswers}
+use Rattle.board_turns.specs.declared.device_answers.DeviceAnswers.TheVariants as device_answers
+use Rattle.board_turns.specs.declared.command_outcome.CommandOutcome.{CommandOutcome}
+use Rattle.board_turns.specs.Carrying.{hearing_as, hearing_by, Carries}
+use Rattle.board_turns.specs.Controls.{Hearing, unanswered, with_answer, entry_with}
+use Rattle.board_turns.specs.Giving.{given_by}
+use Rattle.board_turns.specs.Telling.{IsAnew, IsAsking, Tells}
+use Rattle.board_turns.proofs.Asking.{asks_so}
+use Rattle.board_turns.proofs.Plain.{carries_due}
+use Rattle.board_turns.proofs.Tellings.{tells_carries}
 use Rattle.report_commands.specs.Told.{TellsOf, TellsOfBy}
 
 -- What is asked.

@@ -4,8 +4,8 @@ use Rattle.ng_bencode.specs.Room.{Room}
 use Rattle.port_pool.specs.declared.reports.LegReport.{LegReport}
 use Rattle.call_board.specs.Reports.{Report}
 use Rattle.call_board.specs.Views.{CallView}
-use Rattle.control_entries.specs.declared.command_outcome.CommandOutcome.{CommandOutcome}
-use Rattle.control_entries.specs.declared.device_answers.DeviceAnswers.TheVariants as device_answers
+use Rattle.board_turns.specs.declared.command_outcome.CommandOutcome.{CommandOutcome}
+use Rattle.board_turns.specs.declared.device_answers.DeviceAnswers.TheVariants as device_answers
 
 -- what the board keeps of a call, with these reports of its legs
 abbrev pub view_report : CallView → List LegReport → Report

@@ -4,13 +4,12 @@ ghost use Rattle.relay_outside.specs.declared.settings.Config.{Config};
 ghost use Rattle.call_board.specs.Boards.{Shows};
 ghost use Rattle.call_board.specs.Replies.{Listed, reply_datagram};
 ghost use Rattle.call_board.specs.Views.{View, CallView};
-ghost use Rattle.control_entries.specs.Giving.{IsUnasked};
-ghost use Rattle.control_entries.specs.Telling.{Tells};
+ghost use Rattle.board_turns.specs.Giving.{IsUnasked};
+ghost use Rattle.board_turns.specs.Telling.{Tells};
 
+use board_turns::{CommandOutcome, told};
 use call_board::Board;
-use control_entries::{CommandOutcome, told};
-use control_reading::Request;
-use control_replies::value_datagram;
+use control_messages::{Request, value_datagram};
 use ng_bencode::Text;
 use offer_answer::ChosenLines;
 use relay_outside::OutOfMemory;

@@ -3,6 +3,6 @@
 #![tactic(auto)]
 
 #[cfg(test)]
-mod main_sweeps_tests;
+mod main_sweep_tests;
 #[cfg(test)]
 mod media_lane_tests;

@@ -9,6 +9,6 @@ mod relay_script_tests;
 #[cfg(test)]
 mod replay_devices_tests;
 #[cfg(test)]
-mod replay_lines_tests;
+mod replay_reading_tests;
 #[cfg(test)]
 mod table_lines;

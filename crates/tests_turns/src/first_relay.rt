@@ -2,7 +2,7 @@
 ghost use Rattle.std.specs.Prelude.{◌≡◌, [], IfSome};
 ghost use Rattle.turn_table.specs.Hands.{HasNoTurn, parts};
 ghost use Rattle.relay_core.specs.Turning.{made_by};
-ghost use Rattle.nested_steps.specs.Nesting.{MayNest};
+ghost use Rattle.board_turns.specs.Nesting.{MayNest};
 ghost use Rattle.board_turns.specs.Between.{IsBetween};
 
 use crate::quiet_devices::{Mute, Quiet};

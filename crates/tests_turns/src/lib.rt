@@ -3,23 +3,23 @@
 #![tactic(auto)]
 
 #[cfg(test)]
+mod board_entry_tests;
+#[cfg(test)]
 mod board_turns_tests;
 #[cfg(test)]
-mod control_entries_tests;
+mod control_bodies_tests;
 #[cfg(test)]
-mod control_reading_tests;
-#[cfg(test)]
-mod control_replies_tests;
-#[cfg(test)]
-mod control_turns_tests;
+mod control_reply_tests;
 #[cfg(test)]
 mod first_relay;
 #[cfg(test)]
 mod media_ports_tests;
 #[cfg(test)]
-mod nested_steps_tests;
+mod nested_step_tests;
 #[cfg(test)]
-mod offer_turns_tests;
+mod offer_memory_tests;
+#[cfg(test)]
+mod one_datagram_tests;
 #[cfg(test)]
 mod quiet_devices;
 #[cfg(test)]

@@ -3,7 +3,7 @@ use Rattle.std.specs.Prelude.{option_map, if◌then◌else◌}
 use Rattle.media_ports.proofs.Asked.{gained_no_opening}
 use Rattle.turn_table.specs.Hands.{entries}
 use Rattle.port_pool.specs.declared.signal.SectionSignal.{SectionSignal}
-use Rattle.nested_steps.specs.InCells.{names_inbound}
+use Rattle.board_turns.specs.InCells.{names_inbound}
 use Rattle.offer_answer.specs.declared.plan.Plan.{Plan}
 use Rattle.call_board.specs.declared.board.Board.{Board}
 use Rattle.call_board.specs.Acts.{Call}
@@ -16,11 +16,11 @@ use Rattle.relay_core.specs.Entries.{board_history}
 use Rattle.relay_core.specs.Turning.{made_by}
 use Rattle.board_turns.specs.Acting.{InTurn}
 use Rattle.board_turns.proofs.Tying.{ties_none}
-use Rattle.control_reading.specs.Bodies.{IsErrorOf}
-use Rattle.control_entries.specs.declared.device_answers.DeviceAnswers.TheVariants.{Nothing}
-use Rattle.control_entries.specs.Controls.{entry_with}
-use Rattle.control_entries.specs.Carrying.{hearing_as}
-use Rattle.control_entries.proofs.Tellings.{is_short_carries}
+use Rattle.control_messages.specs.Bodies.{IsErrorOf}
+use Rattle.board_turns.specs.declared.device_answers.DeviceAnswers.TheVariants.{Nothing}
+use Rattle.board_turns.specs.Controls.{entry_with}
+use Rattle.board_turns.specs.Carrying.{hearing_as}
+use Rattle.board_turns.proofs.Tellings.{is_short_carries}
 use Rattle.answer_command.specs.Commands.{IsPlanned, ask_of}
 use Rattle.answer_command.proofs.Asked.{asks_for, lines_read, heard_by}
 use Rattle.answer_command.proofs.Carried.{answered_carries, due_of, is_due, misdescribed_carries, planned_answer, refuses_carries}

@@ -1,6 +1,6 @@
 use Rattle.std.proofs.Common.{◌≡◌, ◌+◌, ◌∙◌, sym, ap, ℕ, suc, Bool, true, false, ◌||◌, drop, arith}
 use Rattle.std.specs.List.{list_any}
-use Rattle.nested_steps.specs.InCells.{is_keyed}
+use Rattle.board_turns.specs.InCells.{is_keyed}
 use Rattle.answer_command.proofs.Keyed.{keyed_at, none_past}
 use Rattle.answer_command.proofs.room.names_inbound.Goals as goal
 

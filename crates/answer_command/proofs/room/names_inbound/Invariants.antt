@@ -1,6 +1,6 @@
 use Rattle.std.proofs.Common.{◌≡◌, drop}
 use Rattle.std.specs.List.{list_any}
-use Rattle.nested_steps.specs.InCells.{is_keyed, names_inbound}
+use Rattle.board_turns.specs.InCells.{is_keyed, names_inbound}
 use Rattle.answer_command.proofs.room.names_inbound.Given as goal
 
 -- no section so far names one, so those that are left decide

@@ -7,7 +7,7 @@ use Rattle.port_pool.specs.Boxes as boxes
 use Rattle.port_pool.specs.Ports.{port_address, AreOfPair}
 use Rattle.histories.specs.Words.{here}
 use Rattle.media_ports.specs.Addresses.{port_at}
-use Rattle.nested_steps.specs.Nesting.{AddsRow, IsOpen, ends_left}
+use Rattle.board_turns.specs.Nesting.{AddsRow, IsOpen, ends_left}
 use Rattle.relay_core.specs.Entries.{Box, box_of}
 use Rattle.relay_core.specs.Turning.{made_by}
 use Rattle.board_turns.proofs.Lefts.{told_open, told_closed}

@@ -13,7 +13,7 @@ use Rattle.call_board.proofs.Entries.{returned_more, returned_none}
 use Rattle.relay_core.specs.Scripts.{Owed}
 use Rattle.relay_core.specs.Turning.{GainsNested, made_by}
 use Rattle.media_ports.specs.Held.{OpensHeld}
-use Rattle.nested_steps.proofs.Nesting.{gains_more, same_again}
+use Rattle.board_turns.proofs.Nesting.{gains_more, same_again}
 use Rattle.board_turns.specs.Closing.{CanClose, ClosesLegs, leases_of, closings_of, pairs_left}
 use Rattle.board_turns.proofs.Lefts.{left_none, left_twice, told_alike}
 use Rattle.board_turns.proofs.Closed.{gains_nothing, first_can, rest_can, closings_more, pairs_more, closes_more}

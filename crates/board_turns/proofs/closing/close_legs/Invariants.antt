@@ -8,7 +8,7 @@ use Rattle.call_board.specs.Views.{View, with_returned}
 use Rattle.relay_core.specs.Standing.{GoneHome}
 use Rattle.relay_core.specs.Turning.{GainsNested, made_by}
 use Rattle.media_ports.specs.Held.{OpensHeld}
-use Rattle.nested_steps.specs.Nesting.{MayNest}
+use Rattle.board_turns.specs.Nesting.{MayNest}
 use Rattle.board_turns.specs.Closing.{CanClose, leases_of, closings_of, ClosesLegs, pairs_left}
 use Rattle.board_turns.specs.Ties.{TiesTakes}
 use Rattle.board_turns.proofs.closing.close_legs.Given as goal

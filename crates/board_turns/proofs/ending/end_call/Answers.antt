@@ -11,8 +11,8 @@ use Rattle.relay_core.specs.Entries.{Cell}
 use Rattle.relay_core.specs.Scripts.{Owed}
 use Rattle.relay_core.specs.Turning.{GainsNested, made_by}
 use Rattle.media_ports.specs.Held.{OpensHeld}
-use Rattle.nested_steps.specs.InCells.{in_cell_of}
-use Rattle.nested_steps.proofs.Nesting.{above_rows, gains_more}
+use Rattle.board_turns.specs.InCells.{in_cell_of}
+use Rattle.board_turns.proofs.Nesting.{above_rows, gains_more}
 use Rattle.board_turns.specs.Closing.{ClosesLegs, closings_of, pairs_left}
 use Rattle.board_turns.specs.Ending.{ClosesTheirs, ending_of}
 use Rattle.board_turns.proofs.Ended.{cell_is, went_are, pairs_are, ports_are, closings_are, can_close}

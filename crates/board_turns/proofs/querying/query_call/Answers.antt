@@ -8,7 +8,7 @@ use Rattle.relay_core.specs.Entries.{board_history}
 use Rattle.relay_core.specs.Turning.{GainsNested, made_by}
 use Rattle.relay_core.proofs.Histories.{good_history}
 use Rattle.relay_core.proofs.KeysOnce.{keys_once}
-use Rattle.nested_steps.specs.InCells.{in_cell_of}
+use Rattle.board_turns.specs.InCells.{in_cell_of}
 use Rattle.board_turns.proofs.ReadCalls.{is_numbered_so, cell_told, nothing_read}
 use Rattle.board_turns.proofs.Tying.{ties_gained}
 use Rattle.board_turns.proofs.querying.query_call.Goals as goal

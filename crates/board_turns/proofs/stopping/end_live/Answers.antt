@@ -22,7 +22,7 @@ use Rattle.relay_core.proofs.Histories.{good_history}
 use Rattle.media_ports.specs.Held.{OpensHeld}
 use Rattle.media_ports.proofs.Asked.{gained_no_opening, gained_no_openings}
 use Rattle.media_ports.proofs.Leased.{take_next}
-use Rattle.nested_steps.proofs.Nesting.{gains_more, same_again}
+use Rattle.board_turns.proofs.Nesting.{gains_more, same_again}
 use Rattle.board_turns.specs.Closing.{pairs_left}
 use Rattle.board_turns.specs.Ending.{CanEnd, leg_pairs, with_end}
 use Rattle.board_turns.specs.Stopping.{stop_entry, still_held}

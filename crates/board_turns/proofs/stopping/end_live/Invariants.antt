@@ -11,7 +11,7 @@ use Rattle.relay_core.specs.Scripts.{ending}
 use Rattle.relay_core.specs.Turning.{GainsNested, made_by}
 use Rattle.media_ports.specs.Asked.{OpensNone}
 use Rattle.media_ports.specs.Held.{OpensHeld}
-use Rattle.nested_steps.specs.Nesting.{MayNest}
+use Rattle.board_turns.specs.Nesting.{MayNest}
 use Rattle.board_turns.specs.Stopping.{stop_entry, still_held}
 use Rattle.board_turns.specs.Ties.{Ties}
 use Rattle.board_turns.proofs.stopping.end_live.Given as goal

@@ -3,8 +3,8 @@ use Rattle.turn_table.specs.Hands.{entries}
 use Rattle.call_cell.specs.Cells.{Expire}
 use Rattle.call_board.specs.Boards.{Shows}
 use Rattle.relay_core.specs.Turning.{GainsNested, made_by}
-use Rattle.nested_steps.specs.InCells.{HasNewKeys, in_cell_of}
-use Rattle.nested_steps.proofs.Nesting.{gains_more}
+use Rattle.board_turns.specs.InCells.{HasNewKeys, in_cell_of}
+use Rattle.board_turns.proofs.Nesting.{gains_more}
 use Rattle.board_turns.specs.Ending.{ending_of, with_end}
 use Rattle.board_turns.specs.Ticking.{IsDueBy}
 use Rattle.board_turns.proofs.Expiring.{index_below, number_there, cell_there, asked_can, due_by_whole, nothing_parts}

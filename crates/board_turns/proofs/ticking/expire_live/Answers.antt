@@ -9,7 +9,7 @@ use Rattle.relay_core.specs.Entries.{board_history}
 use Rattle.relay_core.specs.Turning.{made_by}
 use Rattle.relay_core.proofs.Histories.{good_history}
 use Rattle.media_ports.proofs.Asked.{gained_no_opening, gained_no_openings}
-use Rattle.nested_steps.proofs.Nesting.{same_again}
+use Rattle.board_turns.proofs.Nesting.{same_again}
 use Rattle.board_turns.specs.Stopping.{stop_entry}
 use Rattle.board_turns.proofs.Stopped.{nth}
 use Rattle.board_turns.proofs.Ticked.{none_asked, next_asks, one_asked, all_asked}

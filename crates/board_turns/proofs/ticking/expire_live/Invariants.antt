@@ -5,7 +5,7 @@ use Rattle.call_board.specs.Boards.{KeepsReplies}
 use Rattle.relay_core.specs.Entries.{board_history}
 use Rattle.relay_core.specs.Turning.{made_by}
 use Rattle.media_ports.specs.Asked.{OpensNone}
-use Rattle.nested_steps.specs.Nesting.{MayNest}
+use Rattle.board_turns.specs.Nesting.{MayNest}
 use Rattle.board_turns.specs.Ties.{Ties}
 use Rattle.board_turns.proofs.Ticked.{Asked}
 use Rattle.board_turns.proofs.ticking.expire_live.Given as goal

@@ -8,8 +8,8 @@ use Rattle.relay_core.specs.Entries.{board_history}
 use Rattle.relay_core.specs.Turning.{made_by}
 use Rattle.relay_core.proofs.Histories.{good_history}
 use Rattle.board_turns.proofs.Tying.{ties_none}
-use Rattle.control_entries.proofs.Tellings.{is_short_carries}
-use Rattle.control_entries.proofs.FoundCalls.{found_call, called, no_call}
+use Rattle.board_turns.proofs.Tellings.{is_short_carries}
+use Rattle.board_turns.proofs.FoundCalls.{found_call, called, no_call}
 use Rattle.delete_command.proofs.Missed.{unknown_carries, stranger_carries}
 use Rattle.delete_command.proofs.Deleted.{deleting_entry, deleted_carries}
 use Rattle.delete_command.proofs.deleting.delete.Goals as goal

@@ -9,11 +9,11 @@ use Rattle.call_board.specs.Views.{view_of, at_moment}
 use Rattle.relay_core.specs.Entries.{board_history}
 use Rattle.relay_core.specs.Turning.{made_by}
 use Rattle.board_turns.proofs.Tying.{ties_none}
-use Rattle.control_reading.specs.Bodies.{IsErrorOf}
-use Rattle.control_entries.specs.declared.device_answers.DeviceAnswers.TheVariants as device_answers
-use Rattle.control_entries.proofs.Givings.{given_as, offered_given, unasked_given}
-use Rattle.control_entries.proofs.Tellings.{is_short_carries}
-use Rattle.offer_turns.specs.Offers.{CanOffer}
+use Rattle.control_messages.specs.Bodies.{IsErrorOf}
+use Rattle.board_turns.specs.declared.device_answers.DeviceAnswers.TheVariants as device_answers
+use Rattle.board_turns.proofs.Givings.{given_as, offered_given, unasked_given}
+use Rattle.board_turns.proofs.Tellings.{is_short_carries}
+use Rattle.offer_command.specs.Offers.{CanOffer}
 use Rattle.offer_command.specs.Commands.{Gives, ask_of, undone_code, undone_answers}
 use Rattle.offer_command.proofs.Asked.{asks_for, lines_read, may_offer}
 use Rattle.offer_command.proofs.Carried.{gives_carries, misdescribed_carries, offered_carries, refuses_carries, turn_on, undone_carries}

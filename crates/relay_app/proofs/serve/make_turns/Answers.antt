@@ -1,5 +1,5 @@
 use Rattle.std.proofs.Common.{arith, refl}
-use Rattle.nested_steps.proofs.Nesting.{same_again}
+use Rattle.board_turns.proofs.Nesting.{same_again}
 use Rattle.relay_core.specs.Turning.{made_by}
 use Rattle.media_lane.proofs.Gates.{gated_none, gated_more}
 use Rattle.board_turns.proofs.Firsts.{first_board}

@@ -3,7 +3,7 @@ use Rattle.turn_table.specs.Hands.{IsSameHand, entries}
 use Rattle.board_turns.specs.Between.{IsBetween}
 use Rattle.relay_core.specs.Turning.{made_by}
 use Rattle.media_lane.specs.Gated.{AreGated}
-use Rattle.main_sweeps.specs.Totals.{HasTotals}
+use Rattle.media_lane.specs.Totals.{HasTotals}
 use Rattle.ng_server.specs.Servers.{OpensJust, history_of}
 use Rattle.relay_app.specs.Devices.{AreSame}
 use Rattle.relay_app.specs.Turned.{Running}

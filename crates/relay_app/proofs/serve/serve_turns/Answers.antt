@@ -5,8 +5,8 @@ use Rattle.relay_core.specs.Made.{list_of}
 use Rattle.relay_core.specs.Turning.{made_by}
 use Rattle.media_lane.proofs.Gates.{gated_more}
 use Rattle.board_turns.proofs.Betweens.{between_sound}
-use Rattle.main_sweeps.specs.Totals.{HasTotals}
-use Rattle.main_sweeps.proofs.Counts.{turn_totals}
+use Rattle.media_lane.specs.Totals.{HasTotals}
+use Rattle.media_lane.proofs.Counts.{turn_totals}
 use Rattle.relay_app.specs.Rounds.{all_of}
 use Rattle.relay_app.specs.Threads.{rows_of}
 use Rattle.relay_app.proofs.Gates.{makes_gated, joined_gated}

@@ -1,5 +1,5 @@
 use Rattle.std.proofs.Common.{Some}
-use Rattle.main_sweeps.proofs.Counts.{turn_totals}
+use Rattle.media_lane.proofs.Counts.{turn_totals}
 use Rattle.relay_app.proofs.serve.tick_when_due.Goals as goal
 
 pub returns-clause-ticks : goal.returns-clause-ticks

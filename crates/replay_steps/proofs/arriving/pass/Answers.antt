@@ -2,7 +2,7 @@ use Rattle.std.proofs.Common.{refl, subst}
 use Rattle.std.specs.Prelude.{IfOk}
 use Rattle.relay_core.specs.Turning.{made_by}
 use Rattle.media_lane.specs.Lanes.{packet_of}
-use Rattle.main_sweeps.specs.Steps.{RelaysBy}
+use Rattle.media_lane.specs.Steps.{RelaysBy}
 use Rattle.replay_steps.proofs.arriving.pass.Goals as goal
 
 pub returns-in-Ok-clause-relays : goal.returns-in-Ok-clause-relays

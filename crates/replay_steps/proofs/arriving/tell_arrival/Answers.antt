@@ -1,6 +1,6 @@
 use Rattle.std.proofs.Common.{subst}
 use Rattle.media_lane.specs.declared.answers.Received.{Received}
-use Rattle.main_sweeps.specs.Steps.{Took}
+use Rattle.media_lane.specs.Steps.{Took}
 use Rattle.replay_steps.proofs.Courses.{takes_nothing}
 use Rattle.replay_steps.proofs.arriving.tell_arrival.Goals as goal
 

@@ -3,7 +3,7 @@ use Rattle.std.proofs.lemmas.List.{append_assoc}
 use Rattle.relay_outside.proofs.Telling.{gained_none, gained_both, gained_less}
 use Rattle.relay_core.specs.Turning.{made_by}
 use Rattle.relay_script.specs.Steps.{Step, meaning}
-use Rattle.replay_model.specs.Devices.{Happening, Made}
+use Rattle.replay_devices.specs.Devices.{Happening, Made}
 use Rattle.replay_devices.specs.Watch.{step_of}
 use Rattle.replay_steps.specs.Steps.{Course, course_of, after}
 use Rattle.replay_steps.specs.Written.{DidStep, Played, PlayedSome, DidSteps}

@@ -2,7 +2,7 @@ use Rattle.std.proofs.Common.{◌≡◌, ◌-◌, ◌≤◌, ℕ, List, [], leng
 use Rattle.relay_outside.specs.Told.{Gained}
 use Rattle.turn_table.specs.Hands.{IsSameHand}
 use Rattle.relay_core.specs.Turning.{made_by}
-use Rattle.replay_model.specs.Devices.{Happening}
+use Rattle.replay_devices.specs.Devices.{Happening}
 use Rattle.replay_devices.specs.Watch.{StandsFor}
 use Rattle.replay_steps.specs.Ready.{IsReady}
 use Rattle.replay_steps.specs.Steps.{course_of}

@@ -1,10 +1,10 @@
 use Rattle.std.proofs.Common.{sym, subst, List, map}
 use Rattle.relay_outside.specs.Told.{Gained}
 use Rattle.relay_outside.proofs.Telling.{gained_less}
-use Rattle.replay_lines.specs.Scripts.{Reads}
+use Rattle.replay_devices.specs.Scripts.{Reads}
 use Rattle.relay_script.specs.declared.step.Step as coded
 use Rattle.relay_script.specs.Steps.{meaning}
-use Rattle.replay_lines.specs.declared.script.Ending.{Ending}
+use Rattle.replay_devices.specs.declared.script.Ending.{Ending}
 use Rattle.replay_steps.specs.Written.{DidPlay, Replays}
 use Rattle.replay_steps.proofs.Writings.{replays}
 use Rattle.replay_steps.proofs.replaying.replay.Goals as goal

@@ -4,7 +4,7 @@ use Rattle.relay_outside.specs.declared.address.Addr.{Addr}
 use Rattle.relay_script.specs.declared.event.Printed as coded
 use Rattle.relay_script.specs.declared.event.Printed.TheVariants as code
 use Rattle.relay_script.specs.Printing.{event_of}
-use Rattle.replay_model.specs.Devices.{Happening}
+use Rattle.replay_devices.specs.Devices.{Happening}
 use Rattle.replay_devices.specs.Watch.{StandsFor}
 use Rattle.replay_steps.specs.Steps.{replied}
 use Rattle.replay_steps.proofs.stepping.note_event.Goals as goal

@@ -1,7 +1,7 @@
 use Rattle.std.proofs.Common.{◌∙◌, refl, sym, subst, List, Option, arith}
 use Rattle.relay_outside.specs.declared.ports.PortCall.{PortCall}
 use Rattle.relay_core.specs.Turning.{made_by}
-use Rattle.main_sweeps.specs.Steps.{KeepsReceipts}
+use Rattle.media_lane.specs.Steps.{KeepsReceipts}
 use Rattle.ng_server.specs.Servers.{OpensJust, history_of}
 use Rattle.relay_script.specs.Printing.{event_of}
 use Rattle.relay_script.specs.Steps as line

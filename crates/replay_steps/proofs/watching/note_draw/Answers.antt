@@ -1,6 +1,6 @@
 use Rattle.std.proofs.Common.{◌∙◌, refl, sym, subst, [], ◌∷◌, true, false}
 use Rattle.relay_outside.specs.declared.keys.KeyCall.{KeyCall}
-use Rattle.replay_model.specs.Devices.{Drew}
+use Rattle.replay_devices.specs.Devices.{Drew}
 use Rattle.replay_steps.specs.Steps.{DrawsAsked}
 use Rattle.replay_steps.proofs.watching.note_draw.Goals as goal
 

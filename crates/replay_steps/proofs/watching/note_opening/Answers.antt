@@ -1,6 +1,6 @@
 use Rattle.std.proofs.Common.{◌∙◌, refl, sym, ap, subst, Bool, not, [], ◌∷◌}
 use Rattle.relay_outside.specs.declared.ports.PortCall.{PortCall}
-use Rattle.replay_model.specs.Devices.{Opened}
+use Rattle.replay_devices.specs.Devices.{Opened}
 use Rattle.replay_steps.specs.Steps.{OpensAsked}
 use Rattle.replay_steps.proofs.Watchings.{differ, found_end}
 use Rattle.replay_steps.proofs.watching.note_opening.Goals as goal

@@ -3,7 +3,7 @@ use Rattle.std.specs.Prelude.{take}
 use Rattle.ng_bencode.specs.Tree.{Tree, depth}
 use Rattle.call_board.specs.Views.{View, CallView}
 use Rattle.call_report.proofs.Shallow.{listing_shallow}
-use Rattle.control_replies.proofs.Datagrams.{value_datagram, listed_is, same_text}
+use Rattle.control_messages.proofs.Datagrams.{value_datagram, listed_is, same_text}
 use Rattle.report_commands.proofs.listing.list_datagram.Goals as goal
 
 ids_in : ℕ → View → List (List ℕ)

@@ -4,8 +4,8 @@ use Rattle.relay_core.specs.Entries.{board_history}
 use Rattle.relay_core.specs.Turning.{made_by}
 use Rattle.relay_core.proofs.Histories.{good_history}
 use Rattle.board_turns.proofs.Tying.{ties_none}
-use Rattle.control_entries.proofs.FoundCalls.{found_call, called, no_call}
-use Rattle.control_entries.proofs.Tellings.{is_short_carries}
+use Rattle.board_turns.proofs.FoundCalls.{found_call, called, no_call}
+use Rattle.board_turns.proofs.Tellings.{is_short_carries}
 use Rattle.report_commands.proofs.Queried.{unknown_carries, told_carries}
 use Rattle.report_commands.proofs.querying.query.Goals as goal
 

@@ -3,7 +3,7 @@ use Rattle.ng_bencode.specs.Tree.{Tree, depth}
 use Rattle.call_board.specs.Views.{CallView}
 use Rattle.call_board.proofs.Found.{found_is_live}
 use Rattle.call_report.proofs.Shallow.{report_shallow}
-use Rattle.control_replies.proofs.Datagrams.{value_datagram, reported_is, same_text}
+use Rattle.control_messages.proofs.Datagrams.{value_datagram, reported_is, same_text}
 use Rattle.report_commands.specs.Told.{view_report}
 use Rattle.report_commands.proofs.querying.report_datagram.Goals as goal
 

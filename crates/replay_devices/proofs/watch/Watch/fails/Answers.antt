@@ -1,7 +1,7 @@
 use Rattle.std.proofs.Common.{◌∙◌, sym, ap}
 use Rattle.relay_script.specs.declared.step.FailKind.{FailKind}
-use Rattle.replay_model.specs.Steps as model
-use Rattle.replay_model.specs.Devices.{fails}
+use Rattle.replay_devices.specs.Steps as model
+use Rattle.replay_devices.specs.Devices.{fails}
 use Rattle.replay_devices.specs.Watch.{WatchState, kind_of}
 use Rattle.replay_devices.proofs.Watches.{counts_fail}
 use Rattle.replay_devices.proofs.watch.Watch.fails.Goals as goal

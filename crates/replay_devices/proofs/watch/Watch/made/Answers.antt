@@ -3,7 +3,7 @@ use Rattle.std.specs.Prelude.{OnOk}
 use Rattle.relay_outside.specs.declared.settings.Config.{Config}
 use Rattle.relay_script.specs.declared.step.Step as coded
 use Rattle.relay_script.specs.Steps.{meaning}
-use Rattle.replay_model.specs.Devices.{Made}
+use Rattle.replay_devices.specs.Devices.{Made}
 use Rattle.replay_devices.specs.Watch.{Notes, step_of}
 use Rattle.replay_devices.proofs.watch.Watch.made.Goals as goal
 

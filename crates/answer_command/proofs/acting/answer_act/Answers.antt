@@ -1,0 +1,163 @@
+use Rattle.std.proofs.Common.{◌≡◌, ◌∙◌, refl, ap, sym, subst, ℕ, inr, List, filter, arith}
+use Rattle.turn_table.specs.Hands.{entries}
+use Rattle.port_pool.specs.declared.signal.SectionSignal.{SectionSignal}
+use Rattle.port_pool.specs.Signals.{is_rejected}
+use Rattle.call_cell.specs.Cells.{Commit, since_end}
+use Rattle.call_cell.specs.Committing.{NamesKeys}
+use Rattle.offer_answer.specs.Rounds.{AnswerAsk}
+use Rattle.offer_answer.specs.Rounds as round
+use Rattle.call_board.specs.Boards.{Shows}
+use Rattle.call_board.specs.Pairs.{held}
+use Rattle.call_board.specs.Views.{View, view_of, at_moment}
+use Rattle.call_board.specs.Whole.{with_more}
+use Rattle.call_board.specs.declared.board_plan.BoardPlan.{BoardPlan}
+use Rattle.call_board.proofs.Cells.{live_cell}
+use Rattle.relay_core.specs.Entries.{Cell, board_history, cell_history}
+use Rattle.relay_core.specs.Turning.{IsAbove, made_by}
+use Rattle.relay_core.proofs.Coming.{answer_names}
+use Rattle.relay_core.proofs.Histories.{good_history}
+use Rattle.relay_core.proofs.KeysOnce.{keys_once}
+use Rattle.board_turns.specs.InCells.{in_cell_of, names_inbound}
+use Rattle.board_turns.specs.Leaving.{legs_in}
+use Rattle.board_turns.proofs.Nesting.{above_rows}
+use Rattle.board_turns.specs.Ending.{leg_pairs}
+use Rattle.board_turns.proofs.CloseAfter.{can_close_after}
+use Rattle.board_turns.proofs.Ended.{ports_are}
+use Rattle.board_turns.proofs.Tying.{legs_leave, ties_gone}
+use Rattle.board_turns.proofs.Unopened.{gone_open_none}
+use Rattle.answer_command.specs.Due.{answer_of}
+use Rattle.answer_command.proofs.Taken.{no_pairs, no_keys, may_apply, takes_in, taken_with}
+use Rattle.answer_command.proofs.Done.{went_closed, does_answer}
+use Rattle.answer_command.proofs.acting.answer_act.Goals as goal
+
+pub write_answer-requires-clause-pairs : goal.write_answer-requires-clause-pairs
+write_answer-requires-clause-pairs g c =
+    let h = board_history (made_by c.args.hand.now) c.args.turn.now.entry_id.number in
+    no_pairs c.args.turn.now.config.now h c.requires.due.1 c.requires.due.2 c.args.answer.sdp.now c.args.answer.plan c.requires.due.3.plan_for
+
+pub write_answer-requires-clause-keys : goal.write_answer-requires-clause-keys
+write_answer-requires-clause-keys g c =
+    let h = board_history (made_by c.args.hand.now) c.args.turn.now.entry_id.number in
+    no_keys c.args.turn.now.config.now h c.requires.due.1 c.requires.due.2 c.args.answer.sdp.now c.args.answer.plan c.requires.due.3.plan_for
+
+pub commit_cell-requires-clause-cell : goal.commit_cell-requires-clause-cell
+commit_cell-requires-clause-cell g c =
+    let config = c.args.turn.now.config.now in
+    let l = made_by c.args.hand.now in
+    let h = board_history l c.args.turn.now.entry_id.number in
+    let of = c.requires.due.1 in
+    let d = c.requires.due.3 in
+    let at : c.cell-cell.result ≡ of.cell = c.cell-cell.ensures ∙ ap (λ (p : BoardPlan). p.cell) c.write_answer.ensures.rest ∙ d.plan_for.cell_is in
+    let within = live_cell config h of (good_history config l c.requires.turn.orderly c.args.turn.now.entry_id.number) d.alive in
+    (omega (arith, at, within.0), omega (arith, at, within.1))
+
+pub commit_cell-requires-clause-keys : goal.commit_cell-requires-clause-keys
+commit_cell-requires-clause-keys g c n above =
+    keys_once c.args.turn.now.config.now (made_by c.args.hand.now) c.requires.turn.orderly c.cell-cell.result n
+
+pub commit_cell-requires-clause-names : goal.commit_cell-requires-clause-names
+commit_cell-requires-clause-names g c n above =
+    let config = c.args.turn.now.config.now in
+    let l = made_by c.args.hand.now in
+    let h = board_history l c.args.turn.now.entry_id.number in
+    let e = c.requires.due.0 in
+    let of = c.requires.due.1 in
+    let ask = c.requires.due.2 in
+    let d = c.requires.due.3 in
+    let a = answer_of h of ask in
+    let at : c.cell-cell.result ≡ of.cell = c.cell-cell.ensures ∙ ap (λ (p : BoardPlan). p.cell) c.write_answer.ensures.rest ∙ d.plan_for.cell_is in
+    let said : c.signal.result.now ≡ a.signal = c.signal.ensures ∙ ap (λ p. p.signal) c.planned.ensures ∙ c.write_answer.ensures.signal ∙ d.plan_for.plan_for.signal_is in
+    let names = answer_names config l c.requires.turn.orderly c.args.turn.now.entry_id.number n e a c.requires.turn.above d.fits d.acts (subst (λ (k : ℕ). IsAbove l k n) at above) in
+    subst (λ (k : ℕ). NamesKeys (since_end (cell_history l k n)) c.signal.result.now) (sym at)
+    (subst (λ (s : List SectionSignal). NamesKeys (since_end (cell_history l of.cell n)) s) (sym said) names)
+
+pub commit_cell-requires-clause-room : goal.commit_cell-requires-clause-room
+commit_cell-requires-clause-room g c =
+    let said : c.signal.result.now ≡ c.args.answer.plan.plan.signal = c.signal.ensures ∙ ap (λ p. p.signal) c.planned.ensures ∙ c.write_answer.ensures.signal in
+    inr (λ named. c.requires.contexts (sym (ap (λ (s : List SectionSignal). names_inbound s) said) ∙ named))
+
+pub apply-requires : goal.apply-requires
+apply-requires g c =
+    let config = c.args.turn.now.config.now in
+    let l = made_by c.args.hand.now in
+    let d = c.requires.due.3 in
+    may_apply config (board_history l c.args.turn.now.entry_id.number) c.args.turn.now.entry_id.moment c.requires.due.1 c.requires.due.2 c.args.answer.sdp.now c.args.answer.plan c.write_answer.new.plan
+    (good_history config l c.requires.turn.orderly c.args.turn.now.entry_id.number) d.alive d.plan_for c.write_answer.ensures.rest c.args.board.now c.requires.turn.shows
+
+pub close_legs-requires-clause-can : goal.close_legs-requires-clause-can
+close_legs-requires-clause-can g c =
+    let config = c.args.turn.now.config.now in
+    let n = c.args.turn.now.entry_id.number in
+    let moment = c.args.turn.now.entry_id.moment in
+    let l = made_by c.args.hand.now in
+    let h = board_history l n in
+    let v = at_moment (view_of config h) moment in
+    let e = c.requires.due.0 in
+    let of = c.requires.due.1 in
+    let ask = c.requires.due.2 in
+    let d = c.requires.due.3 in
+    let o = c.requires.turn.orderly in
+    let fits = good_history config l o n in
+    let rest = c.write_answer.ensures.rest in
+    let q = c.write_answer.new.plan in
+    let gone = c.commit_cell.new.gone in
+    let cell = c.cell-cell.result in
+    let signal = c.signal.result.now in
+    let at : cell ≡ of.cell = c.cell-cell.ensures ∙ ap (λ (p : BoardPlan). p.cell) rest ∙ d.plan_for.cell_is in
+    let said : signal ≡ (answer_of h of ask).signal = c.signal.ensures ∙ ap (λ p. p.signal) c.planned.ensures ∙ c.write_answer.ensures.signal ∙ d.plan_for.plan_for.signal_is in
+    let was = c.commit_cell.ensures.committed.was in
+    let are = went_closed config l n moment e of ask c.args.answer.sdp.now c.args.answer.plan cell was.number signal gone o c.requires.turn.above d at said c.commit_cell.ensures.went
+    (above_rows (entries c.args.hand.now) cell was.number was.given.above) in
+    let next = c.write_answer.ensures.next config _ ask d.plan_for.plan_for in
+    let shows = subst (λ (w : View). Shows config c.apply.new.self w) (taken_with config h moment of ask c.args.answer.sdp.now c.args.answer.plan q fits d.alive d.plan_for rest moment)
+    (c.apply.ensures.taken config v of (round.Answered ask) c.requires.turn.shows (takes_in config h moment of ask c.args.answer.sdp.now c.args.answer.plan q fits d.alive d.plan_for rest next)) in
+    can_close_after config n moment c.args.hand.now c.commit_cell.new.hand e of (in_cell_of cell (Commit signal)) c.apply.new.self (g.P.PortMaker.told c.args.ports.now)
+    (with_more of (round.Answered ask) moment v) gone o c.requires.turn.above c.commit_cell.ensures.gained at (live_cell config h of fits d.alive).1 are shows refl refl c.requires.turn.opens
+
+pub returns-clause-does : goal.returns-clause-does
+returns-clause-does g c e of ask d =
+    let config = c.args.turn.now.config.now in
+    let n = c.args.turn.now.entry_id.number in
+    let moment = c.args.turn.now.entry_id.moment in
+    let l = made_by c.args.hand.now in
+    let h = board_history l n in
+    let v = at_moment (view_of config h) moment in
+    let o = c.requires.turn.orderly in
+    let fits = good_history config l o n in
+    let rest = c.write_answer.ensures.rest in
+    let q = c.write_answer.new.plan in
+    let gone = c.commit_cell.new.gone in
+    let cell = c.cell-cell.result in
+    let signal = c.signal.result.now in
+    let at : cell ≡ of.cell = c.cell-cell.ensures ∙ ap (λ (p : BoardPlan). p.cell) rest ∙ d.plan_for.cell_is in
+    let said : signal ≡ (answer_of h of ask).signal = c.signal.ensures ∙ ap (λ p. p.signal) c.planned.ensures ∙ c.write_answer.ensures.signal ∙ d.plan_for.plan_for.signal_is in
+    let was = c.commit_cell.ensures.committed.was in
+    let are = went_closed config l n moment e of ask c.args.answer.sdp.now c.args.answer.plan cell was.number signal gone o c.requires.turn.above d at said c.commit_cell.ensures.went
+    (above_rows (entries c.args.hand.now) cell was.number was.given.above) in
+    let next = c.write_answer.ensures.next config _ ask d.plan_for.plan_for in
+    let shows = subst (λ (w : View). Shows config c.apply.new.self w) (taken_with config h moment of ask c.args.answer.sdp.now c.args.answer.plan q fits d.alive d.plan_for rest moment)
+    (c.apply.ensures.taken config v of (round.Answered ask) c.requires.turn.shows (takes_in config h moment of ask c.args.answer.sdp.now c.args.answer.plan q fits d.alive d.plan_for rest next)) in
+    does_answer config c.args.hand.now c.commit_cell.new.hand c.close_legs.new.hand c.args.turn.now.entry_id c.close_legs.new.board (g.P.PortMaker.told c.close_legs.new.ports) e of ask c.args.answer.sdp.now
+    c.args.answer.plan cell signal gone o d at said are c.commit_cell.ensures.gained c.close_legs.ensures.gained
+    (c.close_legs.ensures.returned config (with_more of (round.Answered ask) moment v) shows)
+    (c.close_legs.ensures.«open» (leg_pairs (held h)) c.requires.turn.opens)
+
+pub returns-clause-closes : goal.returns-clause-closes
+returns-clause-closes g c =
+    gone_open_none g.P.Out.OutEnd.told c.args.turn.now.config.now.interface c.commit_cell.new.gone (g.P.PortMaker.told c.args.ports.now) (g.P.PortMaker.told c.close_legs.new.ports)
+    c.close_legs.ensures.closes
+
+pub returns-clause-ties : goal.returns-clause-ties
+returns-clause-ties g c =
+    let config = c.args.turn.now.config.now in
+    let sent = g.P.Out.OutEnd.told in
+    let gone = c.commit_cell.new.gone in
+    let cell = c.cell-cell.result in
+    let signal = c.signal.result.now in
+    let was = c.commit_cell.ensures.committed.was in
+    let rows = entries c.args.hand.now in
+    let went = c.commit_cell.ensures.went was.number (above_rows rows cell was.number was.given.above) in
+    let rejected = filter (λ leg. is_rejected signal leg.section) (legs_in (made_by c.args.hand.now) cell was.number) in
+    ties_gone sent config (g.P.PortMaker.told c.args.ports.now) (g.P.PortMaker.told c.close_legs.new.ports) rows (entries c.commit_cell.new.hand) (entries c.close_legs.new.hand) gone
+    (ports_are config gone rejected went) (legs_leave sent gone cell (Cell (Commit signal)) c.args.hand.now c.commit_cell.new.hand refl c.commit_cell.ensures.row)
+    c.close_legs.ensures.takes c.close_legs.ensures.closes

@@ -1,0 +1,106 @@
+-- What the main hand is given at a box, and what its ends then are.
+use Rattle.std.proofs.Common.{◌≡◌, refl, sym, subst, ℕ, ◌≤◌, Option, Some, None, IsSome, arith}
+use Rattle.relay_outside.specs.declared.settings.Config.{Config}
+use Rattle.relay_outside.specs.declared.ports.InCall.{InCall}
+use Rattle.relay_outside.specs.declared.ports.OutCall.{OutCall}
+use Rattle.relay_outside.specs.Told.{EndTold}
+use Rattle.turn_table.specs.declared.hands.Turns.{Turns}
+use Rattle.turn_table.specs.declared.hands.Hand.{Hand}
+use Rattle.turn_table.specs.Hands.{view, entries, IsGiven}
+use Rattle.port_pool.specs.declared.holder.Holder.{Holder}
+use Rattle.port_pool.specs.declared.boxes.Opened.{Opened}
+use Rattle.port_pool.specs.Boxes.{holder}
+use Rattle.port_pool.specs.PairBoxes.{holder_of, ends_of}
+use Rattle.relay_core.specs.declared.part.Part.{Part}
+use Rattle.relay_core.specs.declared.part.Part.TheVariants as part
+use Rattle.relay_core.specs.Entries.{box_history, box_of}
+use Rattle.relay_core.specs.Made.{Made}
+use Rattle.relay_core.specs.Standing.{BoxIs}
+use Rattle.relay_core.specs.Steps.{Relates, IsReserved}
+use Rattle.relay_core.specs.Turning.{made_by}
+use Rattle.relay_core.proofs.Given.{given_box}
+use Rattle.board_turns.proofs.Nesting.{above_rows}
+use Rattle.board_turns.specs.Nesting.{MayNest, IsShut, IsOpen, Opens, Shuts}
+use Rattle.board_turns.specs.Taken.{CanOpen, CanShut, HasEnds}
+
+-- a box without a holder has no ends
+pub no_ends : {I : Type 0} (o : Option (Opened I)) → holder_of o ≡ None → ends_of o ≡ None
+no_ends None q = refl
+no_ends (Some opened) q = absurd (let e : Some opened.holder ≡ None = q in cc)
+
+module _ {I O : Type 0} where
+  can_open : (cells : ℕ) (leg : Holder) (x : Part I O) → BoxIs cells x None → 1 ≤ leg.cell → leg.cell ≤ cells → CanOpen leg x
+  can_open cells leg (part.Board board) is low high = absurd is
+  can_open cells leg (part.Cell cell) is low high = absurd is
+  can_open cells leg (part.Pair box) is low high = (is.0, low, let q = is.1 in omega (arith, q, high))
+
+  can_shut : (cells : ℕ) (held : Option Holder) (x : Part I O) → BoxIs cells x held → IsSome held → CanShut x
+  can_shut cells held (part.Board board) is some = absurd is
+  can_shut cells held (part.Cell cell) is some = absurd is
+  can_shut cells held (part.Pair box) is some = subst (λ (o : Option Holder). IsSome o) (sym is.0) some
+
+module _ {M I O T : Type 0} {g : _} (it : I → EndTold InCall) (ic : I → ℕ) (ot : O → EndTold OutCall) (oc : O → ℕ) where
+  abbrev pub Gives : Hand M (Part I O) Made T g → ℕ → ℕ → Part I O → Type 0
+  Gives hand place n x = IsGiven (λ (a : Part I O) (m : Made) (o : T) (b : Part I O). Relates it ic ot oc a m b) IsReserved hand place n x
+
+  -- the main hand is given a box with the holder of its list
+  box_given : (config : Config) (turns : Turns M (Part I O) Made T) (hand : Hand M (Part I O) Made T g) (pair n : ℕ) (x : Part I O) → MayNest config turns hand
+      → Gives hand (box_of config pair) n x → BoxIs config.max_sessions x (holder (box_history (made_by hand) (box_of config pair) n))
+  box_given config turns hand pair n x may given =
+      given_box it ic ot oc config (view hand) (box_of config pair) n x may.parts (omega arith) given may.main may.numbered
+
+  pub shut_given : (config : Config) (turns : Turns M (Part I O) Made T) (hand : Hand M (Part I O) Made T g) (leg : Holder) (found n : ℕ) (x : Part I O)
+      → MayNest config turns hand → IsShut (made_by hand) (box_of config leg.pair) → 1 ≤ leg.cell → leg.cell ≤ config.max_sessions
+      → found ≡ box_of config leg.pair → Gives hand found n x → CanOpen leg x
+  shut_given config turns hand leg found n x may shut low high at given =
+      let there : Gives hand (box_of config leg.pair) n x = subst (λ (k : ℕ). Gives hand k n x) at given in
+      can_open config.max_sessions leg x
+      (subst (λ (o : Option Holder). BoxIs config.max_sessions x o) (shut n (above_rows (entries hand) (box_of config leg.pair) n there.above))
+      (box_given config turns hand leg.pair n x may there)) low high
+
+  pub open_given : (config : Config) (turns : Turns M (Part I O) Made T) (hand : Hand M (Part I O) Made T g) (pair found n : ℕ) (x : Part I O)
+      → MayNest config turns hand → IsOpen (made_by hand) (box_of config pair) → found ≡ box_of config pair → Gives hand found n x → CanShut x
+  open_given config turns hand pair found n x may held at given =
+      let there : Gives hand (box_of config pair) n x = subst (λ (k : ℕ). Gives hand k n x) at given in
+      can_shut config.max_sessions (holder (box_history (made_by hand) (box_of config pair) n)) x (box_given config turns hand pair n x may there)
+      (held n (above_rows (entries hand) (box_of config pair) n there.above))
+
+  shut_by : (hand : Hand M (Part I O) Made T g) (place n : ℕ) (x y : Part I O) (made : Made) (ends : I × I) → Gives hand place n x
+      → Relates it ic ot oc x made y → HasEnds x ends → Shuts it ic ot oc hand place made ends
+  shut_by hand place n (part.Pair old) (part.Pair new) made ends given relates has = record {
+    old = old;
+    new = new;
+    step = record { number = n; given = given; relates = relates };
+    ends_are = has;
+  }
+  shut_by hand place n (part.Board old) y made ends given relates has = absurd has
+  shut_by hand place n (part.Cell old) y made ends given relates has = absurd has
+  shut_by hand place n (part.Pair old) (part.Board new) made ends given relates has = absurd relates
+  shut_by hand place n (part.Pair old) (part.Cell new) made ends given relates has = absurd relates
+
+  -- the ends that the box gave are those of the box that was shut
+  pub shut_from : (hand : Hand M (Part I O) Made T g) (found place n : ℕ) (x now y : Part I O) (made : Made) (ends : I × I) → found ≡ place → now ≡ x
+      → Gives hand found n x → Relates it ic ot oc now made y → HasEnds now ends → Shuts it ic ot oc hand place made ends
+  shut_from hand found place n x now y made ends at same given relates has =
+      shut_by hand place n now y made ends
+      (subst (λ (k : ℕ). Gives hand k n now) at (subst (λ (z : Part I O). Gives hand found n z) (sym same) given)) relates has
+
+  opened_by : (hand : Hand M (Part I O) Made T g) (place n : ℕ) (x y : Part I O) (made : Made) (ends : I × I) → Gives hand place n x
+      → Relates it ic ot oc x made y → HasEnds y ends → Opens it ic ot oc hand place made ends
+  opened_by hand place n (part.Pair old) (part.Pair new) made ends given relates has = record {
+    old = old;
+    new = new;
+    step = record { number = n; given = given; relates = relates };
+    ends_are = has;
+  }
+  opened_by hand place n x (part.Board new) made ends given relates has = absurd has
+  opened_by hand place n x (part.Cell new) made ends given relates has = absurd has
+  opened_by hand place n (part.Board old) (part.Pair new) made ends given relates has = absurd relates
+  opened_by hand place n (part.Cell old) (part.Pair new) made ends given relates has = absurd relates
+
+  -- the box that was opened has the ends that came
+  pub opened_from : (hand : Hand M (Part I O) Made T g) (found place n : ℕ) (x now y : Part I O) (made : Made) (ends : I × I) → found ≡ place → now ≡ x
+      → Gives hand found n x → Relates it ic ot oc now made y → HasEnds y ends → Opens it ic ot oc hand place made ends
+  opened_from hand found place n x now y made ends at same given relates has =
+      opened_by hand place n now y made ends
+      (subst (λ (k : ℕ). Gives hand k n now) at (subst (λ (z : Part I O). Gives hand found n z) (sym same) given)) relates has

@@ -1,0 +1,100 @@
+-- The ends of what the main hand is given, and so of what leaves its place, are those that were opened for its ports.
+use Rattle.std.proofs.Common.{◌≡◌, sym, subst, ℕ, ◌≤◌, List, Option, filter}
+use Rattle.relay_outside.specs.declared.ports.InCall.{InCall}
+use Rattle.relay_outside.specs.declared.ports.OutCall.{OutCall}
+use Rattle.relay_outside.specs.declared.settings.Config.{Config}
+use Rattle.relay_outside.specs.Told.{EndTold, IsOpenedFor}
+use Rattle.rtp_packet.specs.declared.head.Half.TheVariants.{Rtp, Rtcp}
+use Rattle.turn_table.specs.declared.hands.Turns.{Turns}
+use Rattle.turn_table.specs.declared.hands.Hand.{Hand}
+use Rattle.turn_table.specs.Hands.{view, entries}
+use Rattle.histories.specs.Words.{has}
+use Rattle.histories.proofs.Lists.{filtered}
+use Rattle.port_pool.specs.Ports.{port_address, rtcp_address, AreOfPair}
+use Rattle.port_pool.specs.declared.pairs.Lease.{Lease}
+use Rattle.port_pool.specs.declared.signal.SectionSignal.{SectionSignal}
+use Rattle.port_pool.specs.Signals.{NewKey}
+use Rattle.call_cell.specs.declared.leg.Leg.{Leg}
+use Rattle.call_cell.specs.declared.cell.Cell as cell
+use Rattle.call_cell.specs.declared.prepare.Prepare as prepared
+use Rattle.call_cell.specs.Cells.{CellEntry}
+use Rattle.call_cell.specs.Committing.{goes_by}
+use Rattle.relay_core.specs.declared.part.Part.{Part}
+use Rattle.relay_core.specs.declared.part.Part.TheVariants as part
+use Rattle.relay_core.specs.Entries.{box_of}
+use Rattle.relay_core.specs.Made.{Made}
+use Rattle.relay_core.specs.Standing.{CellIs, AreHome, BoxHome, LegsHome, GoneHome}
+use Rattle.relay_core.specs.Steps.{AreOpened}
+use Rattle.relay_core.specs.Turning.{made_by}
+use Rattle.relay_core.proofs.GivenHomes.{given_box_home, given_cell_home}
+use Rattle.relay_core.proofs.Homes.{gone_home}
+use Rattle.board_turns.specs.Nesting.{MayNest, Shuts}
+use Rattle.board_turns.specs.InCells.{HasNewKeys, OpenedFor, IsCellAt, Ends, Prepares, Commits}
+use Rattle.board_turns.specs.Taken.{FitEnds}
+use Rattle.board_turns.proofs.Nesting.{above_rows}
+use Rattle.board_turns.proofs.Boxing.{Gives}
+
+module _ {I O : Type 0} (it : I → EndTold InCall) (ot : O → EndTold OutCall) where
+  ends_fit : (config : Config) (pair : ℕ) (x : Part I O) (ends : I × I) → BoxHome it config pair x → IsOpenedFor (port_address config pair Rtp) (it ends.0)
+      → IsOpenedFor (port_address config pair Rtcp) (it ends.1) → FitEnds it x ends
+  ends_fit config pair (part.Board b) ends home rtp rtcp = absurd home
+  ends_fit config pair (part.Cell c) ends home rtp rtcp = absurd home
+  ends_fit config pair (part.Pair box) ends home rtp rtcp =
+      (subst (λ (at : _). IsOpenedFor at (it ends.0)) (sym home.0) rtp, subst (λ (at : _). IsOpenedFor (rtcp_address at) (it ends.1)) (sym home.0) rtcp)
+
+  pub opened_for : (config : Config) (x : Part I O) (h : List CellEntry) (signal : prepared.Prepare O) → CellIs config x h → AreOpened ot config signal → OpenedFor ot x signal
+  opened_for config (part.Board b) h signal is opened = absurd is
+  opened_for config (part.Pair b) h signal is opened = absurd is
+  opened_for config (part.Cell c) h signal is opened = subst (λ (k : Config). AreOpened ot k signal) (sym is.2.config_is) opened
+
+module _ {M I O T : Type 0} {g : _} (it : I → EndTold InCall) (ic : I → ℕ) (ot : O → EndTold OutCall) (oc : O → ℕ) where
+  -- Boxes.
+
+  -- the ends that come fit the box that the hand is given
+  pub fit_given : (config : Config) (turns : Turns M (Part I O) Made T) (hand : Hand M (Part I O) Made T g) (pair found n : ℕ) (x now : Part I O) (ends : I × I)
+      → MayNest config turns hand → found ≡ box_of config pair → now ≡ x → Gives it ic ot oc hand found n x → IsOpenedFor (port_address config pair Rtp) (it ends.0)
+      → IsOpenedFor (port_address config pair Rtcp) (it ends.1) → FitEnds it now ends
+  fit_given config turns hand pair found n x now ends may at same given rtp rtcp =
+      let there : Gives it ic ot oc hand (box_of config pair) n now
+      = subst (λ (k : ℕ). Gives it ic ot oc hand k n now) at (subst (λ (z : Part I O). Gives it ic ot oc hand found n z) (sym same) given) in
+      ends_fit it ot config pair now ends (given_box_home it ic ot oc config (view hand) pair n now may.parts there) rtp rtcp
+
+  -- the ends of the box that was shut are those of its pair
+  pub shut_home : (config : Config) (turns : Turns M (Part I O) Made T) (hand : Hand M (Part I O) Made T g) (pair : ℕ) (made : Made) (ends : I × I)
+      → MayNest config turns hand → Shuts it ic ot oc hand (box_of config pair) made ends → AreOfPair it (port_address config pair Rtp) ends.0 ends.1
+  shut_home config turns hand pair made ends may shuts =
+      let home = given_box_home it ic ot oc config (view hand) pair shuts.step.number (part.Pair shuts.old) may.parts shuts.step.given in
+      subst (λ (at : _). AreOfPair it at ends.0 ends.1) home.0 (subst (λ (o : Option (I × I)). AreHome it shuts.old.at o) shuts.ends_are home.1)
+
+  -- Cells.
+
+  -- the legs of the cell that the hand is given have the out ends of their pairs
+  legs_home : (config : Config) (turns : Turns M (Part I O) Made T) (hand : Hand M (Part I O) Made T g) (place : ℕ) (c : cell.Cell O) (h : List CellEntry)
+      → MayNest config turns hand → 1 ≤ place → place ≤ config.max_sessions → HasNewKeys (made_by hand) place → IsCellAt it ic ot oc config hand place c h
+      → LegsHome ot config c.legs.items
+  legs_home config turns hand place c h may low high keys was =
+      given_cell_home it ic ot oc config (view hand) place was.number (part.Cell c) may.parts low high was.given may.main may.numbered
+      (keys was.number (above_rows (entries hand) place was.number was.given.above))
+
+  pub ended_home : (config : Config) (turns : Turns M (Part I O) Made T) (hand : Hand M (Part I O) Made T g) (place : ℕ) (gone : List (Lease × O × O))
+      → MayNest config turns hand → 1 ≤ place → place ≤ config.max_sessions → HasNewKeys (made_by hand) place → Ends it ic ot oc config hand place gone
+      → GoneHome ot config gone
+  ended_home config turns hand place gone may low high keys ends =
+      gone_home ot oc config ends.old ends.history ends.old.legs.items gone ends.was.stands
+      (legs_home config turns hand place ends.old ends.history may low high keys ends.was) (λ leg i. i) ends.ends.went
+
+  pub prepared_home : (config : Config) (turns : Turns M (Part I O) Made T) (hand : Hand M (Part I O) Made T g) (place : ℕ) (signal : prepared.Prepare O) (call : ℕ)
+      (keys : List NewKey) (dropped : List ℕ) (now : ℕ) (gone : List (Lease × O × O)) → MayNest config turns hand → 1 ≤ place → place ≤ config.max_sessions
+      → HasNewKeys (made_by hand) place → Prepares it ic ot oc config hand place signal call keys dropped now gone → GoneHome ot config gone
+  prepared_home config turns hand place signal call keys dropped now gone may low high new does =
+      gone_home ot oc config does.old does.history (filter (λ (leg : Leg O). has dropped leg.holder.section) does.old.legs.items) gone does.was.stands
+      (legs_home config turns hand place does.old does.history may low high new does.was)
+      (λ leg i. (filtered (λ (l : Leg O). has dropped l.holder.section) does.old.legs.items i).0) does.prepares.went
+
+  pub committed_home : (config : Config) (turns : Turns M (Part I O) Made T) (hand : Hand M (Part I O) Made T g) (place : ℕ) (signal : List SectionSignal) (now : ℕ)
+      (gone : List (Lease × O × O)) → MayNest config turns hand → 1 ≤ place → place ≤ config.max_sessions → HasNewKeys (made_by hand) place
+      → Commits it ic ot oc config hand place signal now gone → GoneHome ot config gone
+  committed_home config turns hand place signal now gone may low high new does =
+      gone_home ot oc config does.old does.history (filter (λ (leg : Leg O). goes_by signal leg) does.old.legs.items) gone does.was.stands
+      (legs_home config turns hand place does.old does.history may low high new does.was)
+      (λ leg i. (filtered (λ (l : Leg O). goes_by signal l) does.old.legs.items i).0) does.commits.went

@@ -1,0 +1,48 @@
+use Rattle.std.proofs.Common.{sym, subst, arith}
+use Rattle.port_pool.specs.Boxes.{Close}
+use Rattle.relay_core.specs.Entries.{Box, box_of}
+use Rattle.board_turns.specs.Nesting.{leaving, ends_left}
+use Rattle.board_turns.specs.Taken.{CanShut}
+use Rattle.board_turns.proofs.Nesting.{above_rows, turn_gained, turn_row, turn_may}
+use Rattle.board_turns.proofs.Boxing.{open_given, shut_from}
+use Rattle.board_turns.proofs.Homing.{shut_home}
+use Rattle.board_turns.proofs.boxes.shut_box.Goals as goal
+
+pub shut_part-ends-requires : goal.shut_part-ends-requires
+shut_part-ends-requires g c =
+    subst CanShut (sym c.state.ensures.value)
+    (open_given g.I.InEnd.told g.I.InEnd.faults g.O.OutEnd.told g.O.OutEnd.faults c.args.turn.now.config.now c.args.turn.now.turns.now c.args.hand.now c.args.pair c.box_place.result _ _
+    c.requires.may c.requires.«open» c.box_place.ensures c.turn-step.ensures.turn.1)
+
+pub returns-clause-gained : goal.returns-clause-gained
+returns-clause-gained g c =
+    let given = c.turn-step.ensures.turn.1 in
+    turn_gained c.args.turn.now.entry_id.number c.args.turn.now.entry_id.moment 0 (box_of c.args.turn.now.config.now c.args.pair) c.box_place.result (Box Close)
+    (ends_left g.I.InEnd.told c.shut_part-ends.result) tt c.args.hand.now c.turn-step.new.hand
+    c.put_closing.new.hand c.turn-step.result c.box_place.ensures (above_rows _ _ _ given.above) c.turn-step.ensures.same c.turn-step.ensures.turn.0 c.put_closing.ensures.entry
+
+pub returns-clause-row : goal.returns-clause-row
+returns-clause-row g c =
+    turn_row c.args.turn.now.entry_id.number c.args.turn.now.entry_id.moment 0 (box_of c.args.turn.now.config.now c.args.pair) c.box_place.result (Box Close)
+    (ends_left g.I.InEnd.told c.shut_part-ends.result) tt c.args.hand.now c.turn-step.new.hand c.put_closing.new.hand c.turn-step.result c.box_place.ensures
+    c.turn-step.ensures.same c.turn-step.ensures.turn.0 c.put_closing.ensures.entry
+
+pub returns-clause-may : goal.returns-clause-may
+returns-clause-may g c =
+    let at = c.box_place.ensures in
+    turn_may c.args.turn.now.config.now c.args.turn.now.turns.now c.args.turn.now.entry_id.number c.args.turn.now.entry_id.moment 0 (box_of c.args.turn.now.config.now c.args.pair) c.box_place.result (Box Close)
+    (ends_left g.I.InEnd.told c.shut_part-ends.result) tt
+    c.args.hand.now c.turn-step.new.hand c.put_closing.new.hand c.turn-step.result c.requires.may (omega (arith, at)) c.turn-step.ensures.same c.turn-step.ensures.turn.0
+    c.put_closing.ensures.same c.put_closing.ensures.entry (returns-clause-gained g c)
+
+pub returns-clause-ends : goal.returns-clause-ends
+returns-clause-ends g c =
+    let made = leaving c.args.turn.now.entry_id.number c.args.turn.now.entry_id.moment 0 (Box Close) (ends_left g.I.InEnd.told c.shut_part-ends.result) in
+    shut_from g.I.InEnd.told g.I.InEnd.faults g.O.OutEnd.told g.O.OutEnd.faults c.args.hand.now c.box_place.result (box_of c.args.turn.now.config.now c.args.pair) c.turn-step.result.front
+    c.turn-step.result.state c.state.result.now
+    c.shut_part-ends.new.part made c.shut_part-ends.result c.box_place.ensures c.state.ensures.value c.turn-step.ensures.turn.1
+    (c.shut_part-ends.ensures.step c.args.turn.now.entry_id.number c.args.turn.now.entry_id.moment) c.shut_part-ends.ensures.ends
+
+pub returns-clause-home : goal.returns-clause-home
+returns-clause-home g c =
+    shut_home g.I.InEnd.told g.I.InEnd.faults g.O.OutEnd.told g.O.OutEnd.faults c.args.turn.now.config.now c.args.turn.now.turns.now c.args.hand.now c.args.pair _ c.shut_part-ends.result c.requires.may (returns-clause-ends g c)

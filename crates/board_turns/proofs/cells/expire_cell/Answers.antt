@@ -1,0 +1,41 @@
+use Rattle.std.proofs.Common.{arith, max}
+use Rattle.call_cell.specs.Cells.{Expire}
+use Rattle.relay_core.specs.Entries.{Cell}
+use Rattle.relay_core.specs.Made.{nothing_left}
+use Rattle.board_turns.specs.InCells.{moment_in}
+use Rattle.board_turns.proofs.Nesting.{above_rows, turn_gained, turn_may}
+use Rattle.board_turns.proofs.Celling.{is_cell, cell_given, expires_by}
+use Rattle.board_turns.proofs.cells.expire_cell.Goals as goal
+
+pub expire_part-due-requires : goal.expire_part-due-requires
+expire_part-due-requires g c =
+    let is = cell_given g.I.InEnd.told g.I.InEnd.faults g.O.OutEnd.told g.O.OutEnd.faults c.args.turn.now.config.now c.args.turn.now.turns.now c.args.hand.now c.args.cell c.cell_place.result
+    c.turn-step.result.front _ c.state.result.now c.requires.may c.requires.cell.0 c.requires.cell.1 c.requires.keys c.cell_place.ensures c.state.ensures.value
+    c.turn-step.ensures.turn.1 in
+    is_cell c.args.turn.now.config.now c.state.result.now _ is.1
+
+pub returns-clause-gained : goal.returns-clause-gained
+returns-clause-gained g c =
+    let given = c.turn-step.ensures.turn.1 in
+    turn_gained c.args.turn.now.entry_id.number c.args.turn.now.entry_id.moment (max c.args.turn.now.entry_id.moment (moment_in c.turn-step.result.taken.value)) c.args.cell c.cell_place.result
+    (Cell (Expire c.expire_part-due.result)) nothing_left tt c.args.hand.now
+    c.turn-step.new.hand c.put_expiry.new.hand c.turn-step.result c.cell_place.ensures (above_rows _ _ _ given.above) c.turn-step.ensures.same
+    c.turn-step.ensures.turn.0 c.put_expiry.ensures.entry
+
+pub returns-clause-may : goal.returns-clause-may
+returns-clause-may g c =
+    let at = c.cell_place.ensures in
+    let low = c.requires.cell.0 in
+    turn_may c.args.turn.now.config.now c.args.turn.now.turns.now c.args.turn.now.entry_id.number c.args.turn.now.entry_id.moment (max c.args.turn.now.entry_id.moment (moment_in c.turn-step.result.taken.value)) c.args.cell
+    c.cell_place.result (Cell (Expire c.expire_part-due.result)) nothing_left tt
+    c.args.hand.now c.turn-step.new.hand c.put_expiry.new.hand c.turn-step.result c.requires.may (omega (arith, at, low)) c.turn-step.ensures.same c.turn-step.ensures.turn.0
+    c.put_expiry.ensures.same c.put_expiry.ensures.entry (returns-clause-gained g c)
+
+pub returns-clause-asked : goal.returns-clause-asked
+returns-clause-asked g c =
+    expires_by g.I.InEnd.told g.I.InEnd.faults g.O.OutEnd.told g.O.OutEnd.faults c.args.turn.now.config.now c.args.hand.now c.args.cell c.turn-step.result.front c.args.turn.now.entry_id.moment
+    c.state.result.now c.expire_part-due.new.part c.expire_part-due.result
+    (cell_given g.I.InEnd.told g.I.InEnd.faults g.O.OutEnd.told g.O.OutEnd.faults c.args.turn.now.config.now c.args.turn.now.turns.now c.args.hand.now c.args.cell c.cell_place.result
+    c.turn-step.result.front _ c.state.result.now c.requires.may c.requires.cell.0 c.requires.cell.1 c.requires.keys c.cell_place.ensures c.state.ensures.value
+    c.turn-step.ensures.turn.1)
+    c.expire_part-due.ensures.expires

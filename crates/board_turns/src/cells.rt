@@ -1,0 +1,140 @@
+//! The cell of a call: asked whether its call is due, asked what is told of its legs, and ended.
+ghost use Rattle.std.specs.Prelude.{◌≡◌, ◌≤◌, ℕ, [], ◌∷◌, max};
+ghost use Rattle.turn_table.specs.Hands.{IsSameHand, SameTurns};
+ghost use Rattle.histories.specs.Words.{In};
+ghost use Rattle.port_pool.specs.declared.reports.LegReport.{LegReport};
+ghost use Rattle.port_pool.specs.Reports.{CountsFit};
+ghost use Rattle.call_cell.specs.Cells.{Expire, Read, End};
+ghost use Rattle.relay_core.specs.Entries.{Cell};
+ghost use Rattle.relay_core.specs.Standing.{IsCellPart, GoneHome};
+ghost use Rattle.relay_core.specs.Steps.{Relates};
+ghost use Rattle.relay_core.specs.Turning.{GainsNested, made_by};
+ghost use Rattle.board_turns.specs.Nesting.{MayNest, nested, leaving, gone_left, AddsRow};
+ghost use Rattle.board_turns.specs.InCells.{HasNewKeys, in_cell_of, moment_in, Ends, Expires, Reads, EndsPart, ExpiresPart, ReadsPart, TakesReading};
+ghost use Rattle.board_turns.specs.Leaving.{AllWent};
+
+use crate::board_turn::BoardTurn;
+use crate::puts::{put_end, put_expiry, put_reading};
+use call_cell::{Gone, LegReports};
+use relay_core::{Part, Relay};
+use relay_outside::{Config, InEnd, OutEnd};
+use std::marker::Brand;
+use std::sync::Wait;
+use turn_table::Hand;
+
+/// The place of a cell, after the board.
+pub(crate) fn cell_place(config: &Config, cell: u32) -> usize
+    requires { cell ≤ config.now.max_sessions }
+    ensures { result ≡ cell }
+{
+    prove!(cell <= config.max_sessions);
+    cell as usize
+}
+
+fn end_part<I: InEnd, O: OutEnd>(part: &mut Part<I, O>, gone: &mut Gone<O>)
+    requires cell { IsCellPart part.old }
+    requires empty { gone.old ≡ [] }
+    ensures step { (number handed : ℕ) → Relates I.told I.faults O.told O.faults part.old (leaving number handed (moment_in part.old) (Cell End) (gone_left O.told gone.new)) part.new }
+    ensures ends { EndsPart part.old part.new gone.new }
+{
+    match part {
+        Part::Cell(cell) => cell.end(gone),
+        Part::Board(_) => unreachable!(),
+        Part::Pair(_) => unreachable!(),
+    }
+}
+
+fn expire_part<I: InEnd, O: OutEnd>(part: &mut Part<I, O>, now: u64) -> bool
+    requires { IsCellPart part.old }
+    ensures step { (number : ℕ) → Relates I.told I.faults O.told O.faults part.old (nested number now (max now (moment_in part.old)) (Cell (Expire result))) part.new }
+    ensures expires { ExpiresPart part.old part.new now result }
+{
+    match part {
+        Part::Cell(cell) => cell.expire(now),
+        Part::Board(_) => unreachable!(),
+        Part::Pair(_) => unreachable!(),
+    }
+}
+
+fn read_part<I: InEnd, O: OutEnd>(part: &Part<I, O>, out: &mut LegReports)
+    requires { TakesReading part.now }
+    ensures step { (number handed : ℕ) → Relates I.told I.faults O.told O.faults part.now (nested number handed (moment_in part.now) (Cell (Read out.new))) part.now }
+    ensures reads { ReadsPart part.now out.new }
+    ensures counts { (report : LegReport) → In report out.new → CountsFit report }
+{
+    match part {
+        Part::Cell(cell) => cell.read_legs(out),
+        Part::Board(_) => unreachable!(),
+        Part::Pair(_) => unreachable!(),
+    }
+}
+
+/// Ends the call of a cell: the legs that it had go to `gone`, which is empty. Cells are numbered from 1.
+pub fn end_cell<I: InEnd, O: OutEnd, R: Wait>(
+    rt: &R,
+    turn: &BoardTurn<I, O>,
+    hand: &mut Hand<Relay<I, O>>,
+    cell: u32,
+    gone: &mut Gone<O>,
+)
+    requires may { MayNest turn.now.config.now turn.now.turns.now hand.old }
+    requires cell { (1 ≤ cell) × (cell ≤ turn.now.config.now.max_sessions) }
+    requires keys { HasNewKeys (made_by hand.old) cell }
+    requires empty { gone.old ≡ [] }
+    ensures same { IsSameHand hand.old hand.new × SameTurns hand.old hand.new }
+    ensures may { MayNest turn.now.config.now turn.now.turns.now hand.new }
+    ensures gained { GainsNested turn.now.entry_id.number turn.now.entry_id.moment (in_cell_of cell End ∷ []) hand.old hand.new }
+    ensures row { AddsRow cell (Cell End) (gone_left O.told gone.new) hand.old hand.new }
+    ensures ended { Ends I.told I.faults O.told O.faults turn.now.config.now hand.old cell gone.new }
+    ensures went { AllWent turn.now.config.now (made_by hand.old) cell gone.new }
+    ensures home { GoneHome O.told turn.now.config.now gone.new }
+{
+    let mut step = turn.turns.turn(rt, hand, cell_place(turn.config, cell));
+    end_part(step.state(), gone);
+    put_end::<I, O, Brand>(turn.turns, hand, step, turn.entry_id, gone);
+}
+
+/// Whether the call of a cell is due to end at the moment of the board's entry. Nothing changes but the cell's last moment.
+/// Cells are numbered from 1.
+pub fn expire_cell<I: InEnd, O: OutEnd, R: Wait>(
+    rt: &R,
+    turn: &BoardTurn<I, O>,
+    hand: &mut Hand<Relay<I, O>>,
+    cell: u32,
+) -> bool
+    requires may { MayNest turn.now.config.now turn.now.turns.now hand.old }
+    requires cell { (1 ≤ cell) × (cell ≤ turn.now.config.now.max_sessions) }
+    requires keys { HasNewKeys (made_by hand.old) cell }
+    ensures same { IsSameHand hand.old hand.new × SameTurns hand.old hand.new }
+    ensures may { MayNest turn.now.config.now turn.now.turns.now hand.new }
+    ensures gained { GainsNested turn.now.entry_id.number turn.now.entry_id.moment (in_cell_of cell (Expire result) ∷ []) hand.old hand.new }
+    ensures asked { Expires I.told I.faults O.told O.faults turn.now.config.now hand.old cell turn.now.entry_id.moment result }
+{
+    let mut step = turn.turns.turn(rt, hand, cell_place(turn.config, cell));
+    let due = expire_part(step.state(), turn.entry_id.moment);
+    put_expiry::<I, O, Brand>(turn.turns, hand, step, turn.entry_id, due);
+    due
+}
+
+/// Puts a report of each leg of the cell's committed sections in place of what `out` had, by section and then side A first.
+/// Nothing else changes. Cells are numbered from 1.
+pub fn read_cell<I: InEnd, O: OutEnd, R: Wait>(
+    rt: &R,
+    turn: &BoardTurn<I, O>,
+    hand: &mut Hand<Relay<I, O>>,
+    cell: u32,
+    out: &mut LegReports,
+)
+    requires may { MayNest turn.now.config.now turn.now.turns.now hand.old }
+    requires cell { (1 ≤ cell) × (cell ≤ turn.now.config.now.max_sessions) }
+    requires keys { HasNewKeys (made_by hand.old) cell }
+    ensures same { IsSameHand hand.old hand.new × SameTurns hand.old hand.new }
+    ensures may { MayNest turn.now.config.now turn.now.turns.now hand.new }
+    ensures gained { GainsNested turn.now.entry_id.number turn.now.entry_id.moment (in_cell_of cell (Read out.new) ∷ []) hand.old hand.new }
+    ensures told { Reads I.told I.faults O.told O.faults turn.now.config.now hand.old cell out.new }
+    ensures counts { (report : LegReport) → In report out.new → CountsFit report }
+{
+    let mut step = turn.turns.turn(rt, hand, cell_place(turn.config, cell));
+    read_part(step.state(), out);
+    put_reading::<I, O, Brand>(turn.turns, hand, step, turn.entry_id, out);
+}

@@ -1,0 +1,59 @@
+//! A command whose description is refused, and one that the board doesn't plan.
+ghost use Rattle.std.specs.Prelude.{◌≡◌, []};
+ghost use Rattle.cookie_cache.specs.Keepings.{IsCookie};
+ghost use Rattle.call_board.specs.Planned.{code_of};
+ghost use Rattle.board_turns.specs.Giving.{IsUnasked};
+ghost use Rattle.board_turns.specs.Telling.{Refuses, error_in};
+
+use crate::command_outcome::CommandOutcome;
+use crate::refusing::{refused, short};
+use call_board::BoardFault;
+use control_messages::{DescriptionFault, Request};
+use ng_reply::ErrorCode;
+use offer_answer::ChosenLines;
+use std::alloc::Global;
+
+/// The error of a fault. None: out of memory.
+fn code_of(fault: BoardFault) -> Option<ErrorCode>
+    ensures { result ≡ code_of fault }
+{
+    match fault {
+        BoardFault::UnknownCall => Some(ErrorCode::E9),
+        BoardFault::UnknownTag => Some(ErrorCode::E10),
+        BoardFault::OtherSide => Some(ErrorCode::E11),
+        BoardFault::MediaCount => Some(ErrorCode::E12),
+        BoardFault::NoCrypto => Some(ErrorCode::E8),
+        BoardFault::SessionLimit => Some(ErrorCode::E14),
+        BoardFault::NoPair => Some(ErrorCode::E13),
+        BoardFault::OutOfMemory => None,
+    }
+}
+
+/// The outcome when planning fails with this fault, after these crypto lines were chosen: the reply tells its error, or that memory ran out.
+pub fn unplanned(
+    alloc: Global,
+    request: &Request,
+    fault: BoardFault,
+    chosen_lines: ChosenLines,
+) -> CommandOutcome
+    requires { IsCookie request.now.cookie.now }
+    ensures refuses { Refuses request.now.cookie.now request.now.body.now chosen_lines (code_of fault) result }
+    ensures unasked { IsUnasked result.device_answers }
+{
+    match code_of(fault) {
+        Some(code) => refused(alloc, request, code, chosen_lines),
+        None => short(),
+    }
+}
+
+/// The outcome when the description is refused: the reply tells the error, or that memory ran out. No crypto line is chosen in it.
+pub fn misdescribed(alloc: Global, request: &Request, fault: DescriptionFault) -> CommandOutcome
+    requires { IsCookie request.now.cookie.now }
+    ensures refuses { Refuses request.now.cookie.now request.now.body.now [] (error_in fault) result }
+    ensures unasked { IsUnasked result.device_answers }
+{
+    match fault {
+        DescriptionFault::Error(code) => refused(alloc, request, code, ChosenLines::none()),
+        DescriptionFault::OutOfMemory => short(),
+    }
+}

@@ -1,4 +1,0 @@
-pub mod Controls
-pub mod Giving
-pub mod Telling
-pub mod Carrying

@@ -1,0 +1,81 @@
+//! The description of an offer or an answer.
+
+ghost use Rattle.std.specs.Prelude.{◌≡◌, ◌≢◌, ◌≤◌, ◌<◌, ◌^◌, length, None, Some, Option, IfOk, IfErr, OnOk};
+ghost use Rattle.sdp_text.specs.Lines.{lines_of};
+ghost use Rattle.sdp_text.specs.Reading.{sections_in};
+ghost use Rattle.call_board.specs.Asked.{sdp_code, v6_error, sdp_error};
+ghost use Rattle.control_messages.specs.Bodies.{IsErrorOf};
+
+use ng_command::KeyName;
+use ng_reply::{ErrorCode, SdpPart};
+use relay_outside::{Config, Ip};
+use sdp_text::{Sdp, SdpFault, read};
+use std::alloc::Global;
+
+/// Why a description is refused.
+#[derive(Clone, Copy, Debug, PartialEq, Eq)]
+pub enum DescriptionFault {
+    /// Its first error: `E6` or `E7` of a line or section, or `E5` where it asks for DTLS-SRTP.
+    Error(ErrorCode),
+    /// Out of memory.
+    OutOfMemory,
+}
+
+/// The error code of a fault.
+fn sdp_code(fault: SdpFault) -> ErrorCode
+    ensures { result ≡ sdp_code fault }
+{
+    match fault {
+        SdpFault::Line(line) => ErrorCode::E6(line),
+        SdpFault::Address(line) | SdpFault::PortCount(line) => ErrorCode::E7(SdpPart::Line(line)),
+        SdpFault::TooManyMedia(count) => ErrorCode::E7(SdpPart::Media(count)),
+        SdpFault::Dtls => ErrorCode::E5(KeyName::Tls),
+        SdpFault::OutOfMemory => ErrorCode::E17,
+    }
+}
+
+/// The fault of a description that was not read.
+fn fault_of(fault: SdpFault) -> DescriptionFault
+    ensures { (error : Option _) → (fault ≢ SdpFault.OutOfMemory → error ≡ Some (sdp_code fault)) → IsErrorOf error result }
+{
+    match fault {
+        SdpFault::OutOfMemory => DescriptionFault::OutOfMemory,
+        other => DescriptionFault::Error(sdp_code(other)),
+    }
+}
+
+/// The error of a description whose first line with an IPv6 address in effect is that one.
+fn v6_error(address: Option<Ip>, line: Option<u32>) -> Option<ErrorCode>
+    ensures { result ≡ v6_error address line }
+{
+    match (address, line) {
+        (None, Some(line)) => Some(ErrorCode::E7(SdpPart::Line(line))),
+        _ => None,
+    }
+}
+
+/// Reads a description of less than 2^31 bytes, as `sdp_text::read` does, and refuses one with an IPv6 address in effect where
+/// the relay has no address of version 6 (`E7` of that line). The `Sdp` borrows `text`.
+///
+/// # Errors
+///
+/// `DescriptionFault` says why it is refused. Running out of memory may come at any time.
+pub fn read_description<'a>(
+    alloc: Global,
+    config: &Config,
+    text: &'a [u8],
+) -> Result<Sdp<'a>, DescriptionFault>
+    requires { length text.now < 2 ^ 31 }
+    ensures lines { IfOk result (λ sdp. sdp ≡ lines_of text.now) }
+    ensures few { OnOk result (length (sections_in (lines_of text.now)) ≤ 8) }
+    ensures sound { OnOk result (sdp_error config.now text.now ≡ None) }
+    ensures error { IfErr result (λ fault. IsErrorOf (sdp_error config.now text.now) fault) }
+{
+    match read(alloc, text) {
+        Ok(sdp) => match v6_error(config.interface6, sdp.first_v6()) {
+            Some(code) => Err(DescriptionFault::Error(code)),
+            None => Ok(sdp),
+        },
+        Err(fault) => Err(fault_of(fault)),
+    }
+}

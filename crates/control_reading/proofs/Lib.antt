@@ -1,4 +1,0 @@
-pub mod Strings
-pub mod Sizes
-pub mod Read
-pub mod Described

@@ -1,8 +1,0 @@
-use Rattle.control_replies.proofs.Datagrams.{value_datagram, done_is, same_text}
-use Rattle.control_replies.proofs.short.done_datagram.Goals as goal
-use Rattle.std.proofs.Common.{ap, ◌∙◌}
-
-pub returns : goal.returns
-returns c config =
-    same_text c.value_datagram.result _ _ c.value_datagram.ensures
-    (ap (value_datagram c.args.request.now.cookie.now c.args.request.now.body.now) c.in-Ok.ensures ∙ done_is config c.args.request.now.cookie.now c.args.request.now.body.now)

@@ -1,4 +1,0 @@
-pub mod Commands
-pub mod Kept
-pub mod Taken
-pub mod Turns

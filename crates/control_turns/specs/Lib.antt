@@ -1,5 +1,0 @@
-pub mod Devices
-pub mod Sending
-pub mod Dealing
-pub mod Turning
-pub mod Taking

@@ -1,8 +1,0 @@
-pub mod Nesting
-pub mod Boxing
-pub mod Celling
-pub mod Signalling
-pub mod After
-pub mod Leaving
-pub mod Homing
-pub mod First

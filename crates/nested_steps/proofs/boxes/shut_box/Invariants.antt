@@ -1,7 +1,0 @@
-use Rattle.port_pool.specs.Boxes.{Close}
-use Rattle.relay_core.specs.Entries.{Box}
-use Rattle.nested_steps.specs.Nesting.{leaving, ends_left}
-use Rattle.nested_steps.proofs.boxes.shut_box.Given as goal
-
-abbrev pub ghosts-put_closing : goal.ghosts-put_closing
-ghosts-put_closing g a = record { made = leaving a.entry_id.number a.entry_id.moment 0 (Box Close) (ends_left g.I.InEnd.told a.ends.now) }

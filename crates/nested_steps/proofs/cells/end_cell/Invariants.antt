@@ -1,9 +1,0 @@
-use Rattle.turn_table.specs.Hands.{taken_of}
-use Rattle.call_cell.specs.Cells.{End}
-use Rattle.relay_core.specs.Entries.{Cell}
-use Rattle.nested_steps.specs.Nesting.{leaving, gone_left}
-use Rattle.nested_steps.specs.InCells.{moment_in}
-use Rattle.nested_steps.proofs.cells.end_cell.Given as goal
-
-abbrev pub ghosts-put_end : goal.ghosts-put_end
-ghosts-put_end g a = record { made = leaving a.entry_id.number a.entry_id.moment (moment_in (taken_of a.turn)) (Cell End) (gone_left g.O.OutEnd.told a.gone.now) }

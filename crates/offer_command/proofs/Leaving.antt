@@ -1,0 +1,96 @@
+-- What an accepted offer leaves: its legs have the out ends that were opened for them, and by its rows just the dropped legs go.
+use Rattle.std.proofs.Common.{◌≡◌, ◌∙◌, refl, sym, ap, subst, ℕ, ◌+◌, ◌++◌, List, [], ◌∷◌, Option, map, true, append_assoc}
+use Rattle.relay_outside.specs.declared.ports.InCall.{InCall}
+use Rattle.relay_outside.specs.declared.ports.OutCall.{OutCall}
+use Rattle.relay_outside.specs.declared.settings.Config.{Config}
+use Rattle.relay_outside.specs.Ports.{joined}
+use Rattle.relay_outside.specs.Told.{EndTold, IsOpenedFor}
+use Rattle.rtp_packet.specs.declared.head.Half.TheVariants.{Rtp, Rtcp}
+use Rattle.histories.specs.Words.{In, here, there}
+use Rattle.histories.proofs.Lists.{maps}
+use Rattle.turn_table.specs.declared.machine.Entry as table
+use Rattle.turn_table.specs.declared.hands.Hand.{Hand}
+use Rattle.turn_table.specs.Hands.{entries}
+use Rattle.port_pool.specs.declared.pairs.Lease.{Lease}
+use Rattle.port_pool.specs.declared.holder.Holder.{Holder}
+use Rattle.call_cell.specs.declared.leg.Leg.{Leg}
+use Rattle.call_cell.specs.declared.prepare.Prepare as prepared
+use Rattle.call_cell.specs.Ending.{parts_of}
+use Rattle.call_cell.specs.Preparing.{PrepareFor, parts_added}
+use Rattle.port_pool.specs.Ports.{pair_port, port_at, port_address}
+use Rattle.port_pool.specs.Signals.{NewKey}
+use Rattle.media_ports.specs.Addresses.{HavePorts}
+use Rattle.media_ports.specs.declared.ends.PairEnds.{PairEnds}
+use Rattle.media_ports.specs.Ends as ends
+use Rattle.media_ports.proofs.Given.{joined_to_nothing}
+use Rattle.relay_core.specs.Entries.{Event}
+use Rattle.relay_core.specs.Made.{Made, entry_of, list_of}
+use Rattle.relay_core.specs.Scripts.{Owed, owed_by, opening}
+use Rattle.relay_core.specs.Steps.{AreOpened}
+use Rattle.relay_core.specs.Told.{is_parting, ins_told, outs_told}
+use Rattle.relay_core.specs.Turning.{GainsNested}
+use Rattle.board_turns.specs.Nesting.{AddsRow, gone_left}
+use Rattle.board_turns.specs.Ties.{LegsLeave}
+use Rattle.board_turns.proofs.Tying.{NothingLeaves, NothingLeft, none_left, row_left, both_left, ins_append, outs_append, legs_leave}
+use Rattle.offer_command.specs.Opening.{leased_parts}
+
+module _ {I O : Type 0} (taken : I → EndTold InCall) (sent : O → EndTold OutCall) where
+  -- the out ends of a leg's parts were opened for the ports of its pair, and not called since
+  pub record AreNew (config : Config) (part : Lease × O × O) : Type 0 where
+    pub rtp : IsOpenedFor (port_address config part.0.pair Rtp) (sent part.1)
+    pub rtcp : IsOpenedFor (port_address config part.0.pair Rtcp) (sent part.2)
+
+  new_part : (config : Config) (lease : Lease) (first : PairEnds I O) → lease.rtp_port ≡ pair_port config lease.pair → ends.IsOpened taken sent config.interface lease first
+      → AreNew config (lease, first.rtp_out, first.rtcp_out)
+  new_part config lease first is opened = record {
+    rtp = subst (λ (port : ℕ). IsOpenedFor (port_at config.interface port) (sent first.rtp_out)) is opened.rtp_out;
+    rtcp = subst (λ (port : ℕ). IsOpenedFor (port_at config.interface (port + 1)) (sent first.rtcp_out)) is opened.rtcp_out;
+  }
+
+  parts_new : (config : Config) (leases : List Lease) (opened : List (PairEnds I O)) → HavePorts config leases → ends.AreOpened taken sent config.interface leases opened
+      → (part : Lease × O × O) → In part (leased_parts leases opened) → AreNew config part
+  parts_new config [] opened ports are part i = elim i [ ]
+  parts_new config (lease ∷ leases) [] ports are part i = elim i [ ]
+  parts_new config (lease ∷ leases) (first ∷ opened) ports are part (here is) = subst (AreNew config) (sym is) (new_part config lease first ports.0 are.0)
+  parts_new config (lease ∷ leases) (first ∷ opened) ports are part (there i) = parts_new config leases opened ports.1 are.1 part i
+
+  -- the out ends of the prepared legs, which are those of the pairs that were opened, were opened for the ports of the legs' pairs
+  pub legs_opened : (config : Config) (signal : prepared.Prepare O) (keys : List NewKey) (dropped : List ℕ) (leases : List Lease) (opened : List (PairEnds I O))
+      → parts_added signal ≡ leased_parts leases opened → HavePorts config leases → ends.AreOpened taken sent config.interface leases opened
+      → PrepareFor signal keys dropped → AreOpened sent config signal
+  legs_opened config signal keys dropped leases opened parts ports are for leg i =
+      let new = parts_new config leases opened ports are (parts_of leg) (subst (In (parts_of leg)) parts (maps (λ (l : Leg O). parts_of l) signal.legs.items i)) in
+      let pair : leg.lease.pair ≡ leg.holder.pair = (for.fresh leg i).pair in
+      record {
+        rtp = subst (λ (n : ℕ). IsOpenedFor (port_address config n Rtp) (sent leg.sending.rtp)) pair new.rtp;
+        rtcp = subst (λ (n : ℕ). IsOpenedFor (port_address config n Rtcp) (sent leg.sending.rtcp)) pair new.rtcp;
+      }
+
+module _ {T : Type 0} where
+  -- nothing leaves by the openings of boxes
+  opened_left : (config : Config) (legs : List Holder) (rows : List (table.Entry Made T)) → map owed_by (list_of rows) ≡ map (opening config) legs → NothingLeft rows
+  opened_left config legs [] owes = none_left
+  opened_left config [] (row ∷ rows) owes = absurd (let e = owes in cc)
+  opened_left config (leg ∷ legs) (row ∷ rows) owes =
+      let first : owed_by (entry_of row) ≡ opening config leg = (let e = owes in cc) in
+      let rest : map owed_by (list_of rows) ≡ map (opening config) legs = (let e = owes in cc) in
+      both_left (row ∷ []) rows (row_left row (subst (λ (w : Owed). NothingLeaves w.event) (sym first) (record { closing = refl; parting = refl }))) (opened_left config legs rows rest)
+
+module _ {M S T O : Type 0} {g : _} (sent : O → EndTold OutCall) where
+  -- boxes were opened, and then these legs went from a cell
+  pub opened_leave : (config : Config) (number moment : ℕ) (holders : List Holder) (gone : List (Lease × O × O)) (place : ℕ) (event : Event) (old mid new : Hand M S Made T g) →
+      is_parting event ≡ true → GainsNested number moment (map (opening config) holders) old mid → AddsRow place event (gone_left sent gone) mid new →
+      LegsLeave sent gone (entries old) (entries new)
+  opened_leave config number moment holders gone place event old mid new parts gains adds =
+      let opened = opened_left config holders gains.rows gains.gained.owes in
+      let leave = legs_leave sent gone place event mid new parts adds in
+      record {
+        more = gains.rows ++ leave.more;
+        rows_are = leave.rows_are ∙ ap (λ (rows : List (table.Entry Made T)). rows ++ leave.more) gains.list_is ∙ append_assoc (entries old) gains.rows leave.more;
+        no_ends = λ at half. ins_append gains.rows leave.more at half
+            ∙ ap (λ (told : Option (List InCall)). joined told (ins_told leave.more at half)) (opened.no_ends at half)
+            ∙ joined_to_nothing (ins_told leave.more at half) ∙ leave.no_ends at half;
+        legs = λ pair half. outs_append gains.rows leave.more pair half
+            ∙ ap (λ (told : Option (List OutCall)). joined told (outs_told leave.more pair half)) (opened.no_legs pair half)
+            ∙ joined_to_nothing (outs_told leave.more pair half) ∙ leave.legs pair half;
+      }

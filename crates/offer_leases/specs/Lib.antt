@@ -1,2 +1,0 @@
-pub mod Leasing
-pub mod Undoing

@@ -1,3 +1,0 @@
-pub mod Legs
-pub mod Opening
-pub mod Filling

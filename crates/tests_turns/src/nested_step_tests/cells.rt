@@ -1,0 +1,195 @@
+ghost use Rattle.std.specs.Prelude.{◌≡◌, ◌∷◌, [], IfOk};
+ghost use Rattle.port_pool.specs.Signals.{NewKey};
+ghost use Rattle.call_cell.specs.Preparing.{IsReady, PrepareFor, added};
+ghost use Rattle.board_turns.specs.Bringing.{offered_keys, offered_drops};
+
+use crate::first_relay::{CONFIG, begin};
+use crate::quiet_devices::Mute;
+use board_turns::{
+    BoardEntryId, BoardTurn, OfferedChanges, commit_cell, end_cell, expire_cell, prepare_cell,
+    read_cell,
+};
+use call_cell::{Gone, InContexts, LegReports, Prepare};
+use port_pool::{Side, Signal};
+use relay_outside::OutOfMemory;
+use sdes_lines::Suite;
+use srtp_keys::DrawnKey;
+use std::alloc::Global;
+
+// An offer without a leg: a key, and a section that is dropped.
+fn offer(alloc: Global) -> Result<(Prepare<Mute>, OfferedChanges), OutOfMemory>
+    ensures tells { IfOk result (λ both. PrepareFor both.0 (offered_keys both.1) (offered_drops both.1)) }
+    ensures ready { IfOk result (λ both. IsReady both.0 × (added both.0 ≡ [])) }
+    ensures keys { IfOk result (λ both. (key : NewKey) × (offered_keys both.1 ≡ key ∷ [])) }
+{
+    let mut signal = Prepare::reserve(alloc, 0, 1)?;
+    let mut changes = OfferedChanges::reserve(alloc, 1, 1)?;
+    let key = DrawnKey::from_draw(7, [9; 30]);
+    changes.add_key(0, Side::A, &key, Suite::Tag80);
+    signal.add_key(0, Side::A, key, Suite::Tag80);
+    changes.drop_section(3);
+    signal.drop_section(3);
+    Ok((signal, changes))
+}
+
+fn at(number: u64, moment: u64) -> BoardEntryId {
+    BoardEntryId { number, moment }
+}
+
+#[test]
+fn a_call_is_prepared_asked_and_ended(rt: HostRuntime) {
+    let alloc = rt.alloc();
+    let Ok((signal, changes)) = offer(alloc) else {
+        panic!(rt; "no memory");
+    };
+    let Ok(mut dropped) = Gone::new(alloc) else {
+        panic!(rt; "no memory");
+    };
+    let Ok(mut ended) = Gone::new(alloc) else {
+        panic!(rt; "no memory");
+    };
+    let Some((turns, mut hand)) = begin(alloc) else {
+        panic!(rt; "no memory");
+    };
+    prepare_cell(
+        &rt,
+        &BoardTurn {
+            turns: &turns,
+            config: &CONFIG,
+            entry_id: at(0, 5),
+        },
+        &mut hand,
+        1,
+        0,
+        signal,
+        &changes,
+        &mut dropped,
+    );
+    let young = expire_cell(
+        &rt,
+        &BoardTurn {
+            turns: &turns,
+            config: &CONFIG,
+            entry_id: at(1, 120_004),
+        },
+        &mut hand,
+        1,
+    );
+    let old = expire_cell(
+        &rt,
+        &BoardTurn {
+            turns: &turns,
+            config: &CONFIG,
+            entry_id: at(2, 120_005),
+        },
+        &mut hand,
+        1,
+    );
+    end_cell(
+        &rt,
+        &BoardTurn {
+            turns: &turns,
+            config: &CONFIG,
+            entry_id: at(3, 120_006),
+        },
+        &mut hand,
+        1,
+        &mut ended,
+    );
+    let gone = expire_cell(
+        &rt,
+        &BoardTurn {
+            turns: &turns,
+            config: &CONFIG,
+            entry_id: at(4, 999_999),
+        },
+        &mut hand,
+        1,
+    );
+    drop(turns.close(hand));
+    assert!(rt;
+        !young && old,
+        "it is due as long after its offer as the timeout"
+    );
+    assert!(rt; !gone, "no call is due where it ended");
+    assert!(rt;
+        dropped.pop().is_none() && ended.pop().is_none(),
+        "it had no leg"
+    );
+}
+
+#[test]
+fn a_committed_call_is_due_by_its_last_answer(rt: HostRuntime) {
+    let alloc = rt.alloc();
+    let Ok(signal) = Signal::new(alloc) else {
+        panic!(rt; "no memory");
+    };
+    let Ok(contexts) = InContexts::reserve(alloc, 0) else {
+        panic!(rt; "no memory");
+    };
+    let Ok(mut rejected) = Gone::new(alloc) else {
+        panic!(rt; "no memory");
+    };
+    let Some((turns, mut hand)) = begin(alloc) else {
+        panic!(rt; "no memory");
+    };
+    commit_cell(
+        &rt,
+        &BoardTurn {
+            turns: &turns,
+            config: &CONFIG,
+            entry_id: at(0, 200_000),
+        },
+        &mut hand,
+        2,
+        &signal,
+        contexts,
+        &mut rejected,
+    );
+    let young = expire_cell(
+        &rt,
+        &BoardTurn {
+            turns: &turns,
+            config: &CONFIG,
+            entry_id: at(1, 259_999),
+        },
+        &mut hand,
+        2,
+    );
+    let old = expire_cell(
+        &rt,
+        &BoardTurn {
+            turns: &turns,
+            config: &CONFIG,
+            entry_id: at(2, 260_000),
+        },
+        &mut hand,
+        2,
+    );
+    drop(turns.close(hand));
+    assert!(rt; !young && old && rejected.pop().is_none());
+}
+
+#[test]
+fn a_cell_without_a_leg_tells_of_none(rt: HostRuntime) {
+    let alloc = rt.alloc();
+    let Ok(mut told) = LegReports::new(alloc) else {
+        panic!(rt; "no memory");
+    };
+    let Some((turns, mut hand)) = begin(alloc) else {
+        panic!(rt; "no memory");
+    };
+    read_cell(
+        &rt,
+        &BoardTurn {
+            turns: &turns,
+            config: &CONFIG,
+            entry_id: at(0, 5),
+        },
+        &mut hand,
+        1,
+        &mut told,
+    );
+    drop(turns.close(hand));
+    assert!(rt; told.len() == 0);
+}
