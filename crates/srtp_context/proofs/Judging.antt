@@ -1,5 +1,5 @@
--- How a received packet is judged: which answer comes in which case, and that a packet that is taken has a fresh index.
-use Rattle.std.proofs.Common.{◌≡◌, ℕ, ◌+◌, ◌<◌, ◌≤◌, Bool, true, false, List, ◌∷◌, length, take, Some, arith, sym, ◌∙◌, ap, subst, refl}
+-- How a received packet is judged: which answer comes in which case.
+use Rattle.std.proofs.Common.{◌≡◌, ℕ, ◌+◌, ◌<◌, ◌≤◌, Bool, true, false, List, ◌∷◌, length, take, Some, arith, sym, ◌∙◌, ap, subst, refl, length-take-le}
 use Rattle.std.specs.Prelude.{Result, Ok, Err, nat_lt, if◌then◌else◌}
 use Rattle.std.specs.Option.{option_map_or}
 use Rattle.std.proofs.lemmas.Bool.Decides.{nat_tests}
@@ -8,9 +8,9 @@ use Rattle.rtp_packet.specs.declared.head.RtpHead.{RtpHead}
 use Rattle.rtp_packet.specs.Head.{rtp_head}
 use Rattle.sdes_lines.specs.declared.crypto_line.Suite.{Suite}
 use Rattle.replay_window.specs.declared.answers.Near.{Near}
-use Rattle.replay_window.specs.declared.answers.Near.TheVariants.{At, Below, Beyond}
+use Rattle.replay_window.specs.declared.answers.Near.TheVariants.{At}
 use Rattle.replay_window.specs.declared.answers.Fresh.{Fresh}
-use Rattle.replay_window.specs.declared.answers.Fresh.TheVariants.{Yes, TooOld, Used}
+use Rattle.replay_window.specs.declared.answers.Fresh.TheVariants.{Yes}
 use Rattle.replay_window.specs.Indices.{near, fresh}
 use Rattle.srtp_keys.specs.declared.faults.UnprotectFault.{UnprotectFault}
 use Rattle.srtp_keys.specs.declared.faults.UnprotectFault.TheVariants as fault
@@ -33,63 +33,43 @@ by_size master suite notes bytes found short =
     then Err fault.Short
     else index_near master suite found.ssrc notes bytes (near (indices Rtp found.ssrc notes) found.seq)
 
-pub short : (master : List ℕ) (suite : Suite) (notes : List Note) (bytes : List ℕ) (found : RtpHead) (size : ℕ) → size ≡ tag_size suite
-    → length bytes < found.head + size → Err fault.Short ≡ taken_index master suite notes bytes found
+pub short : (master : List ℕ) (suite : Suite) (notes : List Note) (buf : List ℕ) (len : ℕ) (found : RtpHead) (size : ℕ)
+    → len ≤ length buf → size ≡ tag_size suite → len < found.head + size
+    → Err fault.Short ≡ taken_index master suite notes (take len buf) found
 unfolding taken_index by_size
-short master suite notes bytes found size tag is =
-    sym (ap (by_size master suite notes bytes found) (less (length bytes) (found.head + tag_size suite) (omega (arith, tag))))
+short master suite notes buf len found size held tag is =
+    let whole : length (take len buf) ≡ len = length-take-le len buf held in
+    sym (ap (by_size master suite notes (take len buf) found) (less (length (take len buf)) (found.head + tag_size suite) (omega arith)))
 
-pub long : (master : List ℕ) (suite : Suite) (notes : List Note) (bytes : List ℕ) (found : RtpHead) (size : ℕ) (nearest : Near)
-    → size ≡ tag_size suite → found.head + size ≤ length bytes → nearest ≡ near (indices Rtp found.ssrc notes) found.seq
-    → index_near master suite found.ssrc notes bytes nearest ≡ taken_index master suite notes bytes found
+-- the packet is long enough: the answer is by the nearest index
+pub long : (master : List ℕ) (suite : Suite) (notes : List Note) (buf : List ℕ) (len : ℕ) (found : RtpHead) (size source : ℕ) (nearest : Near)
+    → len ≤ length buf → size ≡ tag_size suite → found.head + size ≤ len
+    → source ≡ found.ssrc → nearest ≡ near (indices Rtp source notes) found.seq
+    → index_near master suite found.ssrc notes (take len buf) nearest ≡ taken_index master suite notes (take len buf) found
 unfolding taken_index by_size
-long master suite notes bytes found size nearest tag is at =
-    ap (index_near master suite found.ssrc notes bytes) at
-    ∙ sym (ap (by_size master suite notes bytes found) (not_less (length bytes) (found.head + tag_size suite) (omega (arith, tag))))
+long master suite notes buf len found size source nearest held tag is same at =
+    let whole : length (take len buf) ≡ len = length-take-le len buf held in
+    ap (index_near master suite found.ssrc notes (take len buf)) (at ∙ ap (λ s. near (indices Rtp s notes) found.seq) same)
+    ∙ sym (ap (by_size master suite notes (take len buf) found) (not_less (length (take len buf)) (found.head + tag_size suite) (omega arith)))
 
 pub not_authentic : (master : List ℕ) (suite : Suite) (ssrc : ℕ) (notes : List Note) (bytes : List ℕ) (index : ℕ)
     → is_authentic master suite bytes index ≡ false → Err fault.NotAuthentic ≡ index_near master suite ssrc notes bytes (At index)
 not_authentic master suite ssrc notes bytes index not =
     sym (ap (λ t. if t then index_by ssrc notes index (fresh (indices Rtp ssrc notes) index) else Err fault.NotAuthentic) not)
 
-pub authentic : (master : List ℕ) (suite : Suite) (ssrc : ℕ) (notes : List Note) (bytes : List ℕ) (index : ℕ)
-    → is_authentic master suite bytes index ≡ true
-    → index_by ssrc notes index (fresh (indices Rtp ssrc notes) index) ≡ index_near master suite ssrc notes bytes (At index)
-authentic master suite ssrc notes bytes index is =
-    sym (ap (λ t. if t then index_by ssrc notes index (fresh (indices Rtp ssrc notes) index) else Err fault.NotAuthentic) is)
+-- its tag is right for that index: the answer is by the window
+pub authentic : (master : List ℕ) (suite : Suite) (ssrc : ℕ) (notes : List Note) (bytes : List ℕ) (index source : ℕ) (answer : Fresh)
+    → is_authentic master suite bytes index ≡ true → source ≡ ssrc → answer ≡ fresh (indices Rtp source notes) index
+    → index_by ssrc notes index answer ≡ index_near master suite ssrc notes bytes (At index)
+authentic master suite ssrc notes bytes index source answer right same is =
+    ap (index_by ssrc notes index) (is ∙ ap (λ s. fresh (indices Rtp s notes) index) same)
+    ∙ sym (ap (λ t. if t then index_by ssrc notes index (fresh (indices Rtp ssrc notes) index) else Err fault.NotAuthentic) right)
 
--- a packet that is taken has a fresh index
-fresh_by : (ssrc : ℕ) (notes : List Note) (index given : ℕ) (answer : Fresh) → answer ≡ fresh (indices Rtp ssrc notes) given
-    → Ok index ≡ index_by ssrc notes given answer → fresh (indices Rtp ssrc notes) index ≡ Yes
-fresh_by ssrc notes index given TooOld is taken = cc
-fresh_by ssrc notes index given Used is taken = cc
-fresh_by ssrc notes index given Yes is taken = by_room (has_room Rtp ssrc notes) taken
-  where
-    by_room : (room : Bool) → ◌≡◌ {A = Result ℕ UnprotectFault} (Ok index) (if room then Ok given else Err fault.TooManySources)
-        → fresh (indices Rtp ssrc notes) index ≡ Yes
-    by_room true taken = let same : index ≡ given = cc in ap (λ i. fresh (indices Rtp ssrc notes) i) same ∙ sym is
-    by_room false taken = cc
-
-fresh_near : (master : List ℕ) (suite : Suite) (ssrc : ℕ) (notes : List Note) (bytes : List ℕ) (index : ℕ) (nearest : Near)
-    → Ok index ≡ index_near master suite ssrc notes bytes nearest → fresh (indices Rtp ssrc notes) index ≡ Yes
-fresh_near master suite ssrc notes bytes index Below taken = cc
-fresh_near master suite ssrc notes bytes index Beyond taken = cc
-fresh_near master suite ssrc notes bytes index (At given) taken = by_tag (is_authentic master suite bytes given) taken
-  where
-    by_tag : (right : Bool) → Ok index ≡ (if right then index_by ssrc notes given (fresh (indices Rtp ssrc notes) given) else Err fault.NotAuthentic)
-        → fresh (indices Rtp ssrc notes) index ≡ Yes
-    by_tag true taken = fresh_by ssrc notes index given (fresh (indices Rtp ssrc notes) given) refl taken
-    by_tag false taken = cc
-
-pub taken_fresh : (master : List ℕ) (suite : Suite) (notes : List Note) (bytes : List ℕ) (found : RtpHead) (index : ℕ)
-    → Ok index ≡ taken_index master suite notes bytes found → fresh (indices Rtp found.ssrc notes) index ≡ Yes
-unfolding taken_index by_size
-taken_fresh master suite notes bytes found index taken = by_length (nat_lt (length bytes) (found.head + tag_size suite)) taken
-  where
-    by_length : (short : Bool) → Ok index ≡ by_size master suite notes bytes found short → fresh (indices Rtp found.ssrc notes) index ≡ Yes
-    by_length true taken = cc
-    by_length false taken =
-        fresh_near master suite found.ssrc notes bytes index (near (indices Rtp found.ssrc notes) found.seq) taken
+-- the window allows the index: the answer is by the room
+pub fresh_by : (ssrc : ℕ) (notes : List Note) (index source : ℕ) (room : Bool) → source ≡ ssrc → room ≡ has_room Rtp source notes
+    → ◌≡◌ {A = Result ℕ UnprotectFault} (if room then Ok index else Err fault.TooManySources) (index_by ssrc notes index Yes)
+fresh_by ssrc notes index source room same is =
+    ap (λ t. if t then Ok index else Err fault.TooManySources) (is ∙ ap (λ s. has_room Rtp s notes) same)
 
 opening_is : (master : List ℕ) (suite : Suite) (notes : List Note) (bytes : List ℕ) (found : RtpHead) (taken : Result ℕ UnprotectFault)
     → rtp_head bytes ≡ Some found → taken ≡ taken_index master suite notes bytes found

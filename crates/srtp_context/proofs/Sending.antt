@@ -1,6 +1,5 @@
--- How a packet that is to be sent is judged: which answer comes in which case, and that a packet that is sent has a fresh
--- index.
-use Rattle.std.proofs.Common.{◌≡◌, ℕ, Bool, true, false, List, ◌∷◌, take, Some, sym, ◌∙◌, ap, subst, refl}
+-- How a packet that is to be sent is judged: which answer comes in which case.
+use Rattle.std.proofs.Common.{◌≡◌, ℕ, Bool, List, ◌∷◌, take, Some, sym, ◌∙◌, ap, subst, refl}
 use Rattle.std.specs.Prelude.{Result, Ok, Err, if◌then◌else◌}
 use Rattle.std.specs.Option.{option_map_or}
 use Rattle.rtp_packet.specs.declared.head.Half.TheVariants.{Rtp}
@@ -8,9 +7,9 @@ use Rattle.rtp_packet.specs.declared.head.RtpHead.{RtpHead}
 use Rattle.rtp_packet.specs.Head.{rtp_head}
 use Rattle.sdes_lines.specs.declared.crypto_line.Suite.{Suite}
 use Rattle.replay_window.specs.declared.answers.Near.{Near}
-use Rattle.replay_window.specs.declared.answers.Near.TheVariants.{At, Below, Beyond}
+use Rattle.replay_window.specs.declared.answers.Near.TheVariants.{At}
 use Rattle.replay_window.specs.declared.answers.Fresh.{Fresh}
-use Rattle.replay_window.specs.declared.answers.Fresh.TheVariants.{Yes, TooOld, Used}
+use Rattle.replay_window.specs.declared.answers.Fresh.TheVariants.{Yes}
 use Rattle.replay_window.specs.Indices.{near, fresh}
 use Rattle.srtp_keys.specs.declared.faults.ProtectFault.{ProtectFault}
 use Rattle.srtp_keys.specs.declared.faults.ProtectFault.TheVariants as fault
@@ -20,33 +19,26 @@ use Rattle.srtp_context.specs.Packets.{protect, Writes}
 use Rattle.srtp_context.specs.Wrapping.{Wrapped, index_by, index_near, sent_index, wrapped_at, wrapping}
 use Rattle.srtp_context.specs.Contexts.{OutFor, WrapsTo}
 
-pub near_is : (notes : List Note) (found : RtpHead) (nearest : Near) → nearest ≡ near (indices Rtp found.ssrc notes) found.seq
+pub near_is : (notes : List Note) (found : RtpHead) (source : ℕ) (nearest : Near)
+    → source ≡ found.ssrc → nearest ≡ near (indices Rtp source notes) found.seq
     → index_near found.ssrc notes nearest ≡ sent_index notes found
 unfolding sent_index
-near_is notes found nearest at = ap (index_near found.ssrc notes) at
+near_is notes found source nearest same at =
+    ap (index_near found.ssrc notes) (at ∙ ap (λ s. near (indices Rtp s notes) found.seq) same)
 
--- a packet that is sent has a fresh index
-fresh_by : (ssrc : ℕ) (notes : List Note) (index given : ℕ) (answer : Fresh) → answer ≡ fresh (indices Rtp ssrc notes) given
-    → Ok index ≡ index_by ssrc notes given answer → fresh (indices Rtp ssrc notes) index ≡ Yes
-fresh_by ssrc notes index given TooOld is sent = cc
-fresh_by ssrc notes index given Used is sent = cc
-fresh_by ssrc notes index given Yes is sent = by_room (has_room Rtp ssrc notes) sent
-  where
-    by_room : (room : Bool) → ◌≡◌ {A = Result ℕ ProtectFault} (Ok index) (if room then Ok given else Err fault.TooManySources)
-        → fresh (indices Rtp ssrc notes) index ≡ Yes
-    by_room true sent = let same : index ≡ given = cc in ap (λ i. fresh (indices Rtp ssrc notes) i) same ∙ sym is
-    by_room false sent = cc
+-- there is a nearest index: the answer is by the window
+pub at_index : (notes : List Note) (found : RtpHead) (source index : ℕ) (answer : Fresh)
+    → source ≡ found.ssrc → At index ≡ near (indices Rtp source notes) found.seq → answer ≡ fresh (indices Rtp source notes) index
+    → index_by found.ssrc notes index answer ≡ sent_index notes found
+at_index notes found source index answer same at is =
+    ap (index_by found.ssrc notes index) (is ∙ ap (λ s. fresh (indices Rtp s notes) index) same)
+    ∙ near_is notes found source (At index) same at
 
-fresh_near : (ssrc : ℕ) (notes : List Note) (index : ℕ) (nearest : Near)
-    → Ok index ≡ index_near ssrc notes nearest → fresh (indices Rtp ssrc notes) index ≡ Yes
-fresh_near ssrc notes index Below sent = cc
-fresh_near ssrc notes index Beyond sent = cc
-fresh_near ssrc notes index (At given) sent = fresh_by ssrc notes index given (fresh (indices Rtp ssrc notes) given) refl sent
-
-pub sent_fresh : (notes : List Note) (found : RtpHead) (index : ℕ) → Ok index ≡ sent_index notes found
-    → fresh (indices Rtp found.ssrc notes) index ≡ Yes
-unfolding sent_index
-sent_fresh notes found index sent = fresh_near found.ssrc notes index (near (indices Rtp found.ssrc notes) found.seq) sent
+-- the window allows the index: the answer is by the room
+pub fresh_by : (ssrc : ℕ) (notes : List Note) (index source : ℕ) (room : Bool) → source ≡ ssrc → room ≡ has_room Rtp source notes
+    → ◌≡◌ {A = Result ℕ ProtectFault} (if room then Ok index else Err fault.TooManySources) (index_by ssrc notes index Yes)
+fresh_by ssrc notes index source room same is =
+    ap (λ t. if t then Ok index else Err fault.TooManySources) (is ∙ ap (λ s. has_room Rtp s notes) same)
 
 wrapping_is : (master : List ℕ) (suite : Suite) (notes : List Note) (packet : List ℕ) (found : RtpHead) (sent : Result ℕ ProtectFault)
     → rtp_head packet ≡ Some found → sent ≡ sent_index notes found

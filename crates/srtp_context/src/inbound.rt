@@ -1,19 +1,15 @@
-ghost use Rattle.std.specs.Prelude.{ℕ, [], true, ◌≡◌, ◌+◌, ◌<◌, ◌≤◌, ◌^◌, List, Some, length, take, IsSome, IfOk, OnErr};
+ghost use Rattle.std.specs.Prelude.{ℕ, [], ◌≡◌, ◌<◌, ◌≤◌, ◌^◌, List, Some, length, take, IsSome, IfOk, OnErr};
 ghost use Rattle.rtp_packet.specs.Head.{rtp_head};
 ghost use Rattle.sdes_lines.specs.declared.crypto_line.Suite.{Suite};
-ghost use Rattle.rtp_packet.specs.declared.head.Half.TheVariants.{Rtp};
-ghost use Rattle.replay_window.specs.Indices.{fresh};
-ghost use Rattle.srtp_sources.specs.Notes.{Note, indices};
-ghost use Rattle.srtp_sources.specs.Tables.{SourcesFor, IsPlaced, can_note};
-ghost use Rattle.srtp_context.specs.Packets.{tag_size};
-ghost use Rattle.srtp_context.specs.Opening.{opening, taken_index, index_by};
+ghost use Rattle.srtp_sources.specs.Notes.{Note};
+ghost use Rattle.srtp_context.specs.Opening.{opening};
 
 use crate::session::{RtpSession, tag_size};
 use replay_window::{Fresh, Near};
 use rtp_packet::{RtpHead, rtp};
 use sdes_lines::Suite;
 use srtp_keys::UnprotectFault;
-use srtp_sources::{Source, Sources};
+use srtp_sources::Sources;
 
 /// The state of received RTP packets under one master key. It can't be cloned.
 #[derive(Drop)]
@@ -68,65 +64,29 @@ impl InRtp {
         ensures refused { OnErr result ((self.new ≡ self.old) × (buf.new ≡ buf.old)) }
         ensures opens { (master : List ℕ) (suite : Suite) (notes : List Note) → InFor master suite self.old notes → OpensTo (opening master suite notes (take len buf.old)) master suite notes self.old self.new buf.old buf.new result }
     {
-        let source = self.sources.find(found.ssrc);
-        match self.taken_index(&buf[..len], found, source) {
-            Err(cause) => Err(cause),
-            Ok(index) => {
-                let size = self.session.open(buf, len, found, index);
-                self.sources.note_for(source, index);
-                Ok(size)
-            }
-        }
-    }
-
-    // The index under which a packet with this head, of this source, is taken.
-    fn taken_index(
-        &self,
-        bytes: &[u8],
-        found: RtpHead,
-        source: Source,
-    ) -> Result<u64, UnprotectFault>
-        requires size { length bytes.now < 2 ^ 31 }
-        requires within { found.head ≤ length bytes.now }
-        requires ssrc { source.ssrc ≡ found.ssrc }
-        requires placed { IsPlaced self.now.sources source }
-        ensures index { IfOk result (λ index. index < 2 ^ 48) }
-        ensures tag { IfOk result (λ _. found.head + tag_size self.now.session.suite ≤ length bytes.now) }
-        ensures room { IfOk result (λ _. can_note self.now.sources source.ssrc ≡ true) }
-        ensures taken { (master : List ℕ) (suite : Suite) (notes : List Note) → InFor master suite self.now notes → result ≡ taken_index master suite notes bytes.now found }
-    {
-        if bytes.len() < found.head + tag_size(self.session.suite) {
+        if len < found.head + tag_size(self.session.suite) {
             return Err(UnprotectFault::Short);
         }
-        match self.sources.near_of(source, found.seq) {
-            Near::At(index) => {
-                if !self.session.is_authentic(bytes, index) {
-                    return Err(UnprotectFault::NotAuthentic);
-                }
-                self.allowed(source, index)
-            }
-            Near::Below => Err(UnprotectFault::TooOld),
-            Near::Beyond => Err(UnprotectFault::TooOld),
+        let source = self.sources.find(found.ssrc);
+        // The tag is over the roll-over counter too, so it is checked for an index.
+        let index = match self.sources.near_of(source, found.seq) {
+            Near::At(index) => index,
+            Near::Below => return Err(UnprotectFault::TooOld),
+            Near::Beyond => return Err(UnprotectFault::TooOld),
+        };
+        if !self.session.is_authentic(&buf[..len], index) {
+            return Err(UnprotectFault::NotAuthentic);
         }
-    }
-
-    // The index, where the window allows it and its source is known or has room.
-    fn allowed(&self, source: Source, index: u64) -> Result<u64, UnprotectFault>
-        requires placed { IsPlaced self.now.sources source }
-        requires index { index < 2 ^ 48 }
-        ensures index { IfOk result (λ allowed. allowed ≡ index) }
-        ensures room { IfOk result (λ _. can_note self.now.sources source.ssrc ≡ true) }
-        ensures allowed { (notes : List Note) → SourcesFor Rtp self.now.sources notes → result ≡ index_by source.ssrc notes index (fresh (indices Rtp source.ssrc notes) index) }
-    {
         match self.sources.fresh_of(source, index) {
-            Fresh::TooOld => Err(UnprotectFault::TooOld),
-            Fresh::Used => Err(UnprotectFault::Replayed),
-            Fresh::Yes => {
-                if !self.sources.has_room_for(source) {
-                    return Err(UnprotectFault::TooManySources);
-                }
-                Ok(index)
-            }
+            Fresh::Yes => {}
+            Fresh::TooOld => return Err(UnprotectFault::TooOld),
+            Fresh::Used => return Err(UnprotectFault::Replayed),
         }
+        if !self.sources.has_room_for(source) {
+            return Err(UnprotectFault::TooManySources);
+        }
+        // The packet is taken: from here on nothing is refused.
+        self.sources.note_for(source, index);
+        Ok(self.session.open(buf, len, found, index))
     }
 }

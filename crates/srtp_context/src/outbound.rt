@@ -1,19 +1,15 @@
-ghost use Rattle.std.specs.Prelude.{ℕ, [], true, ◌≡◌, ◌+◌, ◌<◌, ◌≤◌, ◌^◌, List, Some, length, take, IsSome, IfOk, OnErr};
-ghost use Rattle.rtp_packet.specs.declared.head.Half.TheVariants.{Rtp};
+ghost use Rattle.std.specs.Prelude.{ℕ, [], ◌≡◌, ◌+◌, ◌<◌, ◌≤◌, ◌^◌, List, Some, length, take, IsSome, IfOk, OnErr};
 ghost use Rattle.rtp_packet.specs.Head.{rtp_head};
 ghost use Rattle.sdes_lines.specs.declared.crypto_line.Suite.{Suite};
-ghost use Rattle.replay_window.specs.Indices.{fresh};
-ghost use Rattle.srtp_sources.specs.Notes.{Note, indices};
-ghost use Rattle.srtp_sources.specs.Tables.{SourcesFor, IsPlaced, can_note};
-ghost use Rattle.srtp_context.specs.Packets.{tag_size};
-ghost use Rattle.srtp_context.specs.Wrapping.{wrapping, sent_index, index_by};
+ghost use Rattle.srtp_sources.specs.Notes.{Note};
+ghost use Rattle.srtp_context.specs.Wrapping.{wrapping};
 
-use crate::session::{RtpSession, tag_size};
+use crate::session::RtpSession;
 use replay_window::{Fresh, Near};
 use rtp_packet::{RtpHead, rtp};
 use sdes_lines::Suite;
 use srtp_keys::{ProtectFault, RtpKey};
-use srtp_sources::{Source, Sources};
+use srtp_sources::Sources;
 
 /// The state of RTP packets that are sent under one master key. It can't be cloned, so that no index is used twice.
 #[derive(Drop)]
@@ -70,48 +66,22 @@ impl OutRtp {
         ensures wraps { (master : List ℕ) (suite : Suite) (notes : List Note) → OutFor master suite self.old notes → WrapsTo (wrapping master suite notes (take len buf.old)) master suite notes self.old self.new buf.old buf.new result }
     {
         let source = self.sources.find(found.ssrc);
-        match self.sent_index(found, source) {
-            Err(cause) => Err(cause),
-            Ok(index) => {
-                let size = self.session.wrap(buf, len, found, index);
-                self.sources.note_for(source, index);
-                Ok((size, index))
-            }
-        }
-    }
-
-    // The index under which a packet with this head, of this source, is sent.
-    fn sent_index(&self, found: RtpHead, source: Source) -> Result<u64, ProtectFault>
-        requires ssrc { source.ssrc ≡ found.ssrc }
-        requires placed { IsPlaced self.now.sources source }
-        ensures index { IfOk result (λ index. index < 2 ^ 48) }
-        ensures room { IfOk result (λ _. can_note self.now.sources source.ssrc ≡ true) }
-        ensures sent { (notes : List Note) → SourcesFor Rtp self.now.sources notes → result ≡ sent_index notes found }
-    {
-        match self.sources.near_of(source, found.seq) {
-            Near::At(index) => self.allowed(source, index),
-            Near::Below => Err(ProtectFault::TooOld),
-            Near::Beyond => Err(ProtectFault::KeySpent),
-        }
-    }
-
-    // The index, where it wasn't used and its source is known or has room.
-    fn allowed(&self, source: Source, index: u64) -> Result<u64, ProtectFault>
-        requires placed { IsPlaced self.now.sources source }
-        requires index { index < 2 ^ 48 }
-        ensures index { IfOk result (λ allowed. allowed ≡ index) }
-        ensures room { IfOk result (λ _. can_note self.now.sources source.ssrc ≡ true) }
-        ensures allowed { (notes : List Note) → SourcesFor Rtp self.now.sources notes → result ≡ index_by source.ssrc notes index (fresh (indices Rtp source.ssrc notes) index) }
-    {
+        let index = match self.sources.near_of(source, found.seq) {
+            Near::At(index) => index,
+            Near::Below => return Err(ProtectFault::TooOld),
+            Near::Beyond => return Err(ProtectFault::KeySpent),
+        };
         match self.sources.fresh_of(source, index) {
-            Fresh::TooOld => Err(ProtectFault::TooOld),
-            Fresh::Used => Err(ProtectFault::IndexUsed),
-            Fresh::Yes => {
-                if !self.sources.has_room_for(source) {
-                    return Err(ProtectFault::TooManySources);
-                }
-                Ok(index)
-            }
+            Fresh::Yes => {}
+            Fresh::TooOld => return Err(ProtectFault::TooOld),
+            Fresh::Used => return Err(ProtectFault::IndexUsed),
         }
+        if !self.sources.has_room_for(source) {
+            return Err(ProtectFault::TooManySources);
+        }
+        // The packet is sent: from here on nothing is refused.
+        self.sources.note_for(source, index);
+        let size = self.session.wrap(buf, len, found, index);
+        Ok((size, index))
     }
 }
