@@ -1,12 +1,12 @@
--- How a received packet is judged: which answer comes in which case, and that a packet that is taken has a fresh index.
-use Rattle.std.proofs.Common.{◌≡◌, ℕ, ◌<◌, ◌≤◌, Bool, true, false, List, ◌∷◌, length, take, Some, arith, sym, ◌∙◌, ap, subst, refl}
+-- How a received packet is judged: which answer comes in which case.
+use Rattle.std.proofs.Common.{◌≡◌, ℕ, ◌<◌, ◌≤◌, Bool, true, false, List, ◌∷◌, length, take, Some, arith, sym, ◌∙◌, ap, subst, refl, length-take-le}
 use Rattle.std.specs.Prelude.{Result, Ok, Err, nat_lt, if◌then◌else◌}
 use Rattle.std.specs.Option.{option_map_or}
 use Rattle.std.proofs.lemmas.Bool.Decides.{nat_tests}
 use Rattle.rtp_packet.specs.declared.head.Half.TheVariants.{Rtcp}
 use Rattle.rtp_packet.specs.Head.{rtcp_ssrc}
 use Rattle.replay_window.specs.declared.answers.Fresh.{Fresh}
-use Rattle.replay_window.specs.declared.answers.Fresh.TheVariants.{Yes, TooOld, Used}
+use Rattle.replay_window.specs.declared.answers.Fresh.TheVariants.{Yes}
 use Rattle.replay_window.specs.Indices.{fresh}
 use Rattle.srtp_keys.specs.declared.faults.UnprotectFault.{UnprotectFault}
 use Rattle.srtp_keys.specs.declared.faults.UnprotectFault.TheVariants as fault
@@ -33,48 +33,37 @@ by_size : List ℕ → List Note → List ℕ → ℕ → Bool → Result ℕ Un
 by_size master notes bytes ssrc short =
     if short then Err fault.Short else by_tag notes bytes ssrc (is_authentic master bytes)
 
-pub short : (master : List ℕ) (notes : List Note) (bytes : List ℕ) (ssrc : ℕ) → length bytes < 22
-    → Err fault.Short ≡ taken_index master notes bytes ssrc
+pub short : (master : List ℕ) (notes : List Note) (buf : List ℕ) (len ssrc : ℕ) → len ≤ length buf → len < 22
+    → Err fault.Short ≡ taken_index master notes (take len buf) ssrc
 unfolding taken_index by_size by_tag
-short master notes bytes ssrc is = sym (ap (by_size master notes bytes ssrc) (less (length bytes) 22 is))
+short master notes buf len ssrc held is =
+    let whole : length (take len buf) ≡ len = length-take-le len buf held in
+    sym (ap (by_size master notes (take len buf) ssrc) (less (length (take len buf)) 22 (omega arith)))
 
-pub not_authentic : (master : List ℕ) (notes : List Note) (bytes : List ℕ) (ssrc : ℕ) → 22 ≤ length bytes
-    → is_authentic master bytes ≡ false → Err fault.NotAuthentic ≡ taken_index master notes bytes ssrc
+pub not_authentic : (master : List ℕ) (notes : List Note) (buf : List ℕ) (len ssrc : ℕ) → len ≤ length buf → 22 ≤ len
+    → is_authentic master (take len buf) ≡ false → Err fault.NotAuthentic ≡ taken_index master notes (take len buf) ssrc
 unfolding taken_index by_size by_tag
-not_authentic master notes bytes ssrc long wrong =
-    sym (ap (by_size master notes bytes ssrc) (not_less (length bytes) 22 long) ∙ ap (by_tag notes bytes ssrc) wrong)
+not_authentic master notes buf len ssrc held long wrong =
+    let whole : length (take len buf) ≡ len = length-take-le len buf held in
+    sym (ap (by_size master notes (take len buf) ssrc) (not_less (length (take len buf)) 22 (omega arith))
+    ∙ ap (by_tag notes (take len buf) ssrc) wrong)
 
-pub authentic : (master : List ℕ) (notes : List Note) (bytes : List ℕ) (ssrc index : ℕ) → 22 ≤ length bytes
-    → is_authentic master bytes ≡ true → index ≡ carried_index bytes
-    → index_by ssrc notes index (fresh (indices Rtcp ssrc notes) index) ≡ taken_index master notes bytes ssrc
+-- the packet is long enough and its tag is right: the answer is by the window
+pub authentic : (master : List ℕ) (notes : List Note) (buf : List ℕ) (len ssrc index : ℕ) (answer : Fresh) → len ≤ length buf → 22 ≤ len
+    → is_authentic master (take len buf) ≡ true → index ≡ carried_index (take len buf) → answer ≡ fresh (indices Rtcp ssrc notes) index
+    → index_by ssrc notes index answer ≡ taken_index master notes (take len buf) ssrc
 unfolding taken_index by_size by_tag
-authentic master notes bytes ssrc index long right is =
-    ap (λ i. index_by ssrc notes i (fresh (indices Rtcp ssrc notes) i)) is
-    ∙ sym (ap (by_size master notes bytes ssrc) (not_less (length bytes) 22 long) ∙ ap (by_tag notes bytes ssrc) right)
+authentic master notes buf len ssrc index answer held long right is at =
+    let whole : length (take len buf) ≡ len = length-take-le len buf held in
+    ap (index_by ssrc notes index) at
+    ∙ ap (λ i. index_by ssrc notes i (fresh (indices Rtcp ssrc notes) i)) is
+    ∙ sym (ap (by_size master notes (take len buf) ssrc) (not_less (length (take len buf)) 22 (omega arith))
+    ∙ ap (by_tag notes (take len buf) ssrc) right)
 
--- a packet that is taken has a fresh index
-fresh_by : (ssrc : ℕ) (notes : List Note) (index given : ℕ) (answer : Fresh) → answer ≡ fresh (indices Rtcp ssrc notes) given
-    → Ok index ≡ index_by ssrc notes given answer → fresh (indices Rtcp ssrc notes) index ≡ Yes
-fresh_by ssrc notes index given TooOld is taken = cc
-fresh_by ssrc notes index given Used is taken = cc
-fresh_by ssrc notes index given Yes is taken = by_room (has_room Rtcp ssrc notes) taken
-  where
-    by_room : (room : Bool) → ◌≡◌ {A = Result ℕ UnprotectFault} (Ok index) (if room then Ok given else Err fault.TooManySources)
-        → fresh (indices Rtcp ssrc notes) index ≡ Yes
-    by_room true taken = let same : index ≡ given = cc in ap (λ i. fresh (indices Rtcp ssrc notes) i) same ∙ sym is
-    by_room false taken = cc
-
-pub taken_fresh : (master : List ℕ) (notes : List Note) (bytes : List ℕ) (ssrc index : ℕ)
-    → Ok index ≡ taken_index master notes bytes ssrc → fresh (indices Rtcp ssrc notes) index ≡ Yes
-unfolding taken_index by_size by_tag
-taken_fresh master notes bytes ssrc index taken = by_length (nat_lt (length bytes) 22) (is_authentic master bytes) taken
-  where
-    by_length : (short right : Bool) → Ok index ≡ (if short then Err fault.Short else by_tag notes bytes ssrc right)
-        → fresh (indices Rtcp ssrc notes) index ≡ Yes
-    by_length true right taken = cc
-    by_length false false taken = cc
-    by_length false true taken =
-        fresh_by ssrc notes index (carried_index bytes) (fresh (indices Rtcp ssrc notes) (carried_index bytes)) refl taken
+-- the window allows the index: the answer is by the room
+pub fresh_by : (ssrc : ℕ) (notes : List Note) (index : ℕ) (room : Bool) → room ≡ has_room Rtcp ssrc notes
+    → ◌≡◌ {A = Result ℕ UnprotectFault} (if room then Ok index else Err fault.TooManySources) (index_by ssrc notes index Yes)
+fresh_by ssrc notes index room is = ap (λ t. if t then Ok index else Err fault.TooManySources) is
 
 opening_is : (master : List ℕ) (notes : List Note) (bytes : List ℕ) (ssrc : ℕ) (taken : Result ℕ UnprotectFault)
     → rtcp_ssrc bytes ≡ Some ssrc → taken ≡ taken_index master notes bytes ssrc

@@ -39,16 +39,6 @@ counts_on notes ssrc next room is left =
     ap Ok is
     ∙ sym (ap (by_room notes ssrc) room ∙ ap (by_count ssrc notes) (less (next_index ssrc notes) (2 ^ 31) (omega (arith, is))))
 
--- the index under which a packet is sent is how many were sent
-pub sent_next : (notes : List Note) (ssrc index : ℕ) → Ok index ≡ sent_index notes ssrc → index ≡ next_index ssrc notes
-unfolding sent_index by_room by_count
-sent_next notes ssrc index sent = by_tests (has_room Rtcp ssrc notes) (nat_lt (next_index ssrc notes) (2 ^ 31)) sent
-  where
-    by_tests : (room left : Bool) → Ok index ≡ (if room then by_count ssrc notes left else Err fault.TooManySources) → index ≡ next_index ssrc notes
-    by_tests true true sent = cc
-    by_tests true false sent = cc
-    by_tests false left sent = cc
-
 wrapping_is : (master : List ℕ) (notes : List Note) (packet : List ℕ) (ssrc : ℕ) (sent : Result ℕ ProtectFault)
     → rtcp_ssrc packet ≡ Some ssrc → sent ≡ sent_index notes ssrc
     → wrapping master notes packet ≡ wrapped_at master packet ssrc sent

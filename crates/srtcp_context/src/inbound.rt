@@ -1,16 +1,13 @@
-ghost use Rattle.std.specs.Prelude.{ℕ, [], true, ◌≡◌, ◌<◌, ◌≤◌, ◌^◌, List, Some, length, take, IsSome, IfOk, OnErr};
-ghost use Rattle.rtp_packet.specs.declared.head.Half.TheVariants.{Rtcp};
+ghost use Rattle.std.specs.Prelude.{ℕ, [], ◌≡◌, ◌<◌, ◌≤◌, ◌^◌, List, Some, length, take, IsSome, IfOk, OnErr};
 ghost use Rattle.rtp_packet.specs.Head.{rtcp_ssrc};
-ghost use Rattle.replay_window.specs.Indices.{fresh};
-ghost use Rattle.srtp_sources.specs.Notes.{Note, indices};
-ghost use Rattle.srtp_sources.specs.Tables.{SourcesFor, IsPlaced, can_note};
-ghost use Rattle.srtcp_context.specs.Opening.{opening, taken_index, index_by};
+ghost use Rattle.srtp_sources.specs.Notes.{Note};
+ghost use Rattle.srtcp_context.specs.Opening.{opening};
 
 use crate::session::{RtcpSession, read_word};
 use replay_window::Fresh;
 use rtp_packet::rtcp;
 use srtp_keys::UnprotectFault;
-use srtp_sources::{Source, Sources};
+use srtp_sources::Sources;
 
 /// The bytes of the shortest SRTCP packet: 8 that stay clear, 4 with the index, 10 of the tag.
 const SHORTEST: usize = 22;
@@ -73,53 +70,25 @@ impl InRtcp {
         ensures refused { OnErr result ((self.new ≡ self.old) × (buf.new ≡ buf.old)) }
         ensures opens { (master : List ℕ) (notes : List Note) → InFor master self.old notes → OpensTo (opening master notes (take len buf.old)) master notes self.old self.new buf.old buf.new result }
     {
-        let source = self.sources.find(ssrc);
-        match self.taken_index(&buf[..len], source) {
-            Err(cause) => Err(cause),
-            Ok(index) => {
-                let size = self.session.open(buf, len, ssrc);
-                self.sources.note_for(source, index);
-                Ok(size)
-            }
-        }
-    }
-
-    // The index under which a packet of this source is taken.
-    fn taken_index(&self, bytes: &[u8], source: Source) -> Result<u64, UnprotectFault>
-        requires size { length bytes.now < 2 ^ 31 }
-        requires placed { IsPlaced self.now.sources source }
-        ensures index { IfOk result (λ index. index < 2 ^ 48) }
-        ensures long { IfOk result (λ _. 22 ≤ length bytes.now) }
-        ensures room { IfOk result (λ _. can_note self.now.sources source.ssrc ≡ true) }
-        ensures taken { (master : List ℕ) (notes : List Note) → InFor master self.now notes → result ≡ taken_index master notes bytes.now source.ssrc }
-    {
-        if bytes.len() < SHORTEST {
+        if len < SHORTEST {
             return Err(UnprotectFault::Short);
         }
-        if !self.session.is_authentic(bytes) {
+        if !self.session.is_authentic(&buf[..len]) {
             return Err(UnprotectFault::NotAuthentic);
         }
-        let word = read_word(bytes);
-        self.allowed(source, u64::from(word % ENCIPHERED))
-    }
-
-    // The index, where the window allows it and its source is known or has room.
-    fn allowed(&self, source: Source, index: u64) -> Result<u64, UnprotectFault>
-        requires placed { IsPlaced self.now.sources source }
-        requires index { index < 2 ^ 48 }
-        ensures index { IfOk result (λ allowed. allowed ≡ index) }
-        ensures room { IfOk result (λ _. can_note self.now.sources source.ssrc ≡ true) }
-        ensures allowed { (notes : List Note) → SourcesFor Rtcp self.now.sources notes → result ≡ index_by source.ssrc notes index (fresh (indices Rtcp source.ssrc notes) index) }
-    {
+        let word = read_word(&buf[..len]);
+        let index = u64::from(word % ENCIPHERED);
+        let source = self.sources.find(ssrc);
         match self.sources.fresh_of(source, index) {
-            Fresh::TooOld => Err(UnprotectFault::TooOld),
-            Fresh::Used => Err(UnprotectFault::Replayed),
-            Fresh::Yes => {
-                if !self.sources.has_room_for(source) {
-                    return Err(UnprotectFault::TooManySources);
-                }
-                Ok(index)
-            }
+            Fresh::Yes => {}
+            Fresh::TooOld => return Err(UnprotectFault::TooOld),
+            Fresh::Used => return Err(UnprotectFault::Replayed),
         }
+        if !self.sources.has_room_for(source) {
+            return Err(UnprotectFault::TooManySources);
+        }
+        // The packet is taken: from here on nothing is refused.
+        self.sources.note_for(source, index);
+        Ok(self.session.open(buf, len, ssrc))
     }
 }

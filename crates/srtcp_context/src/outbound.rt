@@ -1,10 +1,9 @@
-ghost use Rattle.std.specs.Prelude.{ℕ, [], true, ◌≡◌, ◌+◌, ◌<◌, ◌≤◌, ◌^◌, List, Some, length, take, IsSome, IfOk, OnErr};
+ghost use Rattle.std.specs.Prelude.{ℕ, [], ◌≡◌, ◌+◌, ◌<◌, ◌≤◌, ◌^◌, List, Some, length, take, IsSome, IfOk, OnErr};
 ghost use Rattle.rtp_packet.specs.Head.{rtcp_ssrc};
 ghost use Rattle.srtp_sources.specs.Notes.{Note};
-ghost use Rattle.srtcp_context.specs.Wrapping.{wrapping, sent_index};
-ghost use Rattle.srtcp_context.specs.Counting.{CountsFor, IsPlaced, can_count};
+ghost use Rattle.srtcp_context.specs.Wrapping.{wrapping};
 
-use crate::counts::{Counts, Sender};
+use crate::counts::Counts;
 use crate::session::RtcpSession;
 use rtp_packet::rtcp;
 use srtp_keys::{ProtectFault, RtcpKey};
@@ -66,23 +65,6 @@ impl OutRtcp {
         ensures wraps { (master : List ℕ) (notes : List Note) → OutFor master self.old notes → WrapsTo (wrapping master notes (take len buf.old)) master notes self.old self.new buf.old buf.new result }
     {
         let sender = self.counts.find(ssrc);
-        match self.sent_index(sender) {
-            Err(cause) => Err(cause),
-            Ok(index) => {
-                let size = self.session.wrap(buf, len, ssrc, index);
-                self.counts.advance(sender, index);
-                Ok((size, u64::from(index)))
-            }
-        }
-    }
-
-    // The index under which the next packet of this source is sent.
-    fn sent_index(&self, sender: Sender) -> Result<u32, ProtectFault>
-        requires { IsPlaced self.now.counts sender }
-        ensures index { IfOk result (λ index. index < 2 ^ 31) }
-        ensures room { IfOk result (λ _. can_count self.now.counts sender.ssrc ≡ true) }
-        ensures sent { (notes : List Note) → CountsFor self.now.counts notes → result ≡ sent_index notes sender.ssrc }
-    {
         if !self.counts.has_room(sender) {
             return Err(ProtectFault::TooManySources);
         }
@@ -90,6 +72,9 @@ impl OutRtcp {
         if next >= INDICES {
             return Err(ProtectFault::KeySpent);
         }
-        Ok(next)
+        // The packet is sent: from here on nothing is refused.
+        self.counts.advance(sender, next);
+        let size = self.session.wrap(buf, len, ssrc, next);
+        Ok((size, u64::from(next)))
     }
 }
