@@ -31,7 +31,7 @@ pub use memory::failing_ports::{MemoryIn, MemoryMaker, MemoryOut, MemoryPort};
 pub use memory::gate::OpenGate;
 pub use memory::keys::{KeyList, SteadyKeys};
 pub use memory::lines::{MemoryLines, SteadyLines};
-pub use memory::link::{LinkGift, MemoryLink, SteadyLink};
+pub use memory::link::{LinkGift, MemoryLink, SteadyLink, last_sent_of};
 pub use memory::ports::{Arrivals, Packet, SteadyIn, SteadyMaker, SteadyOut};
 pub use memory::sink::{MemorySink, SteadySink};
 pub use ports::{InCall, InEnd, InGiven, OutCall, OutEnd, PortCall, PortMaker};

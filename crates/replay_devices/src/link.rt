@@ -1,7 +1,7 @@
 ghost use Rattle.std.specs.Prelude.{◌≡◌, ◌↔◌, ◌≤◌, ◌<◌, ℕ, List, Option, Some, None, Result, Ok, Err, [], IsTrue, IsSome, IfOk, IsOk, OnErr, MatchOption, length, not, slice_get};
 ghost use Rattle.std.specs.List.{last_or};
 ghost use Rattle.relay_outside.specs.Told.{Gains, HasCause, is_done};
-ghost use Rattle.relay_outside.specs.Link.{FitsRoom, link_given, sent_of, sent, datagram_of, datagrams};
+ghost use Rattle.relay_outside.specs.Link.{FitsRoom, link_given, datagram_of, datagrams};
 ghost use Rattle.relay_outside.specs.LinkTape.{last_sent};
 ghost use Rattle.relay_outside.specs.Failures.{next_count};
 ghost use Rattle.relay_script.specs.declared.step.FailKind.TheVariants as kind;
@@ -13,6 +13,7 @@ use crate::countdowns::Countdowns;
 use crate::lines::{asked_of, failures_of, fill};
 use relay_outside::{
     Addr, CallList, ControlLink, Copied, Failed, LinkCall, LinkGiven, OutOfMemory, Taken,
+    last_sent_of,
 };
 use relay_script::{FailKind, Step};
 use std::alloc::Global;
@@ -139,36 +140,6 @@ fn waiting_for(failing: bool) -> Waiting
         Waiting::Failure
     } else {
         Waiting::Datagram
-    }
-}
-
-/// The last send that returned Ok.
-fn last_sent_of(calls: &[LinkCall]) -> Option<(Addr, &[u8])>
-    ensures { MatchOption result (last_or None (sent calls.now) ≡ None) (λ found. last_or None (sent calls.now) ≡ Some (found.0, found.1.now)) }
-{
-    let mut found = None;
-    for call in calls {
-        if let Some(sent) = sent_by(call) {
-            found = Some(sent);
-        }
-    }
-    found
-}
-
-/// The target and the bytes of a call that sent something.
-fn sent_by(call: &LinkCall) -> Option<(Addr, &[u8])>
-    ensures { MatchOption result (sent_of call.now ≡ None) (λ found. sent_of call.now ≡ Some (found.0, found.1.now)) }
-{
-    match call {
-        LinkCall::Send { to, bytes, done } => {
-            if *done {
-                Some((*to, bytes.as_slice()))
-            } else {
-                None
-            }
-        }
-        LinkCall::Bind { .. } => None,
-        LinkCall::Take { .. } => None,
     }
 }
 

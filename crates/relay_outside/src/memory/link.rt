@@ -133,12 +133,12 @@ impl Tape {
         ensures { MatchOption result (last_sent self.now.told ≡ None) (λ sent. last_sent self.now.told ≡ Some (sent.0, sent.1.now)) }
     {
         let calls = self.told.get()?;
-        last_of(calls)
+        last_sent_of(calls)
     }
 }
 
-/// The last send that returned Ok.
-fn last_of(calls: &[LinkCall]) -> Option<(Addr, &[u8])>
+/// The target and the bytes of the last send among a link's calls that returned Ok: `None` where there was none.
+pub fn last_sent_of(calls: &[LinkCall]) -> Option<(Addr, &[u8])>
     ensures { MatchOption result (last_or None (sent calls.now) ≡ None) (λ found. last_or None (sent calls.now) ≡ Some (found.0, found.1.now)) }
 {
     let mut found = None;

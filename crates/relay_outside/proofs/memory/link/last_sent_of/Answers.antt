@@ -1,6 +1,6 @@
 use Rattle.relay_outside.proofs.LastSent.{sends, sends_nothing}
-use Rattle.relay_outside.proofs.memory.link.last_of.Goals as goal
-use Rattle.relay_outside.proofs.memory.link.last_of.Goals.{in-Some, in_default}
+use Rattle.relay_outside.proofs.memory.link.last_sent_of.Goals as goal
+use Rattle.relay_outside.proofs.memory.link.last_sent_of.Goals.{in-Some, in_default}
 
 pub loop-call-preserved : goal.loop-call-preserved
 loop-call-preserved c = elim c.match-sent_by.branch [
