@@ -16,12 +16,14 @@
 //! board's turns, and what a turn adds to its list, `specs/Acting.antt` what is known in a turn, and `specs/Ties.antt` how the port
 //! maker's calls follow from what is added to that list.
 //!
+//! Module `asked_command` has what a command's crate is handed besides the turn, and `command_outcome` what it hands back.
 //! `specs/Controls.antt` has the board's entry of a control datagram, as a function of the history, of what is recorded of the
 //! datagram and of what the devices returned; `specs/Giving.antt` says what a `DeviceAnswers` means for them; `specs/Carrying.antt` what
 //! the turn of a command does. Module `refusing` makes the replies of the commands that fail and of those that only tell, `faulty`
 //! those to faults of a description and of the board; `proofs/Tellings.antt` shows that their turn does what is due.
 #![tactic(auto)]
 
+mod asked_command;
 mod board_turn;
 mod boxes;
 mod cells;
@@ -40,6 +42,7 @@ mod signals;
 mod stopping;
 mod ticking;
 
+pub use asked_command::AskedCommand;
 pub use board_turn::{BoardEntryId, BoardTurn};
 pub use boxes::{open_box, shut_box};
 pub use cells::{end_cell, expire_cell, read_cell};
