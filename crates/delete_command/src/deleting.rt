@@ -19,10 +19,12 @@ ghost use Rattle.board_turns.specs.Giving.{IsUnasked};
 ghost use Rattle.board_turns.specs.Telling.{IsAnew, IsAsking};
 ghost use Rattle.board_turns.specs.Ties.{Ties};
 
-use board_turns::{BoardTurn, CommandOutcome, DeviceAnswers, delete_call, missing, short};
+use board_turns::{
+    AskedCommand, BoardTurn, CommandOutcome, DeviceAnswers, delete_call, missing, short,
+};
 use call_board::Board;
 use call_cell::Gone;
-use control_messages::{Request, done_datagram};
+use control_messages::done_datagram;
 use ng_bencode::Text;
 use ng_command::DeleteIn;
 use ng_reply::ErrorCode;
@@ -30,7 +32,6 @@ use offer_answer::ChosenLines;
 use port_pool::Side;
 use relay_core::Relay;
 use relay_outside::{Config, PortMaker};
-use std::alloc::Global;
 use std::sync::Wait;
 use turn_table::Hand;
 
@@ -63,23 +64,21 @@ fn names_side(board: &Board, call: u64, tag: &Option<Text>) -> bool
 /// where memory runs out, nothing is done. `gone` is empty before and after.
 pub fn delete<P: PortMaker, R: Wait>(
     rt: &R,
-    alloc: Global,
     turn: &BoardTurn<P::In, P::Out>,
     hand: &mut Hand<Relay<P::In, P::Out>>,
     board: &mut Board,
     ports: &mut P,
     gone: &mut Gone<P::Out>,
-    request: &Request,
-    input: &DeleteIn,
+    asked: &AskedCommand<DeleteIn>,
 ) -> CommandOutcome
     requires turn { InTurn turn.now.config.now turn.now.turns.now hand.old turn.now.entry_id board.old (P.told ports.old) }
-    requires anew { IsAnew (board_history (made_by hand.old) turn.now.entry_id.number) turn.now.entry_id.moment request.now }
+    requires anew { IsAnew (board_history (made_by hand.old) turn.now.entry_id.number) turn.now.entry_id.moment asked.now.request.now }
     requires empty { gone.old ≡ [] }
-    requires asked { (pairs : Option Entries) × IsAsking request.now pairs (Delete input.now.call_id.list (list_of input.now.from_tag) input.now.fatal) }
+    requires asked { (pairs : Option Entries) × IsAsking asked.now.request.now pairs (Delete asked.now.input.now.call_id.list (list_of asked.now.input.now.from_tag) asked.now.input.now.fatal) }
     ensures same { IsSameHand hand.old hand.new × SameTurns hand.old hand.new }
     ensures may { MayNest turn.now.config.now turn.now.turns.now hand.new }
-    ensures carries { (pairs : Option Entries) → IsAsking request.now pairs (Delete input.now.call_id.list (list_of input.now.from_tag) input.now.fatal) →
-        Carries turn.now.config.now hand.old hand.new turn.now.entry_id (hearing_by request.now pairs result) result.reply board.new (P.told ports.new) }
+    ensures carries { (pairs : Option Entries) → IsAsking asked.now.request.now pairs (Delete asked.now.input.now.call_id.list (list_of asked.now.input.now.from_tag) asked.now.input.now.fatal) →
+        Carries turn.now.config.now hand.old hand.new turn.now.entry_id (hearing_by asked.now.request.now pairs result) result.reply board.new (P.told ports.new) }
     ensures replies { KeepsReplies board.old board.new }
     ensures empty { gone.new ≡ [] }
     ensures ties { Ties turn.now.config.now (P.told ports.old) (P.told ports.new) (entries hand.old) (entries hand.new) }
@@ -87,6 +86,11 @@ pub fn delete<P: PortMaker, R: Wait>(
     ensures closes { Gained (P.told ports.old) (P.told ports.new) OpensNone }
     ensures unasked { IsUnasked result.device_answers }
 {
+    let AskedCommand {
+        request,
+        input,
+        alloc,
+    } = *asked;
     let Some(call) = board.find_call(input.call_id.as_slice()) else {
         return missing(alloc, request, input.fatal, ErrorCode::E9);
     };

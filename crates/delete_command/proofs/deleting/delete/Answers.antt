@@ -18,18 +18,18 @@ pub returns-in_default-clause-carries : goal.returns-in_default-clause-carries
 returns-in_default-clause-carries g c pairs asking =
     let config = c.args.turn.now.config.now in
     let entry_id = c.args.turn.now.entry_id in
-    let input = c.args.input.now in
+    let input = c.args.asked.now.input.now in
     let h = board_history (made_by c.args.hand.now) entry_id.number in
     let none = no_call config h entry_id.moment c.as_slice.result.now input.call_id.list c.find_call.result
     (c.find_call.ensures config (at_moment (view_of config h) entry_id.moment) c.requires.turn.shows) c.as_slice.ensures c.in_default.is in
-    unknown_carries config c.args.turn.now.turns.now c.args.hand.now entry_id c.args.request.now pairs input.call_id.list (list_of input.from_tag) input.fatal c.missing.result c.args.board.now
+    unknown_carries config c.args.turn.now.turns.now c.args.hand.now entry_id c.args.asked.now.request.now pairs input.call_id.list (list_of input.from_tag) input.fatal c.missing.result c.args.board.now
     (g.P.PortMaker.told c.args.ports.now) c.requires.turn c.requires.anew asking none (c.missing.ensures.tells config)
 
 pub names_side-requires : goal.names_side-requires
 names_side-requires g c =
     let config = c.args.turn.now.config.now in
     let entry_id = c.args.turn.now.entry_id in
-    let input = c.args.input.now in
+    let input = c.args.asked.now.input.now in
     let h = board_history (made_by c.args.hand.now) entry_id.number in
     let v = at_moment (view_of config h) entry_id.moment in
     let call = c.in-Some.call in
@@ -42,7 +42,7 @@ pub returns-then-not-names_side-clause-carries : goal.returns-then-not-names_sid
 returns-then-not-names_side-clause-carries g c pairs asking =
     let config = c.args.turn.now.config.now in
     let entry_id = c.args.turn.now.entry_id in
-    let input = c.args.input.now in
+    let input = c.args.asked.now.input.now in
     let h = board_history (made_by c.args.hand.now) entry_id.number in
     let v = at_moment (view_of config h) entry_id.moment in
     let call = c.in-Some.call in
@@ -50,13 +50,13 @@ returns-then-not-names_side-clause-carries g c pairs asking =
     (c.find_call.ensures config v c.requires.turn.shows) c.as_slice.ensures c.in-Some.is in
     let is_called = called config h entry_id.moment input.call_id.list call (good_history config (made_by c.args.hand.now) c.requires.turn.orderly entry_id.number) found in
     let names = c.names_side.ensures config v (call_view h found.of) c.requires.turn.shows is_called in
-    stranger_carries config c.args.turn.now.turns.now c.args.hand.now entry_id c.args.request.now pairs input.call_id.list (list_of input.from_tag) input.fatal found.of
+    stranger_carries config c.args.turn.now.turns.now c.args.hand.now entry_id c.args.asked.now.request.now pairs input.call_id.list (list_of input.from_tag) input.fatal found.of
     c.missing-then-not-names_side.result c.args.board.now (g.P.PortMaker.told c.args.ports.now) c.requires.turn c.requires.anew asking found.is
     (sym names ∙ c.if-not-names_side.true) (c.missing-then-not-names_side.ensures.tells config)
 
 pub returns-in_default-done_datagram-clause-carries : goal.returns-in_default-done_datagram-clause-carries
 returns-in_default-done_datagram-clause-carries g c pairs asking =
-    is_short_carries c.args.turn.now.config.now c.args.turn.now.turns.now c.args.hand.now c.args.turn.now.entry_id c.args.request.now pairs c.short.result c.args.board.now
+    is_short_carries c.args.turn.now.config.now c.args.turn.now.turns.now c.args.hand.now c.args.turn.now.entry_id c.args.asked.now.request.now pairs c.short.result c.args.board.now
     (g.P.PortMaker.told c.args.ports.now) c.requires.turn c.requires.anew c.short.ensures.is_short
 
 pub delete_call-requires-clause-live : goal.delete_call-requires-clause-live
@@ -64,7 +64,7 @@ delete_call-requires-clause-live g c =
     let config = c.args.turn.now.config.now in
     let entry_id = c.args.turn.now.entry_id in
     let h = board_history (made_by c.args.hand.now) entry_id.number in
-    let found = found_call config h entry_id.moment c.as_slice.result.now c.args.input.now.call_id.list c.in-Some.call c.find_call.result
+    let found = found_call config h entry_id.moment c.as_slice.result.now c.args.asked.now.input.now.call_id.list c.in-Some.call c.find_call.result
     (c.find_call.ensures config (at_moment (view_of config h) entry_id.moment) c.requires.turn.shows) c.as_slice.ensures c.in-Some.is in
     (found.of, found.alive, found.number_is)
 
@@ -72,8 +72,8 @@ pub returns-clause-carries : goal.returns-clause-carries
 returns-clause-carries g c pairs asking =
     let config = c.args.turn.now.config.now in
     let entry_id = c.args.turn.now.entry_id in
-    let input = c.args.input.now in
-    let request = c.args.request.now in
+    let input = c.args.asked.now.input.now in
+    let request = c.args.asked.now.request.now in
     let h = board_history (made_by c.args.hand.now) entry_id.number in
     let v = at_moment (view_of config h) entry_id.moment in
     let call = c.in-Some.call in
