@@ -23,7 +23,7 @@ use Rattle.offer_command.proofs.offering.offer.Goals as goal
 pub returns-in-Err-clause-carries : goal.returns-in-Err-clause-carries
 returns-in-Err-clause-carries g c pairs asking =
     let config = c.args.turn.now.config.now in
-    misdescribed_carries config c.args.turn.now.turns.now c.args.hand.now c.args.turn.now.entry_id c.args.request.now pairs c.args.input.now c.in-Err.fault c.misdescribed.result c.args.board.now
+    misdescribed_carries config c.args.turn.now.turns.now c.args.hand.now c.args.turn.now.entry_id c.args.asked.now.request.now pairs c.args.asked.now.input.now c.in-Err.fault c.misdescribed.result c.args.board.now
     (g.P.PortMaker.told c.args.ports.now) c.requires.turn c.requires.anew asking
     (subst (λ (text : List ℕ). IsErrorOf (sdp_error config text) c.in-Err.fault) c.as_slice.ensures c.in-Err.ensures.error) c.misdescribed.ensures.refuses
 
@@ -39,8 +39,8 @@ returns-in-Err-plan_offer-clause-carries g c pairs asking =
     let config = c.args.turn.now.config.now in
     let h = board_history (made_by c.args.hand.now) c.args.turn.now.entry_id.number in
     let v = at_moment (view_of config h) c.args.turn.now.entry_id.moment in
-    let request = c.args.request.now in
-    let input = c.args.input.now in
+    let request = c.args.asked.now.request.now in
+    let input = c.args.asked.now.input.now in
     let id = input.call_id.list in
     let chosen = c.of_offer-chosen_lines.result in
     let ask = ask_of input chosen in
@@ -68,7 +68,7 @@ returns-in_default-clause-carries g c pairs asking =
     let v = at_moment (view_of config h) c.args.turn.now.entry_id.moment in
     let turn = turn_on config c.args.turn.now.turns.now c.args.hand.now c.args.turn.now.entry_id c.args.board.now c.plan_offer.new.self (g.P.PortMaker.told c.args.ports.now) c.requires.turn
     (c.plan_offer.ensures.shows config v c.requires.turn.shows) in
-    is_short_carries config c.args.turn.now.turns.now c.args.hand.now c.args.turn.now.entry_id c.args.request.now pairs c.short.result c.plan_offer.new.self (g.P.PortMaker.told c.args.ports.now) turn
+    is_short_carries config c.args.turn.now.turns.now c.args.hand.now c.args.turn.now.entry_id c.args.asked.now.request.now pairs c.short.result c.plan_offer.new.self (g.P.PortMaker.told c.args.ports.now) turn
     c.requires.anew c.short.ensures.is_short
 
 pub returns-in_default-clause-given : goal.returns-in_default-clause-given
@@ -91,8 +91,8 @@ offer_act-requires-clause-due g c =
     let config = c.args.turn.now.config.now in
     let h = board_history (made_by c.args.hand.now) c.args.turn.now.entry_id.number in
     let v = at_moment (view_of config h) c.args.turn.now.entry_id.moment in
-    let request = c.args.request.now in
-    let input = c.args.input.now in
+    let request = c.args.asked.now.request.now in
+    let input = c.args.asked.now.input.now in
     let id = input.call_id.list in
     let chosen = c.of_offer-chosen_lines.result in
     let ask = ask_of input chosen in
@@ -120,8 +120,8 @@ returns-in-Err-offer_act-clause-carries g c pairs asking =
     let config = c.args.turn.now.config.now in
     let h = board_history (made_by c.args.hand.now) c.args.turn.now.entry_id.number in
     let v = at_moment (view_of config h) c.args.turn.now.entry_id.moment in
-    let request = c.args.request.now in
-    let input = c.args.input.now in
+    let request = c.args.asked.now.request.now in
+    let input = c.args.asked.now.input.now in
     let id = input.call_id.list in
     let chosen = c.of_offer-chosen_lines.result in
     let ask = ask_of input chosen in
@@ -163,8 +163,8 @@ returns-clause-carries g c pairs asking =
     let config = c.args.turn.now.config.now in
     let h = board_history (made_by c.args.hand.now) c.args.turn.now.entry_id.number in
     let v = at_moment (view_of config h) c.args.turn.now.entry_id.moment in
-    let request = c.args.request.now in
-    let input = c.args.input.now in
+    let request = c.args.asked.now.request.now in
+    let input = c.args.asked.now.input.now in
     let id = input.call_id.list in
     let chosen = c.of_offer-chosen_lines.result in
     let ask = ask_of input chosen in
