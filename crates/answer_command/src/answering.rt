@@ -17,14 +17,15 @@ ghost use Rattle.board_turns.specs.Ties.{Ties};
 
 use crate::acting::{PlannedAnswer, answer_act};
 use crate::room::{AnswerRoom, answer_room};
-use board_turns::{BoardTurn, CommandOutcome, DeviceAnswers, misdescribed, short, unplanned};
+use board_turns::{
+    AskedCommand, BoardTurn, CommandOutcome, DeviceAnswers, misdescribed, short, unplanned,
+};
 use call_board::Board;
 use call_cell::Gone;
-use control_messages::{Request, read_description, write_described};
+use control_messages::{read_description, write_described};
 use ng_command::AnswerIn;
 use relay_core::Relay;
 use relay_outside::PortMaker;
-use std::alloc::Global;
 use std::sync::Wait;
 use turn_table::Hand;
 
@@ -32,24 +33,22 @@ use turn_table::Hand;
 /// it changes anything, and where that is short nothing has changed. `gone` is empty before and after.
 pub fn answer<P: PortMaker, R: Wait>(
     rt: &R,
-    alloc: Global,
     turn: &BoardTurn<P::In, P::Out>,
     hand: &mut Hand<Relay<P::In, P::Out>>,
     board: &mut Board,
     ports: &mut P,
     gone: &mut Gone<P::Out>,
-    request: &Request,
-    input: &AnswerIn,
+    asked: &AskedCommand<AnswerIn>,
 ) -> CommandOutcome
     requires turn { InTurn turn.now.config.now turn.now.turns.now hand.old turn.now.entry_id board.old (P.told ports.old) }
-    requires anew { IsAnew (board_history (made_by hand.old) turn.now.entry_id.number) turn.now.entry_id.moment request.now }
+    requires anew { IsAnew (board_history (made_by hand.old) turn.now.entry_id.number) turn.now.entry_id.moment asked.now.request.now }
     requires empty { gone.old ≡ [] }
-    requires small { length input.now.sdp.list < 2 ^ 31 }
-    requires asked { (pairs : Option Entries) × IsAsking request.now pairs (Answer input.now.call_id.list input.now.from_tag.list input.now.to_tag.list input.now.sdp.list input.now.options) }
+    requires small { length asked.now.input.now.sdp.list < 2 ^ 31 }
+    requires asked { (pairs : Option Entries) × IsAsking asked.now.request.now pairs (Answer asked.now.input.now.call_id.list asked.now.input.now.from_tag.list asked.now.input.now.to_tag.list asked.now.input.now.sdp.list asked.now.input.now.options) }
     ensures same { IsSameHand hand.old hand.new × SameTurns hand.old hand.new }
     ensures may { MayNest turn.now.config.now turn.now.turns.now hand.new }
-    ensures carries { (pairs : Option Entries) → IsAsking request.now pairs (Answer input.now.call_id.list input.now.from_tag.list input.now.to_tag.list input.now.sdp.list input.now.options) →
-        Carries turn.now.config.now hand.old hand.new turn.now.entry_id (hearing_by request.now pairs result) result.reply board.new (P.told ports.new) }
+    ensures carries { (pairs : Option Entries) → IsAsking asked.now.request.now pairs (Answer asked.now.input.now.call_id.list asked.now.input.now.from_tag.list asked.now.input.now.to_tag.list asked.now.input.now.sdp.list asked.now.input.now.options) →
+        Carries turn.now.config.now hand.old hand.new turn.now.entry_id (hearing_by asked.now.request.now pairs result) result.reply board.new (P.told ports.new) }
     ensures replies { KeepsReplies board.old board.new }
     ensures empty { gone.new ≡ [] }
     ensures ties { Ties turn.now.config.now (P.told ports.old) (P.told ports.new) (entries hand.old) (entries hand.new) }
@@ -57,6 +56,11 @@ pub fn answer<P: PortMaker, R: Wait>(
     ensures closes { Gained (P.told ports.old) (P.told ports.new) OpensNone }
     ensures unasked { IsUnasked result.device_answers }
 {
+    let AskedCommand {
+        request,
+        input,
+        alloc,
+    } = *asked;
     let sdp = match read_description(alloc, turn.config, input.sdp.as_slice()) {
         Ok(sdp) => sdp,
         Err(fault) => return misdescribed(alloc, request, fault),

@@ -29,7 +29,7 @@ use Rattle.answer_command.proofs.answering.answer.Goals as goal
 pub returns-in-Err-clause-carries : goal.returns-in-Err-clause-carries
 returns-in-Err-clause-carries g c pairs asking =
     let config = c.args.turn.now.config.now in
-    misdescribed_carries config c.args.turn.now.turns.now c.args.hand.now c.args.turn.now.entry_id c.args.request.now pairs c.args.input.now c.in-Err.fault c.misdescribed.result c.args.board.now
+    misdescribed_carries config c.args.turn.now.turns.now c.args.hand.now c.args.turn.now.entry_id c.args.asked.now.request.now pairs c.args.asked.now.input.now c.in-Err.fault c.misdescribed.result c.args.board.now
     (g.P.PortMaker.told c.args.ports.now) c.requires.turn c.requires.anew asking
     (subst (λ (text : List ℕ). IsErrorOf (sdp_error config text) c.in-Err.fault) c.as_slice.ensures c.in-Err.ensures.error) c.misdescribed.ensures.refuses
 
@@ -41,13 +41,13 @@ returns-in-Err-plan_answer-clause-carries g c pairs asking =
     let config = c.args.turn.now.config.now in
     let h = board_history (made_by c.args.hand.now) c.args.turn.now.entry_id.number in
     let v = at_moment (view_of config h) c.args.turn.now.entry_id.moment in
-    let input = c.args.input.now in
+    let input = c.args.asked.now.input.now in
     let id = input.call_id.list in
     let ask = ask_of input c.hear_answer-chosen_lines.result in
     let told = g.P.PortMaker.told c.args.ports.now in
     let lines = lines_read input c.as_slice.result.now c.in-Ok.sdp c.in-Ok.ensures.lines c.as_slice.ensures in
-    let asks = asks_for config h c.args.turn.now.entry_id.moment c.args.request.now pairs input c.as_slice.result.now c.requires.anew asking c.as_slice.ensures c.in-Ok.ensures.sound in
-    refuses_carries config c.args.turn.now.turns.now c.args.hand.now c.args.turn.now.entry_id c.args.request.now pairs input c.in-Ok.sdp c.hear_answer-chosen_lines.result c.in-Err-plan_answer.fault c.unplanned.result
+    let asks = asks_for config h c.args.turn.now.entry_id.moment c.args.asked.now.request.now pairs input c.as_slice.result.now c.requires.anew asking c.as_slice.ensures c.in-Ok.ensures.sound in
+    refuses_carries config c.args.turn.now.turns.now c.args.hand.now c.args.turn.now.entry_id c.args.asked.now.request.now pairs input c.in-Ok.sdp c.hear_answer-chosen_lines.result c.in-Err-plan_answer.fault c.unplanned.result
     c.plan_answer.new.self told
     (subst (λ (b : Board). InTurn config c.args.turn.now.turns.now c.args.hand.now c.args.turn.now.entry_id b told) (sym c.in-Err-plan_answer.ensures.same) c.requires.turn) asks lines
     (heard_by h ask (find_call h id)
@@ -57,7 +57,7 @@ returns-in-Err-plan_answer-clause-carries g c pairs asking =
 
 pub returns-in_default-clause-carries : goal.returns-in_default-clause-carries
 returns-in_default-clause-carries g c pairs asking =
-    is_short_carries c.args.turn.now.config.now c.args.turn.now.turns.now c.args.hand.now c.args.turn.now.entry_id c.args.request.now pairs c.short.result c.plan_answer.new.self (g.P.PortMaker.told c.args.ports.now)
+    is_short_carries c.args.turn.now.config.now c.args.turn.now.turns.now c.args.hand.now c.args.turn.now.entry_id c.args.asked.now.request.now pairs c.short.result c.plan_answer.new.self (g.P.PortMaker.told c.args.ports.now)
     (subst (λ (b : Board). InTurn c.args.turn.now.config.now c.args.turn.now.turns.now c.args.hand.now c.args.turn.now.entry_id b (g.P.PortMaker.told c.args.ports.now)) (sym c.in-Ok-plan_answer.ensures.same) c.requires.turn)
     c.requires.anew c.short.ensures.is_short
 
@@ -89,8 +89,8 @@ answer_act-requires-clause-due g c =
     let config = c.args.turn.now.config.now in
     let h = board_history (made_by c.args.hand.now) c.args.turn.now.entry_id.number in
     let v = at_moment (view_of config h) c.args.turn.now.entry_id.moment in
-    let request = c.args.request.now in
-    let input = c.args.input.now in
+    let request = c.args.asked.now.request.now in
+    let input = c.args.asked.now.input.now in
     let id = input.call_id.list in
     let heard = c.hear_answer-chosen_lines.result in
     let ask = ask_of input heard in
@@ -117,8 +117,8 @@ returns-clause-carries g c pairs asking =
     let config = c.args.turn.now.config.now in
     let h = board_history (made_by c.args.hand.now) c.args.turn.now.entry_id.number in
     let v = at_moment (view_of config h) c.args.turn.now.entry_id.moment in
-    let request = c.args.request.now in
-    let input = c.args.input.now in
+    let request = c.args.asked.now.request.now in
+    let input = c.args.asked.now.input.now in
     let id = input.call_id.list in
     let heard = c.hear_answer-chosen_lines.result in
     let ask = ask_of input heard in
