@@ -21,7 +21,9 @@ ghost use Rattle.board_turns.specs.Giving.{IsUnasked};
 ghost use Rattle.board_turns.specs.Telling.{IsAnew, IsAsking};
 ghost use Rattle.report_commands.specs.Told.{TellsOf, view_report};
 
-use board_turns::{BoardTurn, CommandOutcome, DeviceAnswers, query_call, refused, short};
+use board_turns::{
+    AskedCommand, BoardTurn, CommandOutcome, DeviceAnswers, query_call, refused, short,
+};
 use call_board::Board;
 use control_messages::{Request, value_datagram};
 use ng_bencode::Text;
@@ -78,23 +80,26 @@ fn reported(reports: LegReports, reply: Result<Text, OutOfMemory>) -> CommandOut
 /// is told.
 pub fn query<I: InEnd, O: OutEnd, R: Wait>(
     rt: &R,
-    alloc: Global,
     turn: &BoardTurn<I, O>,
     hand: &mut Hand<Relay<I, O>>,
     board: &Board,
-    request: &Request,
-    input: &QueryIn,
+    asked: &AskedCommand<QueryIn>,
 ) -> CommandOutcome
     requires turn { (told : Option (List PortCall)) × InTurn turn.now.config.now turn.now.turns.now hand.old turn.now.entry_id board.now told }
-    requires anew { IsAnew (board_history (made_by hand.old) turn.now.entry_id.number) turn.now.entry_id.moment request.now }
+    requires anew { IsAnew (board_history (made_by hand.old) turn.now.entry_id.number) turn.now.entry_id.moment asked.now.request.now }
     ensures same { IsSameHand hand.old hand.new × SameTurns hand.old hand.new }
     ensures may { MayNest turn.now.config.now turn.now.turns.now hand.new }
     ensures carries { (told : Option (List PortCall)) (pairs : Option Entries) → InTurn turn.now.config.now turn.now.turns.now hand.old turn.now.entry_id board.now told →
-        IsAsking request.now pairs (Query input.now.call_id.list) →
-        Carries turn.now.config.now hand.old hand.new turn.now.entry_id (hearing_by request.now pairs result) result.reply board.now told }
+        IsAsking asked.now.request.now pairs (Query asked.now.input.now.call_id.list) →
+        Carries turn.now.config.now hand.old hand.new turn.now.entry_id (hearing_by asked.now.request.now pairs result) result.reply board.now told }
     ensures ties { (told : Option (List PortCall)) → Ties turn.now.config.now told told (entries hand.old) (entries hand.new) }
     ensures unasked { IsUnasked result.device_answers }
 {
+    let AskedCommand {
+        request,
+        input,
+        alloc,
+    } = *asked;
     let Some(call) = board.find_call(input.call_id.as_slice()) else {
         return refused(alloc, request, ErrorCode::E9, ChosenLines::none());
     };
