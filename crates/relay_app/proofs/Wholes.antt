@@ -32,7 +32,7 @@ use Rattle.relay_app.specs.Rounds.{history_after, IsWhole}
 use Rattle.relay_app.specs.Run.{OpensNone, TellsNone}
 use Rattle.relay_app.specs.Served.{Outside, HaveCauses, DidServe}
 use Rattle.relay_app.specs.declared.serve.Looped.{Looped}
-use Rattle.relay_app.specs.Turned.{AddsSweep, DidTurns, CanWork, DidWork, MadeTurns}
+use Rattle.relay_app.specs.Turned.{AddsSweep, DidTurns, MayTurn, CanWork, DidWork, MadeTurns}
 use Rattle.relay_app.proofs.Departures.{is_sent}
 use Rattle.relay_app.proofs.Ends.{whole_ends, opens_same}
 use Rattle.relay_app.proofs.Gates.{told_gated}
@@ -57,6 +57,20 @@ may_begin {M} {I} {O} {g} settings config turns opened hand limit config_is betw
   nothing = nothing;
   opens = subst (λ (h : List BoardEntry). OpensJust config h opened) (sym (first_board (made_by hand) nothing)) shut;
 }
+
+-- the hand that is there may take turns
+pub may_turn : {M I O : Type 0} {g : _} (settings : Settings) (config : Config) (turns : Turns M (Part I O) Made (Unit {0})) (opened : Option (List PortCall))
+    (before : Option (Hand M (Part I O) Made (Unit {0}) g)) (hand : Hand M (Part I O) Made (Unit {0}) g) → before ≡ Some hand → CanWork settings config turns opened before
+    → MayTurn settings config turns opened hand
+may_turn {M} {I} {O} {g} settings config turns opened before hand is can =
+    subst (λ (h : Option (Hand M (Part I O) Made (Unit {0}) g)). CanWork settings config turns opened h) is can
+
+-- the turns that it made
+pub did_work : {M I O : Type 0} {g : _} (settings : Settings) (config : Config) (turns : Turns M (Part I O) Made (Unit {0})) (range : Option (ℕ × ℕ)) (gate : ℕ → Type 0) (outside : Outside) (faults faults_now : ℕ)
+    (before : Option (Hand M (Part I O) Made (Unit {0}) g)) (old new : Hand M (Part I O) Made (Unit {0}) g) (looped : Looped) → before ≡ Some old
+    → MadeTurns settings config turns range gate outside faults faults_now old new looped → DidWork settings config turns range gate outside faults faults_now before (Some new) looped
+did_work {M} {I} {O} {g} settings config turns range gate outside faults faults_now before old new looped is made =
+    subst (λ (h : Option (Hand M (Part I O) Made (Unit {0}) g)). DidWork settings config turns range gate outside faults faults_now h (Some new) looped) (sym is) made
 
 -- the turns of the hand that is there after them
 pub made_turns : {M I O : Type 0} {g : _} (settings : Settings) (config : Config) (turns : Turns M (Part I O) Made (Unit {0})) (range : Option (ℕ × ℕ)) (gate : ℕ → Type 0) (outside : Outside) (faults faults_now : ℕ)

@@ -32,25 +32,6 @@ pub(crate) trait MediaWork<S, X> {
         ensures { did turns.now media.now self.old self.new };
 }
 
-/// Makes all control turns, and then sets the halt word.
-fn control_turns<W, V, X, D, M>(
-    rt: &W,
-    server: &V,
-    media: &X,
-    devices: &mut D,
-    control: &mut M,
-    halt: &AtomicBool,
-)
-where
-    W: Wait,
-    M: ControlWork<V, X, D>,
-    requires { M.can_work control.old server.now devices.old }
-    ensures { M.did server.now media.now control.old devices.old control.new devices.new }
-{
-    control.work(rt, server, media, devices);
-    halt.store(true, Ordering::SeqCst);
-}
-
 /// Runs all threads of media, each until the halt word is set, in a thread of its own.
 fn media_threads<R, S, X, L>(rt: &R, turns: &S, media: &X, halt: &AtomicBool, threads: &mut [L])
 where
@@ -71,42 +52,9 @@ where
     );
 }
 
-/// Makes all control turns in this thread, and relays media in as many others as there are threads of media, until the control turns are
-/// made. Where no thread can be started, the control turns are made first, and each thread of media does its work after them: the library
-/// runs the first of two closures last then, and so the control loop is the second.
-fn side_by_side<R, V, S, X, D, M, L>(
-    rt: &R,
-    server: &V,
-    turns: &S,
-    media: &X,
-    devices: &mut D,
-    control: &mut M,
-    threads: &mut [L],
-    halt: &AtomicBool,
-)
-where
-    R: Threads + Wait + Sync,
-    S: Sync,
-    X: Sync,
-    M: ControlWork<V, X, D>,
-    L: MediaWork<S, X> + Send,
-    requires some { 0 < length threads.old }
-    requires control { M.can_work control.old server.now devices.old }
-    requires threads { All (λ thread. L.can_work thread turns.now) threads.old }
-    ensures control { M.did server.now media.now control.old devices.old control.new devices.new }
-    ensures threads { (i : ℕ) (d : _) → i < length threads.old → L.did turns.now media.now (slice_index_or threads.old i d) (slice_index_or threads.new i d) }
-{
-    thread::join_mut(
-        rt,
-        &mut ||
-            requires { (0 < length threads.now) × All (λ thread. L.can_work thread turns.now) threads.now }
-            ensures { (i : ℕ) (d : _) → i < length threads.entry.now → L.did turns.entry.now media.entry.now (slice_index_or threads.entry.now i d) (slice_index_or threads.exit.now i d) }
-        { media_threads(rt, turns, media, halt, threads) },
-        &mut || { control_turns(rt, server, media, devices, control, halt) },
-    );
-}
-
-/// Makes all control turns while these threads run; without one, in this thread alone.
+/// Makes all control turns in this thread, and then sets the halt word; until it is set media is relayed in as many others as there are threads of media.
+/// Where no thread can be started, the control turns are made first, and each thread of media does its work after them: the library
+/// runs the first of two closures last then, and so the control loop is the second. Without a thread of media the control turns are made alone.
 pub(crate) fn run_beside<R, V, S, X, D, M, L>(
     rt: &R,
     server: &V,
@@ -132,15 +80,21 @@ where
         control.work(rt, server, media, devices);
         return;
     }
-    let halt = AtomicBool::new(false);
-    side_by_side(
+    let threads = threads.as_mut_slice();
+    let word = AtomicBool::new(false);
+    let halt = &word;
+    thread::join_mut(
         rt,
-        server,
-        turns,
-        media,
-        devices,
-        control,
-        threads.as_mut_slice(),
-        &halt,
+        &mut ||
+            requires { (0 < length threads.now) × All (λ thread. L.can_work thread turns.now) threads.now }
+            ensures { (i : ℕ) (d : _) → i < length threads.entry.now → L.did turns.entry.now media.entry.now (slice_index_or threads.entry.now i d) (slice_index_or threads.exit.now i d) }
+        { media_threads(rt, turns, media, halt, threads) },
+        &mut ||
+            requires { M.can_work control.now server.now devices.now }
+            ensures { M.did server.entry.now media.entry.now control.entry.now devices.entry.now control.exit.now devices.exit.now }
+        {
+            control.work(rt, server, media, devices);
+            halt.store(true, Ordering::SeqCst);
+        },
     );
 }

@@ -156,78 +156,6 @@ fn tick_when_due<P: PortMaker, R: Wait>(
     now
 }
 
-/// Makes control turns until the link gives no more, a take fails, or as many takes as the settings say gave a datagram or nothing. The
-/// timer is asked once before each. Where no thread relays media, a sweep of it follows each turn after which the run goes on. About once a
-/// second a tick, at the turn's moment, follows that.
-fn make_turns<N: ControlLink, P: PortMaker, K: KeySource, T: Timer, C: Clock, G: Gate, R: Wait>(
-    rt: &R,
-    alloc: Global,
-    settings: &Settings,
-    server: &Server<P>,
-    hand: Hand<Relay<P::In, P::Out>>,
-    desk: &mut Desk<P::Out>,
-    devices: &mut Devices<'_, '_, '_, '_, N, P, K, T>,
-    media: &Media<'_, '_, C, G>,
-) -> (Looped, Hand<Relay<P::In, P::Out>>)
-    requires limit { settings.now.turns < 2 ^ 63 }
-    requires config { server.now.config ≡ settings.now.config }
-    requires between { IsBetween server.now.config server.now.turns hand }
-    requires nothing { made_by hand ≡ [] }
-    requires open { OpensJust server.now.config (history_of hand) (P.told devices.old.ports.now) }
-    ensures devices { AreSame devices.old devices.new }
-    ensures same { IsSameHand hand result.1 }
-    ensures between { IsBetween server.now.config server.now.turns result.1 }
-    ensures open { OpensJust server.now.config (history_of result.1) (P.told devices.new.ports.now) }
-    ensures did { DidTurns settings.now.turns server.now.config settings.now.threads (C.range media.now.clock.now)
-        (⟦<Devices<'static, 'static, 'static, 'static, N, P, K, T> as Tells>⟧.outside devices.old devices.new)
-        result.0.status result.0.counts (entries result.1) }
-    ensures gated { AreGated (G.passed media.now.gate.now) (made_by result.1) }
-    ensures totals { HasTotals (made_by result.1) result.0.totals }
-    ensures later { ⟦<Devices<'static, 'static, 'static, 'static, N, P, K, T> as Tells>⟧.later devices.old devices.new }
-    ensures cause { result.0.status ≡ Status.ControlFault → Rose (N.faults devices.old.link.now) (N.faults devices.new.link.now) }
-    ensures ends { IsLoopEnd result.0.status }
-{
-    let mut hand = hand;
-    let mut totals = no_totals();
-    let mut counts = Counts {
-        turns: 0,
-        datagrams: 0,
-        replies: 0,
-    };
-    let mut since = None;
-    'turns: while counts.turns < settings.turns {
-        let now = devices.timer.now();
-        let turn = server.control_turn(
-            rt,
-            alloc,
-            &mut hand,
-            desk,
-            devices.link,
-            devices.ports,
-            devices.keys,
-            now,
-        );
-        counts = counts.with(turn);
-        if let Some(status) = find_status(turn) {
-            let looped = Looped {
-                status,
-                counts,
-                totals,
-            };
-            return (looped, hand);
-        }
-        hand = sweep_alone(rt, settings, server, hand, media, &mut totals);
-        let next = tick_when_due(rt, server, &mut hand, desk, devices.ports, since, now);
-        since = Some(next);
-    }
-    let looped = Looped {
-        status: Status::TurnsSpent,
-        counts,
-        totals,
-    };
-    (looped, hand)
-}
-
 /// The control loop of a run: what it is told, the main hand, the memory of a control turn, and how it ended.
 pub(crate) struct ControlLoop<I: InEnd, O: OutEnd>
 where
@@ -263,6 +191,9 @@ where
         (⟦<Devices<'static, 'static, 'static, 'static, N, P, K, T> as Tells>⟧.outside devices devices_now)
         (N.faults devices.link.now) (N.faults devices_now.link.now) old.hand new.hand new.looped };
 
+    /// Makes control turns until the link gives no more, a take fails, or as many takes as the settings say gave a datagram or nothing. The
+    /// timer is asked once before each. Where no thread relays media, a sweep of it follows each turn after which the run goes on. About once a
+    /// second a tick, at the turn's moment, follows that.
     fn work<W: Wait>(
         &mut self,
         rt: &W,
@@ -270,19 +201,50 @@ where
         media: &Media<'_, '_, C, G>,
         devices: &mut Devices<'_, '_, '_, '_, N, P, K, T>,
     ) {
-        let Some(hand) = self.hand.take() else {
+        let Some(mut hand) = self.hand.take() else {
             unreachable!()
         };
-        let (looped, hand) = make_turns(
-            rt,
-            self.alloc,
-            &self.settings,
-            server,
-            hand,
-            &mut self.desk,
-            devices,
-            media,
-        );
+        let alloc = self.alloc;
+        let settings = &self.settings;
+        let desk = &mut self.desk;
+        let mut totals = no_totals();
+        let mut counts = Counts {
+            turns: 0,
+            datagrams: 0,
+            replies: 0,
+        };
+        let mut since = None;
+        'turns: while counts.turns < settings.turns {
+            let now = devices.timer.now();
+            let turn = server.control_turn(
+                rt,
+                alloc,
+                &mut hand,
+                desk,
+                devices.link,
+                devices.ports,
+                devices.keys,
+                now,
+            );
+            counts = counts.with(turn);
+            if let Some(status) = find_status(turn) {
+                self.looped = Looped {
+                    status,
+                    counts,
+                    totals,
+                };
+                self.hand = Some(hand);
+                return;
+            }
+            hand = sweep_alone(rt, settings, server, hand, media, &mut totals);
+            let next = tick_when_due(rt, server, &mut hand, desk, devices.ports, since, now);
+            since = Some(next);
+        }
+        let looped = Looped {
+            status: Status::TurnsSpent,
+            counts,
+            totals,
+        };
         self.looped = looped;
         self.hand = Some(hand);
     }

@@ -1,4 +1,4 @@
-use Rattle.std.proofs.Common.{◌-◌, ◌≤◌}
+use Rattle.std.proofs.Common.{◌-◌, ◌≤◌, ◌<◌, ◌^◌, ◌≡◌}
 use Rattle.turn_table.specs.Hands.{IsSameHand, entries}
 use Rattle.board_turns.specs.Between.{IsBetween}
 use Rattle.relay_core.specs.Turning.{made_by}
@@ -7,12 +7,12 @@ use Rattle.media_lane.specs.Totals.{HasTotals}
 use Rattle.ng_server.specs.Servers.{OpensJust, history_of}
 use Rattle.relay_app.specs.Devices.{AreSame}
 use Rattle.relay_app.specs.Turned.{Running}
-use Rattle.relay_app.proofs.serve.make_turns.Given as goal
+use Rattle.relay_app.proofs.serve.ControlLoopControlWorkServerMediaDevices.work.Given as goal
 
 abbrev pub invariant-turns : goal.invariant-turns
 invariant-turns g l = record {
   devices : AreSame l.fn.devices l.devices;
-  same : IsSameHand l.fn.hand l.hand;
+  same : IsSameHand l.initial.hand l.hand;
   between : IsBetween l.server.config l.server.turns l.hand;
   opens : OpensJust l.server.config (history_of l.hand) (g.P.PortMaker.told l.devices.ports.now);
   running : Running l.server.config l.settings.threads (g.C.Clock.range l.media.clock.now) (entries l.hand) l.counts l.since (record {
@@ -37,6 +37,8 @@ invariant-turns g l = record {
   replies : l.counts.replies ≤ l.counts.datagrams;
   datagrams : l.counts.datagrams ≤ l.counts.turns;
   below : l.counts.turns ≤ l.settings.turns;
+  limit : l.settings.turns < 2 ^ 63;
+  config : l.server.config ≡ l.settings.config;
 }
 
 abbrev pub decreases-turns : goal.decreases-turns
