@@ -1,13 +1,14 @@
 -- Commands that owe nothing: those that fail before they are known, pings and lists.
-use Rattle.std.proofs.Common.{◌≡◌, ◌≤◌, ◌∙◌, refl, sym, subst, ℕ, Bool, true, false, List, [], ◌∷◌, ◌++◌, map, length, length-append, Option, Ok, Err, ap, arith}
+use Rattle.std.proofs.Common.{◌≡◌, ◌<◌, ◌≤◌, ◌^◌, ◌∙◌, refl, sym, subst, ℕ, Bool, true, false, List, [], ◌∷◌, ◌++◌, map, length, length-append, Option, Ok, Err, ap, arith}
 use Rattle.std.proofs.lemmas.Bool.Decides.{nat_tests}
-use Rattle.std.specs.Prelude.{nat_lt, take}
+use Rattle.std.specs.Prelude.{nat_lt, take, Result, IfOk}
 use Rattle.relay_outside.specs.declared.ports.PortCall.{PortCall}
 use Rattle.relay_outside.specs.declared.settings.Config.{Config}
 use Rattle.turn_table.specs.declared.hands.Turns.{Turns}
 use Rattle.turn_table.specs.declared.hands.Hand.{Hand}
 use Rattle.ng_bencode.specs.Tree.{Entries}
 use Rattle.ng_command.specs.Said as said
+use Rattle.ng_command.specs.declared.command.Command.{Command}
 use Rattle.ng_reply.specs.declared.code.ErrorCode.{ErrorCode}
 use Rattle.sdes_lines.specs.declared.crypto_line.CryptoLine.{CryptoLine}
 use Rattle.call_board.specs.declared.board.Board.{Board}
@@ -27,11 +28,12 @@ use Rattle.relay_core.specs.Turning.{made_by}
 use Rattle.board_turns.specs.declared.board_turn.BoardEntryId.{BoardEntryId}
 use Rattle.board_turns.specs.Acting.{InTurn}
 use Rattle.control_messages.specs.declared.request.Request.{Request}
+use Rattle.control_messages.specs.Bodies.{said_by, description_in}
 use Rattle.board_turns.specs.declared.device_answers.DeviceAnswers.TheVariants.{Nothing}
 use Rattle.board_turns.specs.declared.command_outcome.CommandOutcome.{CommandOutcome}
 use Rattle.board_turns.specs.Controls.{unanswered}
 use Rattle.board_turns.specs.Carrying.{hearing_as, hearing_by, Carries}
-use Rattle.board_turns.specs.Telling.{IsAnew, Tells}
+use Rattle.board_turns.specs.Telling.{IsAnew, IsAsking, Tells}
 use Rattle.board_turns.proofs.Asking.{asks_so, asks_faulty}
 use Rattle.board_turns.proofs.Tellings.{tells_carries}
 
@@ -39,11 +41,39 @@ not_below : (m n : ℕ) → nat_lt m n ≡ false → n ≤ m
 not_below m n t = grind (arith, nat_tests)
 
 -- the body of a datagram that isn't too long
-pub body_short : (cookie body : List ℕ) (long : Bool) → long ≡ nat_lt 16384 (length (cookie ++ 32 ∷ body)) → long ≡ false → length body ≤ 16384
+body_short : (cookie body : List ℕ) (long : Bool) → long ≡ nat_lt 16384 (length (cookie ++ 32 ∷ body)) → long ≡ false → length body ≤ 16384
 body_short cookie body long is short =
     let whole = length-append cookie (32 ∷ body) in
     let fits = not_below 16384 (length (cookie ++ 32 ∷ body)) (sym is ∙ short) in
     omega (arith, whole, fits)
+
+-- a datagram whose command is known isn't too long
+not_long : (long : Bool) (pairs : Option Entries) (says : said.Said) → command_in long pairs ≡ Ok says → long ≡ false
+not_long true pairs says is = absurd cc
+not_long false pairs says is = refl
+
+pub is_asking : (request : Request) (pairs : Option Entries) (says : said.Said) → (request.too_long ≡ false → Reads request.body.now pairs) → command_in request.too_long pairs ≡ Ok says
+    → IsAsking request pairs says
+is_asking request pairs says reads is =
+    let short = not_long request.too_long pairs says is in
+    record { short = short; reads = reads short; command = subst (λ (long : Bool). command_in long pairs ≡ Ok says) short is }
+
+-- its description is shorter than any that memory is had for
+description_small : (request : Request) (command : Result Command ErrorCode) (says : said.Said) → length request.body.now ≤ 16384
+    → IfOk command (λ (asks : Command). length (description_in (said.said asks)) ≤ length request.body.now) → said_by command ≡ Ok says → length (description_in says) < 2 ^ 31
+description_small request (Ok asks) says short small is =
+    let same : said.said asks ≡ says = cc in
+    let fits = subst (λ (s : said.Said). length (description_in s) ≤ length request.body.now) same small in
+    omega (arith, fits, short)
+description_small request (Err code) says short small is = absurd cc
+
+pub small_asked : (request : Request) (pairs : Option Entries) (command : Result Command ErrorCode) (says : said.Said)
+    → request.too_long ≡ nat_lt 16384 (length (request.cookie.now ++ 32 ∷ request.body.now))
+    → IfOk command (λ (asks : Command). length (description_in (said.said asks)) ≤ length request.body.now)
+    → command_in request.too_long pairs ≡ said_by command → said_by command ≡ Ok says → length (description_in says) < 2 ^ 31
+small_asked request pairs command says length_is small is asked =
+    description_small request command says
+    (body_short request.cookie.now request.body.now request.too_long length_is (not_long request.too_long pairs says (is ∙ asked))) small asked
 
 -- the board keeps the call-ids of the live calls
 call_ids : (h : List BoardEntry) (calls : List Call) → map (λ (c : CallView). c.of.id) (map (call_view h) calls) ≡ map (λ (c : Call). c.id) calls

@@ -209,3 +209,15 @@ repeat_reply config h moment request pairs chosen bytes is =
 pub is_kept_now : (h : List BoardEntry) (moment : ℕ) (source : Addr) (cookie : List ℕ) (o : Option (List ℕ)) → last_moment h ≤ moment
     → cache.kept (keepings h) source cookie (moment_used (keepings h) moment) ≡ o → kept h source cookie moment ≡ o
 is_kept_now h moment source cookie o late is = ap (λ (m : ℕ). cache.kept (keepings h) source cookie m) (sym (used_now h moment late)) ∙ is
+
+-- a request for which the board finds no reply
+pub anew : (config : Config) (h : List BoardEntry) (moment : ℕ) (request : Request) (board : Board) → last_moment h ≤ moment → Shows config board (at_moment (view_of config h) moment)
+    → IsRequest request
+    → ((config : Config) (v : View) → Shows config board v → cache.kept v.keepings request.source request.cookie.now (moment_used v.keepings moment) ≡ None)
+    → IsAnew h moment request
+anew config h moment request board late shows is finds = record {
+  cookie = is.cookie;
+  framed = is.framed;
+  length_is = is.length_is;
+  not_kept = is_kept_now h moment request.source request.cookie.now None late (finds config (at_moment (view_of config h) moment) shows);
+}

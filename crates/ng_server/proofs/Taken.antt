@@ -1,5 +1,6 @@
 -- From what follows a datagram to one control turn.
-use Rattle.std.proofs.Common.{◌≡◌, ◌∙◌, refl, sym, ap, subst, ℕ, List, [], ◌∷◌, ◌++◌, Option, Some, None, Bool, true, false, take, length}
+use Rattle.std.proofs.Common.{◌≡◌, ◌∙◌, refl, sym, ap, subst, ℕ, List, [], ◌∷◌, ◌++◌, Option, Some, None, Bool, true, false, take, drop, length}
+use Rattle.std.proofs.lemmas.List.{take_at}
 use Rattle.std.specs.Prelude.{Result, Ok, Err, nat_lt}
 use Rattle.ng_frame.specs.Frame.{frame, IsFrame}
 use Rattle.relay_outside.specs.Told.{Gains, Gained, is_done}
@@ -133,6 +134,18 @@ module _ {M I O T : Type 0} {g : _} where
       → Turned config old new now answer ports ports_now keys keys_now opened opened_now drew drew_now before after
   took config old new now answer ports ports_now keys keys_now opened opened_now drew drew_now before mid after room result buf from len room_is e gains did =
       turned_by config old new now answer ports ports_now keys keys_now opened opened_now drew drew_now before mid after from (take len buf) (known before mid room result (Ok (taken.Datagram from len)) buf room_is e gains) did
+
+  -- the same, by bytes that are those of the room
+  pub took_seen : (config : Config) (old new : Hand M (Part I O) Made T g) (now : ℕ) (answer : ControlTurn) (ports ports_now keys keys_now : ℕ) (opened opened_now : Option (List PortCall)) (drew drew_now : Option (List KeyCall))
+      (before mid after : Option (List LinkCall)) (room : ℕ)
+      (result : Result Taken Failed) (buf items seen : List ℕ) (n : ℕ) (from : Addr) (len : ℕ) → seen ≡ take n (buf ++ drop (length buf) items) → length buf ≡ n → room ≡ 16385
+      → result ≡ Ok (taken.Datagram from len)
+      → Gains before mid (call.Take room (link_given result buf)) → Responded config old new now from (take len seen) answer ports ports_now keys keys_now opened opened_now drew drew_now mid after
+      → Turned config old new now answer ports ports_now keys keys_now opened opened_now drew drew_now before after
+  took_seen config old new now answer ports ports_now keys keys_now opened opened_now drew drew_now before mid after room result buf items seen n from len is long room_is e gains did =
+      took config old new now answer ports ports_now keys keys_now opened opened_now drew drew_now before mid after room result buf from len room_is e gains
+      (subst (λ (bytes : List ℕ). Responded config old new now from (take len bytes) answer ports ports_now keys keys_now opened opened_now drew drew_now mid after)
+      (is ∙ take_at buf (drop (length buf) items) n long) did)
 
   pub took_nothing : (config : Config) (hand : Hand M (Part I O) Made T g) (now : ℕ) (ports ports_now keys keys_now : ℕ) (opened : Option (List PortCall)) (drew : Option (List KeyCall)) (before after : Option (List LinkCall)) (room : ℕ) (result : Result Taken Failed) (buf : List ℕ)
       → room ≡ 16385 → result ≡ Ok taken.Nothing → Gains before after (call.Take room (link_given result buf)) → Turned config hand hand now turn.Nothing ports ports_now keys keys_now opened opened drew drew before after

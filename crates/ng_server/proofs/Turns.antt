@@ -8,28 +8,30 @@ use Rattle.relay_outside.specs.Told.{EndTold}
 use Rattle.turn_table.specs.declared.hands.Turns.{Turns}
 use Rattle.turn_table.specs.declared.hands.Hand.{Hand}
 use Rattle.turn_table.specs.declared.hands.Turn.{Turn}
-use Rattle.turn_table.specs.Hands.{IsSameHand, SameTurns, GainsTurn, EndsTurn, place_of, front_of, entries}
+use Rattle.turn_table.specs.Hands.{IsSameHand, SameTurns, GainsTurn, EndsTurn, place_of, front_of, state_of, entries}
 use Rattle.call_board.specs.declared.board.Board as board
 use Rattle.call_board.specs.Acts as act
 use Rattle.call_board.specs.Acts.{BoardEntry}
 use Rattle.call_board.specs.Boards.{Shows}
 use Rattle.call_board.specs.Fits.{FitsBoard, IsFitting}
 use Rattle.call_board.specs.Pairs.{held}
-use Rattle.call_board.specs.Views.{view_of, at_moment, last_moment}
+use Rattle.call_board.specs.Views.{View, view_of, at_moment, last_moment}
 use Rattle.relay_core.specs.declared.part.Part.{Part}
 use Rattle.relay_core.specs.declared.part.Part.TheVariants as part
 use Rattle.relay_core.specs.Entries.{board_history}
 use Rattle.relay_core.specs.Made.{Made}
+use Rattle.relay_core.specs.Scripts.{script}
 use Rattle.relay_core.specs.Standing.{BoardIs}
 use Rattle.relay_core.specs.Steps.{Relates}
-use Rattle.relay_core.specs.Turning.{made_by}
+use Rattle.relay_core.specs.Turning.{GainsNested, made_by}
 use Rattle.media_ports.specs.Held.{TellsHeld}
 use Rattle.board_turns.specs.Acting.{InTurn}
 use Rattle.board_turns.specs.Between.{board_of, IsBetween}
 use Rattle.board_turns.specs.Ending.{leg_pairs}
 use Rattle.board_turns.proofs.Betweens.{at_turn, Begins, Ended, begins_whole, nested_history, relates_put, turn_ends}
 use Rattle.board_turns.specs.Controls.{Hearing, control_of, entry_at, moment_at, control_made}
-use Rattle.ng_server.specs.Dealing.{Deals, IsTaken, DealsAt}
+use Rattle.board_turns.proofs.StopTurns.{moved, stood}
+use Rattle.ng_server.specs.Dealing.{Deals}
 
 -- the board that was taken relates to the one that stands for the history with the datagram's entry
 pub control_relates : {I O : Type 0} (it : I → EndTold InCall) (ic : I → ℕ) (ot : O → EndTold OutCall) (oc : O → ℕ)
@@ -41,59 +43,73 @@ control_relates it ic ot oc config h again old new now x same was fits stands =
     (relates_put it ic ot oc config h old new (control_made config h now x) (act.Turn (control_of config h (moment_at h now) x)) refl refl was refl fits stands)
 
 module _ {M I O T : Type 0} {g : _} where
-  -- the turn that was taken, by the number that the turn told
-  pub is_taken : (config : Config) (turns : Turns M (Part I O) Made T) (old mid : Hand M (Part I O) Made T g) (turn : Turn M (Part I O) Made T) (number : ℕ) (place : Part I O)
-      (told : Option (List PortCall)) → entries mid ≡ entries old → Begins config turns mid turn → number ≡ front_of turn
-      → BoardIs config place (board_history (made_by mid) (front_of turn)) → TellsHeld config told (leg_pairs (held (board_of (made_by old))))
-      → IsTaken config turns mid number place told
-  is_taken config turns old mid turn number place told same begins is stands opens =
+  -- The main hand has just taken the board's turn of this number and moment, to which the board of the place is advanced
+  pub record Taken (config : Config) (turns : Turns M (Part I O) Made T) (mid : Hand M (Part I O) Made T g) (turn : Turn M (Part I O) Made T) (number moment now : ℕ) (new : board.Board)
+      (told : Option (List PortCall)) : Type 0 where
+    pub in_turn : InTurn config turns mid (record { number = number; moment = moment }) new told
+    pub number_is : number ≡ front_of turn
+    pub moment_is : moment ≡ moment_at (board_history (made_by mid) (front_of turn)) now
+    pub fitting : IsFitting config (board_history (made_by mid) (front_of turn))
+
+  -- A datagram was dealt with in the board's turn of this number: as `Deals`, where the board is the place's
+  pub record DealsAt (config : Config) (old new : Hand M (Part I O) Made T g) (number moment : ℕ) (x : Hearing) (place : Part I O) (told : Option (List PortCall)) : Type 0 where
+    pub fits : FitsBoard config (board_history (made_by old) number) (entry_at config (board_history (made_by old) number) moment x)
+    pub gained : GainsNested number moment (script config (board_history (made_by old) number) (entry_at config (board_history (made_by old) number) moment x)) old new
+    pub stands : BoardIs config place (entry_at config (board_history (made_by old) number) moment x ∷ board_history (made_by old) number)
+    pub opens : TellsHeld config told (leg_pairs (held (entry_at config (board_history (made_by old) number) moment x ∷ board_history (made_by old) number)))
+
+  -- the turn that was taken, by the number that the turn told, when its board is advanced
+  pub taken : (config : Config) (turns : Turns M (Part I O) Made T) (old mid : Hand M (Part I O) Made T g) (turn : Turn M (Part I O) Made T) (number moment now : ℕ) (place : Part I O)
+      (was new : board.Board) (told : Option (List PortCall)) → entries mid ≡ entries old → Begins config turns mid turn → number ≡ front_of turn → place ≡ state_of turn → place ≡ part.Board was
+      → ((config : Config) (v : View) → Shows config was v → Shows config new (at_moment v now) × (moment ≡ max now v.moment))
+      → TellsHeld config told (leg_pairs (held (board_of (made_by old)))) → Taken config turns mid turn number moment now new told
+  taken config turns old mid turn number moment now place was new told same begins number_is place_is is advances opens =
       let n = front_of turn in
-      let at : IsTaken config turns mid n place told = record {
+      let h = board_history (made_by mid) n in
+      let stands = stood config h place was is (moved config h (state_of turn) place place_is begins.board) in
+      let advanced = advances config (view_of config h) stands.1 in
+      let late : moment ≡ max now (last_moment h) = advanced.1 in
+      let at : InTurn config turns mid (record { number = n; moment = moment }) new told = record {
         may = begins.may;
         above = begins.above;
         low = begins.low;
         orderly = begins.orderly;
-        board = stands;
+        timely = omega (arith, late);
+        shows = at_turn config h new now moment late advanced.0;
         opens = subst (λ (l : List BoardEntry). TellsHeld config told (leg_pairs (held l))) (sym (begins_whole config turns old mid turn same begins)) opens;
       } in
-      subst (λ (k : ℕ). IsTaken config turns mid k place told) (sym is) at
-
-  -- the board that was taken, advanced to the moment of the turn
-  pub taken_turn : (config : Config) (turns : Turns M (Part I O) Made T) (hand : Hand M (Part I O) Made T g) (number moment now : ℕ) (place : Part I O) (new : board.Board)
-      (told : Option (List PortCall)) → IsTaken config turns hand number place told → moment ≡ moment_at (board_history (made_by hand) number) now
-      → Shows config new (at_moment (view_of config (board_history (made_by hand) number)) now) → InTurn config turns hand (record { number = number; moment = moment }) new told
-  taken_turn config turns hand number moment now place new told taken is shows =
-      let h = board_history (made_by hand) number in
-      let at : moment ≡ max now (last_moment h) = is in
       record {
-        may = taken.may;
-        above = taken.above;
-        low = taken.low;
-        orderly = taken.orderly;
-        timely = omega (arith, at);
-        shows = at_turn config h new now moment is shows;
-        opens = taken.opens;
+        in_turn = subst (λ (k : ℕ). InTurn config turns mid (record { number = k; moment = moment }) new told) (sym number_is) at;
+        number_is = number_is;
+        moment_is = late;
+        fitting = stands.0;
       }
 
-  -- what was dealt with, at the moment of the turn
-  pub deals_at : (config : Config) (old new : Hand M (Part I O) Made T g) (number moment m : ℕ) (x : Hearing) (b : board.Board) (told : Option (List PortCall)) → moment ≡ m
-      → IsFitting config (board_history (made_by old) number) → Deals config old new (record { number = number; moment = moment }) x b told
-      → DealsAt config old new number m x (part.Board b) told
-  deals_at config old new number moment m x b told is fitting d =
-      let at : DealsAt config old new number moment x (part.Board b) told = record {
+  -- what was dealt with, by the number of the turn and at its moment
+  pub dealt : (config : Config) (turns : Turns M (Part I O) Made T) (mid nested : Hand M (Part I O) Made T g) (turn : Turn M (Part I O) Made T) (number moment now : ℕ) (x : Hearing)
+      (was b : board.Board) (before told : Option (List PortCall)) → Taken config turns mid turn number moment now was before
+      → Deals config mid nested (record { number = number; moment = moment }) x b told
+      → DealsAt config mid nested (front_of turn) (moment_at (board_history (made_by mid) (front_of turn)) now) x (part.Board b) told
+  dealt config turns mid nested turn number moment now x was b before told taken deals =
+      let n = front_of turn in
+      let d : Deals config mid nested (record { number = n; moment = moment }) x b told =
+      subst (λ (k : ℕ). Deals config mid nested (record { number = k; moment = moment }) x b told) taken.number_is deals in
+      let at : DealsAt config mid nested n moment x (part.Board b) told = record {
         fits = d.fits;
         gained = d.gained;
-        stands = ((d.fits, fitting), d.stands);
+        stands = ((d.fits, taken.fitting), d.stands);
         opens = d.opens;
       } in
-      subst (λ (k : ℕ). DealsAt config old new number k x (part.Board b) told) is at
+      subst (λ (k : ℕ). DealsAt config mid nested n k x (part.Board b) told) taken.moment_is at
 
-  -- what was dealt with, by the number of the turn
-  pub deals_turn : (config : Config) (mid nested : Hand M (Part I O) Made T g) (number n now : ℕ) (x : Hearing) (place : Part I O) (told : Option (List PortCall)) → number ≡ n
-      → DealsAt config mid nested number (moment_at (board_history (made_by mid) number) now) x place told
-      → DealsAt config mid nested n (moment_at (board_history (made_by mid) n) now) x place told
-  deals_turn config mid nested number n now x place told is deals =
-      subst (λ (k : ℕ). DealsAt config mid nested k (moment_at (board_history (made_by mid) k) now) x place told) is deals
+  -- what holds of the history before the turn, by its number, and of its moment holds of the whole history
+  pub at_whole : (config : Config) (turns : Turns M (Part I O) Made T) (old mid : Hand M (Part I O) Made T g) (turn : Turn M (Part I O) Made T) (number moment now : ℕ) (new : board.Board)
+      (told : Option (List PortCall)) (P : List BoardEntry → ℕ → Type 0) → entries mid ≡ entries old → Begins config turns mid turn → Taken config turns mid turn number moment now new told
+      → P (board_history (made_by mid) number) moment → P (board_of (made_by old)) (moment_at (board_of (made_by old)) now)
+  at_whole config turns old mid turn number moment now new told P same begins taken holds =
+      let h = board_history (made_by mid) (front_of turn) in
+      subst (λ (k : List BoardEntry). P k (moment_at k now)) (begins_whole config turns old mid turn same begins)
+      (subst (λ (m : ℕ). P h m) taken.moment_is (subst (λ (k : ℕ). P (board_history (made_by mid) k) moment) taken.number_is holds))
 
   -- the nested entries of a datagram change nothing of the board's history
   pub control_history : (config : Config) (turns : Turns M (Part I O) Made T) (mid nested : Hand M (Part I O) Made T g) (turn : Turn M (Part I O) Made T) (now : ℕ) (x : Hearing)

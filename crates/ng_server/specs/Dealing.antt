@@ -1,9 +1,8 @@
 -- What the turn of a datagram does: which entry it makes, what it owes and sends, and what the board keeps after it.
-use Rattle.std.specs.Prelude.{ℕ, ◌<◌, ◌^◌, List, ◌∷◌, Option, Some, None}
+use Rattle.std.specs.Prelude.{ℕ, List, ◌∷◌, Option, Some, None}
 use Rattle.relay_outside.specs.declared.ports.PortCall.{PortCall}
 use Rattle.relay_outside.specs.declared.settings.Config.{Config}
 use Rattle.turn_table.specs.declared.hands.Hand.{Hand}
-use Rattle.turn_table.specs.declared.hands.Turns.{Turns}
 use Rattle.ng_reply.specs.declared.code.ErrorCode.TheVariants.{E17}
 use Rattle.cookie_cache.specs.Keepings.{moment_used}
 use Rattle.ng_bencode.specs.Room.{Room}
@@ -15,15 +14,12 @@ use Rattle.call_board.specs.Pairs.{held}
 use Rattle.call_board.specs.Replies.{fault_datagram}
 use Rattle.call_board.specs.Views.{View, with_keeping}
 use Rattle.relay_core.specs.Entries.{board_history}
-use Rattle.relay_core.specs.Legal.{Orderly}
-use Rattle.relay_core.specs.Standing.{BoardIs}
 use Rattle.relay_core.specs.Made.{Made}
 use Rattle.relay_core.specs.Scripts.{script}
-use Rattle.relay_core.specs.Turning.{GainsNested, IsAbove, made_by}
+use Rattle.relay_core.specs.Turning.{GainsNested, made_by}
 use Rattle.relay_core.specs.declared.part.Part.{Part}
 use Rattle.media_ports.specs.Held.{TellsHeld}
 use Rattle.board_turns.specs.declared.board_turn.BoardEntryId.{BoardEntryId}
-use Rattle.board_turns.specs.Nesting.{MayNest}
 use Rattle.board_turns.specs.Ending.{leg_pairs}
 use Rattle.control_messages.specs.declared.request.Request.{Request}
 use Rattle.ng_server.specs.declared.turn_record.TurnRecord.{TurnRecord}
@@ -61,20 +57,3 @@ abbrev pub with_kept : Request → ℕ → Option (Room ℕ) → View → View
 with_kept request moment None v = v
 with_kept request moment (Some text) v =
     with_keeping v (record { source = request.source; cookie = request.cookie.now; reply = text.list; moment = moment_used v.keepings moment })
-
-module _ {M I O T : Type 0} {g : _} where
-  -- The main hand has just taken the board's turn of this number, in which the place holds this
-  pub record IsTaken (config : Config) (turns : Turns M (Part I O) Made T) (hand : Hand M (Part I O) Made T g) (number : ℕ) (place : Part I O) (told : Option (List PortCall)) : Type 0 where
-    pub may : MayNest config turns hand
-    pub above : IsAbove (made_by hand) 0 number
-    pub low : number < 2 ^ 56
-    pub orderly : Orderly config (made_by hand)
-    pub board : BoardIs config place (board_history (made_by hand) number)
-    pub opens : TellsHeld config told (leg_pairs (held (board_history (made_by hand) number)))
-
-  -- the same of the place, where the board is the place's
-  pub record DealsAt (config : Config) (old new : Hand M (Part I O) Made T g) (number moment : ℕ) (x : Hearing) (place : Part I O) (told : Option (List PortCall)) : Type 0 where
-    pub fits : FitsBoard config (board_history (made_by old) number) (entry_at config (board_history (made_by old) number) moment x)
-    pub gained : GainsNested number moment (script config (board_history (made_by old) number) (entry_at config (board_history (made_by old) number) moment x)) old new
-    pub stands : BoardIs config place (entry_at config (board_history (made_by old) number) moment x ∷ board_history (made_by old) number)
-    pub opens : TellsHeld config told (leg_pairs (held (entry_at config (board_history (made_by old) number) moment x ∷ board_history (made_by old) number)))

@@ -1,11 +1,11 @@
-//! A command that is no repeat, carried out.
+//! A command that is no repeat, read and carried out.
 ghost use Rattle.std.specs.Prelude.{◌≡◌, ◌≤◌, [], Option, false, IfOk, length};
 ghost use Rattle.ng_command.specs.Said.{said};
 ghost use Rattle.turn_table.specs.Hands.{IsSameHand, SameTurns, entries};
 ghost use Rattle.ng_bencode.specs.Tree.{Entries};
 ghost use Rattle.call_board.specs.Asked.{Reads, command_in};
 ghost use Rattle.call_board.specs.Boards.{KeepsReplies};
-ghost use Rattle.control_messages.specs.Bodies.{pairs_if, said_by, description_in};
+ghost use Rattle.control_messages.specs.Bodies.{pairs_in, said_by, description_in};
 ghost use Rattle.relay_core.specs.Entries.{board_history};
 ghost use Rattle.relay_core.specs.Turning.{made_by};
 ghost use Rattle.board_turns.specs.Nesting.{MayNest};
@@ -19,33 +19,39 @@ ghost use Rattle.board_turns.specs.Ties.{Ties};
 
 use crate::devices::Devices;
 use answer_command::answer;
-use board_turns::{BoardTurn, CommandOutcome, refused, short, told};
+use board_turns::{BoardTurn, CommandOutcome, refused, told};
 use call_board::Board;
 use control_messages::{Body, Request, pong_datagram, read_body};
 use delete_command::delete;
-use ng_bencode::Pairs;
 use ng_command::Command;
 use ng_reply::ErrorCode;
 use offer_answer::ChosenLines;
 use offer_command::offer;
 use relay_core::Relay;
-use relay_outside::{KeySource, PortMaker};
+use relay_outside::{KeySource, OutOfMemory, PortMaker};
 use report_commands::{list, query};
 use std::alloc::Global;
 use std::sync::Wait;
 use turn_table::Hand;
 
-/// A command that was carried out, with the dictionary that it was read from.
-#[derive(Drop)]
-pub(crate) struct Carried {
-    /// The dictionary.
-    pub dictionary: Option<Pairs>,
-    /// How it was carried out.
-    pub done: CommandOutcome,
+/// What a datagram asks: its dictionary, and its command or the first error that there is in its place. One that is too long isn't read.
+pub(crate) fn read_request(alloc: Global, request: &Request) -> Result<Body, OutOfMemory>
+    ensures reads { IfOk result (λ read. request.now.too_long ≡ false → Reads request.now.body.now (pairs_in read)) }
+    ensures command { IfOk result (λ read. command_in request.now.too_long (pairs_in read) ≡ said_by read.command) }
+    // A description is no longer than the body.
+    ensures small { IfOk result (λ read. IfOk read.command (λ command. length (description_in (said command)) ≤ length request.now.body.now)) }
+{
+    if request.too_long {
+        return Ok(Body {
+            dictionary: None,
+            command: Err(ErrorCode::E18),
+        });
+    }
+    read_body(alloc, request.body)
 }
 
 /// Carries out a command, or returns the error that there is in its place.
-fn carry_out_command<N, P: PortMaker, K: KeySource, R: Wait>(
+pub(crate) fn carry_out<N, P: PortMaker, K: KeySource, R: Wait>(
     rt: &R,
     alloc: Global,
     turn: &BoardTurn<P::In, P::Out>,
@@ -59,11 +65,11 @@ fn carry_out_command<N, P: PortMaker, K: KeySource, R: Wait>(
     requires anew { IsAnew (board_history (made_by hand.old) turn.now.entry_id.number) turn.now.entry_id.moment request.now }
     requires empty { devices.old.gone.now ≡ [] }
     requires small { IfOk command.now (λ asks. length (description_in (said asks)) ≤ length request.now.body.now) }
-    requires asked { (pairs : Option Entries) × (request.now.too_long ≡ false) × Reads request.now.body.now pairs × (command_in false pairs ≡ said_by command.now) }
+    requires asked { (pairs : Option Entries) × (request.now.too_long ≡ false → Reads request.now.body.now pairs) × (command_in request.now.too_long pairs ≡ said_by command.now) }
     ensures devices { AreSame devices.old devices.new }
     ensures same { IsSameHand hand.old hand.new × SameTurns hand.old hand.new }
     ensures may { MayNest turn.now.config.now turn.now.turns.now hand.new }
-    ensures carries { (pairs : Option Entries) → request.now.too_long ≡ false → Reads request.now.body.now pairs → command_in false pairs ≡ said_by command.now →
+    ensures carries { (pairs : Option Entries) → (request.now.too_long ≡ false → Reads request.now.body.now pairs) → command_in request.now.too_long pairs ≡ said_by command.now →
         Carries turn.now.config.now hand.old hand.new turn.now.entry_id (hearing_by request.now pairs result) result.reply board.new (P.told devices.new.ports.now) }
     ensures link { devices.new.link.now ≡ devices.old.link.now }
     ensures replies { KeepsReplies board.old board.new }
@@ -116,50 +122,4 @@ fn carry_out_command<N, P: PortMaker, K: KeySource, R: Wait>(
         Command::Query(input) => query(rt, alloc, turn, hand, board, request, input),
         Command::List(limit) => list(alloc, board, request, *limit),
     }
-}
-
-/// Carries out what a datagram asks.
-pub(crate) fn carry_out<N, P: PortMaker, K: KeySource, R: Wait>(
-    rt: &R,
-    alloc: Global,
-    turn: &BoardTurn<P::In, P::Out>,
-    hand: &mut Hand<Relay<P::In, P::Out>>,
-    board: &mut Board,
-    devices: &mut Devices<'_, '_, '_, '_, N, P, K, P::Out>,
-    request: &Request,
-) -> Carried
-    requires turn { InTurn turn.now.config.now turn.now.turns.now hand.old turn.now.entry_id board.old (P.told devices.old.ports.now) }
-    requires anew { IsAnew (board_history (made_by hand.old) turn.now.entry_id.number) turn.now.entry_id.moment request.now }
-    requires empty { devices.old.gone.now ≡ [] }
-    ensures devices { AreSame devices.old devices.new }
-    ensures same { IsSameHand hand.old hand.new × SameTurns hand.old hand.new }
-    ensures may { MayNest turn.now.config.now turn.now.turns.now hand.new }
-    ensures carries { Carries turn.now.config.now hand.old hand.new turn.now.entry_id (hearing_by request.now (pairs_if result.dictionary) result.done) result.done.reply board.new (P.told devices.new.ports.now) }
-    ensures link { devices.new.link.now ≡ devices.old.link.now }
-    ensures replies { KeepsReplies board.old board.new }
-    ensures empty { devices.new.gone.now ≡ [] }
-    ensures ties { Ties turn.now.config.now (P.told devices.old.ports.now) (P.told devices.new.ports.now) (entries hand.old) (entries hand.new) }
-    ensures later { (P.faults devices.old.ports.now ≤ P.faults devices.new.ports.now) × (K.faults devices.old.keys.now ≤ K.faults devices.new.keys.now) }
-    ensures given { let h = board_history (made_by hand.old) turn.now.entry_id.number in
-        IsGivenBy turn.now.config.now (free turn.now.config.now h) (given_by result.done.device_answers) (P.faults devices.old.ports.now) (P.faults devices.new.ports.now) (K.faults devices.old.keys.now) (K.faults devices.new.keys.now) (P.told devices.old.ports.now) (P.told devices.new.ports.now) (K.told devices.old.keys.now) (K.told devices.new.keys.now) }
-{
-    if request.too_long {
-        let done = refused(alloc, request, ErrorCode::E18, ChosenLines::none());
-        return Carried {
-            dictionary: None,
-            done,
-        };
-    }
-    let Ok(body) = read_body(alloc, request.body) else {
-        return Carried {
-            dictionary: None,
-            done: short(),
-        };
-    };
-    let Body {
-        dictionary,
-        command,
-    } = body;
-    let done = carry_out_command(rt, alloc, turn, hand, board, devices, request, &command);
-    Carried { dictionary, done }
 }

@@ -7,29 +7,28 @@ ghost use Rattle.relay_core.specs.Entries.{board_history};
 ghost use Rattle.relay_core.specs.Turning.{made_by};
 ghost use Rattle.board_turns.specs.Nesting.{MayNest};
 ghost use Rattle.board_turns.specs.Acting.{InTurn};
-ghost use Rattle.board_turns.specs.Controls.{control_of, moment_at};
+ghost use Rattle.board_turns.specs.Controls.{control_of};
 ghost use Rattle.call_board.specs.Pairs.{free};
 ghost use Rattle.call_board.specs.Replies.{fault_datagram};
 ghost use Rattle.board_turns.specs.Giving.{given_by, IsGivenBy, IsUnasked};
 ghost use Rattle.ng_server.specs.Devices.{AreSame};
 ghost use Rattle.ng_server.specs.Sending.{Sends};
-ghost use Rattle.board_turns.specs.Telling.{IsAnew};
 ghost use Rattle.ng_server.specs.Turning.{IsRequest};
-ghost use Rattle.ng_server.specs.Dealing.{hearing_of, Deals, IsTaken, DealsAt};
+ghost use Rattle.ng_server.specs.Dealing.{hearing_of, Deals};
 ghost use Rattle.board_turns.specs.Ties.{Ties};
 
-use crate::carrying::{Carried, carry_out};
+use crate::carrying::{carry_out, read_request};
 use crate::devices::Devices;
 use crate::replying::reply_to;
 use crate::sending::{send, send_shortage};
 use crate::turn_record::TurnRecord;
-use board_turns::{BoardEntryId, BoardTurn, CommandOutcome, DeviceAnswers};
+use board_turns::{BoardTurn, CommandOutcome, DeviceAnswers};
 use call_board::Board;
-use control_messages::Request;
+use control_messages::{Body, Request};
 use ng_bencode::Text;
 use ng_reply::ErrorCode;
 use offer_answer::ChosenLines;
-use relay_core::{Part, Relay};
+use relay_core::Relay;
 use relay_outside::{ControlLink, Failed, KeySource, PortMaker};
 use std::alloc::Global;
 use std::sync::Wait;
@@ -61,62 +60,8 @@ fn answer_short<N: ControlLink>(link: &mut N, request: &Request) -> Answered
     Answered { turn_record, sent }
 }
 
-/// Carries out a command for which no reply is kept, sends its reply and keeps it.
-fn answer_anew<N: ControlLink, P: PortMaker, K: KeySource, R: Wait>(
-    rt: &R,
-    alloc: Global,
-    turn: &BoardTurn<P::In, P::Out>,
-    hand: &mut Hand<Relay<P::In, P::Out>>,
-    board: &mut Board,
-    devices: &mut Devices<'_, '_, '_, '_, N, P, K, P::Out>,
-    request: &Request,
-) -> Answered
-    requires turn { InTurn turn.now.config.now turn.now.turns.now hand.old turn.now.entry_id board.old (P.told devices.old.ports.now) }
-    requires anew { IsAnew (board_history (made_by hand.old) turn.now.entry_id.number) turn.now.entry_id.moment request.now }
-    requires empty { devices.old.gone.now ≡ [] }
-    ensures devices { AreSame devices.old devices.new }
-    ensures same { IsSameHand hand.old hand.new × SameTurns hand.old hand.new }
-    ensures may { MayNest turn.now.config.now turn.now.turns.now hand.new }
-    ensures deals { Deals turn.now.config.now hand.old hand.new turn.now.entry_id (hearing_of request.now result.turn_record) board.new (P.told devices.new.ports.now) }
-    ensures sent { Sends request.now.source (control_of turn.now.config.now (board_history (made_by hand.old) turn.now.entry_id.number) turn.now.entry_id.moment (hearing_of request.now result.turn_record)).reply
-        result.sent (N.told devices.old.link.now) (N.told devices.new.link.now) }
-    ensures cause { HasCause (N.faults devices.old.link.now) (N.faults devices.new.link.now) result.sent }
-    ensures empty { devices.new.gone.now ≡ [] }
-    ensures ties { Ties turn.now.config.now (P.told devices.old.ports.now) (P.told devices.new.ports.now) (entries hand.old) (entries hand.new) }
-    ensures later { (P.faults devices.old.ports.now ≤ P.faults devices.new.ports.now) × (K.faults devices.old.keys.now ≤ K.faults devices.new.keys.now) }
-    ensures given { let h = board_history (made_by hand.old) turn.now.entry_id.number in
-        IsGivenBy turn.now.config.now (free turn.now.config.now h) (given_by result.turn_record.device_answers) (P.faults devices.old.ports.now) (P.faults devices.new.ports.now) (K.faults devices.old.keys.now) (K.faults devices.new.keys.now) (P.told devices.old.ports.now) (P.told devices.new.ports.now) (K.told devices.old.keys.now) (K.told devices.new.keys.now) }
-{
-    if board.reserve_reply().is_err() {
-        return answer_short(devices.link, request);
-    }
-    let Ok(cookie) = Text::copy_of(alloc, request.cookie) else {
-        return answer_short(devices.link, request);
-    };
-    let Carried { dictionary, done } = carry_out(rt, alloc, turn, hand, board, devices, request);
-    let CommandOutcome {
-        chosen_lines,
-        device_answers,
-        reply,
-    } = done;
-    let sent = reply_to(
-        board,
-        devices.link,
-        request,
-        turn.entry_id.moment,
-        cookie,
-        reply,
-    );
-    let turn_record = TurnRecord {
-        dictionary,
-        chosen_lines,
-        device_answers,
-    };
-    Answered { turn_record, sent }
-}
-
-/// Sends the reply that is kept for a request, where there is one, and else carries its command out.
-fn deal<N: ControlLink, P: PortMaker, K: KeySource, R: Wait>(
+/// Sends the reply that is kept for a request, where there is one; else carries its command out, sends its reply and keeps it.
+pub(crate) fn deal<N: ControlLink, P: PortMaker, K: KeySource, R: Wait>(
     rt: &R,
     alloc: Global,
     turn: &BoardTurn<P::In, P::Out>,
@@ -150,50 +95,36 @@ fn deal<N: ControlLink, P: PortMaker, K: KeySource, R: Wait>(
         };
         return Answered { turn_record, sent };
     }
-    answer_anew(rt, alloc, turn, hand, board, devices, request)
-}
-
-/// Deals with a request where the board's place is given, in a turn of the board that was handed the moment which `turn` says: its
-/// entry has the later one of that moment and of the last entry's.
-pub(crate) fn deal_part<N: ControlLink, P: PortMaker, K: KeySource, R: Wait>(
-    rt: &R,
-    alloc: Global,
-    turn: &BoardTurn<P::In, P::Out>,
-    hand: &mut Hand<Relay<P::In, P::Out>>,
-    part: &mut Part<P::In, P::Out>,
-    devices: &mut Devices<'_, '_, '_, '_, N, P, K, P::Out>,
-    request: &Request,
-) -> Answered
-    requires taken { IsTaken turn.now.config.now turn.now.turns.now hand.old turn.now.entry_id.number part.old (P.told devices.old.ports.now) }
-    requires request { IsRequest request.now }
-    requires empty { devices.old.gone.now ≡ [] }
-    ensures devices { AreSame devices.old devices.new }
-    ensures same { IsSameHand hand.old hand.new × SameTurns hand.old hand.new }
-    ensures may { MayNest turn.now.config.now turn.now.turns.now hand.new }
-    ensures deals { let h = board_history (made_by hand.old) turn.now.entry_id.number in
-        DealsAt turn.now.config.now hand.old hand.new turn.now.entry_id.number (moment_at h turn.now.entry_id.moment) (hearing_of request.now result.turn_record) part.new (P.told devices.new.ports.now) }
-    ensures sent { let h = board_history (made_by hand.old) turn.now.entry_id.number in
-        Sends request.now.source (control_of turn.now.config.now h (moment_at h turn.now.entry_id.moment) (hearing_of request.now result.turn_record)).reply result.sent (N.told devices.old.link.now) (N.told devices.new.link.now) }
-    ensures cause { HasCause (N.faults devices.old.link.now) (N.faults devices.new.link.now) result.sent }
-    ensures empty { devices.new.gone.now ≡ [] }
-    ensures ties { Ties turn.now.config.now (P.told devices.old.ports.now) (P.told devices.new.ports.now) (entries hand.old) (entries hand.new) }
-    ensures later { (P.faults devices.old.ports.now ≤ P.faults devices.new.ports.now) × (K.faults devices.old.keys.now ≤ K.faults devices.new.keys.now) }
-    ensures given { let h = board_history (made_by hand.old) turn.now.entry_id.number in
-        IsGivenBy turn.now.config.now (free turn.now.config.now h) (given_by result.turn_record.device_answers) (P.faults devices.old.ports.now) (P.faults devices.new.ports.now) (K.faults devices.old.keys.now) (K.faults devices.new.keys.now) (P.told devices.old.ports.now) (P.told devices.new.ports.now) (K.told devices.old.keys.now) (K.told devices.new.keys.now) }
-{
-    match part {
-        Part::Board(board) => {
-            let turn = BoardTurn {
-                turns: turn.turns,
-                config: turn.config,
-                entry_id: BoardEntryId {
-                    number: turn.entry_id.number,
-                    moment: board.advance(turn.entry_id.moment),
-                },
-            };
-            deal(rt, alloc, &turn, hand, board, devices, request)
-        }
-        Part::Cell(_) => unreachable!(),
-        Part::Pair(_) => unreachable!(),
+    if board.reserve_reply().is_err() {
+        return answer_short(devices.link, request);
     }
+    let Ok(cookie) = Text::copy_of(alloc, request.cookie) else {
+        return answer_short(devices.link, request);
+    };
+    let Ok(asked) = read_request(alloc, request) else {
+        return answer_short(devices.link, request);
+    };
+    let Body {
+        dictionary,
+        command,
+    } = asked;
+    let CommandOutcome {
+        chosen_lines,
+        device_answers,
+        reply,
+    } = carry_out(rt, alloc, turn, hand, board, devices, request, &command);
+    let sent = reply_to(
+        board,
+        devices.link,
+        request,
+        turn.entry_id.moment,
+        cookie,
+        reply,
+    );
+    let turn_record = TurnRecord {
+        dictionary,
+        chosen_lines,
+        device_answers,
+    };
+    Answered { turn_record, sent }
 }

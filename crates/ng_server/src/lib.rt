@@ -4,9 +4,9 @@
 //! Module `server` has the server and its calls, `desk` the memory of a control turn, `law` what follows for errors. `specs/Servers.antt` says what is known of
 //! a server and its main hand between two calls.
 //!
-//! Module `taking` makes one take from the link and has the datagram replied to. `turn` takes the board's turn for a datagram with a
-//! frame and ends it with the board's entry (`putting`). In between, `dealing` looks for a kept reply, `carrying` reads the command
-//! and has it carried out, `replying` and `sending` send its reply and keep it. `turn_record` has what the board's entry records besides the datagram.
+//! `Server::control_turn` makes one take from the link and says how it ended (`taking`). For a datagram with a frame `turn` takes the board's turn, and ends
+//! it with the board's entry (`putting`). In between, `dealing` looks for a kept reply and has the command read and carried out (`carrying`);
+//! `replying` and `sending` send its reply and keep it. `turn_record` has what the board's entry records besides the datagram.
 //! `specs/Dealing.antt` says what the turn does, `specs/Turning.antt` what a datagram adds to the hand's list and to the link's,
 //! `specs/Taking.antt` the same of a control turn.
 #![tactic(auto)]
@@ -25,7 +25,6 @@ mod turn;
 mod turn_record;
 
 pub use desk::Desk;
-pub use devices::Devices;
 pub use law::errors_change_nothing;
 pub use server::Server;
-pub use taking::{ControlTurn, control_turn};
+pub use taking::ControlTurn;

@@ -23,13 +23,19 @@ ghost use Rattle.board_turns.specs.Ties.{Ties};
 
 use crate::desk::Desk;
 use crate::devices::Devices;
-use crate::taking::{ControlTurn, control_turn};
+use crate::taking::ControlTurn;
+use crate::turn::answer_datagram;
 use board_turns::{stop_turn, tick_turn};
+use control_messages::Request;
+use ng_frame::split;
 use relay_core::{Part, Relay, close_relay, parts};
-use relay_outside::{Config, ControlLink, InEnd, KeySource, OutEnd, OutOfMemory, PortMaker};
+use relay_outside::{Config, ControlLink, InEnd, KeySource, OutEnd, OutOfMemory, PortMaker, Taken};
 use std::alloc::Global;
 use std::sync::Wait;
 use turn_table::{Hand, Turns};
+
+/// How many bytes a datagram of the control protocol may have.
+const LONGEST: usize = 16_384;
 
 /// A relay under the ng control protocol: the table of its turns, which threads share by reference, and its configuration. It has to
 /// be closed, by the hand that has all parts.
@@ -109,22 +115,43 @@ impl<P: PortMaker> Server<P> {
         ensures ties { Ties self.now.config (P.told ports.old) (P.told ports.new) (entries hand.old) (entries hand.new) }
         ensures later { (N.faults link.old ≤ N.faults link.new) × (P.faults ports.old ≤ P.faults ports.new) × (K.faults keys.old ≤ K.faults keys.new) }
     {
+        let (from, len) = match link.take(desk.datagram.as_mut_slice()) {
+            Ok(Taken::Datagram { from, len }) => (from, len),
+            Ok(Taken::Nothing) => return ControlTurn::Nothing,
+            Ok(Taken::End) => return ControlTurn::End,
+            Err(_) => return ControlTurn::ReadFault,
+        };
+        let datagram = &desk.datagram.as_slice()[..len];
+        let Some((cookie, body)) = split(datagram) else {
+            return ControlTurn::Silent;
+        };
+        let request = Request {
+            source: from,
+            cookie,
+            body,
+            too_long: datagram.len() > LONGEST,
+        };
         let mut devices = Devices {
             link,
             ports,
             keys,
             gone: &mut desk.gone,
         };
-        control_turn(
+        let sent = answer_datagram(
             rt,
             alloc,
             &self.turns,
             hand,
             &self.config,
-            desk.datagram.as_mut_slice(),
             &mut devices,
+            &request,
             now,
-        )
+        );
+        match sent {
+            Ok(()) => {}
+            Err(_) => return ControlTurn::ReplyFault,
+        }
+        ControlTurn::Replied
     }
 
     /// Ends all live calls, in order of their creation, and returns how many. Then no port of a pair is open. It may wait for turns;

@@ -11,12 +11,12 @@ ghost use Rattle.ng_server.specs.Devices.{AreSame};
 ghost use Rattle.ng_server.specs.Turning.{IsRequest, Answers};
 ghost use Rattle.board_turns.specs.Ties.{Ties};
 
-use crate::dealing::deal_part;
+use crate::dealing::deal;
 use crate::devices::Devices;
 use crate::putting::put_control;
 use board_turns::{BoardEntryId, BoardTurn};
 use control_messages::Request;
-use relay_core::Relay;
+use relay_core::{Part, Relay};
 use relay_outside::{Config, ControlLink, Failed, KeySource, PortMaker};
 use std::alloc::Global;
 use std::marker::Brand;
@@ -30,7 +30,7 @@ use turn_table::{Hand, Turns};
 /// draws its keys, and all of it is undone after a fault; what ends closes its ports. Where memory runs out, the reply says so, and
 /// then nothing is done. `now` is in milliseconds; a moment before that of the board's last entry counts as that one. No leg has gone before it and
 /// none after it.
-pub fn answer_datagram<N: ControlLink, P: PortMaker, K: KeySource, R: Wait>(
+pub(crate) fn answer_datagram<N: ControlLink, P: PortMaker, K: KeySource, R: Wait>(
     rt: &R,
     alloc: Global,
     turns: &Turns<Relay<P::In, P::Out>>,
@@ -56,15 +56,20 @@ pub fn answer_datagram<N: ControlLink, P: PortMaker, K: KeySource, R: Wait>(
 {
     let mut turn = turns.turn(rt, hand, 0);
     let number = turn.front();
+    let board = match turn.state() {
+        Part::Board(board) => board,
+        Part::Cell(_) => unreachable!(),
+        Part::Pair(_) => unreachable!(),
+    };
     let board_turn = BoardTurn {
         turns,
         config,
         entry_id: BoardEntryId {
             number,
-            moment: now,
+            moment: board.advance(now),
         },
     };
-    let answered = deal_part(rt, alloc, &board_turn, hand, turn.state(), devices, request);
+    let answered = deal(rt, alloc, &board_turn, hand, board, devices, request);
     put_control::<P::In, P::Out, Brand>(
         turns,
         hand,

@@ -1,17 +1,15 @@
 //! A call from its offer to its delete, over devices in memory.
-ghost use Rattle.std.specs.Prelude.{◌≡◌, []};
+ghost use Rattle.std.specs.Prelude.{◌≡◌};
 ghost use Rattle.turn_table.specs.Hands.{parts};
 ghost use Rattle.board_turns.specs.Between.{IsBetween};
 
-use crate::first_relay::{CONFIG, QuietRelay, begin};
+use crate::first_relay::{CONFIG, QuietRelay};
 use crate::quiet_devices::{Mute, OneAsked, QuietPorts, SameKey};
-use call_cell::Gone;
-use ng_server::{ControlTurn, Devices, control_turn};
-use relay_core::close_relay;
+use ng_server::{ControlTurn, Desk, Server};
 use std::alloc::Global;
 use std::process::Abort;
 use std::sync::Wait;
-use turn_table::{Hand, Turns};
+use turn_table::Hand;
 
 /// What the proxy asks in turn, and the replies to it.
 const ASKED: &[(&[u8], &[u8])] = &[
@@ -71,56 +69,41 @@ const REPORTED: &[u8] =
 fn is_answered<R: Wait + Abort>(
     rt: &R,
     alloc: Global,
-    turns: &Turns<QuietRelay>,
+    server: &Server<QuietPorts>,
     hand: &mut Hand<QuietRelay>,
-    gone: &mut Gone<Mute>,
+    desk: &mut Desk<Mute>,
     datagram: &[u8],
     want: &[u8],
 ) -> bool
-    requires between { IsBetween CONFIG turns.now hand.old }
-    requires empty { gone.old ≡ [] }
+    requires between { IsBetween server.now.config server.now.turns hand.old }
     ensures parts { parts hand.new ≡ parts hand.old }
-    ensures between { IsBetween CONFIG turns.now hand.new }
-    ensures empty { gone.new ≡ [] }
+    ensures between { IsBetween server.now.config server.now.turns hand.new }
 {
-    let Ok(mut room) = vec![in alloc; 0; 16_385] else {
-        panic!(rt; "no memory");
-    };
     let mut link = OneAsked::new(datagram, want);
-    let mut ports = QuietPorts;
-    let mut keys = SameKey;
-    let turn = {
-        let mut devices = Devices {
-            link: &mut link,
-            ports: &mut ports,
-            keys: &mut keys,
-            gone,
-        };
-        control_turn(
-            rt,
-            alloc,
-            turns,
-            hand,
-            &CONFIG,
-            room.as_mut_slice(),
-            &mut devices,
-            0,
-        )
-    };
+    let turn = server.control_turn(
+        rt,
+        alloc,
+        hand,
+        desk,
+        &mut link,
+        &mut QuietPorts,
+        &mut SameKey,
+        0,
+    );
     turn == ControlTurn::Replied && link.is_replied()
 }
 
 #[test]
 fn a_call_is_offered_answered_and_deleted(rt: HostRuntime) {
-    let Ok(mut gone) = Gone::new(rt.alloc()) else {
+    let Ok(mut desk) = Desk::new(rt.alloc()) else {
         panic!(rt; "no memory");
     };
-    let Some((turns, mut hand)) = begin(rt.alloc()) else {
+    let Ok((server, mut hand)) = Server::start(rt.alloc(), CONFIG) else {
         panic!(rt; "no memory");
     };
     for (place, (ask, want)) in ASKED.iter().enumerate() {
-        let is_so = is_answered(&rt, rt.alloc(), &turns, &mut hand, &mut gone, *ask, *want);
+        let is_so = is_answered(&rt, rt.alloc(), &server, &mut hand, &mut desk, *ask, *want);
         assert!(rt; is_so, "datagram {place}");
     }
-    drop(close_relay(turns, hand));
+    drop(server.close(hand));
 }
