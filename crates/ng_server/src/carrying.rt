@@ -19,7 +19,7 @@ ghost use Rattle.board_turns.specs.Ties.{Ties};
 
 use crate::devices::Devices;
 use answer_command::answer;
-use board_turns::{BoardTurn, CommandOutcome, refused, told};
+use board_turns::{AskedCommand, BoardTurn, CommandOutcome, refused, told};
 use call_board::Board;
 use control_messages::{Body, Request, pong_datagram, read_body};
 use delete_command::delete;
@@ -87,39 +87,55 @@ pub(crate) fn carry_out<N, P: PortMaker, K: KeySource, R: Wait>(
         Command::Ping => told(ChosenLines::none(), pong_datagram(alloc, request)),
         Command::Offer(input) => offer(
             rt,
-            alloc,
             turn,
             hand,
             board,
             devices.ports,
             devices.keys,
             devices.gone,
-            request,
-            input,
+            &AskedCommand {
+                request,
+                input,
+                alloc,
+            },
         ),
         Command::Answer(input) => answer(
             rt,
-            alloc,
             turn,
             hand,
             board,
             devices.ports,
             devices.gone,
-            request,
-            input,
+            &AskedCommand {
+                request,
+                input,
+                alloc,
+            },
         ),
         Command::Delete(input) => delete(
             rt,
-            alloc,
             turn,
             hand,
             board,
             devices.ports,
             devices.gone,
-            request,
-            input,
+            &AskedCommand {
+                request,
+                input,
+                alloc,
+            },
         ),
-        Command::Query(input) => query(rt, alloc, turn, hand, board, request, input),
+        Command::Query(input) => query(
+            rt,
+            turn,
+            hand,
+            board,
+            &AskedCommand {
+                request,
+                input,
+                alloc,
+            },
+        ),
         Command::List(limit) => list(alloc, board, request, *limit),
     }
 }
