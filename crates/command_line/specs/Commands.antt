@@ -42,6 +42,14 @@ replay_rules =
     ++ shared_rules
     ++ (number_rule (codes "seed") 0 18446744073709551615 (codes "1") ∷ [])
 
+abbrev pub load_rules : List Rule
+load_rules =
+    number_rule (codes "calls") 1 1000 (codes "50")
+    ∷ number_rule (codes "packets") 1 1000 (codes "200")
+    ∷ number_rule (codes "lanes") 1 16 (codes "4")
+    ∷ number_rule (codes "seed") 0 18446744073709551615 (codes "1")
+    ∷ []
+
 -- the command with these options more
 abbrev pub with_rules : App → List Rule → App
 with_rules app rules = fold with_rule app rules
@@ -58,3 +66,6 @@ serve_app = app_of_rules (codes "rtpengine serve") serve_rules
 
 unfoldable pub replay_app : App
 replay_app = app_of_rules (codes "rtpengine replay") replay_rules
+
+unfoldable pub load_app : App
+load_app = app_of_rules (codes "rtpengine load") load_rules

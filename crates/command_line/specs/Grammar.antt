@@ -8,7 +8,8 @@ use Rattle.relay_outside.specs.declared.address.Ip.{Ip}
 use Rattle.relay_outside.specs.declared.address.Ip.TheVariants.{V4}
 use Rattle.relay_outside.specs.declared.settings.Config.{Config}
 use Rattle.command_line.specs.Numbers.{number_within}
-use Rattle.command_line.specs.Values.{ipv4, listen_address, config_from, settings_from, replay_from}
+use Rattle.command_line.specs.Values.{ipv4, listen_address, config_from, settings_from, replay_from, load_from, replay_interface}
+use Rattle.command_line.specs.declared.settings.LoadSettings.{LoadSettings}
 use Rattle.command_line.specs.declared.settings.ReplaySettings.{ReplaySettings}
 use Rattle.command_line.specs.declared.settings.Settings.{Settings}
 
@@ -35,6 +36,18 @@ second_count text = number_within 1 86400 text
 -- a seed: a number that fits 64 bits
 abbrev pub seed_number : List ℕ → Option ℕ
 seed_number text = number_within 0 18446744073709551615 text
+
+-- how many calls are made
+abbrev pub call_count : List ℕ → Option ℕ
+call_count text = number_within 1 1000 text
+
+-- how many packets each side of a call sends
+abbrev pub packet_count : List ℕ → Option ℕ
+packet_count text = number_within 1 1000 text
+
+-- how many lanes relay them
+abbrev pub lane_count : List ℕ → Option ℕ
+lane_count text = number_within 1 16 text
 
 -- `--name=value`, as the name and the value
 abbrev pub named : List ℕ → Option (List ℕ × List ℕ)
@@ -67,6 +80,9 @@ serve_names = codes "interface" ∷ codes "listen-ng" ∷ codes "turns" ∷ code
 abbrev pub replay_names : List (List ℕ)
 replay_names = codes "interface" ∷ codes "seed" ∷ shared_names
 
+abbrev pub load_names : List (List ℕ)
+load_names = codes "calls" ∷ codes "packets" ∷ codes "lanes" ∷ codes "seed" ∷ []
+
 -- what the one value reads as; where there is none, the default; an option stands once at most
 abbrev pub one_value : {X : Type 0} → (List ℕ → Option X) → Option X → List (List ℕ) → Option X
 one_value read default [] = default
@@ -76,10 +92,6 @@ one_value read default (value ∷ again ∷ values) = None
 -- 127.0.0.1:2223
 abbrev pub default_listen : Addr
 default_listen = record { ip = V4 (127 ∷ 0 ∷ 0 ∷ 1 ∷ []); port = 2223 }
-
--- 203.0.113.1, an address that documents may use and no host has (RFC 5737)
-abbrev pub replay_interface : Ip
-replay_interface = V4 (203 ∷ 0 ∷ 113 ∷ 1 ∷ [])
 
 -- `interface` with an IPv4 address, which is required where no default is given for it, `port-min` and `port-max`
 -- with a port each, `max-sessions` with a number, `timeout` and `offer-timeout` with a number of seconds each
@@ -111,5 +123,16 @@ allowed_replay words =
     if list_all (is_option replay_names) words
     then replay_from
     (configuration (Some replay_interface) words)
+    (one_value seed_number (Some 1) (values_of (codes "seed") words))
+    else None
+
+-- what the words after `load` say: `calls`, `packets`, `lanes` and `seed` with a number each
+abbrev pub allowed_load : List (List ℕ) → Option LoadSettings
+allowed_load words =
+    if list_all (is_option load_names) words
+    then load_from
+    (one_value call_count (Some 50) (values_of (codes "calls") words))
+    (one_value packet_count (Some 200) (values_of (codes "packets") words))
+    (one_value lane_count (Some 4) (values_of (codes "lanes") words))
     (one_value seed_number (Some 1) (values_of (codes "seed") words))
     else None

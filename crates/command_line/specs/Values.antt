@@ -1,5 +1,5 @@
 -- What the values of the options say: addresses, and the configuration of a relay.
-use Rattle.std.specs.Prelude.{◌≡◌, ℕ, ◌+◌, ◌*◌, ◌%◌, ◌≤◌, ◌<◌, ◌==◌, List, take, drop, position, Bool, Option, Some, None, nat_lt, if◌then◌else◌}
+use Rattle.std.specs.Prelude.{◌≡◌, ℕ, ◌+◌, ◌*◌, ◌%◌, ◌≤◌, ◌<◌, ◌==◌, List, [], ◌∷◌, take, drop, position, Bool, Option, Some, None, nat_lt, if◌then◌else◌}
 use Rattle.std.specs.Option.{option_map}
 use Rattle.relay_outside.specs.declared.address.Addr.{Addr}
 use Rattle.relay_outside.specs.declared.address.Ip.{Ip}
@@ -8,6 +8,7 @@ use Rattle.relay_outside.specs.declared.settings.Config.{Config}
 use Rattle.port_pool.specs.Ports.{first_port, pair_count}
 use Rattle.sdp_text.specs.Hosts.{ipv4_bytes}
 use Rattle.command_line.specs.Numbers.{whole_number}
+use Rattle.command_line.specs.declared.settings.LoadSettings.{LoadSettings}
 use Rattle.command_line.specs.declared.settings.Media.{Media}
 use Rattle.command_line.specs.declared.settings.ReplaySettings.{ReplaySettings}
 use Rattle.command_line.specs.declared.settings.Settings.{Settings}
@@ -43,6 +44,14 @@ config_with interface port_min port_max max_sessions timeout offer_timeout = rec
   offer_timeout_ms = 1000 * offer_timeout;
   max_sessions = max_sessions;
 }
+
+-- 203.0.113.1, an address that documents may use and no host has (RFC 5737)
+abbrev pub replay_interface : Ip
+replay_interface = V4 (203 ∷ 0 ∷ 113 ∷ 1 ∷ [])
+
+-- the configuration of a replay whose words say nothing of it
+abbrev pub default_config : Config
+default_config = config_with replay_interface 30000 40000 2048 60 3600
 
 -- this port and the next one are a pair of the range of ports: the first is even
 abbrev pub IsPair : Config → ℕ → Type 0
@@ -86,6 +95,24 @@ settings_from config listen turns threads = None
 abbrev pub replay_from : Option Config → Option ℕ → Option ReplaySettings
 replay_from (Some config) (Some seed) = Some (record { config = config; seed = seed })
 replay_from config seed = None
+
+-- what the options of `load` say, where each says something; for the configuration it has none
+abbrev pub load_from : (calls packets lanes seed : Option ℕ) → Option LoadSettings
+load_from (Some calls) (Some packets) (Some lanes) (Some seed) =
+    Some (record { config = default_config; calls = calls; packets = packets; lanes = lanes; seed = seed })
+load_from calls packets lanes seed = None
+
+-- what holds of what the words of `load` say
+pub record IsLoadInLimits (settings : LoadSettings) : Type 0 where
+  pub config : settings.config ≡ default_config
+  pub limits : IsInLimits settings.config
+  pub least_calls : 1 ≤ settings.calls
+  pub most_calls : settings.calls ≤ 1000
+  pub least_packets : 1 ≤ settings.packets
+  pub most_packets : settings.packets ≤ 1000
+  pub least_lanes : 1 ≤ settings.lanes
+  pub most_lanes : settings.lanes ≤ 16
+  pub seed : settings.seed ≤ 18446744073709551615
 
 -- how a run with these settings relays media: by how many threads, and where its first pair of ports begins
 abbrev pub media : Option Settings → Option Media

@@ -7,12 +7,13 @@ use Rattle.clap.specs.Walk.{Row, Text, first_of, one_of}
 use Rattle.clap.specs.Words.{App, Kinds, fault_of, matches_of}
 use Rattle.clap.specs.ValueTests.{is_unsigned_in}
 use Rattle.relay_outside.specs.declared.settings.Config.{Config}
-use Rattle.command_line.specs.Commands.{serve_app, replay_app}
-use Rattle.command_line.specs.Values.{ipv4, listen_address, config_from, settings_from, replay_from, IsInLimits}
+use Rattle.command_line.specs.Commands.{serve_app, replay_app, load_app}
+use Rattle.command_line.specs.Values.{ipv4, listen_address, config_from, settings_from, replay_from, load_from, IsInLimits, IsLoadInLimits}
+use Rattle.command_line.specs.declared.settings.LoadSettings.{LoadSettings}
 use Rattle.command_line.specs.declared.settings.ReplaySettings.{ReplaySettings}
 use Rattle.command_line.specs.declared.settings.Settings.{Settings}
 use Rattle.command_line.specs.declared.settings.Task.{Task}
-use Rattle.command_line.specs.declared.settings.Task.TheVariants.{Serve, Replay}
+use Rattle.command_line.specs.declared.settings.Task.TheVariants.{Serve, Replay, Load}
 
 -- the rows, where nothing is at fault
 abbrev pub rows_if : Kinds → List Row → Option (List Row)
@@ -53,6 +54,14 @@ settings_of rows =
 abbrev pub replay_of : List Row → Option ReplaySettings
 replay_of rows = replay_from (config_of rows) (number_of 0 18446744073709551615 (codes "seed") rows)
 
+abbrev pub load_of : List Row → Option LoadSettings
+load_of rows =
+    load_from
+    (number_of 1 1000 (codes "calls") rows)
+    (number_of 1 1000 (codes "packets") rows)
+    (number_of 1 16 (codes "lanes") rows)
+    (number_of 0 18446744073709551615 (codes "seed") rows)
+
 -- what the words after `serve` say
 abbrev pub serve_settings : List Text → Option Settings
 serve_settings words = option_and_then settings_of (taken serve_app words)
@@ -61,11 +70,16 @@ serve_settings words = option_and_then settings_of (taken serve_app words)
 abbrev pub replay_words : List Text → Option ReplaySettings
 replay_words words = option_and_then replay_of (taken replay_app words)
 
+-- what the words after `load` say
+abbrev pub load_words : List Text → Option LoadSettings
+load_words words = option_and_then load_of (taken load_app words)
+
 -- what the words after a command's name ask for: `clap` reads them
 unfoldable pub task_after : Text → List Text → Option Task
 task_after command words =
     if bytes_eq command (codes "serve") then option_map Serve (serve_settings words)
-    else (if bytes_eq command (codes "replay") then option_map Replay (replay_words words) else None)
+    else (if bytes_eq command (codes "replay") then option_map Replay (replay_words words)
+    else (if bytes_eq command (codes "load") then option_map Load (load_words words) else None))
 
 -- what a command line asks for: the first word is a command's name
 abbrev pub task_of : List Text → Option Task
@@ -80,6 +94,10 @@ abbrev pub replays_of : Option Task → Option ReplaySettings
 replays_of (Some (Replay settings)) = Some settings
 replays_of task = None
 
+abbrev pub loads_of : Option Task → Option LoadSettings
+loads_of (Some (Load settings)) = Some settings
+loads_of task = None
+
 -- what a command line says, where its command is `serve`
 abbrev pub settings : List Text → Option Settings
 settings words = serve_of (task_of words)
@@ -88,7 +106,12 @@ settings words = serve_of (task_of words)
 abbrev pub replay_settings : List Text → Option ReplaySettings
 replay_settings words = replays_of (task_of words)
 
+-- what a command line says, where its command is `load`
+abbrev pub load_settings : List Text → Option LoadSettings
+load_settings words = loads_of (task_of words)
+
 -- what holds of each task that words say
 abbrev pub IsTaskInLimits : Task → Type 0
 IsTaskInLimits (Serve settings) = IsInLimits settings.config × (settings.turns ≤ 1000000000000000) × (settings.threads ≤ 16)
 IsTaskInLimits (Replay settings) = IsInLimits settings.config
+IsTaskInLimits (Load settings) = IsLoadInLimits settings

@@ -12,4 +12,4 @@ mod values;
 
 pub use read::{read_media, read_words};
 pub use refusal::{Refusal, Usage};
-pub use settings::{Media, ReplaySettings, Settings, Task};
+pub use settings::{LoadSettings, Media, ReplaySettings, Settings, Task};

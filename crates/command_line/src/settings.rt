@@ -23,6 +23,21 @@ pub struct ReplaySettings {
     pub seed: u64,
 }
 
+/// What the words of `load` say.
+#[derive(Clone, Copy, PartialEq, Eq, Debug)]
+pub struct LoadSettings {
+    /// What the relay is run with: what `replay` without words is.
+    pub config: Config,
+    /// How many calls are made, 1 to 1,000.
+    pub calls: u32,
+    /// How many packets each side of a call sends, 1 to 1,000.
+    pub packets: u32,
+    /// How many lanes relay them, 1 to 16.
+    pub lanes: u32,
+    /// From which number the keys are drawn.
+    pub seed: u64,
+}
+
 /// How a run of `serve` relays media, by its words.
 #[derive(Clone, Copy, PartialEq, Eq, Debug)]
 pub struct Media {
@@ -39,4 +54,6 @@ pub enum Task {
     Serve(Settings),
     /// To replay a script.
     Replay(ReplaySettings),
+    /// To relay generated calls.
+    Load(LoadSettings),
 }
