@@ -23,8 +23,9 @@ use Rattle.relay_outside.specs.declared.address.Ip.{Ip}
 use Rattle.relay_outside.specs.declared.settings.Config.{Config}
 use Rattle.command_line.specs.Grammar.{one_value, values_of}
 use Rattle.command_line.specs.Numbers.{number_within}
-use Rattle.command_line.specs.Values.{config_from, replay_from, settings_from}
+use Rattle.command_line.specs.Values.{config_from, load_from, replay_from, settings_from}
 use Rattle.command_line.specs.Words.{number_in, number_of, rows_if}
+use Rattle.command_line.specs.declared.settings.LoadSettings.{LoadSettings}
 use Rattle.command_line.specs.declared.settings.ReplaySettings.{ReplaySettings}
 use Rattle.command_line.specs.declared.settings.Settings.{Settings}
 use Rattle.command_line.proofs.Allowed.{IsOneValued, IsReady, merged, use_row}
@@ -184,6 +185,14 @@ says_replay (Some c) (Some n) s e = (c, n, refl, refl)
 says_replay None n s e = cc
 says_replay (Some c) None s e = cc
 
+pub says_load : (calls packets lanes seed : Option ℕ) (s : LoadSettings) → load_from calls packets lanes seed ≡ Some s
+    → (n : ℕ) × (p : ℕ) × (l : ℕ) × (k : ℕ) × (calls ≡ Some n) × (packets ≡ Some p) × (lanes ≡ Some l) × (seed ≡ Some k)
+says_load (Some n) (Some p) (Some l) (Some k) s e = (n, p, l, k, refl, refl, refl, refl)
+says_load None p l k s e = cc
+says_load (Some n) None l k s e = cc
+says_load (Some n) (Some p) None k s e = cc
+says_load (Some n) (Some p) (Some l) None s e = cc
+
 -- the words of options, where they say something
 pub allowed : {X : Type 0} (all : Bool) (said : Option X) (x : X) → (if all then said else None) ≡ Some x → (all ≡ true) × (said ≡ Some x)
 allowed true said x e = (refl, e)
@@ -201,6 +210,9 @@ same_settings c c2 l l2 n n2 k k2 s ec el en ek is = rw (ec, el, en, ek) is
 
 pub same_replay : (c c2 : Option Config) (n n2 : Option ℕ) (s : Option ReplaySettings) → c2 ≡ c → n2 ≡ n → replay_from c n ≡ s → replay_from c2 n2 ≡ s
 same_replay c c2 n n2 s ec en is = rw (ec, en) is
+
+pub same_load : (n n2 p p2 l l2 k k2 : Option ℕ) (s : Option LoadSettings) → n2 ≡ n → p2 ≡ p → l2 ≡ l → k2 ≡ k → load_from n p l k ≡ s → load_from n2 p2 l2 k2 ≡ s
+same_load n n2 p p2 l l2 k k2 s en ep el ek is = rw (en, ep, el, ek) is
 
 pub taken_by : (kinds : Kinds) (m rows : List Row) → kinds ≡ [] → m ≡ rows → rows_if kinds m ≡ Some rows
 taken_by kinds m rows none is = rw (none, is) refl

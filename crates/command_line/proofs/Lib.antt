@@ -3,6 +3,7 @@ mod Begins
 mod Chains
 mod Defaults
 mod Laws
+pub mod LoadLaw
 mod NumberReads
 mod Numerals
 mod Refused

@@ -9,8 +9,8 @@ use Rattle.clap.specs.Faults.{check_fault}
 use Rattle.clap.specs.Words.{fault_of, first_of, matches_of}
 use Rattle.clap.proofs.FaultLemmas.{leaf_fault}
 use Rattle.command_line.specs.Commands.{app_of_rules, replay_app, replay_rules}
-use Rattle.command_line.specs.Grammar.{allowed_replay, replay_interface, is_option, media_port, second_count, replay_names, seed_number, session_count, values_of}
-use Rattle.command_line.specs.Values.{ipv4}
+use Rattle.command_line.specs.Grammar.{allowed_replay, is_option, media_port, second_count, replay_names, seed_number, session_count, values_of}
+use Rattle.command_line.specs.Values.{ipv4, replay_interface}
 use Rattle.command_line.specs.Words.{config_of, number_of, replay_of, replay_words, taken}
 use Rattle.command_line.specs.declared.settings.ReplaySettings.{ReplaySettings}
 use Rattle.command_line.proofs.Allowed.{IsOneValued, IsReady, merged, walk_over}

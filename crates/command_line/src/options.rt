@@ -1,7 +1,7 @@
 //! The options of each command, as `clap` is told them.
-ghost use Rattle.std.specs.Prelude.{◌≡◌, false, IfOk};
+ghost use Rattle.std.specs.Prelude.{◌≡◌, false, codes, IfOk};
 ghost use Rattle.clap.specs.Words.{app_of, rule_of};
-ghost use Rattle.command_line.specs.Commands.{default_rule, number_rule, required_rule, serve_app, replay_app, with_rules, shared_rules};
+ghost use Rattle.command_line.specs.Commands.{default_rule, number_rule, required_rule, serve_app, replay_app, load_app, with_rules, shared_rules};
 
 use crate::numbers::Limits;
 use clap::builder::ValueParser;
@@ -54,6 +54,27 @@ fn number<'a>(
         limits.least,
         limits.most,
     ))
+}
+
+/// An option that says how many: from one to the most.
+fn count<'a>(alloc: Global, name: &'a str, help: &'a str, most: u64, default: &'a str) -> Arg<'a>
+    ensures rule { rule_of result ≡ number_rule name.entry.now 1 most default.entry.now }
+    ensures local { result.global ≡ false }
+{
+    let limits = Limits { least: 1, most };
+    number(alloc, name, "NUMBER", help, limits, default)
+}
+
+/// The option of a seed.
+fn seed_option<'a>(alloc: Global, help: &'a str) -> Arg<'a>
+    ensures rule { rule_of result ≡ number_rule (codes "seed") 0 18446744073709551615 (codes "1") }
+    ensures local { result.global ≡ false }
+{
+    let seeds = Limits {
+        least: 0,
+        most: u64::MAX,
+    };
+    number(alloc, "seed", "NUMBER", help, seeds, "1")
 }
 
 /// A command with the options that `serve` and `replay` share, but the interface.
@@ -171,10 +192,6 @@ pub(crate) fn serve_command<'a>(alloc: Global) -> Result<Command<'a>, AllocError
 pub(crate) fn replay_command<'a>(alloc: Global) -> Result<Command<'a>, AllocError>
     ensures { IfOk result (λ command. app_of command ≡ replay_app) }
 {
-    let seeds = Limits {
-        least: 0,
-        most: u64::MAX,
-    };
     let interface = with_default(
         alloc,
         "interface",
@@ -182,13 +199,9 @@ pub(crate) fn replay_command<'a>(alloc: Global) -> Result<Command<'a>, AllocErro
         "IPv4 address that descriptions name",
         "203.0.113.1",
     );
-    let seed = number(
+    let seed = seed_option(
         alloc,
-        "seed",
-        "NUMBER",
         "Makes the SRTP keys that the script doesn't give, below 2^64",
-        seeds,
-        "1",
     );
     let command = Command::new(alloc, "rtpengine replay")
         .about("Plays a script of datagrams and packets from standard input, without a socket")
@@ -196,4 +209,26 @@ pub(crate) fn replay_command<'a>(alloc: Global) -> Result<Command<'a>, AllocErro
         .no_binary_name(true)
         .arg(interface)?;
     with_shared(alloc, command)?.arg(seed)
+}
+
+/// The options of `load`.
+pub(crate) fn load_command<'a>(alloc: Global) -> Result<Command<'a>, AllocError>
+    ensures { IfOk result (λ command. app_of command ≡ load_app) }
+{
+    let help = "How many calls are made, 1 to 1000";
+    let calls = count(alloc, "calls", help, 1_000, "50");
+    let help = "How many packets each side of a call sends, 1 to 1000";
+    let packets = count(alloc, "packets", help, 1_000, "200");
+    let help = "How many lanes relay them, 1 to 16";
+    let lanes = count(alloc, "lanes", help, 16, "4");
+    let help = "Makes the SRTP keys, below 2^64";
+    let seed = seed_option(alloc, help);
+    Command::new(alloc, "rtpengine load")
+        .about("Relays the packets of generated calls, without a socket")
+        .after_help("Example:\n  rtpengine load --calls=100 --packets=500 --lanes=2")
+        .no_binary_name(true)
+        .arg(calls)?
+        .arg(packets)?
+        .arg(lanes)?
+        .arg(seed)
 }

@@ -3,12 +3,12 @@ ghost use Rattle.std.specs.Prelude.{◌≡◌, ◌≤◌, IfOk, MatchResult, Mat
 ghost use Rattle.clap.specs.Words.{app_of, found_of, is_simple_and_free, rows_of};
 ghost use Rattle.command_line.specs.Refusals.{IsRefused};
 ghost use Rattle.command_line.specs.Values.{media, IsInLimits};
-ghost use Rattle.command_line.specs.Words.{settings, serve_settings, replay_words, taken, task_after, task_of, IsTaskInLimits};
+ghost use Rattle.command_line.specs.Words.{settings, serve_settings, replay_words, load_words, taken, task_after, task_of, IsTaskInLimits};
 
-use crate::options::{replay_command, serve_command};
+use crate::options::{load_command, replay_command, serve_command};
 use crate::refusal::{Refusal, refuse, refuse_by, refuse_values};
-use crate::settings::{Media, ReplaySettings, Settings, Task};
-use crate::values::{find_replay, find_settings};
+use crate::settings::{LoadSettings, Media, ReplaySettings, Settings, Task};
+use crate::values::{find_load, find_replay, find_settings};
 use clap::{ArgMatches, Command};
 use std::alloc::Global;
 
@@ -66,6 +66,24 @@ fn read_replay<'a>(alloc: Global, words: &'a [&'a str]) -> Result<ReplaySettings
     }
 }
 
+/// What the words after `load` say.
+fn read_load<'a>(alloc: Global, words: &'a [&'a str]) -> Result<LoadSettings, Refusal>
+    ensures value { MatchResult result
+        (λ settings. load_words (map (λ word. word.now) words.entry.now) ≡ Some settings)
+        (IsRefused (load_words (map (λ word. word.now) words.entry.now) ≡ None)) }
+    ensures limits { IfOk result (λ settings. IsTaskInLimits (Task.Load settings)) }
+{
+    let Ok(command) = load_command(alloc) else {
+        return Err(Refusal::OutOfMemory);
+    };
+    let usage = ["load [--NAME=VALUE]...\n"];
+    let matches = parse(alloc, command, usage.as_slice(), words)?;
+    match find_load(&matches) {
+        Some(settings) => Ok(settings),
+        None => Err(refuse(alloc, usage.as_slice())),
+    }
+}
+
 /// What the words after a command's name ask for.
 fn read_task<'a>(alloc: Global, command: &'a str, options: &'a [&'a str]) -> Result<Task, Refusal>
     ensures value { MatchResult result
@@ -85,10 +103,16 @@ fn read_task<'a>(alloc: Global, command: &'a str, options: &'a [&'a str]) -> Res
             Err(refusal) => Err(refusal),
         };
     }
+    if command == "load" {
+        return match read_load(alloc, options) {
+            Ok(settings) => Ok(Task::Load(settings)),
+            Err(refusal) => Err(refusal),
+        };
+    }
     let parts = [
-        "serve|replay [--NAME=VALUE]...: unknown command '",
+        "serve|replay|load [--NAME=VALUE]...: unknown command '",
         command,
-        "', expected serve or replay\n",
+        "', expected serve, replay or load\n",
     ];
     Err(refuse(alloc, parts.as_slice()))
 }
@@ -102,7 +126,7 @@ pub fn read_words<'a>(alloc: Global, words: &'a [&'a str]) -> Result<Task, Refus
 {
     let Some((command, options)) = words.split_first() else {
         let parts = [
-            "serve|replay [--NAME=VALUE]..., and --help after a command for its options\n",
+            "serve|replay|load [--NAME=VALUE]..., and --help after a command for its options\n",
         ];
         return Err(refuse(alloc, parts.as_slice()));
     };

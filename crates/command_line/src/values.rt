@@ -2,11 +2,11 @@
 ghost use Rattle.std.specs.Prelude.{◌≡◌, ◌≤◌, ◌<◌, ◌==◌, ◌↔◌, IfSome, IsTrue, MatchOption, None, Some, ℕ, Option, codes, length, position, option_and_then};
 ghost use Rattle.clap.specs.Words.{first_of, found_of, rows_of};
 ghost use Rattle.command_line.specs.Numbers.{whole_number};
-ghost use Rattle.command_line.specs.Values.{ipv4, listen_address, has_pair, IsV4, IsPair, IsInLimits};
-ghost use Rattle.command_line.specs.Words.{number_of, config_of, settings_of, replay_of};
+ghost use Rattle.command_line.specs.Values.{ipv4, listen_address, has_pair, default_config, IsV4, IsPair, IsInLimits, IsLoadInLimits};
+ghost use Rattle.command_line.specs.Words.{number_of, config_of, settings_of, replay_of, load_of};
 
 use crate::numbers::{Limits, read_whole_number};
-use crate::settings::{ReplaySettings, Settings};
+use crate::settings::{LoadSettings, ReplaySettings, Settings};
 use clap::ArgMatches;
 use relay_outside::{Addr, Config, Ip};
 use sdp_text::{Host, read_ipv4};
@@ -147,6 +147,62 @@ fn find_threads(matches: &ArgMatches<'_>) -> Option<u32>
     }
 }
 
+/// How many calls are made, or packets sent by each side of one: 1 to 1,000.
+fn find_count(matches: &ArgMatches<'_>, name: &str) -> Option<u32>
+    ensures value { result ≡ number_of 1 1000 name.now (rows_of (found_of matches.now)) }
+    ensures within { IfSome result (λ count. (1 ≤ count) × (count ≤ 1000)) }
+{
+    let limits = Limits {
+        least: 1,
+        most: 1_000,
+    };
+    match find_number(matches, name, limits) {
+        Some(count) => Some(count as u32),
+        None => None,
+    }
+}
+
+/// How many lanes relay generated packets: 1 to 16.
+fn find_lanes(matches: &ArgMatches<'_>) -> Option<u32>
+    ensures value { result ≡ number_of 1 16 (codes "lanes") (rows_of (found_of matches.now)) }
+    ensures within { IfSome result (λ lanes. (1 ≤ lanes) × (lanes ≤ 16)) }
+{
+    let limits = Limits { least: 1, most: 16 };
+    match find_number(matches, "lanes", limits) {
+        Some(lanes) => Some(lanes as u32),
+        None => None,
+    }
+}
+
+/// From which number keys are drawn.
+fn find_seed(matches: &ArgMatches<'_>) -> Option<u64>
+    ensures value { result ≡ number_of 0 18446744073709551615 (codes "seed") (rows_of (found_of matches.now)) }
+    ensures within { IfSome result (λ seed. seed ≤ 18446744073709551615) }
+{
+    let limits = Limits {
+        least: 0,
+        most: u64::MAX,
+    };
+    find_number(matches, "seed", limits)
+}
+
+/// What a replay is made with whose words say nothing of it.
+#[tactic(auto, unfolding(port_pool::specs::Ports::pair_count))]
+fn default_config() -> Config
+    ensures value { result ≡ default_config }
+    ensures limits { IsInLimits result }
+{
+    Config {
+        interface: Ip::V4([203, 0, 113, 1]),
+        interface6: None,
+        port_min: 30_000,
+        port_max: 40_000,
+        timeout_ms: 60_000,
+        offer_timeout_ms: 3_600_000,
+        max_sessions: 2_048,
+    }
+}
+
 /// Whether the range of ports holds a pair: an even port and the next one.
 fn has_pair(config: &Config) -> bool
     ensures value { result ≡ has_pair config.now }
@@ -211,10 +267,24 @@ pub(crate) fn find_replay(matches: &ArgMatches<'_>) -> Option<ReplaySettings>
     ensures limits { IfSome result (λ settings. IsInLimits settings.config) }
 {
     let config = find_config(matches)?;
-    let limits = Limits {
-        least: 0,
-        most: u64::MAX,
-    };
-    let seed = find_number(matches, "seed", limits)?;
+    let seed = find_seed(matches)?;
     Some(ReplaySettings { config, seed })
+}
+
+/// What the options of `load` say.
+pub(crate) fn find_load(matches: &ArgMatches<'_>) -> Option<LoadSettings>
+    ensures value { result ≡ load_of (rows_of (found_of matches.now)) }
+    ensures limits { IfSome result IsLoadInLimits }
+{
+    let calls = find_count(matches, "calls")?;
+    let packets = find_count(matches, "packets")?;
+    let lanes = find_lanes(matches)?;
+    let seed = find_seed(matches)?;
+    Some(LoadSettings {
+        config: default_config(),
+        calls,
+        packets,
+        lanes,
+        seed,
+    })
 }

@@ -11,4 +11,4 @@ returns c =
     let begun : app_of c.no_binary_name.result ≡ app_of_rules (codes "rtpengine replay") [] = search rules in
     let one = added _ _ _ _ _ c.in_ok-command.ensures begun c.with_default-interface.ensures.local c.with_default-interface.ensures.rule in
     let shared = c.in_ok-with_shared.ensures ∙ ap (λ (app : App). with_rules app shared_rules) one in
-    IfOk-weaker c.arg-2.result _ _ (λ r adds. added _ _ _ _ _ adds shared c.number-seed.ensures.local c.number-seed.ensures.rule) c.arg-2.ensures
+    IfOk-weaker c.arg-2.result _ _ (λ r adds. added _ _ _ _ _ adds shared c.seed_option-seed.ensures.local c.seed_option-seed.ensures.rule) c.arg-2.ensures

@@ -1,0 +1,68 @@
+-- The words that are allowed after `load` in the form `--name=value` are refused for nothing, and say what their values do.
+use Rattle.std.proofs.Common.{◌≡◌, ◌∙◌, ap, sym, true, false, List, [], Option, Some, None, refl, arith, codes}
+use Rattle.std.specs.Prelude.{find, fold, option_and_then}
+use Rattle.std.specs.List.{list_all, list_any}
+use Rattle.std.specs.Str.{bytes_eq}
+use Rattle.clap.specs.Walk.{Row, Text, nothing_held, with_default}
+use Rattle.clap.specs.Simple.{App, Shape, built}
+use Rattle.clap.specs.Faults.{check_fault}
+use Rattle.clap.specs.Words.{fault_of, matches_of}
+use Rattle.clap.proofs.FaultLemmas.{leaf_fault}
+use Rattle.port_pool.specs.Ports.{pair_count}
+use Rattle.command_line.specs.Commands.{app_of_rules, load_app, load_rules}
+use Rattle.command_line.specs.Grammar.{allowed_load, call_count, is_option, lane_count, load_names, packet_count, seed_number, values_of}
+use Rattle.command_line.specs.Values.{default_config}
+use Rattle.command_line.specs.Words.{load_of, load_words, number_of, replay_words, taken}
+use Rattle.command_line.specs.declared.settings.LoadSettings.{LoadSettings}
+use Rattle.command_line.proofs.Allowed.{IsOneValued, IsReady, merged, walk_over}
+use Rattle.command_line.proofs.Defaults.{find_default, no_fault, or_default, rows_are}
+use Rattle.command_line.proofs.Laws.{allowed, among_each, facts_of, ready, same_load, says_load, says_number, taken_by}
+use Rattle.command_line.proofs.Numerals.{read_alike}
+use Rattle.command_line.proofs.ReplayLaw.{replay_law}
+
+abbrev app : App
+app = app_of_rules (codes "rtpengine load") load_rules
+
+abbrev top : Shape
+top = (built app).top
+
+facts : (name : Text) → list_any (bytes_eq name) load_names ≡ true → IsOneValued top.rules name
+facts = facts_of top.rules load_names refl
+
+pub load_law : (words : List Text) (s : LoadSettings) → allowed_load words ≡ Some s → load_words words ≡ Some s
+unfolding taken load_app
+load_law words s is =
+    let may = allowed (list_all (is_option load_names) words) _ s is in
+    let parts = says_load _ _ _ _ s may.1 in
+    let readies : (name : Text) → list_any (bytes_eq name) load_names ≡ true → IsReady top refl load_names facts name [] words =
+    λ name among. among_each (λ (n : Text). IsReady top refl load_names facts n [] words) load_names name (
+      ready top refl load_names facts words (codes "calls") call_count (Some 50) parts.0 parts.4 (λ value h. (read_alike 1 1000 parts.0 value (omega arith) h).0),
+      (
+        ready top refl load_names facts words (codes "packets") packet_count (Some 200) parts.1 parts.5 (λ value h. (read_alike 1 1000 parts.1 value (omega arith) h).0),
+        (
+          ready top refl load_names facts words (codes "lanes") lane_count (Some 4) parts.2 parts.6 (λ value h. (read_alike 1 16 parts.2 value (omega arith) h).0),
+          (
+            ready top refl load_names facts words (codes "seed") seed_number (Some 1) parts.3 parts.7 (λ value h. (read_alike 0 18446744073709551615 parts.3 value (omega arith) h).0),
+            tt,
+          ),
+        ),
+      ),
+    ) among in
+    let walk = walk_over top refl load_names facts words [] may.0 readies in
+    let rows : List Row = fold with_default walk.last top.rules in
+    let found : (name : Text) → list_any (bytes_eq name) load_names ≡ true → find (λ r. bytes_eq r.id name) rows ≡ or_default name (merged top refl load_names facts name None (values_of name words)) top.rules =
+    λ name among. find_default name top.rules walk.last ∙ ap (λ (o : Option Row). or_default name o top.rules) (walk.has name among) in
+    let checked : check_fault top rows false ≡ [] = refl in
+    let faultless : fault_of app words ≡ [] = leaf_fault (built app) nothing_held words refl ∙ no_fault top refl load_names facts words walk refl checked in
+    let rows_is : matches_of app words ≡ rows = rows_are top refl load_names facts words walk in
+    let calls : number_of 1 1000 (codes "calls") rows ≡ Some parts.0 = says_number top refl load_names facts words rows (codes "calls") refl (found (codes "calls") refl) 1 1000 50 parts.0 (omega arith) parts.4 refl refl in
+    let packets : number_of 1 1000 (codes "packets") rows ≡ Some parts.1 = says_number top refl load_names facts words rows (codes "packets") refl (found (codes "packets") refl) 1 1000 200 parts.1 (omega arith) parts.5 refl refl in
+    let lanes : number_of 1 16 (codes "lanes") rows ≡ Some parts.2 = says_number top refl load_names facts words rows (codes "lanes") refl (found (codes "lanes") refl) 1 16 4 parts.2 (omega arith) parts.6 refl refl in
+    let seed : number_of 0 18446744073709551615 (codes "seed") rows ≡ Some parts.3 = says_number top refl load_names facts words rows (codes "seed") refl (found (codes "seed") refl) 0 18446744073709551615 1 parts.3 (omega arith) parts.7 refl refl in
+    let all : load_of rows ≡ Some s = same_load _ _ _ _ _ _ _ _ _ (calls ∙ sym parts.4) (packets ∙ sym parts.5) (lanes ∙ sym parts.6) (seed ∙ sym parts.7) may.1 in
+    ap (option_and_then load_of) (taken_by _ _ rows faultless rows_is) ∙ all
+
+-- the configuration of `load` is the one that `replay` has without words
+pub replay_alone : replay_words [] ≡ Some (record { config = default_config; seed = 1 })
+unfolding pair_count
+replay_alone = replay_law [] (record { config = default_config; seed = 1 }) refl
