@@ -114,7 +114,8 @@ const OTHERS: &[&[&str]] = &[
     // no command, or another
     &[],
     &[""],
-    &["load"],
+    &["Load"],
+    &["loads"],
     &["Replay"],
     &["replays"],
     &["repla"],
@@ -148,6 +149,7 @@ const OPTIONS: &[&[&str]] = &[
     &["serve", INTERFACE, "serve"],
     &["replay", "replay", "--seed=1"],
     &["replay", "", "--seed=1"],
+    &["load", "load", "--seed=1"],
     // no interface, or none of version 4
     &["serve"],
     &["serve", "--port-min=1024"],
@@ -157,6 +159,10 @@ const OPTIONS: &[&[&str]] = &[
     &["replay", "--turns=1"],
     &["replay", "--turns=9", "--port-min=30000"],
     &["replay", "--listen-ng=127.0.0.1:2223", "--port-min=30000"],
+    &["replay", "--calls=1"],
+    &["load", INTERFACE],
+    &["load", "--port-min=30000"],
+    &["load", "--num-threads=1"],
     // out of limits
     &["serve", INTERFACE, "--num-threads"],
     &["serve", INTERFACE, "--num-threads="],
@@ -184,6 +190,14 @@ const OPTIONS: &[&[&str]] = &[
         "--seed=99999999999999999999999999999999999999999",
         "--port-min=30000",
     ],
+    &["load", "--calls=0"],
+    &["load", "--calls=1001"],
+    &["load", "--packets=0"],
+    &["load", "--packets=1001"],
+    &["load", "--lanes=0"],
+    &["load", "--lanes=17"],
+    &["load", "--lanes", "17"],
+    &["load", "--seed=18446744073709551616"],
     // a leading zero, a sign, no digits
     &["serve", INTERFACE, "--port-max=40000 "],
     &["serve", INTERFACE, "--max-sessions=0x10"],
@@ -196,6 +210,9 @@ const OPTIONS: &[&[&str]] = &[
     &["replay", "--seed=0x1", "--port-min=30000"],
     &["replay", "--seed=", "--port-min=30000"],
     &["replay", "--seed", "--port-min=30000"],
+    &["load", "--calls=-1"],
+    &["load", "--packets="],
+    &["load", "--lanes"],
     // twice
     &["serve", INTERFACE, INTERFACE],
     &["serve", INTERFACE, "--port-min=30000", "--port-min=30000"],
@@ -208,6 +225,8 @@ const OPTIONS: &[&[&str]] = &[
     ],
     &["replay", INTERFACE, INTERFACE],
     &["replay", "--seed=1", "--seed=1"],
+    &["load", "--calls=1", "--calls=1"],
+    &["load", "--lanes=1", "--lanes", "1"],
 ];
 
 #[test]
