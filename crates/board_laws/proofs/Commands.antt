@@ -44,7 +44,7 @@ leased_same config h ask of begins before pairs d a b fed m n =
     let same = leased_once config h ask of begins before pairs d a b fed m n in
     record { given = same; answer = ap (λ (g : Given). offer_leased config h g ask of begins before pairs) same }
 
-abbrev planned : Config → List BoardEntry → OfferAsk → Call → Bool → List Round → (over short : Bool) → Given → Answering
+abbrev pub planned : Config → List BoardEntry → OfferAsk → Call → Bool → List Round → (over short : Bool) → Given → Answering
 planned config h ask of begins before over short g =
     cond over (failing E14) (cond short (failing E13) (offer_leased config h g ask of begins before (leased_pairs config h (plan.demand before ask))))
 

@@ -4,3 +4,6 @@ pub mod Given
 pub mod Commands
 pub mod Answered
 pub mod Both
+pub mod First
+pub mod Ends
+pub mod Due

@@ -1,1 +1,3 @@
 pub mod Alike
+pub mod Answered
+pub mod Due

@@ -7,4 +7,6 @@
 
 mod law;
 
-pub use law::{answers_are_one, dialects_are_one};
+pub use law::{
+    answers_are_one, dialects_are_one, due_packets_are_sent, framed_datagrams_are_answered,
+};
