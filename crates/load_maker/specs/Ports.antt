@@ -1,11 +1,13 @@
 -- What the ports of the generated load tell and give.
-use Rattle.std.specs.Prelude.{◌≡◌, ℕ, ◌+◌, min, nat_lt, Bool, ◌==◌, Option, Some, None, MatchOption, List, length, take, if◌then◌else◌}
+use Rattle.std.specs.Prelude.{◌≡◌, ℕ, ◌+◌, ◌/◌, ◌%◌, min, nat_lt, Bool, ◌==◌, Option, Some, None, MatchOption, List, length, take, if◌then◌else◌}
 use Rattle.relay_outside.specs.declared.address.Addr.{Addr}
+use Rattle.relay_outside.specs.declared.address.Ip.{Ip}
 use Rattle.relay_outside.specs.declared.ports.InCall.{InCall}
 use Rattle.relay_outside.specs.declared.ports.OutCall.{OutCall}
 use Rattle.relay_outside.specs.declared.ports.PortCall.{PortCall}
 use Rattle.relay_outside.specs.Told.{EndTold, opened_for}
 use Rattle.port_pool.specs.declared.holder.Side.TheVariants.{A, B}
+use Rattle.load_maker.specs.declared.ports.ClosedEnd.{ClosedEnd}
 use Rattle.load_maker.specs.declared.stream.Stream.{Stream}
 use Rattle.load_maker.specs.Packets.{source_of, packet}
 
@@ -16,11 +18,18 @@ pub record InState : Type 0 where
   pub packets : ℕ
   pub given : ℕ
 
--- the maker: what it tells; how many packets each side sends; the call that was begun last, and how many ports were opened since then
+-- the maker: what it tells; how many packets each side sends; the call that was begun last, and how many ports were opened since then;
+-- the ends that were given back
 pub record MakerState : Type 0 where
   pub told : Option (List PortCall)
   pub packets : ℕ
   pub call : Option ℕ
+  pub opened : ℕ
+  pub closed : List ClosedEnd
+
+-- the maker of a whole load: the maker of its ports, and how many were opened in all
+pub record PortsState : Type 0 where
+  pub maker : MakerState
   pub opened : ℕ
 
 -- what an out end tells: its address, and nothing of its calls
@@ -35,6 +44,15 @@ stream_at (Some call) opened =
     if opened == 0
     then Some (record { call = call; side = B })
     else if opened == 2 then Some (record { call = call; side = A }) else None
+
+-- the end that is given back as the nth, from 0, where each of the calls has opened its four ports, each gave all its packets, and the ports
+-- are given back in order: their numbers follow one another from the first one on
+abbrev pub end_at : (host : Ip) (first packets : ℕ) → ℕ → ClosedEnd
+end_at host first packets n = record {
+  at = record { ip = host; port = first + n };
+  stream = stream_at (Some (n / 4 + 1)) (n % 4);
+  given = if n % 2 == 0 then packets else 0;
+}
 
 -- the in end of the next port, opened for this address
 abbrev pub next_end : MakerState → Addr → InState

@@ -25,7 +25,7 @@ pub fn signals(alloc: Global, call: u32, protected: bool) -> Result<Signals, Out
 }
 
 /// The body of a call's offer.
-fn offer_body(alloc: Global, call: u32, protected: bool) -> Result<Text, OutOfMemory>
+pub(crate) fn offer_body(alloc: Global, call: u32, protected: bool) -> Result<Text, OutOfMemory>
     requires { call ≤ 1000 }
     ensures { IfOk result (λ body. body.list ≡ spelling (offer_of call protected)) }
 {
@@ -48,7 +48,7 @@ fn offer_body(alloc: Global, call: u32, protected: bool) -> Result<Text, OutOfMe
 }
 
 /// The body of its answer.
-fn answer_body(alloc: Global, call: u32, protected: bool) -> Result<Text, OutOfMemory>
+pub(crate) fn answer_body(alloc: Global, call: u32, protected: bool) -> Result<Text, OutOfMemory>
     requires { call ≤ 1000 }
     ensures { IfOk result (λ body. body.list ≡ spelling (answer_of call protected)) }
 {

@@ -1,6 +1,7 @@
 //! The ends of the ports of the load.
 ghost use Rattle.std.specs.Prelude.{◌≡◌, ◌≤◌, ◌<◌, ℕ, None, MatchOption, IfOk, IfSome, IsOk, length, min, take};
-ghost use Rattle.relay_outside.specs.Told.{EndGains, HasCause, is_done, opened_for};
+ghost use Rattle.relay_outside.specs.Told.{EndGains, HasCause, WhereTold, is_done, opened_for};
+ghost use Rattle.load_maker.specs.Takes.{GivesOn};
 ghost use Rattle.relay_outside.specs.Ports.{FitsTake, in_given};
 ghost use Rattle.load_maker.specs.Ports.{Takes, next_stream, silent_at};
 
@@ -22,13 +23,15 @@ pub struct LoadIn {
 
 impl Model for LoadIn {
     ghost use Rattle.std.specs.Prelude.{◌≤◌, IfSome};
+    ghost use Rattle.relay_outside.specs.Told.{WhereTold};
     ghost use Rattle.load_maker.specs.Ports.{InState};
+    ghost use Rattle.load_maker.specs.Takes.{GivesOn};
 
     ghost Value = { InState };
 
     ghost view = { λ end. record { told = record { at = end.at; calls = end.told }; stream = end.stream; packets = end.packets; given = end.given } };
 
-    ghost invariant = { λ end. (end.given ≤ end.packets) × (end.packets ≤ 1000) × IfSome end.stream (λ stream. stream.call ≤ 1000) };
+    ghost invariant = { λ end. (end.given ≤ end.packets) × (end.packets ≤ 1000) × IfSome end.stream (λ stream. stream.call ≤ 1000) × WhereTold end.told (λ takes. GivesOn end.stream 0 takes end.given) };
 }
 
 impl LoadIn {
@@ -59,6 +62,15 @@ impl LoadIn {
         } else {
             None
         }
+    }
+
+    /// Whose packets it gave, and how many.
+    pub(crate) fn gave(&self) -> (Option<Stream>, u32)
+        ensures stream { result.0 ≡ self.now.stream }
+        ensures given { result.1 ≡ self.now.given }
+        ensures takes { WhereTold self.now.told.calls (λ takes. GivesOn self.now.stream 0 takes self.now.given) }
+    {
+        (self.stream, self.given)
     }
 
     /// What the end told of its calls.

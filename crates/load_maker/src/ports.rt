@@ -1,13 +1,14 @@
 //! The maker of the ports of the load.
-ghost use Rattle.std.specs.Prelude.{◌≡◌, ◌↔◌, ◌≤◌, ◌+◌, ◌-◌, ◌^◌, ℕ, Some, None, [], IsTrue, IsSome, IsOk, IfOk, IfSome, min};
+ghost use Rattle.std.specs.Prelude.{◌≡◌, ◌↔◌, ◌≤◌, ◌<◌, ◌+◌, ◌-◌, ◌^◌, ℕ, Some, None, [], true, IsTrue, IsSome, IsOk, IfOk, IfSome, min};
 ghost use Rattle.relay_outside.specs.Told.{Gains, HasCause, IsOpenedFor, WhereTold, is_done};
 ghost use Rattle.relay_outside.specs.Ports.{IsOpen};
-ghost use Rattle.load_maker.specs.Ports.{next_end, silent_at, stream_at};
+ghost use Rattle.load_maker.specs.Ports.{end_at, next_end, silent_at, stream_at};
+ghost use Rattle.load_maker.specs.Takes.{HasGivenAll};
 
 use crate::ends::{LoadIn, LoadOut};
 use crate::stream::Stream;
 use port_pool::Side;
-use relay_outside::{Addr, CallList, Failed, OutCall, PortCall, PortMaker};
+use relay_outside::{Addr, CallList, Failed, Ip, OutCall, PortCall, PortMaker};
 use std::alloc::Global;
 use std::marker::Model;
 
@@ -20,24 +21,38 @@ pub struct LoadMaker {
     packets: u32,
     call: Option<u32>,
     opened: u32,
+    closed: Vec<ClosedEnd>,
+}
+
+/// An in end that was given back.
+#[derive(Clone, Copy, PartialEq, Eq)]
+pub(crate) struct ClosedEnd {
+    /// The address that it was opened for.
+    pub(crate) at: Addr,
+    /// Whose packets it gave.
+    pub(crate) stream: Option<Stream>,
+    /// How many.
+    pub(crate) given: u32,
 }
 
 impl Model for LoadMaker {
     ghost use Rattle.std.specs.Prelude.{◌≤◌, IfSome};
+    ghost use Rattle.relay_outside.specs.Told.{WhereTold};
     ghost use Rattle.load_maker.specs.Ports.{MakerState};
+    ghost use Rattle.load_maker.specs.Takes.{AreClosed};
 
     ghost Value = { MakerState };
 
-    ghost view = { λ maker. record { told = maker.told; packets = maker.packets; call = maker.call; opened = maker.opened } };
+    ghost view = { λ maker. record { told = maker.told; packets = maker.packets; call = maker.call; opened = maker.opened; closed = maker.closed.items } };
 
-    ghost invariant = { λ maker. (maker.packets ≤ 1000) × IfSome maker.call (λ call. call ≤ 1000) };
+    ghost invariant = { λ maker. (maker.packets ≤ 1000) × IfSome maker.call (λ call. call ≤ 1000) × WhereTold maker.told (λ calls. AreClosed calls maker.closed.items) };
 }
 
 impl LoadMaker {
     /// A maker for calls whose sides send this many packets each. No call is begun.
     pub fn new(alloc: Global, packets: u32) -> LoadMaker
         requires { (1 ≤ packets) × (packets ≤ 1000) }
-        ensures { result ≡ record { told = Some []; packets = packets; call = None; opened = 0 } }
+        ensures { result ≡ record { told = Some []; packets = packets; call = None; opened = 0; closed = [] } }
     {
         LoadMaker {
             alloc,
@@ -45,6 +60,7 @@ impl LoadMaker {
             packets,
             call: None,
             opened: 0,
+            closed: Vec::new(alloc),
         }
     }
 
@@ -64,6 +80,23 @@ impl LoadMaker {
         self.told.tells()
     }
 
+    /// Whether the ends that were given back are those of this many calls, of each two pairs, in the order of their ports, from the first one on,
+    /// and each gave this many packets of its side, if it is one to which the side sends.
+    pub fn gave_all(&self, host: Ip, first: u16, calls: u32, packets: u32) -> bool
+        requires { calls ≤ 1000 }
+        ensures { IsTrue result → HasGivenAll host first calls packets self.now.told }
+    {
+        if self.closed.len() != 4 * calls as usize {
+            return false;
+        }
+        for number in 0..4 * calls {
+            if !is_end_at(&self.closed[number as usize], host, first, packets, number) {
+                return false;
+            }
+        }
+        true
+    }
+
     /// Whose packets the next port gives.
     fn next_stream(&self) -> Option<Stream>
         ensures stream { result ≡ stream_at self.now.call self.now.opened }
@@ -72,18 +105,38 @@ impl LoadMaker {
         let Some(call) = self.call else {
             return None;
         };
-        match self.opened {
-            0 => Some(Stream {
-                call,
-                side: Side::B,
-            }),
-            2 => Some(Stream {
-                call,
-                side: Side::A,
-            }),
-            _ => None,
-        }
+        stream_at(call, self.opened)
     }
+}
+
+/// Whose packets the port gives that was opened after this many others of the call.
+fn stream_at(call: u32, opened: u32) -> Option<Stream>
+    ensures { result ≡ stream_at (Some call) opened }
+{
+    match opened {
+        0 => Some(Stream {
+            call,
+            side: Side::B,
+        }),
+        2 => Some(Stream {
+            call,
+            side: Side::A,
+        }),
+        _ => None,
+    }
+}
+
+/// Whether this is the end that is to be given back as the one of this number, from 0.
+fn is_end_at(end: &ClosedEnd, host: Ip, first: u16, packets: u32, number: u32) -> bool
+    requires { number < 4000 }
+    ensures { IsTrue result → end.now ≡ end_at host first packets number }
+{
+    let port = u32::from(end.at.port);
+    let given = if number % 2 == 0 { packets } else { 0 };
+    port == u32::from(first) + number
+        && end.at.ip == host
+        && end.given == given
+        && end.stream == stream_at(number / 4 + 1, number % 4)
 }
 
 /// The list of an end that tells nothing.
@@ -106,6 +159,13 @@ fn close_call(alloc: Global, at: Addr, receiving: LoadIn) -> Option<PortCall>
     }
     let sent = untold(alloc);
     Some(PortCall::Close { at, taken, sent })
+}
+
+/// The call, where it was kept what the end gave.
+fn when_kept(is_kept: bool, call: Option<PortCall>) -> Option<PortCall>
+    ensures { IfSome result (λ noted. (is_kept ≡ true) × (call ≡ Some noted)) }
+{
+    if is_kept { call } else { None }
 }
 
 impl PortMaker for LoadMaker {
@@ -145,10 +205,12 @@ impl PortMaker for LoadMaker {
         ensures told { Gains self.old.told self.new.told (PortCall.Close at receiving.told.calls None) }
         ensures stops { IsSome self.new.told → IsSome receiving.told.calls }
         ensures later { 0 ≤ 0 }
-        ensures left { self.new ≡ record self.old { told = self.new.told } }
+        ensures left { self.new ≡ record self.old { told = self.new.told; closed = self.new.closed } }
     {
         let _ = sending;
+        let (stream, given) = receiving.gave();
         let call = close_call(self.alloc, at, receiving);
-        self.told.note(call);
+        let kept = self.closed.push(ClosedEnd { at, stream, given });
+        self.told.note(when_kept(kept.is_ok(), call));
     }
 }

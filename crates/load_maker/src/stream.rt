@@ -20,7 +20,7 @@ const PLAIN: usize = 32;
 pub(crate) const ROOM: usize = 42;
 
 /// The packets of one side of a call.
-#[derive(Clone, Copy)]
+#[derive(Clone, Copy, PartialEq, Eq)]
 pub(crate) struct Stream {
     /// The call, from 1.
     pub(crate) call: u32,

@@ -2,6 +2,7 @@ mod Counts
 mod Departures
 mod Ends
 mod Gates
+mod Loaded
 mod Loops
 pub mod MediaThreads
 mod Orders

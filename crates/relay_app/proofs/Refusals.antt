@@ -9,6 +9,8 @@ use Rattle.replay_steps.specs.declared.ended.Ended.TheVariants as ended
 use Rattle.command_line.specs.Refusals.{begins_usage}
 use Rattle.command_line.specs.declared.settings.Settings.{Settings}
 use Rattle.command_line.specs.declared.settings.ReplaySettings.{ReplaySettings}
+use Rattle.command_line.specs.declared.settings.LoadSettings.{LoadSettings}
+use Rattle.relay_app.specs.Loads.{Loads}
 use Rattle.relay_app.specs.declared.status.Status.TheVariants as status
 use Rattle.relay_app.specs.Served.{Outside}
 use Rattle.relay_app.specs.Run.{Serves, StatusByWords, ReplayedBy, ReplaysBy, PrintsUsage, TellsLine}
@@ -20,10 +22,15 @@ pub serves_nothing : (settings : Option Settings) (range : Option (ℕ × ℕ)) 
 serves_nothing None range gate outside wrote link timer opened drew = tt
 serves_nothing (Some settings) range gate outside wrote link timer opened drew = not_begun settings range gate outside wrote link timer opened drew
 
-pub unread_status : (settings : Option Settings) (replay : Option ReplaySettings) → StatusByWords settings replay status.OutOfMemory
-unread_status None None = inr (inr refl)
-unread_status None (Some replay) = tt
-unread_status (Some settings) replay = tt
+pub unread_status : (settings : Option Settings) (replay : Option ReplaySettings) (load : Option LoadSettings) → StatusByWords settings replay load status.OutOfMemory
+unread_status None None None = inr (inr refl)
+unread_status None None (Some load) = tt
+unread_status None (Some replay) load = tt
+unread_status (Some settings) replay load = tt
+
+pub loads_nothing : (load : Option LoadSettings) (gate : ℕ → Type 0) (wrote : Option (List WriteCall)) → Loads load gate wrote wrote status.OutOfMemory
+loads_nothing None gate wrote = tt
+loads_nothing (Some load) gate wrote = inl (refl, gained_none wrote (λ more. more ≡ []) refl)
 
 pub replays_nothing : (settings : Option Settings) (replay : Option ReplaySettings) (read : Option (List LineCall)) (wrote : Option (List WriteCall))
     → ReplayedBy settings replay status.OutOfMemory read read wrote wrote

@@ -1,5 +1,6 @@
 pub mod Devices
 pub mod Ends
+pub mod Loads
 pub mod Numbered
 pub mod Rounds
 pub mod Run

@@ -9,6 +9,7 @@ use Rattle.relay_app.specs.declared.status.Status.{Status}
 use Rattle.relay_app.specs.declared.status.Status.TheVariants as status
 use Rattle.command_line.specs.declared.settings.Settings.{Settings}
 use Rattle.command_line.specs.declared.settings.ReplaySettings.{ReplaySettings}
+use Rattle.command_line.specs.declared.settings.LoadSettings.{LoadSettings}
 use Rattle.relay_outside.specs.declared.lines.LineCall.{LineCall}
 use Rattle.replay_steps.specs.declared.ended.Ended.{Ended}
 use Rattle.replay_steps.specs.declared.ended.Ended.TheVariants as ended
@@ -19,6 +20,7 @@ use Rattle.media_ports.specs.Held.{OpensHeld}
 use Rattle.media_lane.specs.declared.answers.Totals.{Totals}
 use Rattle.relay_app.specs.declared.totals.Counts.{Counts}
 use Rattle.relay_app.specs.Served.{Outside, Gave, DidServe, totals_line}
+use Rattle.relay_app.specs.Loads.{IsLoaded}
 
 -- a status tells whether the sink took the line
 abbrev pub is_printed : Status → Bool
@@ -91,10 +93,11 @@ IsReplayed status.TurnsSpent = ⊥
 IsReplayed status.Usage = ⊥
 
 -- the status is one of the command that the words are of; it is Usage, or PrintFault in its place, only where they are of none
-abbrev pub StatusByWords : Option Settings → Option ReplaySettings → Status → Type 0
-StatusByWords None None answer = (answer ≡ status.Usage) ⊎ (answer ≡ status.PrintFault) ⊎ (answer ≡ status.OutOfMemory)
-StatusByWords None (Some replay) answer = IsReplayed answer
-StatusByWords (Some settings) replay answer = IsServed answer
+abbrev pub StatusByWords : Option Settings → Option ReplaySettings → Option LoadSettings → Status → Type 0
+StatusByWords None None None answer = (answer ≡ status.Usage) ⊎ (answer ≡ status.PrintFault) ⊎ (answer ≡ status.OutOfMemory)
+StatusByWords None None (Some load) answer = IsLoaded answer
+StatusByWords None (Some replay) load answer = IsReplayed answer
+StatusByWords (Some settings) replay load answer = IsServed answer
 
 -- how a replay ended with this status
 abbrev pub ended_of : Status → Option Ended

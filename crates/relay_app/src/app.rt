@@ -1,11 +1,13 @@
 ghost use Rattle.std.specs.Prelude.{◌≡◌, ◌≤◌, ◌<◌, ◌^◌, [], vec_capacity, None, Some, IfOk, map};
 ghost use Rattle.relay_outside.specs.Told.{Gained, Rose};
 ghost use Rattle.media_ports.specs.Held.{TellsHeld};
-ghost use Rattle.command_line.specs.Words.{settings, replay_settings};
+ghost use Rattle.command_line.specs.Words.{settings, replay_settings, load_settings};
 ghost use Rattle.relay_app.specs.Devices.{AreSame, AreUnasked};
+ghost use Rattle.relay_app.specs.Loads.{Loads};
 ghost use Rattle.relay_app.specs.Run.{Serves, PrintsUsage, IsServed, StatusByWords, ReplayedBy, AreOfReplay, TellsNone};
 
 use crate::devices::{Devices, Media, Tells};
+use crate::loading::load;
 use crate::replaying::replay_script;
 use crate::serve::{Prepared, close_table, serve_turns};
 use crate::status::Status;
@@ -27,7 +29,7 @@ use std::thread::Threads;
 const LINE: usize = 512;
 
 /// An empty text with room for the line of totals.
-fn line_room(alloc: Global) -> Result<Text, OutOfMemory>
+pub(crate) fn line_room(alloc: Global) -> Result<Text, OutOfMemory>
     ensures { IfOk result (λ line. (line.list ≡ []) × (512 ≤ line.spare)) }
 {
     let mut line = Text::new(alloc);
@@ -38,7 +40,7 @@ fn line_room(alloc: Global) -> Result<Text, OutOfMemory>
 }
 
 /// An empty list with capacity for this many threads of media.
-fn thread_room<I: InEnd, O: OutEnd>(
+pub(crate) fn thread_room<I: InEnd, O: OutEnd>(
     alloc: Global,
     count: u32,
 ) -> Result<Vec<MediaThread<I, O>>, OutOfMemory>
@@ -100,7 +102,12 @@ where
         close_table(server, hand);
         return Status::ControlFault;
     };
-    let prepared = Prepared { hand, desk, room };
+    let prepared = Prepared {
+        hand,
+        desk,
+        room,
+        due: None,
+    };
     let looped = serve_turns(rt, alloc, settings, server, prepared, devices, media);
     put_totals(&mut line, looped.counts, looped.totals);
     match out.write(line.as_slice()) {
@@ -125,6 +132,10 @@ where
 /// `replay [--interface=ADDRESS] [--seed=NUMBER] [--port-min=PORT] [--port-max=PORT] [--max-sessions=NUMBER] [--timeout=SECONDS]
 /// [--offer-timeout=SECONDS]` reads the script, makes its steps over devices in memory, and prints a line for each event. It leaves the control link, the ports, the keys, the timer, the
 /// clock and the gate alone.
+///
+/// `load [--calls=NUMBER] [--packets=NUMBER] [--lanes=NUMBER] [--seed=NUMBER]` makes so many calls over devices in memory, has so many threads
+/// of media relay what their sides send, so many packets each, until all were taken, ends the calls, and prints a line with what came of the
+/// packets. It passes the gate at each relay and leaves the other devices alone. Where memory runs out it prints nothing.
 ///
 /// `--NAME VALUE` may stand for `--NAME=VALUE`. Any other words return `Usage`, after a line that begins `usage: rtpengine` and what `clap`
 /// says of words that it refuses. It may wait for the turns of its own table.
@@ -170,9 +181,10 @@ where
           key_faults_now = K.faults keys.new;
         })
         (O.told out.old) (O.told out.new) result }
-    ensures usage { settings (map (λ word. word.now) words.now) ≡ None → replay_settings (map (λ word. word.now) words.now) ≡ None → Gained (O.told out.old) (O.told out.new) (PrintsUsage result) }
-    ensures status { StatusByWords (settings (map (λ word. word.now) words.now)) (replay_settings (map (λ word. word.now) words.now)) result }
+    ensures usage { settings (map (λ word. word.now) words.now) ≡ None → replay_settings (map (λ word. word.now) words.now) ≡ None → load_settings (map (λ word. word.now) words.now) ≡ None → Gained (O.told out.old) (O.told out.new) (PrintsUsage result) }
+    ensures status { StatusByWords (settings (map (λ word. word.now) words.now)) (replay_settings (map (λ word. word.now) words.now)) (load_settings (map (λ word. word.now) words.now)) result }
     ensures replayed { ReplayedBy (settings (map (λ word. word.now) words.now)) (replay_settings (map (λ word. word.now) words.now)) result (S.told script.old) (S.told script.new) (O.told out.old) (O.told out.new) }
+    ensures loads { Loads (load_settings (map (λ word. word.now) words.now)) (G.passed gate.now) (O.told out.old) (O.told out.new) result }
     ensures control_fault { result ≡ Status.ControlFault → Rose (N.faults control.old) (N.faults control.new) }
     ensures print_fault { result ≡ Status.PrintFault → Rose (O.faults out.old) (O.faults out.new) }
     ensures script_read { result ≡ Status.ScriptRead → Rose (S.faults script.old) (S.faults script.new) }
@@ -194,6 +206,7 @@ where
             serve(rt, alloc, &settings, &mut devices, &media, out)
         }
         Ok(Task::Replay(settings)) => replay_script(rt, alloc, &settings, script, out),
+        Ok(Task::Load(settings)) => load(rt, alloc, &settings, gate, out),
         Err(Refusal::Usage(usage)) => print_usage(&usage, out),
         Err(Refusal::OutOfMemory) => Status::OutOfMemory,
     }

@@ -18,6 +18,9 @@ pub(crate) trait ControlWork<V, X, D> {
     fn work<W: Wait>(&mut self, rt: &W, server: &V, media: &X, devices: &mut D)
         requires { can_work self.old server.now devices.old }
         ensures { did server.now media.now self.old devices.old self.new devices.new };
+
+    /// Whether they ended as they should.
+    fn went_well(&self) -> bool;
 }
 
 /// A thread of media over a table `S`. Its relays are handed `X`.
@@ -55,6 +58,7 @@ where
 /// Makes all control turns in this thread, and then sets the halt word; until it is set media is relayed in as many others as there are threads of media.
 /// Where no thread can be started, the control turns are made first, and each thread of media does its work after them: the library
 /// runs the first of two closures last then, and so the control loop is the second. Without a thread of media the control turns are made alone.
+/// Where the threads are to run after the control turns, these are made first, and the halt word is set from the start if they didn't end as they should.
 pub(crate) fn run_beside<R, V, S, X, D, M, L>(
     rt: &R,
     server: &V,
@@ -63,6 +67,7 @@ pub(crate) fn run_beside<R, V, S, X, D, M, L>(
     devices: &mut D,
     control: &mut M,
     threads: &mut Vec<L>,
+    is_after: bool,
 )
 where
     R: Threads + Wait + Sync,
@@ -78,6 +83,12 @@ where
 {
     if threads.is_empty() {
         control.work(rt, server, media, devices);
+        return;
+    }
+    if is_after {
+        control.work(rt, server, media, devices);
+        let halt = AtomicBool::new(!control.went_well());
+        media_threads(rt, turns, media, &halt, threads.as_mut_slice());
         return;
     }
     let threads = threads.as_mut_slice();

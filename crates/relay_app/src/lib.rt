@@ -6,11 +6,13 @@
 mod app;
 mod beside;
 mod devices;
+mod loading;
 mod replaying;
 mod serve;
 mod status;
 mod threads;
 mod totals;
+mod until;
 mod usage;
 
 pub use app::run;

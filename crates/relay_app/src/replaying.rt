@@ -31,7 +31,7 @@ pub(crate) fn replay_script<S: LineSource, O: LineSink, R: Wait>(
     script: &mut S,
     out: &mut O,
 ) -> Status
-    ensures status { StatusByWords None (Some settings.now) result }
+    ensures status { StatusByWords None (Some settings.now) None result }
     ensures replayed { ReplayedBy None (Some settings.now) result (S.told script.old) (S.told script.new) (O.told out.old) (O.told out.new) }
     ensures script_read { result ≡ Status.ScriptRead → Rose (S.faults script.old) (S.faults script.new) }
     ensures print_fault { result ≡ Status.PrintFault → Rose (O.faults out.old) (O.faults out.new) }

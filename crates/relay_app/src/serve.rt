@@ -27,7 +27,7 @@ ghost use Rattle.relay_app.specs.Turned.{AddsSweep, TicksWhenDue, DidTurns, CanW
 use crate::beside::{ControlWork, run_beside};
 use crate::devices::{Devices, Media, Tells};
 use crate::status::Status;
-use crate::threads::{MediaThread, join_threads, make_threads};
+use crate::threads::{Due, MediaThread, join_threads, make_threads};
 use crate::totals::{Counts, no_totals};
 use command_line::Settings;
 use media_lane::{Totals, sweep_between};
@@ -248,6 +248,10 @@ where
         self.looped = looped;
         self.hand = Some(hand);
     }
+
+    fn went_well(&self) -> bool {
+        self.looped.status == Status::Ok
+    }
 }
 
 /// What a run has taken memory for when it begins, besides its server.
@@ -261,6 +265,8 @@ where
     pub(crate) desk: Desk<O>,
     /// An empty list with room for the threads of media.
     pub(crate) room: Vec<MediaThread<I, O>>,
+    /// The datagrams that come, where that is known: then the threads of media run after the control turns, and not beside them.
+    pub(crate) due: Option<Due>,
 }
 
 /// Closes the table of a server by a hand that has all parts, and lets go what its places hold.
@@ -282,7 +288,7 @@ where
 
 /// Serves with a server that has taken no turn yet: its control turns, with as many threads of media beside them as the settings say, then the
 /// stop, which ends all calls, and the close of its table. Where no thread relays media, a sweep stands after each control turn and before
-/// the stop.
+/// the stop. Where it is known how many datagrams come, the threads of media run after the control turns.
 pub(crate) fn serve_turns<N, P, K, T, C, G, R>(
     rt: &R,
     alloc: Global,
@@ -324,9 +330,17 @@ where
         mut hand,
         desk,
         room,
+        due,
     } = prepared;
     let count = settings.threads;
-    let mut threads = make_threads(server.turns(), &mut hand, room, count, &settings.config);
+    let mut threads = make_threads(
+        server.turns(),
+        &mut hand,
+        room,
+        count,
+        &settings.config,
+        due,
+    );
     let mut control = ControlLoop {
         alloc,
         settings: *settings,
@@ -342,6 +356,7 @@ where
         devices,
         &mut control,
         &mut threads,
+        due.is_some(),
     );
     let ControlLoop {
         alloc: _,

@@ -1,7 +1,7 @@
 /// How a call of `run` ended.
 #[derive(Clone, Copy, PartialEq, Eq, Debug)]
 pub enum Status {
-    /// `serve`: the control link said that it gives no more. `replay`: the script was read to its end.
+    /// `serve`: the control link said that it gives no more. `replay`: the script was read to its end. `load`: every packet was taken.
     Ok,
     /// The words are not those of a command.
     Usage,

@@ -9,7 +9,8 @@ ghost use Rattle.relay_app.specs.Threads.{MayJoin, IsFresh, HasWorked, AddsEach,
 use crate::beside::MediaWork;
 use crate::devices::Media;
 use crate::totals::no_totals;
-use media_lane::{Lane, Totals, lane_loop};
+use crate::until::sweep_until;
+use media_lane::{Lane, Totals};
 use relay_core::{Happening, Part, Relay};
 use relay_outside::{Clock, Config, Gate, InEnd, OutEnd};
 use std::sync::Wait;
@@ -24,6 +25,30 @@ where
 {
     pub(crate) lane: Lane<I, O>,
     pub(crate) totals: Totals,
+    /// How many datagrams come to its pairs, where that is known.
+    pub(crate) due: Option<u64>,
+}
+
+/// The datagrams of a run of which it is known how many come.
+#[derive(Clone, Copy)]
+pub(crate) struct Due {
+    /// To how many pairs they come: those with the least numbers.
+    pub(crate) pairs: u32,
+    /// How many come to each.
+    pub(crate) packets: u32,
+}
+
+impl Due {
+    /// How many of them come to the pairs of the thread with this index, of so many threads.
+    fn of_thread(self, index: u32, count: u32) -> u64
+        requires { index < count }
+    {
+        if index >= self.pairs {
+            return 0;
+        }
+        let pairs = (self.pairs - 1 - index) / count + 1;
+        u64::from(pairs) * u64::from(self.packets)
+    }
 }
 
 impl<I: InEnd, O: OutEnd, C: Clock, G: Gate> MediaWork<Turns<Relay<I, O>>, Media<'_, '_, C, G>>
@@ -39,18 +64,19 @@ impl<I: InEnd, O: OutEnd, C: Clock, G: Gate> MediaWork<Turns<Relay<I, O>>, Media
         media: &Media<'_, '_, C, G>,
         halt: &AtomicBool,
     ) {
-        self.totals = lane_loop(rt, &mut self.lane, turns, media.gate, media.clock, halt);
+        self.totals = sweep_until(rt, &mut self.lane, turns, media, halt, self.due);
     }
 }
 
 /// This many threads of media, into an empty list with room for them: each has a part of the main hand, and the pairs whose number is its own
-/// modulo their number.
+/// modulo their number. Where it is known how many datagrams come, each knows how many come to its own.
 pub(crate) fn make_threads<I: InEnd, O: OutEnd>(
     turns: &Turns<Relay<I, O>>,
     hand: &mut Hand<Relay<I, O>>,
     room: Vec<MediaThread<I, O>>,
     count: u32,
     config: &Config,
+    due: Option<Due>,
 ) -> Vec<MediaThread<I, O>>
     requires empty { room.items ≡ [] }
     requires room { count ≤ vec_capacity room }
@@ -65,9 +91,14 @@ pub(crate) fn make_threads<I: InEnd, O: OutEnd>(
     let mut threads = room;
     for index in 0..count {
         let part = turns.split_hand(hand);
+        let due = match due {
+            Some(due) => Some(due.of_thread(index, count)),
+            None => None,
+        };
         threads.push_reserved(MediaThread {
             lane: Lane::new(part, index, count, config),
             totals: no_totals(),
+            due,
         });
     }
     threads
@@ -93,7 +124,11 @@ pub(crate) fn join_threads<I: InEnd, O: OutEnd>(
     let mut threads = threads;
     threads.reverse();
     while let Some(thread) = threads.pop() {
-        let MediaThread { lane, totals: more } = thread;
+        let MediaThread {
+            lane,
+            totals: more,
+            due: _,
+        } = thread;
         turns.join_hand(hand, lane.into_hand());
         totals.add(more);
     }

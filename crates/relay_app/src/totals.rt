@@ -65,7 +65,7 @@ impl Counts {
 }
 
 /// Writes a number in decimal.
-fn put_number(line: &mut Text, number: u64)
+pub(crate) fn put_number(line: &mut Text, number: u64)
     requires { 40 ≤ line.old.spare }
     ensures list { line.new.list ≡ line.old.list ++ decimal number }
     ensures room { line.old.spare ≤ line.new.spare + 40 }

@@ -10,7 +10,7 @@ use relay_outside::LineSink;
 /// Prints how words are written: a line, and then what the reader of the options says of them.
 pub(crate) fn print_usage<O: LineSink>(usage: &Usage, out: &mut O) -> Status
     requires begins { begins_usage usage.now.line.bytes.items ≡ true }
-    ensures status { StatusByWords None None result }
+    ensures status { StatusByWords None None None result }
     ensures told { result ≢ Status.OutOfMemory }
     ensures printed { Gained (O.told out.old) (O.told out.new) (PrintsUsage result) }
     ensures later { O.faults out.old ≤ O.faults out.new }

@@ -5,6 +5,8 @@
 #[cfg(test)]
 mod ng_server_tests;
 #[cfg(test)]
+mod relay_app_load_tests;
+#[cfg(test)]
 mod relay_app_packets_tests;
 #[cfg(test)]
 mod relay_app_replay_tests;

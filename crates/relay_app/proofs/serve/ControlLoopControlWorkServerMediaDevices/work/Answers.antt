@@ -16,22 +16,22 @@ turns-init g c =
     let may = may_turn c.args.self.now.settings c.args.server.now.config c.args.server.now.turns (g.P.PortMaker.told c.args.devices.now.ports.now) c.args.self.now.hand c.in-Some.hand
     (sym c.take.ensures.value ∙ c.in-Some.is) c.requires in
     record {
-  devices = (refl, refl, refl, refl);
-  same = (refl, refl, refl, refl);
-  between = may.between;
-  opens = may.opens;
-  running = begins _ _ _ _ _ may.nothing (first_board _ may.nothing) refl refl refl refl;
-  gated = gated_none (g.G.Gate.passed c.args.media.now.gate.now) _ may.nothing;
-  totals = first_totals _ _ may.nothing c.no_totals-totals.ensures;
-  later = omega arith;
-  port_later = omega arith;
-  key_later = omega arith;
-  replies = omega arith;
-  datagrams = omega arith;
-  below = omega arith;
-  limit = may.limit;
-  config = may.config_is;
-}
+      devices = (refl, refl, refl, refl);
+      same = (refl, refl, refl, refl);
+      between = may.between;
+      opens = may.opens;
+      running = begins _ _ _ _ _ may.nothing (first_board _ may.nothing) refl refl refl refl;
+      gated = gated_none (g.G.Gate.passed c.args.media.now.gate.now) _ may.nothing;
+      totals = first_totals _ _ may.nothing c.no_totals-totals.ensures;
+      later = omega arith;
+      port_later = omega arith;
+      key_later = omega arith;
+      replies = omega arith;
+      datagrams = omega arith;
+      below = omega arith;
+      limit = may.limit;
+      config = may.config_is;
+    }
 
 pub tick_when_due-next-requires-clause-open : goal.tick_when_due-next-requires-clause-open
 tick_when_due-next-requires-clause-open g c = opens_again _ _ _ _ c.sweep_alone-hand.ensures.history c.control_turn-turn.ensures.open
@@ -95,8 +95,11 @@ returns-in-Some-find_status g c = (
         totals =
             follows_totals c.args.server.now.config c.args.server.now.turns c.turns.hand c.control_turn-turn.new.hand _ c.control_turn-turn.result
             c.control_turn-turn.ensures.turned.made c.turns.totals c.turns.invariant.between c.control_turn-turn.ensures.turned.follows c.turns.invariant.totals;
-        later = (omega (arith, c.turns.invariant.later, c.control_turn-turn.ensures.later.0), omega (arith, c.turns.invariant.port_later, c.control_turn-turn.ensures.later.1),
-            omega (arith, c.turns.invariant.key_later, c.control_turn-turn.ensures.later.2));
+        later = (
+          omega (arith, c.turns.invariant.later, c.control_turn-turn.ensures.later.0),
+          omega (arith, c.turns.invariant.port_later, c.control_turn-turn.ensures.later.1),
+          omega (arith, c.turns.invariant.key_later, c.control_turn-turn.ensures.later.2),
+        );
         cause = λ fault.
             (let rose = c.control_turn-turn.ensures.read_fault (c.in-Some-find_status.ensures.fault (ap (λ (ended : Status). Some ended) fault)) in
             omega (arith, c.turns.invariant.later, rose));

@@ -1,0 +1,12 @@
+use Rattle.std.proofs.Common.{refl}
+use Rattle.load_maker.proofs.Links.{noted_other}
+use Rattle.load_maker.proofs.link.LoadLinkControlLink.bind.Goals as goal
+
+pub invariant_of-self : goal.invariant_of-self
+invariant_of-self c =
+    let before = c.self.invariant in
+    record {
+      few = before.few;
+      left = before.left;
+      told = noted_other c.self.inside.given c.self.inside.well c.self.inside.told c.note.new.self _ refl refl c.note.ensures before.told;
+    }

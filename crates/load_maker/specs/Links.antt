@@ -1,0 +1,26 @@
+-- The control link of a load: what it tells, and that this is of the load.
+use Rattle.std.specs.Prelude.{◌≡◌, ℕ, ◌*◌, ◌≤◌, Bool, true, Option, List}
+use Rattle.std.specs.List.{list_all}
+use Rattle.relay_outside.specs.declared.link.LinkCall.{LinkCall}
+use Rattle.relay_outside.specs.Link.{datagrams, sends}
+use Rattle.relay_outside.specs.Told.{WhereTold}
+use Rattle.load_maker.specs.Datagrams.{first_datagrams, is_success}
+
+-- what it tells; how many calls it is for, and how many of their datagrams it gave; whether each reply was a success; its count of faults
+pub record LinkState : Type 0 where
+  pub told : Option (List LinkCall)
+  pub calls : ℕ
+  pub given : ℕ
+  pub well : Bool
+  pub faults : ℕ
+
+-- the datagrams that were taken are the first of the load, and where all replies were successes, they are in the list
+pub record TellsLoad (given : ℕ) (well : Bool) (calls : List LinkCall) : Type 0 where
+  pub taken : datagrams calls ≡ first_datagrams given
+  pub replied : well ≡ true → list_all (λ reply. is_success reply.1) (sends calls) ≡ true
+
+-- What is so of every link of a load, whoever has it
+pub record IsOfLoad (link : LinkState) : Type 0 where
+  pub few : link.calls ≤ 1000
+  pub left : link.given ≤ 2 * link.calls
+  pub told : WhereTold link.told (TellsLoad link.given link.well)

@@ -1,0 +1,59 @@
+//! The timer of a load.
+ghost use Rattle.std.specs.Prelude.{◌≡◌, ◌↔◌, Some, [], IsTrue, IsSome};
+ghost use Rattle.relay_outside.specs.Told.{Gains};
+ghost use Rattle.load_maker.specs.Moments.{AreZero};
+
+use relay_outside::{CallList, Timer};
+use std::alloc::Global;
+use std::marker::Model;
+
+/// The timer of a load, which stands at 0.
+#[derive(Drop)]
+pub struct LoadTimer {
+    told: CallList<u64>,
+}
+
+impl Model for LoadTimer {
+    ghost use Rattle.std.specs.Prelude.{ℕ, Option, List};
+    ghost use Rattle.load_maker.specs.Moments.{AreZero};
+
+    ghost Value = { Option (List ℕ) };
+
+    ghost view = { λ timer. timer.told };
+
+    ghost invariant = { λ timer. AreZero timer.told };
+}
+
+impl LoadTimer {
+    /// A timer that was not asked yet.
+    pub fn new(alloc: Global) -> LoadTimer
+        ensures { result ≡ Some [] }
+    {
+        LoadTimer {
+            told: CallList::new(alloc),
+        }
+    }
+
+    /// Whether the timer still tells its list.
+    pub fn tells(&self) -> bool
+        ensures tells { IsTrue result ↔ IsSome self.now }
+        ensures zero { AreZero self.now }
+    {
+        self.told.tells()
+    }
+}
+
+impl Timer for LoadTimer {
+    ghost use Rattle.std.specs.Prelude.{◌≡◌};
+    ghost use Rattle.relay_outside.specs.Told.{Gains};
+
+    ghost told = { λ timer. timer };
+
+    fn now(&mut self) -> u64
+        ensures told { Gains self.old self.new result }
+        ensures zero { result ≡ 0 }
+    {
+        self.told.note(Some(0));
+        0
+    }
+}

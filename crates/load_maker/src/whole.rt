@@ -1,0 +1,103 @@
+//! The port maker of a whole load.
+ghost use Rattle.std.specs.Prelude.{◌≡◌, ◌↔◌, ◌≤◌, Some, [], None, IsTrue, IsSome, IfOk};
+ghost use Rattle.relay_outside.specs.Told.{Gains, HasCause, IsOpenedFor, WhereTold, is_done};
+ghost use Rattle.relay_outside.specs.Ports.{IsOpen};
+ghost use Rattle.load_maker.specs.Ports.{silent_at};
+ghost use Rattle.load_maker.specs.Takes.{HasGivenAll};
+
+use crate::ends::{LoadIn, LoadOut};
+use crate::ports::LoadMaker;
+use relay_outside::{Addr, Failed, Ip, PortCall, PortMaker};
+use std::alloc::Global;
+use std::marker::Model;
+
+/// How many ports a call opens: two pairs.
+const PORTS: u32 = 4;
+
+/// The last call of a load that is the largest.
+const LAST: u32 = 1_000;
+
+/// The maker of the ports of a whole load: a `LoadMaker` for which each call begins at its first opening, the next after each fourth.
+#[derive(Drop)]
+pub struct LoadPorts {
+    maker: LoadMaker,
+    opened: u32,
+}
+
+impl Model for LoadPorts {
+    ghost use Rattle.load_maker.specs.Ports.{PortsState};
+
+    ghost Value = { PortsState };
+
+    ghost view = { λ ports. record { maker = ports.maker; opened = ports.opened } };
+}
+
+impl LoadPorts {
+    /// The ports of calls whose sides send this many packets each. None is open.
+    pub fn new(alloc: Global, packets: u32) -> LoadPorts
+        requires { (1 ≤ packets) × (packets ≤ 1000) }
+        ensures { result ≡ record { maker = record { told = Some []; packets = packets; call = None; opened = 0; closed = [] }; opened = 0 } }
+    {
+        LoadPorts {
+            maker: LoadMaker::new(alloc, packets),
+            opened: 0,
+        }
+    }
+
+    /// Whether the maker still tells its list, and each of its in ends that were given back told its own.
+    pub fn tells(&self) -> bool
+        ensures { IsTrue result ↔ IsSome self.now.maker.told }
+    {
+        self.maker.tells()
+    }
+}
+
+impl LoadPorts {
+    /// Whether the ends that were given back are those of this many calls, of each two pairs, in the order of their ports, from the first one on,
+    /// and each gave this many packets of its side, if it is one to which the side sends.
+    pub fn gave_all(&self, host: Ip, first: u16, calls: u32, packets: u32) -> bool
+        requires { calls ≤ 1000 }
+        ensures { IsTrue result → HasGivenAll host first calls packets self.now.maker.told }
+    {
+        self.maker.gave_all(host, first, calls, packets)
+    }
+}
+
+impl PortMaker for LoadPorts {
+    type In = LoadIn;
+
+    type Out = LoadOut;
+
+    ghost use Rattle.std.specs.Prelude.{◌≡◌, ◌≤◌, None, IfOk};
+    ghost use Rattle.relay_outside.specs.Told.{Gains, HasCause, IsOpenedFor, WhereTold, is_done};
+    ghost use Rattle.relay_outside.specs.Ports.{IsOpen};
+    ghost use Rattle.load_maker.specs.Ports.{silent_at};
+
+    ghost told = { λ ports. ports.maker.told };
+
+    ghost faults = { λ ports. 0 };
+
+    fn open(&mut self, at: Addr) -> Result<(LoadIn, LoadOut), Failed>
+        requires { WhereTold self.old.maker.told (λ calls. IsOpen calls at → ⊥) }
+        ensures told { Gains self.old.maker.told self.new.maker.told (PortCall.Open at (is_done result)) }
+        ensures receiving { IfOk result (λ ends. IsOpenedFor at ends.0.told) }
+        ensures sending { IfOk result (λ ends. IsOpenedFor at (silent_at ends.1)) }
+        ensures cause { HasCause 0 0 result }
+    {
+        let call = self.opened / PORTS + 1;
+        if self.opened % PORTS == 0 && call <= LAST {
+            self.maker.begin_call(call);
+        }
+        self.opened = self.opened.saturating_add(1);
+        self.maker.open(at)
+    }
+
+    fn close(&mut self, at: Addr, receiving: LoadIn, sending: LoadOut)
+        requires open { WhereTold self.old.maker.told (λ calls. IsOpen calls at) }
+        requires ends { (receiving.told.at ≡ at) × (sending ≡ at) }
+        ensures told { Gains self.old.maker.told self.new.maker.told (PortCall.Close at receiving.told.calls None) }
+        ensures later { 0 ≤ 0 }
+    {
+        self.maker.close(at, receiving, sending);
+    }
+}
