@@ -146,13 +146,17 @@ unanswered_asked config h c d (Ok (said.Delete id from_tag fatal)) chosen given 
 unanswered_asked config h c d (Ok (said.Query id)) chosen given = ap (λ (g : Given). query_of h g (find_call h id)) given
 unanswered_asked config h c d (Ok (said.Listing limit)) chosen given = refl
 
--- of a turn in which no count of faults rose
+-- of a turn as the board's history has it
+pub control_answered : (config : Config) (h : List BoardEntry) (moment : ℕ) (x : Hearing) → kept h x.source x.cookie moment ≡ None → FailsNowhere x.given
+    → IsAnswered config h (control_of config h moment x)
+control_answered config h moment x unkept none =
+    let c = control_of config h moment x in
+    let same : answering config h (unanswered x) ≡ answering config h c = unanswered_asked config h (unanswered x) c (asked config x.too_long x.pairs) refl refl in
+    due_ends config h c (ap (answering_unless config h (unanswered x)) unkept ∙ ap (unless_out_of_memory config x.cookie x.body x.given.out_of_memory) same) none
+
+-- of one in which no count of faults rose
 pub counted : (config : Config) (h : List BoardEntry) (moment : ℕ) (x : Hearing) (ports ports_now keys keys_now : ℕ) (opened opened_now : Option (List PortCall)) (drew drew_now : Option (List KeyCall))
     → kept h x.source x.cookie moment ≡ None → IsGivenBy config (free config h) x.given ports ports_now keys keys_now opened opened_now drew drew_now
     → (Rose ports ports_now → ⊥) → (Rose keys keys_now → ⊥) → IsAnswered config h (control_of config h moment x)
 counted config h moment x ports ports_now keys keys_now opened opened_now drew drew_now unkept by no_port no_key =
-    let c = control_of config h moment x in
-    let same : answering config h (unanswered x) ≡ answering config h c = unanswered_asked config h (unanswered x) c (asked config x.too_long x.pairs) refl refl in
-    due_ends config h c
-    (ap (answering_unless config h (unanswered x)) unkept ∙ ap (unless_out_of_memory config x.cookie x.body x.given.out_of_memory) same)
-    (record { opened = λ i. no_port (by.port_fault i); drew = λ i. no_key (by.key_fault i) })
+    control_answered config h moment x unkept (record { opened = λ i. no_port (by.port_fault i); drew = λ i. no_key (by.key_fault i) })

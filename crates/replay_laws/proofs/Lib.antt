@@ -17,3 +17,5 @@ pub mod Answering
 pub mod Gaining
 pub mod Whole
 pub mod Texts
+pub mod Reading
+pub mod Faultless
