@@ -12,13 +12,14 @@ use crate::heads::read_head;
 use crate::in_contexts::InContexts;
 use crate::joining::{join, put_keys};
 use crate::leg::{Leg, place_of, place_of_opposite};
-use crate::outcome::{Incoming, Lost, Outcome, Refused};
+use crate::outcome::{Incoming, Lost, Outcome, PacketBuffer, Refused};
 use crate::parting::part;
 use crate::prepare::Prepare;
 use crate::reading::tell_legs;
 use crate::signals::{rejected, said_of};
 use port_pool::{LegReports, Signal};
 use relay_outside::{Config, OutEnd};
+use sdp_text::MOST_SECTIONS;
 use std::alloc::Global;
 
 /// One call's media: its legs, and what they keep. Contracts see it by the histories that it stands for.
@@ -93,7 +94,7 @@ fn active_after(outcome: Outcome, active: u64, now: u64) -> u64
 }
 
 /// Relays a packet from the leg that received it to the one on the other side.
-fn relay_legs<O: OutEnd>(legs: &mut [Leg<O>], packet: &Incoming, buf: &mut [u8; 2064]) -> Outcome
+fn relay_legs<O: OutEnd>(legs: &mut [Leg<O>], packet: &Incoming, buf: &mut PacketBuffer) -> Outcome
     requires held { packet.now.len ≤ 2000 }
     ensures relays { (config : Config) (h : List CellEntry) (number : ℕ) → LegsFor config h legs.old →
         LegsRelay O.told O.faults config h (receipt_of number packet.now buf.old) legs.old legs.new buf.new result }
@@ -163,7 +164,7 @@ impl<O: OutEnd> Cell<O> {
 
     /// Relays the packet in the buffer's first `len` bytes, at the moment `now` in milliseconds. The bytes that are sent stand
     /// at the buffer's front.
-    pub fn relay(&mut self, packet: &Incoming, buf: &mut [u8; 2064], now: u64) -> Outcome
+    pub fn relay(&mut self, packet: &Incoming, buf: &mut PacketBuffer, now: u64) -> Outcome
         requires { packet.now.len ≤ 2000 }
         ensures { (config : Config) (h : List CellEntry) (number : ℕ) → CellFor config self.old h →
             CellRelays O.told O.faults config self.old self.new h (receipt_of number packet.now buf.old) now buf.new result }
@@ -240,6 +241,6 @@ impl<O: OutEnd> Cell<O> {
     {
         self.call = None;
         self.is_committed = false;
-        part(&mut self.legs, &[true; 8], gone);
+        part(&mut self.legs, &[true; MOST_SECTIONS], gone);
     }
 }

@@ -9,7 +9,8 @@ ghost use Rattle.call_cell.specs.Contexts.{no_packet};
 ghost use Rattle.call_cell.specs.Heads.{head_of, half_of, IsHead};
 
 use crate::heads::Head;
-use crate::outcome::{Lost, Refused};
+use crate::outcome::{Lost, PacketBuffer, Refused};
+use relay_outside::KeyAndSalt;
 use rtp_packet::{Half, RtpHead};
 use sdes_lines::Suite;
 use srtcp_context::{InRtcp, OutRtcp};
@@ -60,7 +61,7 @@ impl Inbound {
     ghost use Rattle.call_cell.specs.Contexts.{InboundFor, OpensTo};
 
     /// The contexts of a master key of 16 bytes with a master salt of 14 after it, which have taken no packet.
-    pub(crate) fn new(key: &[u8; 30], suite: Suite) -> Inbound
+    pub(crate) fn new(key: &KeyAndSalt, suite: Suite) -> Inbound
         ensures { InboundFor (key.now, suite) result [] }
     {
         Inbound {
@@ -72,7 +73,7 @@ impl Inbound {
     /// Checks and opens in place an RTP packet with this head.
     fn unprotect_rtp(
         &mut self,
-        buf: &mut [u8; 2064],
+        buf: &mut PacketBuffer,
         len: usize,
         found: RtpHead,
     ) -> Result<usize, Refused>
@@ -91,7 +92,7 @@ impl Inbound {
     /// Checks and opens in place an RTCP packet of this sender.
     fn unprotect_rtcp(
         &mut self,
-        buf: &mut [u8; 2064],
+        buf: &mut PacketBuffer,
         len: usize,
         ssrc: u32,
     ) -> Result<usize, Refused>
@@ -112,7 +113,7 @@ impl Inbound {
     pub(crate) fn unprotect(
         &mut self,
         head: Head,
-        buf: &mut [u8; 2064],
+        buf: &mut PacketBuffer,
         len: usize,
     ) -> Result<usize, Refused>
         requires held { len ≤ 2064 }
@@ -163,7 +164,7 @@ impl Outbound {
     /// Protects in place an RTP packet with this head.
     fn protect_rtp(
         &mut self,
-        buf: &mut [u8; 2064],
+        buf: &mut PacketBuffer,
         len: usize,
         found: RtpHead,
     ) -> Result<usize, Lost>
@@ -180,7 +181,7 @@ impl Outbound {
     }
 
     /// Protects in place an RTCP packet of this sender.
-    fn protect_rtcp(&mut self, buf: &mut [u8; 2064], len: usize, ssrc: u32) -> Result<usize, Lost>
+    fn protect_rtcp(&mut self, buf: &mut PacketBuffer, len: usize, ssrc: u32) -> Result<usize, Lost>
         requires held { len ≤ 2000 }
         requires head { rtcp_ssrc (take len buf.old) ≡ Some ssrc }
         ensures fits { IfOk result (λ size. size ≤ 2064) }
@@ -199,7 +200,7 @@ impl Outbound {
         &mut self,
         half: Half,
         head: Option<Head>,
-        buf: &mut [u8; 2064],
+        buf: &mut PacketBuffer,
         len: usize,
     ) -> Result<usize, Lost>
         requires held { len ≤ 2000 }

@@ -3,13 +3,10 @@ ghost use Rattle.std.specs.Option.{option_to_list};
 ghost use Rattle.call_cell.specs.Ending.{parts_of};
 
 use crate::leg::Leg;
-use port_pool::Lease;
+use port_pool::{Lease, MOST_LEGS};
 use relay_outside::OutOfMemory;
 use std::alloc::Global;
 use std::marker::Model;
-
-/// How many legs a call may have: one for each side of 8 sections.
-pub(crate) const MOST: usize = 16;
 
 /// The legs that went from a cell: their leases and out ends, in lease order, with room for 16. Contracts see it as a list.
 #[derive(Drop)]
@@ -35,7 +32,7 @@ impl<O> Gone<O> {
     pub fn new(alloc: Global) -> Result<Gone<O>, OutOfMemory>
         ensures { IfOk result (λ gone. gone ≡ []) }
     {
-        match Vec::with_capacity(alloc, MOST) {
+        match Vec::with_capacity(alloc, MOST_LEGS) {
             Ok(legs) => Ok(Gone { legs }),
             Err(_) => Err(OutOfMemory),
         }
@@ -45,7 +42,7 @@ impl<O> Gone<O> {
     pub(crate) fn has_room(&self) -> bool
         ensures { result ≡ nat_lt (length self.now) 16 }
     {
-        self.legs.len() < MOST
+        self.legs.len() < MOST_LEGS
     }
 
     /// Takes a leg.

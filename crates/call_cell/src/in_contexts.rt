@@ -2,7 +2,7 @@ ghost use Rattle.std.specs.Prelude.{◌≡◌, ◌<◌, ◌+◌, IfOk, vec_len};
 ghost use Rattle.call_cell.specs.Contexts.{IsInboundAnew};
 
 use crate::contexts::Inbound;
-use relay_outside::OutOfMemory;
+use relay_outside::{KeyAndSalt, OutOfMemory};
 use sdes_lines::Suite;
 use std::alloc::{AllocError, Global};
 use std::marker::Model;
@@ -44,7 +44,7 @@ impl InContexts {
     }
 
     /// The contexts of an inbound key, which have taken no packet, in one of the places.
-    pub(crate) fn begin(&mut self, key: &[u8; 30], suite: Suite) -> Box<Option<Inbound>>
+    pub(crate) fn begin(&mut self, key: &KeyAndSalt, suite: Suite) -> Box<Option<Inbound>>
         requires { 0 < self.old }
         ensures contexts { IsInboundAnew (key.now, suite) result.value }
         ensures room { self.new + 1 ≡ self.old }

@@ -14,7 +14,7 @@ use crate::contexts::Outbound;
 use crate::counts::Counts;
 use crate::heads::Head;
 use crate::in_contexts::InContexts;
-use crate::outcome::{Lost, Outcome, Refused};
+use crate::outcome::{Lost, Outcome, PacketBuffer, Refused};
 use crate::receiving::Receiving;
 use crate::sending::Sending;
 use endpoint_learn::Learner;
@@ -189,7 +189,7 @@ impl<O: OutEnd> Leg<O> {
         half: Half,
         head: Option<Head>,
         source: Addr,
-        buf: &mut [u8; 2064],
+        buf: &mut PacketBuffer,
         len: usize,
     ) -> Result<usize, Refused>
         requires held { len ≤ 2000 }
@@ -217,7 +217,7 @@ impl<O: OutEnd> Leg<O> {
         &mut self,
         half: Half,
         head: Option<Head>,
-        buf: &mut [u8; 2064],
+        buf: &mut PacketBuffer,
         len: usize,
     ) -> Outcome
         requires held { len ≤ 2000 }

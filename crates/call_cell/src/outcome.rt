@@ -45,6 +45,9 @@ pub enum Lost {
     },
 }
 
+/// Room for a packet from its take to its send: for the longest that is taken, and for what protection adds to it.
+pub type PacketBuffer = [u8; 2_064];
+
 /// What becomes of a received packet.
 #[derive(Clone, Copy, PartialEq, Eq, Debug)]
 pub enum Outcome {

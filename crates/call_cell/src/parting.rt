@@ -4,17 +4,18 @@ ghost use Rattle.call_cell.specs.Parting.{staying, going, Part};
 
 use crate::gone::Gone;
 use crate::leg::Leg;
+use sdp_text::MOST_SECTIONS;
 
 /// Whether the section has a flag.
-fn goes(flags: &[bool; 8], section: u8) -> bool
+fn goes(flags: &[bool; MOST_SECTIONS], section: u8) -> bool
     ensures { result ≡ slice_index_or flags.now section false }
 {
     let section = section as usize;
-    section < 8 && flags[section]
+    section < MOST_SECTIONS && flags[section]
 }
 
 /// Moves the first leg: to `gone` where its section has a flag and one more leg has room, and else after the others.
-fn part_first<O>(legs: &mut Vec<Leg<O>>, flags: &[bool; 8], gone: &mut Gone<O>)
+fn part_first<O>(legs: &mut Vec<Leg<O>>, flags: &[bool; MOST_SECTIONS], gone: &mut Gone<O>)
     requires some { 0 < vec_len legs.old }
     ensures count { vec_len legs.old ≤ vec_len legs.new + 1 }
     ensures stay { (d : Leg O) → length gone.old < 16 → legs.new.items ≡ drop 1 legs.old.items ++ staying flags.now (slice_index_or legs.old.items 0 d) }
@@ -29,7 +30,7 @@ fn part_first<O>(legs: &mut Vec<Leg<O>>, flags: &[bool; 8], gone: &mut Gone<O>)
 }
 
 /// Moves the legs of the sections that have a flag to `gone`, in their order, where there is room for all.
-pub(crate) fn part<O>(legs: &mut Vec<Leg<O>>, flags: &[bool; 8], gone: &mut Gone<O>)
+pub(crate) fn part<O>(legs: &mut Vec<Leg<O>>, flags: &[bool; MOST_SECTIONS], gone: &mut Gone<O>)
     ensures { Part flags.now legs.old.items legs.new.items gone.old gone.new }
 {
     for _ in 0..legs.len() {

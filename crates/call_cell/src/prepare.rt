@@ -2,11 +2,11 @@ ghost use Rattle.std.specs.Prelude.{◌≡◌, ◌<◌, ◌≤◌, ◌+◌, ◌+
 ghost use Rattle.port_pool.specs.Signals.{NewKey};
 
 use crate::contexts::Outbound;
-use crate::gone::MOST;
 use crate::leg::Leg;
-use port_pool::{Holder, Lease, Side};
+use port_pool::{Holder, Lease, MOST_LEGS, Side};
 use relay_outside::OutOfMemory;
 use sdes_lines::Suite;
+use sdp_text::MOST_SECTIONS;
 use srtp_keys::DrawnKey;
 use std::alloc::{AllocError, Global};
 
@@ -31,7 +31,7 @@ pub struct Prepare<O> {
     /// Places for the contexts of further keys.
     pub(crate) spare: Vec<Box<Option<Outbound>>>,
     /// Of each section, whether its legs are dropped.
-    pub(crate) dropped: [bool; 8],
+    pub(crate) dropped: [bool; MOST_SECTIONS],
 }
 
 /// As many places on the heap, each empty.
@@ -53,7 +53,7 @@ fn leg_places<O>(alloc: Global, legs: usize) -> Result<(Vec<Leg<O>>, Vec<Leg<O>>
     let Ok(first) = Vec::with_capacity(alloc, legs) else {
         return Err(OutOfMemory);
     };
-    match Vec::with_capacity(alloc, MOST) {
+    match Vec::with_capacity(alloc, MOST_LEGS) {
         Ok(places) => Ok((first, places)),
         Err(_) => {
             first.destroy_empty();
@@ -83,7 +83,7 @@ impl<O> Prepare<O> {
             places,
             keys,
             spare,
-            dropped: [false; 8],
+            dropped: [false; MOST_SECTIONS],
         })
     }
 
@@ -128,8 +128,9 @@ impl<O> Prepare<O> {
         ensures room { (key_room self.new ≡ key_room self.old) × (leg_room self.new ≡ leg_room self.old) }
         ensures ready { IsReady self.old → IsReady self.new }
     {
-        if section < 8 {
-            self.dropped[section as usize] = true;
+        let section = section as usize;
+        if section < MOST_SECTIONS {
+            self.dropped[section] = true;
         }
     }
 

@@ -5,6 +5,7 @@ ghost use Rattle.call_cell.specs.Reading.{told_at, told_of};
 
 use crate::leg::Leg;
 use port_pool::{Holder, LegReports, Side};
+use sdp_text::MOST_SECTIONS;
 
 /// Whether the leg stands on this side of this section.
 fn stands_at(leg: &Holder, section: u8, side: Side) -> bool
@@ -40,7 +41,7 @@ pub(crate) fn tell_legs<O>(legs: &[Leg<O>], out: &mut LegReports)
     requires none { out.old ≡ [] }
     ensures { out.new ≡ told_of legs.now }
 {
-    for section in 0..8 {
+    for section in 0..MOST_SECTIONS as u8 {
         tell_leg(legs, section, Side::A, out);
         tell_leg(legs, section, Side::B, out);
     }

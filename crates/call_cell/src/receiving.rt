@@ -14,11 +14,11 @@ ghost use Rattle.call_cell.specs.Committing.{relearned, renoted, is_inbound_anew
 use crate::contexts::Inbound;
 use crate::heads::Head;
 use crate::in_contexts::InContexts;
-use crate::outcome::Refused;
+use crate::outcome::{PacketBuffer, Refused};
 use crate::signals::{address, is_new_key};
 use endpoint_learn::{Judge, Learner};
 use port_pool::LegSignal;
-use relay_outside::Addr;
+use relay_outside::{Addr, KeyAndSalt};
 use rtp_packet::Half;
 use sdes_lines::Suite;
 
@@ -60,7 +60,7 @@ fn is_wrong_source(learner: Option<Learner>, source: Addr) -> bool
 fn open_under(
     inbound: &mut Option<Inbound>,
     head: Head,
-    buf: &mut [u8; 2064],
+    buf: &mut PacketBuffer,
     len: usize,
 ) -> Result<usize, Refused>
     requires held { len ≤ 2064 }
@@ -80,7 +80,7 @@ fn open_under(
 fn open(
     inbound: &mut Option<Box<Option<Inbound>>>,
     head: Head,
-    buf: &mut [u8; 2064],
+    buf: &mut PacketBuffer,
     len: usize,
 ) -> Result<usize, Refused>
     requires held { len ≤ 2064 }
@@ -109,7 +109,10 @@ fn signalled(learner: Option<Learner>, signal: &LegSignal, half: Half) -> Learne
 }
 
 /// The contexts of an inbound key, which have taken no packet; none where there is no key.
-fn begin(key: &Option<([u8; 30], Suite)>, contexts: &mut InContexts) -> Option<Box<Option<Inbound>>>
+fn begin(
+    key: &Option<(KeyAndSalt, Suite)>,
+    contexts: &mut InContexts,
+) -> Option<Box<Option<Inbound>>>
     requires room { is_some key.now ≡ true → 0 < contexts.old }
     ensures contexts { InboundIn key.now (boxed_in result) [] }
     ensures room { contexts.new + (if is_some key.now then 1 else 0) ≡ contexts.old }
@@ -201,7 +204,7 @@ impl Receiving {
         half: Half,
         head: Option<Head>,
         source: Addr,
-        buf: &mut [u8; 2064],
+        buf: &mut PacketBuffer,
         len: usize,
     ) -> Result<usize, Refused>
         requires held { len ≤ 2064 }

@@ -9,7 +9,7 @@ ghost use Rattle.call_cell.specs.Parts.{OutboundIn, WrapsUnder, WrapsInTo, boxed
 
 use crate::contexts::Outbound;
 use crate::heads::Head;
-use crate::outcome::Lost;
+use crate::outcome::{Lost, PacketBuffer};
 use port_pool::LegSignal;
 use relay_outside::{Addr, OutEnd};
 use rtp_packet::Half;
@@ -52,7 +52,7 @@ fn protect_so(
     number: u64,
     half: Half,
     head: Option<Head>,
-    buf: &mut [u8; 2064],
+    buf: &mut PacketBuffer,
     len: usize,
 ) -> Result<usize, Lost>
     requires held { len ≤ 2000 }
@@ -75,7 +75,7 @@ fn protect_under(
     number: u64,
     half: Half,
     head: Option<Head>,
-    buf: &mut [u8; 2064],
+    buf: &mut PacketBuffer,
     len: usize,
 ) -> Result<usize, Lost>
     requires held { len ≤ 2000 }
@@ -154,7 +154,7 @@ impl<O: OutEnd> Sending<O> {
         number: u64,
         half: Half,
         head: Option<Head>,
-        buf: &mut [u8; 2064],
+        buf: &mut PacketBuffer,
         len: usize,
     ) -> Result<usize, Lost>
         requires held { len ≤ 2000 }
@@ -181,7 +181,7 @@ impl<O: OutEnd> Sending<O> {
         number: Option<u64>,
         half: Half,
         head: Option<Head>,
-        buf: &mut [u8; 2064],
+        buf: &mut PacketBuffer,
         len: usize,
     ) -> Result<usize, Lost>
         requires held { len ≤ 2000 }
@@ -218,7 +218,7 @@ impl<O: OutEnd> Sending<O> {
         head: Option<Head>,
         port: u16,
         to: Addr,
-        buf: &mut [u8; 2064],
+        buf: &mut PacketBuffer,
         len: usize,
     ) -> Result<usize, Lost>
         requires held { len ≤ 2000 }

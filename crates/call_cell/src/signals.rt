@@ -9,9 +9,10 @@ ghost use Rattle.call_cell.specs.Committing.{said_of};
 ghost use Rattle.call_cell.specs.Parting.{FlagsAre};
 
 use port_pool::{Holder, LegSignal, SectionSignal, Side, Signal};
-use relay_outside::Addr;
+use relay_outside::{Addr, KeyAndSalt};
 use rtp_packet::Half;
 use sdes_lines::Suite;
+use sdp_text::MOST_SECTIONS;
 
 /// The address of a half that a commit names.
 pub(crate) fn address(signal: &LegSignal, half: Half) -> Addr
@@ -24,7 +25,7 @@ pub(crate) fn address(signal: &LegSignal, half: Half) -> Addr
 }
 
 /// Whether both are the same key and suite.
-fn is_same_pair(one: &([u8; 30], Suite), other: &([u8; 30], Suite)) -> bool
+fn is_same_pair(one: &(KeyAndSalt, Suite), other: &(KeyAndSalt, Suite)) -> bool
     ensures { result ≡ key_eq (Some one.now) (Some other.now) }
 {
     let key = one.0;
@@ -33,7 +34,7 @@ fn is_same_pair(one: &([u8; 30], Suite), other: &([u8; 30], Suite)) -> bool
 }
 
 /// Whether both are the same key and suite, or there is none in both.
-fn is_same_key(key: &Option<([u8; 30], Suite)>, other: &Option<([u8; 30], Suite)>) -> bool
+fn is_same_key(key: &Option<(KeyAndSalt, Suite)>, other: &Option<(KeyAndSalt, Suite)>) -> bool
     ensures { result ≡ key_eq key.now other.now }
 {
     match key {
@@ -88,11 +89,11 @@ fn is_rejected(signal: &Signal, section: usize) -> bool
 }
 
 /// Which of 8 sections the signal rejects.
-pub(crate) fn rejected(signal: &Signal) -> [bool; 8]
+pub(crate) fn rejected(signal: &Signal) -> [bool; MOST_SECTIONS]
     ensures { FlagsAre result (is_rejected signal.now) }
 {
-    let mut flags = [false; 8];
-    for section in 0..8 {
+    let mut flags = [false; MOST_SECTIONS];
+    for section in 0..MOST_SECTIONS {
         flags[section] = is_rejected(signal, section);
     }
     flags

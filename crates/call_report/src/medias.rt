@@ -18,10 +18,8 @@ use ng_reply::put_pair;
 use offer_answer::Dialog;
 use port_pool::{LegReport, LegReports, Side};
 use relay_outside::OutOfMemory;
+use sdp_text::MOST_SECTIONS;
 use std::alloc::Global;
-
-/// How many sections a call has at most.
-const MOST_SECTIONS: u8 = 8;
 
 /// What is told of a side: its committed legs, in the order of their sections.
 pub(crate) fn side_value(
@@ -52,7 +50,7 @@ fn medias(
         IfOk result (λ values. map tree_of (list_in values) ≡ map (leg_value rounds) (filter_map (leg_at legs.now side) (numbers 0 8))) }
 {
     let mut medias = Values::new(alloc);
-    'sections: for section in 0..MOST_SECTIONS {
+    'sections: for section in 0..MOST_SECTIONS as u8 {
         let Some(told) = leg_at(legs, side, section) else {
             continue;
         };

@@ -8,7 +8,9 @@ ghost use Rattle.load_maker.specs.Links.{IsOfLoad};
 use crate::datagrams::load_datagram;
 use ng_bencode::Text;
 use ng_frame::split;
-use relay_outside::{Addr, CallList, ControlLink, Copied, Failed, Ip, LinkCall, LinkGiven, Taken};
+use relay_outside::{
+    Addr, CallList, ControlLink, Failed, Ip, LinkCall, LinkGiven, Taken, datagram_call, send_call,
+};
 use std::alloc::Global;
 use std::marker::Model;
 
@@ -60,30 +62,6 @@ fn put_front(buf: &mut [u8], bytes: &[u8]) -> usize
     let len = bytes.len();
     buf[..len].copy_from_slice(bytes);
     len
-}
-
-/// The record of a take that gave a datagram; `None` where its bytes could not be copied.
-fn datagram_call(alloc: Global, room: usize, bytes: &[u8]) -> Option<LinkCall>
-    ensures { MatchOption result (Unit {0}) (λ call. call ≡ LinkCall.Take room (LinkGiven.Datagram controller bytes.now)) }
-{
-    let bytes = Copied::of(alloc, bytes)?;
-    let given = LinkGiven::Datagram {
-        from: CONTROLLER,
-        bytes,
-    };
-    Some(LinkCall::Take { room, given })
-}
-
-/// The record of a send; `None` where its bytes could not be copied.
-fn send_call(alloc: Global, to: Addr, bytes: &[u8]) -> Option<LinkCall>
-    ensures { MatchOption result (Unit {0}) (λ call. call ≡ LinkCall.Send to bytes.now true) }
-{
-    let bytes = Copied::of(alloc, bytes)?;
-    Some(LinkCall::Send {
-        to,
-        bytes,
-        done: true,
-    })
 }
 
 impl LoadLink {
@@ -165,7 +143,7 @@ impl ControlLink for LoadLink {
             return Err(Failed);
         };
         let len = put_front(buf, datagram.as_slice());
-        let call = datagram_call(self.alloc, room, &buf[..len]);
+        let call = datagram_call(self.alloc, room, CONTROLLER, &buf[..len]);
         self.told.note(call);
         self.given += 1;
         Ok(Taken::Datagram {
@@ -179,7 +157,7 @@ impl ControlLink for LoadLink {
         ensures cause { HasCause self.old.faults self.new.faults result }
     {
         self.well = self.well & is_success(bytes);
-        let call = send_call(self.alloc, to, bytes);
+        let call = send_call(self.alloc, to, bytes, true);
         self.told.note(call);
         Ok(())
     }

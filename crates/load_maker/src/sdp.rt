@@ -6,6 +6,7 @@ ghost use Rattle.load_maker.specs.Calls.{media_port, answer_key, answer_end, off
 
 use crate::writing::{put, put_number};
 use ng_bencode::{OutOfMemory, Text};
+use relay_outside::KeyAndSalt;
 use sdes_lines::{CryptoLine, Suite, write_line};
 use std::alloc::Global;
 
@@ -18,7 +19,7 @@ pub(crate) fn media_port(call: u32) -> u16
 }
 
 /// Side B's master key and salt.
-pub(crate) fn answer_key(call: u32) -> [u8; 30]
+pub(crate) fn answer_key(call: u32) -> KeyAndSalt
     ensures { result ≡ answer_key call }
 {
     [(call % 256) as u8; 30]

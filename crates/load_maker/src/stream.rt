@@ -8,7 +8,7 @@ ghost use Rattle.load_maker.specs.Packets.{source_of, ssrc_of, is_protected, pla
 
 use crate::sdp::{answer_key, media_port};
 use port_pool::Side;
-use relay_outside::{Addr, Ip};
+use relay_outside::{Addr, Ip, KeyAndSalt};
 use sdes_lines::Suite;
 use srtp_context::OutRtp;
 use srtp_keys::DrawnKey;
@@ -110,7 +110,7 @@ fn put(out: &mut [u8; ROOM], at: usize, bytes: &[u8]) -> usize
 
 /// Protects the packet at the front of the buffer as the first one under this key, so that its index is its sequence number, and
 /// returns its length then.
-fn seal(key: [u8; 30], out: &mut [u8; ROOM]) -> usize
+fn seal(key: KeyAndSalt, out: &mut [u8; ROOM]) -> usize
     requires { IsSome (rtp_head (take 32 out.old)) }
     ensures within { result ≤ 42 }
     ensures sealed { (found : RtpHead) → rtp_head (take 32 out.old) ≡ Some found → take result out.new ≡ protect key Tag80 (take 32 out.old) found.seq }

@@ -2,6 +2,8 @@ ghost use Rattle.std.specs.Prelude.{◌≡◌, ◌<◌, ◌≤◌, ◌+◌};
 ghost use Rattle.turn_table.specs.Hands.{HasNoTurn, starts};
 ghost use Rattle.media_lane.specs.Starts.{HasLaneStarts, starts_props};
 
+use call_cell::PacketBuffer;
+use port_pool::TakeBuffer;
 use relay_core::{Happening, Part, Relay};
 use relay_outside::{Config, InEnd, OutEnd};
 use turn_table::{Hand, Machine};
@@ -20,9 +22,9 @@ where
     /// How many lanes there are.
     pub(crate) lanes: u32,
     /// Room for a datagram that is taken.
-    pub(crate) taken: [u8; 2001],
+    pub(crate) taken: TakeBuffer,
     /// The packet of the last relay, as it was sent.
-    pub(crate) packet: [u8; 2064],
+    pub(crate) packet: PacketBuffer,
     /// How many bytes the last relay sent.
     pub(crate) sent: usize,
     ghost idle: { HasNoTurn hand },

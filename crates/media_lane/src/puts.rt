@@ -7,7 +7,7 @@ ghost use Rattle.media_lane.specs.Taking.{box_take_made};
 ghost use Rattle.media_lane.specs.Relaying.{relay_by};
 
 use call_cell::{Incoming, Outcome};
-use port_pool::BoxTake;
+use port_pool::{BoxTake, TakeBuffer};
 use relay_core::{Relay, Says, Told};
 use relay_outside::{InEnd, OutEnd};
 use rtp_packet::Half;
@@ -20,7 +20,7 @@ pub(crate) fn put_take<I: InEnd, O: OutEnd, X: Says>(
     turn: Turn<Relay<I, O>>,
     half: Half,
     given: &BoxTake,
-    buf: &[u8; 2001],
+    buf: &TakeBuffer,
 ) -> u64
     requires table { IsHandOf turns.now hand.old }
     requires turn { HasTurn hand.old turn }
@@ -41,7 +41,7 @@ pub(crate) fn put_relay<I: InEnd, O: OutEnd, X: Says>(
     turn: Turn<Relay<I, O>>,
     take: u64,
     packet: &Incoming,
-    bytes: &[u8; 2001],
+    bytes: &TakeBuffer,
     now: u64,
     outcome: Outcome,
 ) -> u64

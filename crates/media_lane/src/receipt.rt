@@ -1,6 +1,7 @@
 ghost use Rattle.std.specs.Prelude.{◌≡◌, ◌≤◌};
 
 use call_cell::Incoming;
+use port_pool::TakeBuffer;
 use relay_outside::Addr;
 
 /// A datagram that a take of a box gave: its source and bytes, the half that it was taken at, the box and the number of the take
@@ -16,7 +17,7 @@ pub struct Receipt {
     /// For whom it was taken, its half, source and length.
     pub(crate) packet: Incoming,
     /// The bytes, at the front.
-    pub(crate) bytes: [u8; 2001],
+    pub(crate) bytes: TakeBuffer,
     ghost short: { packet.len ≤ 2000 },
 }
 

@@ -22,7 +22,7 @@ use crate::lane::Lane;
 use crate::puts::put_take;
 use crate::receipt::Receipt;
 use call_cell::Incoming;
-use port_pool::BoxTake;
+use port_pool::{BoxTake, TakeBuffer};
 use relay_core::{Part, Relay};
 use relay_outside::{InEnd, OutEnd};
 use rtp_packet::Half;
@@ -41,7 +41,7 @@ pub(crate) struct NumberedTake {
 pub(crate) fn take_from<I: InEnd, O: OutEnd>(
     part: &mut Part<I, O>,
     half: Half,
-    buf: &mut [u8; 2001],
+    buf: &mut TakeBuffer,
 ) -> BoxTake
     requires { IsPair part.old }
     ensures { Relates I.told I.faults O.told O.faults part.old (box_take_made half result buf.new) part.new }
@@ -59,7 +59,7 @@ fn take_in_turn<I: InEnd, O: OutEnd>(
     hand: &mut Hand<Relay<I, O>>,
     turn: Turn<Relay<I, O>>,
     half: Half,
-    buf: &mut [u8; 2001],
+    buf: &mut TakeBuffer,
 ) -> NumberedTake
     requires table { IsHandOf turns.now hand.old }
     requires turn { HasTurn hand.old turn }
@@ -78,7 +78,7 @@ fn take_in_turn<I: InEnd, O: OutEnd>(
 }
 
 /// The result of the take with this number at the box of this pair.
-fn received(pair: u32, take: u64, half: Half, given: BoxTake, buf: &[u8; 2001]) -> Received
+fn received(pair: u32, take: u64, half: Half, given: BoxTake, buf: &TakeBuffer) -> Received
     requires { IsShort (taken_of given buf.now) }
     ensures { Tells result pair take half (taken_of given buf.now) }
 {
@@ -106,7 +106,7 @@ fn received(pair: u32, take: u64, half: Half, given: BoxTake, buf: &[u8; 2001]) 
 }
 
 /// The packet of the datagram that a take of this half gave into the buffer, where it gave one.
-pub(crate) fn packet_in(half: Half, given: BoxTake, buf: &[u8; 2001]) -> Option<Incoming>
+pub(crate) fn packet_in(half: Half, given: BoxTake, buf: &TakeBuffer) -> Option<Incoming>
     requires { IsShort (taken_of given buf.now) }
     ensures packet { (number : ℕ) → MatchOption result (packet_by number half (taken_of given buf.now) ≡ None)
         (λ p. packet_by number half (taken_of given buf.now) ≡ Some (receipt_of number p buf.now)) }

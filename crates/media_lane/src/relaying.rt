@@ -15,7 +15,8 @@ use crate::answers::Relayed;
 use crate::lane::Lane;
 use crate::puts::put_relay;
 use crate::receipt::Receipt;
-use call_cell::{Incoming, Outcome};
+use call_cell::{Incoming, Outcome, PacketBuffer};
+use port_pool::TakeBuffer;
 use relay_core::{Part, Relay};
 use relay_outside::{Gate, InEnd, OutEnd};
 use std::marker::Brand;
@@ -27,8 +28,8 @@ pub(crate) fn relay_in<I: InEnd, O: OutEnd>(
     part: &mut Part<I, O>,
     take: u64,
     packet: &Incoming,
-    bytes: &[u8; 2001],
-    buf: &mut [u8; 2064],
+    bytes: &TakeBuffer,
+    buf: &mut PacketBuffer,
     now: u64,
 ) -> Outcome
     requires cell { IsCellPart part.old }
@@ -51,8 +52,8 @@ fn relay_in_turn<I: InEnd, O: OutEnd>(
     turn: Turn<Relay<I, O>>,
     take: u64,
     packet: &Incoming,
-    bytes: &[u8; 2001],
-    buf: &mut [u8; 2064],
+    bytes: &TakeBuffer,
+    buf: &mut PacketBuffer,
     now: u64,
 ) -> Outcome
     requires table { IsHandOf turns.now hand.old }
@@ -72,7 +73,7 @@ fn relay_in_turn<I: InEnd, O: OutEnd>(
 }
 
 /// How many of a packet's bytes left with this outcome.
-fn bytes_left(outcome: Outcome, packet: &[u8; 2064]) -> usize
+fn bytes_left(outcome: Outcome, packet: &PacketBuffer) -> usize
     ensures count { result ≡ min (bytes_left outcome) (length packet.now) }
     ensures within { result ≤ 2064 }
 {

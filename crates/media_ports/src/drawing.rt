@@ -2,14 +2,14 @@ ghost use Rattle.std.specs.Prelude.{◌≡◌, ◌<◌, ◌≤◌, [], length, I
 ghost use Rattle.relay_outside.specs.Told.{Gained, HasCause};
 ghost use Rattle.media_ports.specs.Draws.{with_key, DrawsAll, DrawsUpTo};
 
-use relay_outside::{KeySource, OutOfMemory};
+use relay_outside::{KeyAndSalt, KeySource, OutOfMemory};
 use std::alloc::Global;
 use std::marker::Model;
 
 /// Drawn keys in their order, with room for a number of keys. Contracts see the list and the room.
 #[derive(Drop)]
 pub struct DrawnList {
-    keys: Vec<[u8; 30]>,
+    keys: Vec<KeyAndSalt>,
 }
 
 impl Model for DrawnList {
@@ -33,7 +33,7 @@ impl DrawnList {
     }
 
     /// Adds a key after the others. It takes no memory.
-    fn push(&mut self, key: [u8; 30])
+    fn push(&mut self, key: KeyAndSalt)
         requires { length self.old.list < self.old.room }
         ensures { self.new ≡ with_key self.old key }
     {
@@ -41,7 +41,7 @@ impl DrawnList {
     }
 
     /// The keys: 16 bytes of a master key and 14 of its salt each (RFC 3711 section 8.2).
-    pub fn as_slice(&self) -> &[[u8; 30]]
+    pub fn as_slice(&self) -> &[KeyAndSalt]
         ensures { result.now ≡ self.now.list }
     {
         self.keys.as_slice()

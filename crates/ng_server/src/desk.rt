@@ -6,7 +6,7 @@ use std::alloc::Global;
 use std::marker::Model;
 
 /// How many bytes a datagram of the control protocol may have, and one more.
-const ROOM: usize = 16_385;
+pub const DATAGRAM_ROOM: usize = 16_385;
 
 /// The memory of a control turn: room for one datagram of at most 16,384 bytes, with one byte by which a longer one is told,
 /// and for the legs that go from a call's cell, whose out ends are of this type.
@@ -31,9 +31,9 @@ impl<O> Model for Desk<O> {
 impl<O> Desk<O> {
     /// A desk, whose bytes don't matter.
     pub fn new(alloc: Global) -> Result<Desk<O>, OutOfMemory>
-        ensures { IfOk result (λ desk. length desk ≡ ROOM) }
+        ensures { IfOk result (λ desk. length desk ≡ DATAGRAM_ROOM) }
     {
-        let Ok(datagram) = vec![in alloc; 0; ROOM] else {
+        let Ok(datagram) = vec![in alloc; 0; DATAGRAM_ROOM] else {
             return Err(OutOfMemory);
         };
         let gone = Gone::new(alloc)?;

@@ -24,7 +24,7 @@ mod taking;
 mod turn;
 mod turn_record;
 
-pub use desk::Desk;
+pub use desk::{DATAGRAM_ROOM, Desk};
 pub use law::errors_change_nothing;
 pub use server::Server;
 pub use taking::ControlTurn;

@@ -28,7 +28,7 @@ use crate::writing_back::answer_sections;
 use ng_command::AnswerIn;
 use relay_outside::Config;
 use sdp_edit::edit_len;
-use sdp_text::Sdp;
+use sdp_text::{MOST_SECTIONS, Sdp};
 use std::alloc::Global;
 
 /// Whether the to-tag may answer the from-tag: any other tag until both sides are settled, and then the other side's alone.
@@ -161,7 +161,7 @@ pub fn answer(
     Ok(Plan {
         legs: Vec::new(alloc),
         key_places: Vec::new(alloc),
-        dropped: [false; 8],
+        dropped: [false; MOST_SECTIONS],
         interface: config.interface,
         edit,
         reply_len,

@@ -12,7 +12,7 @@ use crate::dialog::Dialog;
 use crate::rejecting::made_section;
 use sdes_lines::CryptoLine;
 use sdp_edit::{choose, choose_among};
-use sdp_text::Sdp;
+use sdp_text::{MOST_SECTIONS, Sdp};
 use std::marker::Model;
 
 /// The crypto line that is chosen in each section of a description, `None` where none can be used, in the order of the sections,
@@ -22,7 +22,7 @@ use std::marker::Model;
 #[derive(Drop)]
 pub struct ChosenLines {
     /// The lines that are chosen, section by section, and `None` after them.
-    lines: [Option<CryptoLine>; 8],
+    lines: [Option<CryptoLine>; MOST_SECTIONS],
     /// How many sections there are, at most 8.
     count: usize,
 }
@@ -44,7 +44,7 @@ impl ChosenLines {
         ensures { result ≡ [] }
     {
         ChosenLines {
-            lines: [None; 8],
+            lines: [None; MOST_SECTIONS],
             count: 0,
         }
     }
@@ -54,7 +54,7 @@ impl ChosenLines {
         ensures { (ask : OfferAsk) → lines_of ask.sdp ≡ sdp.now → ask.chosen ≡ result → OfferHeard ask }
     {
         let count = sdp.section_count();
-        let mut lines = [None; 8];
+        let mut lines = [None; MOST_SECTIONS];
         for section in 0..count {
             lines[section] = choose(sdp, section);
         }
@@ -88,7 +88,7 @@ impl Dialog {
             lines_of ask.sdp ≡ sdp.now → ask.chosen ≡ result → AnswerHeard rounds ask }
     {
         let count = sdp.section_count();
-        let mut lines = [None; 8];
+        let mut lines = [None; MOST_SECTIONS];
         for section in 0..count {
             lines[section] = choose_among(sdp, section, &self.last_lines(section));
         }

@@ -19,11 +19,8 @@ use crate::plan::{Next, Plan};
 use ng_bencode::Text;
 use port_pool::Side;
 use relay_outside::OutOfMemory;
-use sdp_text::Proto;
+use sdp_text::{MOST_SECTIONS, Proto};
 use std::alloc::Global;
-
-/// How many sections a dialog has at most.
-pub(crate) const MOST_SECTIONS: usize = 8;
 
 /// The state that the accepted offers and answers of a call lead to: all that the next one is judged by.
 ///
@@ -45,7 +42,7 @@ pub struct Dialog {
     /// The last offer.
     last_offer: Option<LastOffer>,
     /// The sections.
-    sections: [DialogSection; 8],
+    sections: [DialogSection; MOST_SECTIONS],
 }
 
 impl Dialog {
@@ -65,7 +62,7 @@ impl Dialog {
             is_settled: false,
             committed_count: 0,
             last_offer: None,
-            sections: [DialogSection::NONE; 8],
+            sections: [DialogSection::NONE; MOST_SECTIONS],
         })
     }
 

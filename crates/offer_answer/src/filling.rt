@@ -17,12 +17,13 @@ ghost use Rattle.offer_answer.specs.Filled.{FilledFor};
 ghost use Rattle.offer_answer.specs.Widths.{SameMade, SameOffer};
 ghost use Rattle.offer_answer.specs.Nexts.{LegNext, SectionNext, MadeNext, NextFor, numbered_keys, carrying};
 
-use crate::dialog::MOST_SECTIONS;
 use crate::last_offer::{MadeSection, OfferedNext};
 use crate::leg::{DialogSection, DrawnKey, Leg};
 use crate::offered::{is_active, is_srtp, other_side};
 use port_pool::Side;
+use relay_outside::KeyAndSalt;
 use sdes_lines::{CryptoLine, Suite};
+use sdp_text::MOST_SECTIONS;
 
 // The ports.
 
@@ -72,16 +73,16 @@ fn section_with_ports(
 }
 
 fn sections_with_ports(
-    kept: &[DialogSection; 8],
+    kept: &[DialogSection; MOST_SECTIONS],
     legs: &[(u8, Side)],
     ports: &[u16],
-) -> [DialogSection; 8]
+) -> [DialogSection; MOST_SECTIONS]
     requires { length legs.now ≡ length ports.now }
     ensures { (config : Config) (rounds : List Round) (ask : OfferAsk) (keys : List NewKey) → map leg_asked legs.now ≡ new_legs rounds ask →
         ((section : ℕ) → section < 8 → SectionNext config rounds ask [] keys section (slice_index_or kept.now section no_state)) →
         (section : ℕ) → section < 8 → SectionNext config rounds ask ports.now keys section (slice_index_or result section no_state) }
 {
-    let mut sections = [DialogSection::NONE; 8];
+    let mut sections = [DialogSection::NONE; MOST_SECTIONS];
     for index in 0..MOST_SECTIONS {
         sections[index] = section_with_ports(kept[index], index, legs, ports);
     }
@@ -100,7 +101,7 @@ fn is_place(place: (u8, Side, Suite), section: usize, side: Side, suite: Suite) 
 fn key_of(
     places: &[(u8, Side, Suite)],
     first_key: u64,
-    keys: &[[u8; 30]],
+    keys: &[KeyAndSalt],
     section: usize,
     side: Side,
     suite: Suite,
@@ -138,7 +139,7 @@ fn leg_with_keys(
     side: Side,
     places: &[(u8, Side, Suite)],
     first_key: u64,
-    keys: &[[u8; 30]],
+    keys: &[KeyAndSalt],
 ) -> Leg
     requires same { length places.now ≡ length keys.now }
     requires first { first_key ≤ 2 ^ 63 }
@@ -159,7 +160,7 @@ fn section_with_keys(
     section: usize,
     places: &[(u8, Side, Suite)],
     first_key: u64,
-    keys: &[[u8; 30]],
+    keys: &[KeyAndSalt],
 ) -> DialogSection
     requires same { length places.now ≡ length keys.now }
     requires first { first_key ≤ 2 ^ 63 }
@@ -174,11 +175,11 @@ fn section_with_keys(
 }
 
 fn sections_with_keys(
-    kept: &[DialogSection; 8],
+    kept: &[DialogSection; MOST_SECTIONS],
     places: &[(u8, Side, Suite)],
     first_key: u64,
-    keys: &[[u8; 30]],
-) -> [DialogSection; 8]
+    keys: &[KeyAndSalt],
+) -> [DialogSection; MOST_SECTIONS]
     requires same { length places.now ≡ length keys.now }
     requires first { first_key ≤ 2 ^ 63 }
     ensures { (config : Config) (rounds : List Round) (ask : OfferAsk) (ports : List ℕ) →
@@ -186,7 +187,7 @@ fn sections_with_keys(
         (section : ℕ) → section < 8 →
         SectionNext config rounds ask ports (numbered_keys first_key keys.now (map key_asked places.now)) section (slice_index_or result section no_state) }
 {
-    let mut sections = [DialogSection::NONE; 8];
+    let mut sections = [DialogSection::NONE; MOST_SECTIONS];
     for index in 0..MOST_SECTIONS {
         sections[index] = section_with_keys(kept[index], index, places, first_key, keys);
     }
@@ -235,10 +236,10 @@ fn with_lines(made: MadeSection, leg: &Leg) -> MadeSection
 
 /// The sections of an offer with the lines that the other side is offered, by what the sections are after it.
 fn sections_with_lines(
-    offered: &[MadeSection; 8],
+    offered: &[MadeSection; MOST_SECTIONS],
     side: Side,
-    sections: &[DialogSection; 8],
-) -> [MadeSection; 8]
+    sections: &[DialogSection; MOST_SECTIONS],
+) -> [MadeSection; MOST_SECTIONS]
     ensures same { (section : ℕ) → section < 8 → SameMade (slice_index_or offered.now section no_made) (slice_index_or result section no_made) }
     ensures made { (config : Config) (rounds : List Round) (ask : OfferAsk) (ports : List ℕ) (keys : List NewKey) → side ≡ other_side (offerer rounds ask) →
         ((section : ℕ) → section < 8 → MadeNext rounds ask section (slice_index_or offered.now section no_made)) →
@@ -246,7 +247,7 @@ fn sections_with_lines(
         (section : ℕ) → section < 8 →
         MadeFor (record { ask = ask; keys = keys; before = rounds }) section (slice_index_or result section no_made) }
 {
-    let mut made = [MadeSection::NONE; 8];
+    let mut made = [MadeSection::NONE; MOST_SECTIONS];
     for index in 0..MOST_SECTIONS {
         made[index] = with_lines(offered[index], &sections[index].leg(side));
     }
@@ -265,7 +266,7 @@ impl OfferedNext {
         self.sections = sections;
     }
 
-    fn put_drawn(&mut self, places: &[(u8, Side, Suite)], first_key: u64, keys: &[[u8; 30]])
+    fn put_drawn(&mut self, places: &[(u8, Side, Suite)], first_key: u64, keys: &[KeyAndSalt])
         requires same { length places.now ≡ length keys.now }
         requires first { first_key ≤ 2 ^ 63 }
         ensures last { self.new.last ≡ self.old.last }
@@ -293,7 +294,7 @@ impl OfferedNext {
         &mut self,
         places: &[(u8, Side, Suite)],
         first_key: u64,
-        keys: &[[u8; 30]],
+        keys: &[KeyAndSalt],
     )
         requires same { length places.now ≡ length keys.now }
         requires first { first_key ≤ 2 ^ 63 }

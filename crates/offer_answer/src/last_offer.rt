@@ -5,7 +5,7 @@ use ng_bencode::Text;
 use ng_command::Options;
 use port_pool::Side;
 use sdes_lines::CryptoLine;
-use sdp_text::{Proto, Section};
+use sdp_text::{MOST_SECTIONS, Proto, Section};
 
 /// A section of the last offer.
 #[derive(Clone, Copy, Debug, PartialEq, Eq)]
@@ -50,7 +50,7 @@ pub(crate) struct LastOffer {
     /// How many sections it has, at most 8.
     pub count: usize,
     /// Its sections.
-    pub sections: [MadeSection; 8],
+    pub sections: [MadeSection; MOST_SECTIONS],
 }
 
 /// What the sections of a dialog become by an offer, with the offer itself: the last one from then on.
@@ -59,5 +59,5 @@ pub(crate) struct OfferedNext {
     /// The offer.
     pub last: LastOffer,
     /// The sections.
-    pub sections: [DialogSection; 8],
+    pub sections: [DialogSection; MOST_SECTIONS],
 }

@@ -4,6 +4,7 @@ ghost use Rattle.std.specs.Prelude.{◌≡◌, None};
 ghost use Rattle.offer_answer.specs.Dialogs.{key_for, leg_at};
 
 use port_pool::Side;
+use relay_outside::KeyAndSalt;
 use sdes_lines::Suite;
 use sdp_text::Proto;
 
@@ -15,7 +16,7 @@ pub(crate) struct DrawnKey {
     /// The suite that it is for.
     pub suite: Suite,
     /// The master key (16 bytes) followed by the master salt (14 bytes).
-    pub bytes: [u8; 30],
+    pub bytes: KeyAndSalt,
 }
 
 /// A leg of a section.

@@ -19,7 +19,7 @@ use ng_bencode::Text;
 use ng_command::AnswerIn;
 use port_pool::Side;
 use relay_outside::OutOfMemory;
-use sdp_text::Sdp;
+use sdp_text::{MOST_SECTIONS, Sdp};
 use std::alloc::Global;
 
 /// What a dialog becomes by an answer.
@@ -30,7 +30,7 @@ pub(crate) struct AnsweredNext {
     /// How many sections the committed offer has.
     pub count: usize,
     /// The sections.
-    pub sections: [DialogSection; 8],
+    pub sections: [DialogSection; MOST_SECTIONS],
 }
 
 /// A leg whose section was rejected: of it only the profile stays that the last offer gave it.
@@ -98,7 +98,7 @@ fn next_section(dialog: &Dialog, last: &LastOffer, sdp: &Sdp, section: usize) ->
     committed_section(&answered, last)
 }
 
-fn next_sections(dialog: &Dialog, last: &LastOffer, sdp: &Sdp) -> [DialogSection; 8]
+fn next_sections(dialog: &Dialog, last: &LastOffer, sdp: &Sdp) -> [DialogSection; MOST_SECTIONS]
     ensures { (config : Config) (rounds : List Round) (offer : MadeOffer) (ask : AnswerAsk) → DialogFor config dialog.now rounds →
         IsLast rounds offer last.now → HearsAnswer sdp.now rounds ask →
         (section : ℕ) → section < most_sections → SectionFor config (Answered ask ∷ rounds) section (slice_index_or result section no_state) }

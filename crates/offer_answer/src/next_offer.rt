@@ -11,7 +11,7 @@ ghost use Rattle.offer_answer.specs.LastOffers.{no_made};
 ghost use Rattle.offer_answer.specs.Offering.{HearsOffer, AsksOffer, OfferedFor};
 ghost use Rattle.offer_answer.specs.Nexts.{LegNext, SectionNext, MadeNext, NextFor};
 
-use crate::dialog::{Dialog, MOST_SECTIONS};
+use crate::dialog::Dialog;
 use crate::last_offer::{LastOffer, MadeSection, OfferedNext};
 use crate::leg::{DialogSection, Leg};
 use crate::offered::{OfferedSection, is_active, offered_section, other_side, written_over};
@@ -19,7 +19,7 @@ use ng_bencode::Text;
 use ng_command::OfferIn;
 use port_pool::Side;
 use relay_outside::OutOfMemory;
-use sdp_text::{Proto, Sdp};
+use sdp_text::{MOST_SECTIONS, Proto, Sdp};
 use std::alloc::Global;
 
 impl OfferedSection {
@@ -96,12 +96,12 @@ fn sections_after(
     sdp: &Sdp,
     transport: Option<Proto>,
     maker: Side,
-) -> [DialogSection; 8]
+) -> [DialogSection; MOST_SECTIONS]
     ensures { (config : Config) (rounds : List Round) (ask : OfferAsk) → DialogFor config dialog.now rounds → HearsOffer sdp.now ask →
         transport ≡ ask.options.transport → maker ≡ offerer rounds ask →
         (section : ℕ) → section < 8 → SectionNext config rounds ask [] [] section (slice_index_or result section no_state) }
 {
-    let mut sections = [DialogSection::NONE; 8];
+    let mut sections = [DialogSection::NONE; MOST_SECTIONS];
     for index in 0..MOST_SECTIONS {
         sections[index] = offered_section(dialog, sdp, index).after(transport, maker);
     }
@@ -114,12 +114,12 @@ fn made_sections(
     sdp: &Sdp,
     transport: Option<Proto>,
     maker: Side,
-) -> [MadeSection; 8]
+) -> [MadeSection; MOST_SECTIONS]
     ensures { (config : Config) (rounds : List Round) (ask : OfferAsk) → DialogFor config dialog.now rounds → HearsOffer sdp.now ask →
         transport ≡ ask.options.transport → maker ≡ offerer rounds ask →
         (section : ℕ) → section < 8 → MadeNext rounds ask section (slice_index_or result section no_made) }
 {
-    let mut sections = [MadeSection::NONE; 8];
+    let mut sections = [MadeSection::NONE; MOST_SECTIONS];
     for index in 0..MOST_SECTIONS {
         sections[index] = offered_section(dialog, sdp, index).made(transport, maker);
     }

@@ -12,15 +12,14 @@ ghost use Rattle.offer_answer.specs.Plans.{OfferNext, OfferFilled, OfferPlan, An
 ghost use Rattle.offer_answer.specs.Nexts.{numbered_keys};
 ghost use Rattle.offer_answer.specs.Widths.{KeepsOffer, WritesNext, WritesFrom};
 
-use crate::dialog::MOST_SECTIONS;
 use crate::last_offer::OfferedNext;
 use crate::next_answer::AnsweredNext;
 use crate::writing::write_offer;
 use port_pool::{Side, Signal};
-use relay_outside::Ip;
+use relay_outside::{Ip, KeyAndSalt};
 use sdes_lines::Suite;
 use sdp_edit::{Edit, edit_into};
-use sdp_text::{Bytes, Sdp};
+use sdp_text::{Bytes, MOST_SECTIONS, Sdp};
 
 /// What the dialog becomes by what was planned.
 #[derive(Drop)]
@@ -39,7 +38,7 @@ pub struct Plan {
     /// The legs and suites that keys are demanded for, in the order of draws.
     pub(crate) key_places: Vec<(u8, Side, Suite)>,
     /// Which sections' legs the offer drops.
-    pub(crate) dropped: [bool; 8],
+    pub(crate) dropped: [bool; MOST_SECTIONS],
     /// The address that is written into the description.
     pub(crate) interface: Ip,
     /// What becomes of the description: of an offer its sections are written when it is filled, of an answer it is whole.
@@ -126,7 +125,7 @@ impl Plan {
 
     /// Puts in the RTP ports of the leased pairs and the drawn keys, each as many and in the order as they are demanded. The keys
     /// have the numbers from `first_key` on.
-    fn put(&mut self, ports: &[u16], first_key: u64, keys: &[[u8; 30]])
+    fn put(&mut self, ports: &[u16], first_key: u64, keys: &[KeyAndSalt])
         requires ports { length ports.now ≡ pair_count self.old }
         requires keys { length keys.now ≡ key_count self.old }
         requires first { first_key ≤ 2 ^ 63 }
@@ -174,7 +173,7 @@ impl Plan {
         sdp: &Sdp,
         ports: &[u16],
         first_key: u64,
-        keys: &[[u8; 30]],
+        keys: &[KeyAndSalt],
         out: &mut Bytes,
     )
         requires ports { length ports.now ≡ pair_count self.old }

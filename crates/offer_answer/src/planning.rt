@@ -30,7 +30,7 @@ use port_pool::{Side, Signal};
 use relay_outside::{Config, Ip, OutOfMemory};
 use sdes_lines::Suite;
 use sdp_edit::Edit;
-use sdp_text::{Proto, Sdp};
+use sdp_text::{MOST_SECTIONS, Proto, Sdp};
 use std::alloc::Global;
 
 fn is_tag_of(dialog: &Dialog, side: Side, tag: &[u8]) -> bool
@@ -162,7 +162,7 @@ fn is_dropped(dialog: &Dialog, sdp: &Sdp, section: usize) -> bool
     offered_section(dialog, sdp, section).is_dropped()
 }
 
-fn dropped(dialog: &Dialog, sdp: &Sdp) -> [bool; 8]
+fn dropped(dialog: &Dialog, sdp: &Sdp) -> [bool; MOST_SECTIONS]
     ensures { (config : Config) (rounds : List Round) (ask : OfferAsk) → DialogFor config dialog.now rounds → HearsOffer sdp.now ask →
         (section : ℕ) → slice_index_or result section false ≡ has (dropped_sections rounds ask) section }
 {

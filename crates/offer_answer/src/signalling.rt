@@ -17,7 +17,7 @@ use crate::leg::DrawnKey;
 use crate::rejecting::is_rejected;
 use ng_command::Options;
 use port_pool::{LegSignal, SectionSignal, Side, Signal};
-use relay_outside::{Addr, Ip, OutOfMemory};
+use relay_outside::{Addr, Ip, KeyAndSalt, OutOfMemory};
 use sdes_lines::{CryptoLine, Suite};
 use sdp_text::{Host, Sdp, Section};
 use std::alloc::Global;
@@ -42,7 +42,7 @@ fn signalled(source: Option<Ip>, host: Option<Host>) -> Ip
     }
 }
 
-fn key_of(line: Option<CryptoLine>) -> Option<([u8; 30], Suite)>
+fn key_of(line: Option<CryptoLine>) -> Option<(KeyAndSalt, Suite)>
     ensures { result ≡ option_map key_of line }
 {
     match line {

@@ -15,6 +15,7 @@ use call_cell::Prepare;
 use media_ports::DrawnList;
 use offer_answer::Plan;
 use port_pool::Side;
+use relay_outside::KeyAndSalt;
 use sdes_lines::Suite;
 use srtp_keys::DrawnKey;
 
@@ -22,7 +23,7 @@ use srtp_keys::DrawnKey;
 fn add_one<O>(
     place: (u8, Side, Suite),
     number: u64,
-    bytes: [u8; 30],
+    bytes: KeyAndSalt,
     prepare: &mut Prepare<O>,
     changes: &mut OfferedChanges,
 )

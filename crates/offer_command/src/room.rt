@@ -10,11 +10,8 @@ use call_cell::Prepare;
 use media_ports::{DrawnList, OpenedPairs};
 use offer_answer::Plan;
 use relay_outside::OutOfMemory;
-use sdp_text::Bytes;
+use sdp_text::{Bytes, MOST_SECTIONS};
 use std::alloc::Global;
-
-/// How many sections an offer may drop: as many as a call may have.
-const MOST_DROPPED: usize = 8;
 
 /// All memory that an accepted offer takes besides the board's. It is made before the first pair is leased, so that nothing
 /// after that can run out of memory.
@@ -43,7 +40,7 @@ fn reserve_lists(
     ensures legs { IfOk result (λ lists. lists.1 ≡ record { list = []; room = pairs }) }
     ensures drawn { IfOk result (λ lists. lists.2 ≡ record { list = []; room = keys }) }
 {
-    let changes = OfferedChanges::reserve(alloc, keys, MOST_DROPPED)?;
+    let changes = OfferedChanges::reserve(alloc, keys, MOST_SECTIONS)?;
     let legs = OfferedLegs::with_room(alloc, pairs)?;
     let drawn = DrawnList::with_room(alloc, keys)?;
     Ok((changes, legs, drawn))

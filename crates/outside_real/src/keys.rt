@@ -3,7 +3,7 @@ ghost use Rattle.rand_chacha.specs.ChaCha.{key_of};
 
 use rand_chacha::ChaCha20Rng;
 use rand_core::{SeedableRng, utils};
-use relay_outside::{Failed, KeyCall, KeySource};
+use relay_outside::{Failed, KeyAndSalt, KeyCall, KeySource};
 use std::marker::Model;
 
 /// Master keys and salts from the ChaCha20 stream of a seed (RFC 8439 section 2.3, with a block counter of
@@ -52,7 +52,7 @@ impl KeySource for ChaChaKeys {
 
     ghost faults = { λ keys. 0 };
 
-    fn draw(&mut self) -> Result<[u8; 30], Failed>
+    fn draw(&mut self) -> Result<KeyAndSalt, Failed>
         ensures told { Gains (told_draws self.old) (told_draws self.new) (drawn_as result) }
         ensures cause { HasCause 0 0 result }
         ensures done { IsOk result }

@@ -7,8 +7,11 @@ use crate::holder::Holder;
 use relay_outside::{Addr, InEnd};
 use rtp_packet::Half;
 
-/// How many bytes the longest datagram that is relayed may have.
-const MOST: usize = 2000;
+/// How many bytes the longest packet that is relayed may have, as it is taken.
+pub const MOST_PACKET: usize = 2_000;
+
+/// Room for the longest packet, and one byte by which a longer one is told.
+pub type TakeBuffer = [u8; 2_001];
 
 /// The result of a take of a box.
 #[derive(Clone, Copy, PartialEq, Eq, Debug)]
@@ -57,13 +60,13 @@ pub struct PairBox<I> {
 }
 
 /// Takes one datagram of an end, for the leg that holds its pair.
-fn take_from<I: InEnd>(end: &mut I, holder: Holder, buf: &mut [u8; 2001]) -> BoxTake
+fn take_from<I: InEnd>(end: &mut I, holder: Holder, buf: &mut TakeBuffer) -> BoxTake
     ensures fits { FitsTaken (Some holder) (taken_of result buf.new) }
     ensures end { IsTaken I.told I.faults end.old end.new (taken_of result buf.new) }
 {
     match end.take(buf) {
         Ok(Some((source, len))) => {
-            if len > MOST {
+            if len > MOST_PACKET {
                 BoxTake::TooLong { source }
             } else {
                 BoxTake::Datagram {
@@ -80,7 +83,7 @@ fn take_from<I: InEnd>(end: &mut I, holder: Holder, buf: &mut [u8; 2001]) -> Box
 
 impl<I: InEnd> Opened<I> {
     /// Takes one datagram of the end of a half.
-    fn take(&mut self, half: Half, buf: &mut [u8; 2001]) -> BoxTake
+    fn take(&mut self, half: Half, buf: &mut TakeBuffer) -> BoxTake
         ensures fits { FitsTaken (Some self.old.holder) (taken_of result buf.new) }
         ensures holder { self.new.holder ≡ self.old.holder }
         ensures ends { IsTakenFrom I.told I.faults half (self.old.rtp, self.old.rtcp) (self.new.rtp, self.new.rtcp) (taken_of result buf.new) }
@@ -129,7 +132,7 @@ impl<I: InEnd> PairBox<I> {
     }
 
     /// Takes one datagram of the end of a half, into the front of the buffer. A closed box asks no end.
-    pub fn take(&mut self, half: Half, buf: &mut [u8; 2001]) -> BoxTake
+    pub fn take(&mut self, half: Half, buf: &mut TakeBuffer) -> BoxTake
         ensures history { (h : List BoxEvent) → BoxFor self.old h →
             FitsBox h (Take half (taken_of result buf.new)) × BoxFor self.new (Take half (taken_of result buf.new) ∷ h) }
         ensures ends { EndsTaken I.told I.faults half (ends_in self.old) (ends_in self.new) (taken_of result buf.new) }

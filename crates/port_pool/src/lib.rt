@@ -19,10 +19,10 @@ mod sections;
 mod signal;
 
 pub use address::rtp_address;
-pub use boxes::{BoxTake, PairBox};
+pub use boxes::{BoxTake, MOST_PACKET, PairBox, TakeBuffer};
 pub use holder::{Holder, Side};
 pub use lease_list::Leases;
 pub use pairs::{Lease, Pool};
-pub use reports::{LegReport, LegReports};
+pub use reports::{LegReport, LegReports, MOST_LEGS};
 pub use sections::Signal;
 pub use signal::{LegSignal, SectionSignal};

@@ -5,8 +5,8 @@ use relay_outside::{Addr, OutOfMemory};
 use std::alloc::Global;
 use std::marker::Model;
 
-/// How many legs a call may have: one for each side of 8 sections.
-const MOST: usize = 16;
+/// How many legs a call may have: one for each side of a section.
+pub const MOST_LEGS: usize = 16;
 
 /// What is told of a committed leg: where it stands, where its packets go, and how many packets of each half there were since
 /// the leg came.
@@ -52,7 +52,7 @@ impl LegReports {
     pub fn new(alloc: Global) -> Result<LegReports, OutOfMemory>
         ensures { IfOk result (λ told. told ≡ []) }
     {
-        match Vec::with_capacity(alloc, MOST) {
+        match Vec::with_capacity(alloc, MOST_LEGS) {
             Ok(reports) => Ok(LegReports { reports }),
             Err(_) => Err(OutOfMemory),
         }

@@ -2,11 +2,9 @@ ghost use Rattle.std.specs.Prelude.{◌≡◌, ◌<◌, ◌≤◌, [], ◌∷◌
 
 use crate::signal::SectionSignal;
 use relay_outside::OutOfMemory;
+use sdp_text::MOST_SECTIONS;
 use std::alloc::Global;
 use std::marker::Model;
-
-/// How many sections a description may have.
-const MOST: usize = 8;
 
 /// What an answer commits, section by section, for at most 8 sections. Contracts see it as a list.
 #[derive(Drop)]
@@ -30,7 +28,7 @@ impl Signal {
     pub fn new(alloc: Global) -> Result<Signal, OutOfMemory>
         ensures { IfOk result (λ signal. signal ≡ []) }
     {
-        match Vec::with_capacity(alloc, MOST) {
+        match Vec::with_capacity(alloc, MOST_SECTIONS) {
             Ok(sections) => Ok(Signal { sections }),
             Err(_) => Err(OutOfMemory),
         }

@@ -1,4 +1,4 @@
-use relay_outside::{Addr, Flags};
+use relay_outside::{Addr, Flags, KeyAndSalt};
 use sdes_lines::Suite;
 
 /// What an answer commits for one leg.
@@ -15,7 +15,7 @@ pub struct LegSignal {
     /// The side takes RTCP at its RTP port (RFC 5761).
     pub mux: bool,
     /// The master key and salt, 30 bytes, and the suite under which the side sends (RFC 4568), where it sends SRTP.
-    pub inbound: Option<([u8; 30], Suite)>,
+    pub inbound: Option<(KeyAndSalt, Suite)>,
     /// The number of the drawn key under which packets are sent to the side, where they are sent as SRTP.
     pub outbound: Option<u64>,
 }

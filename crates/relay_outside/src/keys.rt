@@ -1,12 +1,15 @@
 use crate::answers::Failed;
 
+/// A master key of 16 bytes and after it the master salt of 14, as a crypto line carries them (RFC 4568 section 6.1, RFC 3711 section 8.2).
+pub type KeyAndSalt = [u8; 30];
+
 /// A draw from a key source.
 #[derive(Drop)]
 pub enum KeyCall {
-    /// A master key of 16 bytes and its salt of 14 (RFC 3711 section 8.2).
+    /// A master key with its salt.
     Drawn {
-        /// The thirty bytes.
-        key: [u8; 30],
+        /// The key and the salt.
+        key: KeyAndSalt,
     },
     /// The draw failed.
     Failed,
@@ -26,7 +29,7 @@ pub trait KeySource {
     ghost faults: { Self → ℕ };
 
     /// Draws a master key and its salt.
-    fn draw(&mut self) -> Result<[u8; 30], Failed>
+    fn draw(&mut self) -> Result<KeyAndSalt, Failed>
         ensures told { Gains (told self.old) (told self.new) (drawn_as result) }
         ensures cause { HasCause (faults self.old) (faults self.new) result };
 }

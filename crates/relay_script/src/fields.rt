@@ -7,7 +7,7 @@ ghost use Rattle.relay_script.specs.Fields.{IsNumber, IsCount, IsHost, IsAddr, I
 ghost use Rattle.relay_script.specs.Lines.{IsKey};
 
 use ng_bencode::{read_decimal, read_until};
-use relay_outside::{Addr, Ip};
+use relay_outside::{Addr, Ip, KeyAndSalt};
 use sdp_text::{Host, read_ipv4, read_ipv6};
 
 /// What stands before and after the first space.
@@ -103,7 +103,7 @@ pub(crate) fn read_addr(word: &[u8]) -> Option<Addr>
 }
 
 /// The 30 bytes of a key.
-pub(crate) fn read_key(digits: &[u8]) -> Option<[u8; 30]>
+pub(crate) fn read_key(digits: &[u8]) -> Option<KeyAndSalt>
     ensures { MatchOption result ((bytes : List ℕ) → IsKey digits.now bytes → ⊥) (λ bytes. IsKey digits.now bytes) }
 {
     let mut key = [0; 30];

@@ -1,5 +1,5 @@
 use ng_bencode::Text;
-use relay_outside::Addr;
+use relay_outside::{Addr, KeyAndSalt};
 
 /// Which calls a line `fail` counts.
 #[derive(Clone, Copy, PartialEq, Eq, Debug)]
@@ -24,7 +24,7 @@ pub enum Step {
     /// The clock is set to this moment, in milliseconds.
     At(u64),
     /// The next draw gives this key.
-    Key([u8; 30]),
+    Key(KeyAndSalt),
     /// The call of this kind with this number from now fails.
     Fail(FailKind, u32),
     /// Of the out end that the next open of this port makes, the send with this number fails.

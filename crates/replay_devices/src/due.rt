@@ -4,14 +4,14 @@ ghost use Rattle.replay_devices.specs.Due.{Draws};
 
 use crate::keys::stream_of_seed;
 use outside_real::ChaChaKeys;
-use relay_outside::{KeySource, OutOfMemory};
+use relay_outside::{KeyAndSalt, KeySource, OutOfMemory};
 use std::alloc::Global;
 use std::marker::Model;
 
 /// The keys that draws have to give: those of lines `key` that none used up, the oldest first, and then the stream of a seed.
 #[derive(Drop)]
 pub(crate) struct KeysDue {
-    lines: Vec<[u8; 30]>,
+    lines: Vec<KeyAndSalt>,
     /// How many of them were used up.
     used: usize,
     stream: ChaChaKeys,
@@ -44,7 +44,7 @@ impl KeysDue {
     }
 
     /// A line `key` gives one more.
-    pub(crate) fn add(&mut self, key: [u8; 30]) -> Result<(), OutOfMemory>
+    pub(crate) fn add(&mut self, key: KeyAndSalt) -> Result<(), OutOfMemory>
         ensures { OnOk result (self.new ≡ record self.old { unused = self.old.unused ++ key ∷ [] }) }
     {
         match self.lines.push(key) {
@@ -54,7 +54,7 @@ impl KeysDue {
     }
 
     /// The next key, which is used up. `None`: 2^64 - 1 keys of the stream were drawn.
-    pub(crate) fn draw(&mut self) -> Option<[u8; 30]>
+    pub(crate) fn draw(&mut self) -> Option<KeyAndSalt>
         ensures draws { IfSome result (λ key. Draws self.old self.new key) }
         ensures spent { result ≡ None → (self.old.unused ≡ []) × (2 ^ 64 - 1 ≤ self.old.streamed) }
     {

@@ -9,7 +9,7 @@ ghost use Rattle.replay_devices.specs.Keys.{unused, seed_bytes, stream_of, Gives
 use crate::countdowns::Countdowns;
 use crate::lines::{asked_at, between, failures_of};
 use outside_real::ChaChaKeys;
-use relay_outside::{CallList, Failed, KeyCall, KeySource, OutOfMemory};
+use relay_outside::{CallList, Failed, KeyAndSalt, KeyCall, KeySource, OutOfMemory};
 use relay_script::{FailKind, Step};
 use std::alloc::Global;
 use std::marker::Model;
@@ -91,7 +91,7 @@ impl<'a> ReplayKeys<'a> {
     }
 
     /// The oldest unused key of a line, which is then used up.
-    fn use_line_key(&mut self) -> Option<[u8; 30]>
+    fn use_line_key(&mut self) -> Option<KeyAndSalt>
         ensures unused { MatchOption result ((unused self.old ≡ []) × (unused self.new ≡ [])) (λ key. unused self.old ≡ key ∷ unused self.new) }
         ensures same { self.new ≡ record self.old { next = self.new.next } }
     {
@@ -106,7 +106,7 @@ impl<'a> ReplayKeys<'a> {
 }
 
 /// The key of a line `key`.
-fn key_of(line: &Step) -> Option<[u8; 30]>
+fn key_of(line: &Step) -> Option<KeyAndSalt>
     ensures { result ≡ key_of line.now }
 {
     match line {
@@ -154,7 +154,7 @@ impl<'a> KeySource for ReplayKeys<'a> {
 
     ghost faults = { λ keys. keys.faults };
 
-    fn draw(&mut self) -> Result<[u8; 30], Failed>
+    fn draw(&mut self) -> Result<KeyAndSalt, Failed>
         ensures told { Gains self.old.told self.new.told (drawn_as result) }
         ensures cause { HasCause self.old.faults self.new.faults result }
         ensures counted { self.new.faults ≡ faults_after (is_done result) self.old.faults }

@@ -12,8 +12,8 @@ ghost use Rattle.replay_devices.specs.Link.{met_at, waiting_for, datagram_at, Co
 use crate::countdowns::Countdowns;
 use crate::lines::{asked_of, failures_of, fill};
 use relay_outside::{
-    Addr, CallList, ControlLink, Copied, Failed, LinkCall, LinkGiven, OutOfMemory, Taken,
-    last_sent_of,
+    Addr, CallList, ControlLink, Failed, LinkCall, LinkGiven, OutOfMemory, Taken, datagram_call,
+    last_sent_of, send_call,
 };
 use relay_script::{FailKind, Step};
 use std::alloc::Global;
@@ -169,29 +169,6 @@ fn taken_by(call: &LinkCall) -> Option<(Addr, &[u8])>
         },
         LinkCall::Bind { .. } => None,
         LinkCall::Send { .. } => None,
-    }
-}
-
-/// The record of a send; `None` where its bytes could not be copied.
-fn send_call(alloc: Global, to: Addr, bytes: &[u8], done: bool) -> Option<LinkCall>
-    ensures { MatchOption result (Unit {0}) (λ call. call ≡ LinkCall.Send to bytes.now done) }
-{
-    match Copied::of(alloc, bytes) {
-        Some(bytes) => Some(LinkCall::Send { to, bytes, done }),
-        None => None,
-    }
-}
-
-/// The record of a take that gave a datagram; `None` where its bytes could not be copied.
-fn datagram_call(alloc: Global, room: usize, from: Addr, bytes: &[u8]) -> Option<LinkCall>
-    ensures { MatchOption result (Unit {0}) (λ call. call ≡ LinkCall.Take room (LinkGiven.Datagram from bytes.now)) }
-{
-    match Copied::of(alloc, bytes) {
-        Some(bytes) => {
-            let given = LinkGiven::Datagram { from, bytes };
-            Some(LinkCall::Take { room, given })
-        }
-        None => None,
     }
 }
 

@@ -10,7 +10,7 @@ ghost use Rattle.replay_devices.specs.Watch.{StandsFor, Notes, NotesDraw, kind_o
 use crate::countdowns::Countdowns;
 use crate::due::KeysDue;
 use crate::failures::SendFailures;
-use relay_outside::OutOfMemory;
+use relay_outside::{KeyAndSalt, OutOfMemory};
 use relay_script::{FailKind, Step};
 use std::alloc::Global;
 use std::marker::Model;
@@ -86,7 +86,7 @@ impl Watch {
     }
 
     /// A key was drawn, which has to be the one that is returned. `None`: 2^64 - 1 keys of the seed's stream were drawn.
-    pub fn drew(&mut self) -> Option<[u8; 30]>
+    pub fn drew(&mut self) -> Option<KeyAndSalt>
         ensures drew { IfSome result (λ key. (config : Config) (seed : ℕ) → NotesDraw config seed self.old self.new key) }
         ensures spent { result ≡ None → (config : Config) (seed : ℕ) (past : List Happening) → StandsFor config seed past self.old → (unused past ≡ []) × (2 ^ 64 - 1 ≤ streamed past) }
     {

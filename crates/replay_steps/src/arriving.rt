@@ -24,6 +24,7 @@ use crate::ends::find_end;
 use crate::opened::is_open;
 use call_cell::{Lost, Outcome};
 use media_lane::{Receipt, Received, receive_between, relay_between};
+use port_pool::MOST_PACKET;
 use relay_core::Relay;
 use relay_outside::{Addr, Config, InEnd, OutEnd, PortCall};
 use relay_script::Printed;
@@ -54,9 +55,6 @@ pub(crate) enum Arrived {
     Other,
 }
 
-/// How many bytes a packet may have.
-const MOST: usize = 2_000;
-
 /// What came of a take at the port of this address, of which these calls tell whether it is open; the take had to fail or not.
 fn tell_arrival(
     received: Received,
@@ -84,7 +82,7 @@ fn tell_arrival(
             }
         }
         Received::TooLong => {
-            if !failing && packet.bytes.len() > MOST {
+            if !failing && packet.bytes.len() > MOST_PACKET {
                 Arrived::Printed(Printed::TooLong)
             } else {
                 Arrived::Other

@@ -12,7 +12,7 @@ ghost use Rattle.replay_steps.specs.Controlling.{IsReply, TellsTaken, TellsEvent
 
 use crate::devices::Devices;
 use ng_bencode::Text;
-use ng_server::{ControlTurn, Desk, Server};
+use ng_server::{ControlTurn, DATAGRAM_ROOM, Desk, Server};
 use relay_core::Relay;
 use relay_outside::Addr;
 use relay_script::Printed;
@@ -34,9 +34,6 @@ pub(crate) struct LineDatagram<'p> {
     pub(crate) reply_fails: bool,
 }
 
-/// How many bytes of a datagram the link's room takes.
-const ROOM: usize = 16_385;
-
 /// The first bytes of some, at most this many.
 fn front(bytes: &[u8], count: usize) -> &[u8]
     ensures { result.now ≡ take count bytes.now }
@@ -49,7 +46,7 @@ fn gave_line(link: &ReplayLink<'_>, source: Addr, bytes: &[u8]) -> bool
     ensures { IsTrue result → TellsTaken link.now.told source bytes.now }
 {
     match link.last_taken() {
-        Some((from, taken)) => from == source && taken == front(bytes, ROOM),
+        Some((from, taken)) => from == source && taken == front(bytes, DATAGRAM_ROOM),
         None => false,
     }
 }

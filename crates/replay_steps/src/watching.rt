@@ -8,7 +8,7 @@ ghost use Rattle.replay_steps.specs.Steps.{OpensAsked, DrawsAsked};
 ghost use Rattle.replay_steps.specs.Watching.{Watches, WatchesTurn};
 
 use crate::ends::find_end;
-use relay_outside::{Config, KeyCall, PortCall};
+use relay_outside::{Config, KeyAndSalt, KeyCall, PortCall};
 use relay_script::FailKind;
 use replay_devices::{ReplayKeys, ReplayPorts, Watch};
 
@@ -42,7 +42,7 @@ fn note_openings(watch: &mut Watch, config: &Config, calls: &[PortCall]) -> bool
 }
 
 /// Notes a draw that gave a key, and says whether that is the key that was due.
-fn note_key(watch: &mut Watch, key: [u8; 30]) -> bool
+fn note_key(watch: &mut Watch, key: KeyAndSalt) -> bool
     ensures { IsTrue result → (config : Config) (seed : ℕ) → NotesDraw config seed watch.old watch.new key }
 {
     match watch.drew() {

@@ -2,6 +2,8 @@
 
 ghost use Rattle.std.specs.Prelude.{◌≡◌};
 
+use relay_outside::KeyAndSalt;
+
 /// The crypto suite of a line (RFC 4568 section 6.2). Both encrypt by AES-128 in counter mode and
 /// authenticate by HMAC-SHA1; they differ in the length of an SRTP packet's tag.
 #[derive(Clone, Copy, Debug, PartialEq, Eq)]
@@ -34,5 +36,5 @@ pub struct CryptoLine {
     /// The crypto suite that the key is for.
     pub suite: Suite,
     /// The master key (16 bytes) followed by the master salt (14 bytes).
-    pub key: [u8; 30],
+    pub key: KeyAndSalt,
 }

@@ -11,6 +11,7 @@ ghost use Rattle.sdes_lines.specs.Reading.{IsNumberThenSpaces, IsTagNumeral};
 
 use crate::crypto_line::{CryptoLine, Suite};
 use base64::engine::general_purpose::STANDARD;
+use relay_outside::KeyAndSalt;
 
 /// The tag, suite and key of a usable crypto line, and `None` of every other line.
 /// The line comes without its line end. A lifetime is passed over; it isn't enforced.
@@ -112,7 +113,7 @@ fn read_suite(text: &[u8]) -> Option<(Suite, &[u8])>
 }
 
 /// The key at the start of a text, and what follows.
-fn read_key(text: &[u8]) -> Option<([u8; 30], &[u8])>
+fn read_key(text: &[u8]) -> Option<(KeyAndSalt, &[u8])>
     ensures sound { IfSome result (λ found. (text.now ≡ encode_of standard found.0 ++ found.1.now) × IsKey found.0) }
     ensures complete { (key rest : List ℕ) → IsKey key → text.now ≡ encode_of standard key ++ rest
         → IsSomeAnd result (λ found. (found.0 ≡ key) × (found.1.now ≡ rest)) }
@@ -123,7 +124,7 @@ fn read_key(text: &[u8]) -> Option<([u8; 30], &[u8])>
 }
 
 /// The key that 40 characters of base64 stand for. Fewer than 30 bytes, after padding, are no key.
-fn decode_key(characters: &[u8; 40]) -> Option<[u8; 30]>
+fn decode_key(characters: &[u8; 40]) -> Option<KeyAndSalt>
     ensures sound { IfSome result (λ key. (characters.now ≡ encode_of standard key) × IsKey key) }
     ensures complete { (key : List ℕ) → IsKey key → characters.now ≡ encode_of standard key → result ≡ Some key }
 {

@@ -9,6 +9,7 @@ ghost use Rattle.sdes_lines.specs.declared.crypto_line.CryptoLine.{CryptoLine};
 use crate::crypto_line::CryptoLine;
 use base64::engine::general_purpose::STANDARD;
 use itoa::Buffer;
+use relay_outside::KeyAndSalt;
 
 /// Writes a crypto line at the start of `out`, without a lifetime and without a line end, and
 /// returns its length in bytes.
@@ -40,7 +41,7 @@ fn put(out: &mut [u8; 96], start: usize, text: &[u8]) -> usize
 }
 
 /// The key in the standard base64, which needs no padding.
-fn encode_key(key: &[u8; 30]) -> [u8; 40]
+fn encode_key(key: &KeyAndSalt) -> [u8; 40]
     ensures { result ≡ encode_of standard key.now }
 {
     let mut characters = [0; 40];

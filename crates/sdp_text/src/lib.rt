@@ -22,6 +22,7 @@ pub use bytes::{Bytes, OutOfMemory};
 pub use fault::SdpFault;
 pub use host::{Host, read_host, read_ipv4, read_ipv6};
 pub use law::{first_fault_is_first, first_v6_is_first};
+pub use part::MOST_SECTIONS;
 pub use piece::read_number_up_to;
 pub use proto::Proto;
 pub use sdp::{Sdp, read};

@@ -9,8 +9,8 @@ use crate::proto::Proto;
 use crate::role::{Address, MediaLine, Role, RtcpLine};
 use std::alloc::Global;
 
-/// How many sections a description may have.
-const MOST_SECTIONS: usize = 8;
+/// How many sections a description, and so a call, may have.
+pub const MOST_SECTIONS: usize = 8;
 
 /// A section with the lines that are in effect for it, and their numbers from 1.
 #[derive(Clone, Copy)]

@@ -1,15 +1,14 @@
 ghost use Rattle.std.specs.Prelude.{◌≤◌};
 
-/// How many sources a table keeps. None gives way to another, since that would forget which indices were used.
-const MOST: usize = 32;
+use srtp_sources::MOST_SOURCES;
 
 /// How many packets each source has sent under one key. It can't be cloned.
 #[derive(Drop)]
 pub(crate) struct Counts {
     /// The SSRCs of the known sources, in the order in which they came.
-    ssrcs: [u32; 32],
+    ssrcs: [u32; MOST_SOURCES],
     /// How many packets each of the same sources has sent.
-    sent: [u32; 32],
+    sent: [u32; MOST_SOURCES],
     /// How many sources are known.
     count: usize,
     ghost within: { count ≤ 32 },
@@ -80,7 +79,7 @@ impl Counts {
         ensures room { result ≡ can_count self.now sender.ssrc }
         ensures notes { (notes : List Note) → CountsFor self.now notes → result ≡ has_room Rtcp sender.ssrc notes }
     {
-        self.count < MOST || self.place(sender).is_some()
+        self.count < MOST_SOURCES || self.place(sender).is_some()
     }
 
     /// Counts a packet of a source that was found; `next` is what that call returns.

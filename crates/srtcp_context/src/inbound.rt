@@ -4,6 +4,7 @@ ghost use Rattle.srtp_sources.specs.Notes.{Note};
 ghost use Rattle.srtcp_context.specs.Opening.{opening};
 
 use crate::session::{RtcpSession, read_word};
+use relay_outside::KeyAndSalt;
 use replay_window::Fresh;
 use rtp_packet::rtcp;
 use srtp_keys::UnprotectFault;
@@ -26,7 +27,7 @@ impl InRtcp {
     ghost use Rattle.srtcp_context.specs.Contexts.{InFor, OpensTo};
 
     /// The context of a master key of 16 bytes with a master salt of 14 after it, which has taken no packet.
-    pub fn new(key: &[u8; 30]) -> InRtcp
+    pub fn new(key: &KeyAndSalt) -> InRtcp
         ensures { InFor key.now result [] }
     {
         InRtcp {

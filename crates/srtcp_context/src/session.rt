@@ -4,6 +4,7 @@ ghost use Rattle.aes_ctr.specs.Keystream.{xored};
 ghost use Rattle.srtcp_context.specs.Packets.{packet_keystream, code_of, is_authentic, word_of, trailer, protect, opened, ciphered, Writes};
 
 use aes_ctr::Cipher;
+use relay_outside::KeyAndSalt;
 use rtp_packet::Half;
 use srtp_keys::{MacKey, Session, derive, same_tags};
 use srtp_sources::packet_counter;
@@ -49,7 +50,7 @@ impl RtcpSession {
     ghost use Rattle.srtcp_context.specs.Sessions.{SessionFor};
 
     /// The session of a master key of 16 bytes with a master salt of 14 after it.
-    pub(crate) fn new(master: &[u8; 30]) -> RtcpSession
+    pub(crate) fn new(master: &KeyAndSalt) -> RtcpSession
         ensures { SessionFor master.now result }
     {
         let Session { cipher, auth, salt } = derive(master, Half::Rtcp);

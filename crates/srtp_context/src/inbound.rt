@@ -5,6 +5,7 @@ ghost use Rattle.srtp_sources.specs.Notes.{Note};
 ghost use Rattle.srtp_context.specs.Opening.{opening};
 
 use crate::session::{RtpSession, tag_size};
+use relay_outside::KeyAndSalt;
 use replay_window::{Fresh, Near};
 use rtp_packet::{RtpHead, rtp};
 use sdes_lines::Suite;
@@ -22,7 +23,7 @@ impl InRtp {
     ghost use Rattle.srtp_context.specs.Contexts.{InFor, OpensTo};
 
     /// The context of a master key of 16 bytes with a master salt of 14 after it, which has taken no packet.
-    pub fn new(key: &[u8; 30], suite: Suite) -> InRtp
+    pub fn new(key: &KeyAndSalt, suite: Suite) -> InRtp
         ensures { InFor key.now suite result [] }
     {
         InRtp {

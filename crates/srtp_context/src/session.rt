@@ -5,6 +5,7 @@ ghost use Rattle.srtp_context.specs.Packets.{tag_size, packet_keystream, code_of
 ghost use Rattle.rtp_packet.specs.Head.{rtp_head};
 
 use aes_ctr::Cipher;
+use relay_outside::KeyAndSalt;
 use rtp_packet::{Half, RtpHead};
 use sdes_lines::Suite;
 use srtp_keys::{MacKey, Session, derive, same_tags};
@@ -37,7 +38,7 @@ impl RtpSession {
     ghost use Rattle.srtp_context.specs.Sessions.{SessionFor};
 
     /// The session of a master key of 16 bytes with a master salt of 14 after it.
-    pub(crate) fn new(master: &[u8; 30], suite: Suite) -> RtpSession
+    pub(crate) fn new(master: &KeyAndSalt, suite: Suite) -> RtpSession
         ensures { SessionFor master.now suite result }
     {
         let Session { cipher, auth, salt } = derive(master, Half::Rtp);

@@ -4,6 +4,7 @@ ghost use Rattle.std.specs.Prelude.{◌≡◌, ℕ, ◌+◌, ◌<◌, ◌≤◌,
 ghost use Rattle.srtp_keys.specs.Derivation.{derived, label_counter, cipher_key, authentication_key, session_salt, cipher_label, authentication_label, salt_label};
 
 use aes_ctr::Cipher;
+use relay_outside::KeyAndSalt;
 use rtp_packet::Half;
 
 /// What a master key becomes for one half of a stream: the cipher under the session's encryption
@@ -46,7 +47,7 @@ fn salt_label(half: Half) -> u8
 }
 
 /// The master key, without its salt.
-fn master_key(master: &[u8; 30]) -> [u8; 16]
+fn master_key(master: &KeyAndSalt) -> [u8; 16]
     ensures { result ≡ take 16 master.now }
 {
     let mut key = [0u8; 16];
@@ -55,7 +56,7 @@ fn master_key(master: &[u8; 30]) -> [u8; 16]
 }
 
 /// The salt after the master key.
-fn master_salt(master: &[u8; 30]) -> &[u8]
+fn master_salt(master: &KeyAndSalt) -> &[u8]
     ensures length { length result.now ≡ 14 }
     ensures bytes { result.now ≡ drop 16 master.now }
 {
@@ -84,7 +85,7 @@ fn label_counter(salt: &[u8], label: u8) -> u128
 
 /// The session of a half: its encryption key, its authentication key and its salt, from a master key
 /// of 16 bytes with a master salt of 14 after it, at a key derivation rate of 0.
-pub fn derive(master: &[u8; 30], half: Half) -> Session
+pub fn derive(master: &KeyAndSalt, half: Half) -> Session
     ensures cipher { result.cipher ≡ cipher_key master.now half }
     ensures auth { result.auth ≡ authentication_key master.now half }
     ensures salt { result.salt ≡ session_salt master.now half }

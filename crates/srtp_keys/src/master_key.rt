@@ -3,6 +3,7 @@
 ghost use Rattle.std.specs.Prelude.{◌≡◌, ℕ, List};
 ghost use Rattle.srtp_keys.specs.MasterKey.{MasterKey};
 
+use relay_outside::KeyAndSalt;
 use std::marker::Model;
 
 /// A master key with its salt that a key source gave, and the number of the draw.
@@ -11,7 +12,7 @@ use std::marker::Model;
 #[derive(Drop)]
 pub struct DrawnKey {
     number: u64,
-    bytes: [u8; 30],
+    bytes: KeyAndSalt,
 }
 
 impl Model for DrawnKey {
@@ -24,7 +25,7 @@ impl Model for DrawnKey {
 #[derive(Drop)]
 pub struct RtpKey {
     number: u64,
-    bytes: [u8; 30],
+    bytes: KeyAndSalt,
 }
 
 impl Model for RtpKey {
@@ -37,7 +38,7 @@ impl Model for RtpKey {
 #[derive(Drop)]
 pub struct RtcpKey {
     number: u64,
-    bytes: [u8; 30],
+    bytes: KeyAndSalt,
 }
 
 impl Model for RtcpKey {
@@ -48,7 +49,7 @@ impl Model for RtcpKey {
 
 impl DrawnKey {
     /// The key of a draw: `bytes` is a master key of 16 bytes and a master salt of 14.
-    pub fn from_draw(number: u64, bytes: [u8; 30]) -> DrawnKey
+    pub fn from_draw(number: u64, bytes: KeyAndSalt) -> DrawnKey
         ensures { result ≡ record { number = number; bytes = bytes } }
     {
         DrawnKey { number, bytes }
@@ -80,7 +81,7 @@ impl RtpKey {
     }
 
     /// The key's bytes, which spends it.
-    pub fn into_bytes(self) -> [u8; 30]
+    pub fn into_bytes(self) -> KeyAndSalt
         ensures { result ≡ self.bytes }
     {
         self.bytes
@@ -96,7 +97,7 @@ impl RtcpKey {
     }
 
     /// The key's bytes, which spends it.
-    pub fn into_bytes(self) -> [u8; 30]
+    pub fn into_bytes(self) -> KeyAndSalt
         ensures { result ≡ self.bytes }
     {
         self.bytes

@@ -10,4 +10,4 @@ mod counter;
 mod sources;
 
 pub use counter::packet_counter;
-pub use sources::{Source, Sources};
+pub use sources::{MOST_SOURCES, Source, Sources};

@@ -3,7 +3,7 @@ ghost use Rattle.std.specs.Prelude.{◌≤◌};
 use replay_window::{Fresh, Near, Window};
 
 /// How many sources a table keeps. None gives way to another, since that would forget which indices were used.
-const MOST: usize = 32;
+pub const MOST_SOURCES: usize = 32;
 
 /// The sources of one half under one key, and of each the indices that were taken or sent. It can't be cloned.
 #[derive(Drop)]
@@ -98,7 +98,7 @@ impl Sources {
         ensures room { result ≡ can_note self.now source.ssrc }
         ensures notes { (half : Half) (notes : List Note) → SourcesFor half self.now notes → result ≡ has_room half source.ssrc notes }
     {
-        self.count < MOST || self.place(source).is_some()
+        self.count < MOST_SOURCES || self.place(source).is_some()
     }
 
     /// Notes an index of a source that was found, which `fresh_of` has to allow.

@@ -7,7 +7,7 @@ ghost use Rattle.relay_outside.specs.Failures.{uncalled};
 use crate::answers::Failed;
 use crate::calls::CallList;
 use crate::failing::Failing;
-use crate::keys::{KeyCall, KeySource};
+use crate::keys::{KeyAndSalt, KeyCall, KeySource};
 use std::alloc::Global;
 use std::marker::Model;
 
@@ -57,7 +57,7 @@ impl KeySource for SteadyKeys {
 
     ghost faults = { λ keys. 0 };
 
-    fn draw(&mut self) -> Result<[u8; 30], Failed>
+    fn draw(&mut self) -> Result<KeyAndSalt, Failed>
         ensures told { Gains self.old.told self.new.told (drawn_as result) }
         ensures cause { HasCause 0 0 result }
         ensures done { IsOk result }
@@ -79,7 +79,7 @@ impl KeySource for SteadyKeys {
 #[derive(Drop)]
 pub struct KeyList {
     told: CallList<KeyCall>,
-    keys: Vec<[u8; 30]>,
+    keys: Vec<KeyAndSalt>,
     next: usize,
     failing: Failing,
 }
@@ -95,7 +95,7 @@ impl Model for KeyList {
 
 impl KeyList {
     /// A source of these keys, whose draws with these numbers fail.
-    pub fn new(alloc: Global, keys: Vec<[u8; 30]>, failing: Vec<u64>) -> KeyList
+    pub fn new(alloc: Global, keys: Vec<KeyAndSalt>, failing: Vec<u64>) -> KeyList
         ensures { result ≡ record { told = Some []; keys = keys.items; failures = uncalled failing.items } }
     {
         KeyList {
@@ -124,7 +124,7 @@ impl KeySource for KeyList {
 
     ghost faults = { λ list. list.failures.faults };
 
-    fn draw(&mut self) -> Result<[u8; 30], Failed>
+    fn draw(&mut self) -> Result<KeyAndSalt, Failed>
         ensures told { Gains self.old.told self.new.told (drawn_as result) }
         ensures cause { HasCause self.old.failures.faults self.new.failures.faults result }
         ensures fails { draw_fails self.old.keys self.old.failures ≡ not (is_done result) }

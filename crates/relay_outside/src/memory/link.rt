@@ -168,7 +168,7 @@ fn sent_by(call: &LinkCall) -> Option<(Addr, &[u8])>
 }
 
 /// The record of a send; `None` where its bytes could not be copied.
-fn send_call(alloc: Global, to: Addr, bytes: &[u8], done: bool) -> Option<LinkCall>
+pub fn send_call(alloc: Global, to: Addr, bytes: &[u8], done: bool) -> Option<LinkCall>
     ensures { MatchOption result (Unit {0}) (λ call. call ≡ LinkCall.Send to bytes.now done) }
 {
     match Copied::of(alloc, bytes) {
@@ -178,7 +178,7 @@ fn send_call(alloc: Global, to: Addr, bytes: &[u8], done: bool) -> Option<LinkCa
 }
 
 /// The record of a take that gave a datagram; `None` where its bytes could not be copied.
-fn datagram_call(alloc: Global, room: usize, from: Addr, bytes: &[u8]) -> Option<LinkCall>
+pub fn datagram_call(alloc: Global, room: usize, from: Addr, bytes: &[u8]) -> Option<LinkCall>
     ensures { MatchOption result (Unit {0}) (λ call. call ≡ LinkCall.Take room (LinkGiven.Datagram from bytes.now)) }
 {
     match Copied::of(alloc, bytes) {
