@@ -7,6 +7,7 @@ mod Loops
 pub mod MediaThreads
 mod Orders
 mod Refusals
+mod Replayed
 mod Rounds
 mod Runs
 mod Sends

@@ -110,6 +110,15 @@ ended_of status.ControlFault = None
 ended_of status.TurnsSpent = None
 ended_of status.Usage = None
 
+-- how the end of a replay is told by a status: a device that did otherwise than the script says has that of want of memory
+abbrev pub told_as : Ended → Ended
+told_as ended.Finished = ended.Finished
+told_as ended.ScriptFault = ended.ScriptFault
+told_as ended.ScriptRead = ended.ScriptRead
+told_as ended.PrintFault = ended.PrintFault
+told_as ended.OutOfMemory = ended.OutOfMemory
+told_as ended.DeviceFault = ended.OutOfMemory
+
 abbrev pub ReplaysBy : ReplaySettings → Option Ended → Option (List LineCall) → Option (List LineCall) → List WriteCall → Type 0
 ReplaysBy replay None read read_now writes = ⊥
 ReplaysBy replay (Some end) read read_now writes = Replays replay.config replay.seed end read read_now writes

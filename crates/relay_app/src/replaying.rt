@@ -1,7 +1,7 @@
 //! The command `replay`.
 ghost use Rattle.std.specs.Prelude.{◌≡◌, ◌≤◌, None, Some};
 ghost use Rattle.relay_outside.specs.Told.{Rose};
-ghost use Rattle.relay_app.specs.Run.{ended_of, StatusByWords, ReplayedBy};
+ghost use Rattle.relay_app.specs.Run.{ended_of, told_as, StatusByWords, ReplayedBy};
 
 use crate::status::Status;
 use command_line::ReplaySettings;
@@ -10,16 +10,17 @@ use replay_steps::{Ended, replay};
 use std::alloc::Global;
 use std::sync::Wait;
 
-/// The status of a replay.
+/// The status of a replay. One status has two causes here: a device that did otherwise than the script says ends a replay as want of memory
+/// does, since statuses are those of the whole program.
 fn status_of(ended: Ended) -> Status
-    ensures { ended_of result ≡ Some ended }
+    ensures { ended_of result ≡ Some (told_as ended) }
 {
     match ended {
         Ended::Finished => Status::Ok,
         Ended::ScriptFault => Status::ScriptFault,
         Ended::ScriptRead => Status::ScriptRead,
         Ended::PrintFault => Status::PrintFault,
-        Ended::OutOfMemory => Status::OutOfMemory,
+        Ended::OutOfMemory | Ended::DeviceFault => Status::OutOfMemory,
     }
 }
 

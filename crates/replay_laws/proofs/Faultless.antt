@@ -41,6 +41,7 @@ ends_faultless config seed steps how ended.PrintFault before calls writes reads 
   | inr x ↦ absurd (f.inside x.0)
 ]
 ends_faultless config seed steps how ended.OutOfMemory before calls writes reads f d = tt
+ends_faultless config seed steps how ended.DeviceFault before calls writes reads f d = tt
 ends_faultless config seed steps how ended.ScriptFault before calls writes reads f d =
     let did = tied config seed steps how ended.ScriptFault before calls writes reads d in
     elim did.1 [

@@ -200,5 +200,7 @@ writes_once config seed steps how ended.ScriptFault ended.ScriptFault v w i j a 
         (played_once config seed steps a.entries b.entries p.1.front q.1.front p.1.played q.1.played a.stopped b.stopped a.fed b.fed) ∙ sym q.1.writes_are
 writes_once config seed steps how ended.PrintFault other v w i j a b = absurd i
 writes_once config seed steps how ended.OutOfMemory other v w i j a b = absurd i
+writes_once config seed steps how ended.DeviceFault other v w i j a b = absurd i
 writes_once config seed steps how end ended.PrintFault v w i j a b = absurd j
 writes_once config seed steps how end ended.OutOfMemory v w i j a b = absurd j
+writes_once config seed steps how end ended.DeviceFault v w i j a b = absurd j

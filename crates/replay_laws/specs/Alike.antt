@@ -88,6 +88,7 @@ IsWrittenOut ended.ScriptRead = Unit {0}
 IsWrittenOut ended.ScriptFault = Unit {0}
 IsWrittenOut ended.PrintFault = ⊥
 IsWrittenOut ended.OutOfMemory = ⊥
+IsWrittenOut ended.DeviceFault = ⊥
 
 -- This is written by a replay of these steps, with this ending of the reading and this end of its own, as the contract of a replay says it;
 -- and no turn ran out of memory

@@ -33,11 +33,12 @@ pub record RanOut (config : Config) (seed : ℕ) (steps : List Step) (writes : L
   pub stopped : Stops config entries
   pub unfed : NeverOutOfMemory entries → ⊥
 
--- How a replay of a script without a fault ends: it finishes; or the source failed, or a write; or memory ran out, for the replay or for one of
--- the control turns before a step that could not be made then
+-- How a replay of a script without a fault ends: it finishes; or the source failed, or a write; or a device in memory did otherwise than the
+-- script says; or memory ran out, for the replay or for one of the control turns before a step that could not be made then
 abbrev pub EndsFaultless : Config → (seed : ℕ) → List Step → Ending → Ended → List WriteCall → Type 0
 EndsFaultless config seed steps how ended.Finished writes = how ≡ ending.End
 EndsFaultless config seed steps how ended.ScriptRead writes = how ≡ ending.Fault
 EndsFaultless config seed steps how ended.PrintFault writes = HasFailed writes
 EndsFaultless config seed steps how ended.OutOfMemory writes = Unit {0}
+EndsFaultless config seed steps how ended.DeviceFault writes = Unit {0}
 EndsFaultless config seed steps how ended.ScriptFault writes = RanOut config seed steps writes

@@ -1,6 +1,6 @@
 -- What a line `ng` did.
-use Rattle.std.proofs.Common.{◌≡◌, ◌∙◌, refl, sym, ap, subst, ℕ, Bool, List, [], ◌∷◌, ◌++◌, Option, Some, None, length, drop}
-use Rattle.std.specs.Prelude.{MatchOption}
+use Rattle.std.proofs.Common.{◌≡◌, ◌∙◌, refl, sym, ap, subst, ℕ, Bool, List, [], ◌∷◌, ◌++◌, Option, Some, None, Result, Ok, Err, length, drop}
+use Rattle.std.specs.Prelude.{MatchResult}
 use Rattle.std.proofs.Math.Seq.{drop-append_seam}
 use Rattle.relay_outside.specs.Told.{Gained}
 use Rattle.relay_outside.specs.declared.address.Addr.{Addr}
@@ -14,6 +14,7 @@ use Rattle.relay_script.specs.declared.event.Printed as coded
 use Rattle.replay_devices.specs.Steps as model
 use Rattle.replay_devices.specs.Devices.{Happening, fails}
 use Rattle.replay_devices.specs.Watch.{WatchState, StandsFor}
+use Rattle.replay_steps.specs.declared.ended.Untold.{Untold}
 use Rattle.replay_steps.specs.declared.stepping.Stepped.{Stepped}
 use Rattle.replay_steps.specs.declared.stepping.Stepped.TheVariants as stepped
 use Rattle.replay_steps.specs.Holding.{ReceiptList}
@@ -37,7 +38,7 @@ module _ (config : Config) (seed : ℕ) (l new : List Entry) (clock : ℕ) (sour
     (reads : (past : List Happening) → StandsFor config seed past old → read_fails ≡ fails model.Reading past) (sends : (past : List Happening) → StandsFor config seed past old → reply_fails ≡ fails model.Replying past)
     (counted : (calls : List PortCall) → ports ≡ Some calls → opened ≡ length calls) (drew : (calls : List KeyCall) → keys ≡ Some calls → drawn ≡ length calls)
     (watched : WatchesTurn config seed ports_now opened keys_now drawn old mid) where
-  command : (e : coded.Printed) → Controlled config clock l source bytes read_fails reply_fails ports ports_now keys keys_now (Some e) new
+  command : (e : coded.Printed) → Controlled config clock l source bytes read_fails reply_fails ports ports_now keys keys_now (Ok e) new
       → ((past : List Happening) → StandsFor config seed past mid → StandsFor config seed (replied (event_of e) past) now)
       → Watches config seed old now (λ past past_now. Makes config seed (course_of l held clock past) (step.Ng source bytes) (event_of e ∷ []) (course_of new held clock past_now))
   command e controlled answers past s =
@@ -64,12 +65,12 @@ module _ (config : Config) (seed : ℕ) (l new : List Entry) (clock : ℕ) (sour
         answers found.0 found.2,
       )
 
-  pub commanded : (o : Option coded.Printed) (did : Stepped) → MatchOption o (did ≡ stepped.OutOfMemory) (λ (e : coded.Printed). did ≡ stepped.Prints e)
+  pub commanded : (o : Result coded.Printed Untold) (did : Stepped) → MatchResult o (λ (e : coded.Printed). did ≡ stepped.Prints e) (λ (why : Untold). did ≡ stepped.Untold why)
       → Controlled config clock l source bytes read_fails reply_fails ports ports_now keys keys_now o new
-      → ((e : coded.Printed) → o ≡ Some e → (past : List Happening) → StandsFor config seed past mid → StandsFor config seed (replied (event_of e) past) now)
+      → ((e : coded.Printed) → o ≡ Ok e → (past : List Happening) → StandsFor config seed past mid → StandsFor config seed (replied (event_of e) past) now)
       → StepsSo config seed did old now (λ past past_now. OfStep config seed (course_of l held clock past) (step.Ng source bytes) did (course_of new held clock past_now))
-  commanded None did is controlled answers =
+  commanded (Err why) did is controlled answers =
       subst (λ (d : Stepped). StepsSo config seed d old now (λ past past_now. OfStep config seed (course_of l held clock past) (step.Ng source bytes) d (course_of new held clock past_now))) (sym is) tt
-  commanded (Some e) did is controlled answers =
+  commanded (Ok e) did is controlled answers =
       subst (λ (d : Stepped). StepsSo config seed d old now (λ past past_now. OfStep config seed (course_of l held clock past) (step.Ng source bytes) d (course_of new held clock past_now))) (sym is)
       (command e controlled (answers e refl))

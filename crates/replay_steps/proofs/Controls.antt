@@ -1,5 +1,5 @@
 -- What a control turn did, by what its link tells of it.
-use Rattle.std.proofs.Common.{◌≡◌, ◌∙◌, refl, sym, ap, subst, ℕ, Bool, true, false, List, [], ◌∷◌, ◌++◌, Option, Some, None, inl, inr, filter_map}
+use Rattle.std.proofs.Common.{◌≡◌, ◌∙◌, refl, sym, ap, subst, ℕ, Bool, true, false, List, [], ◌∷◌, ◌++◌, Option, Some, None, Result, Ok, Err, inl, inr, filter_map}
 use Rattle.std.specs.List.{last_or}
 use Rattle.std.proofs.lemmas.List.Elements.{filter_map-append}
 use Rattle.ng_frame.specs.Frame.{frame}
@@ -34,6 +34,7 @@ use Rattle.relay_script.specs.declared.event.Printed as coded
 use Rattle.relay_script.specs.Printing as event
 use Rattle.relay_script.specs.Printing.{Printed, event_of}
 use Rattle.replay_devices.proofs.Lists.{last_or-append}
+use Rattle.replay_steps.specs.declared.ended.Untold.{Untold}
 use Rattle.replay_steps.specs.Steps.{TurnsBoard, filled, Replying, Answers, IsIdle, Controls}
 use Rattle.replay_steps.specs.Controlling.{IsReply, TellsTaken, IsOfTurn, TellsTurn, TellsEvent, Controlled}
 
@@ -45,6 +46,9 @@ last_of f xs ys = ap (last_or None) (filter_map-append f xs ys) ∙ last_or-appe
 -- the last item is given back
 pub same_some : {A : Type 0} (x y : A) → Some x ≡ Some y → x ≡ y
 same_some x y p = cc
+
+pub same_ok : {A B : Type 0} (r : Result A B) (x y : A) → r ≡ Ok x → r ≡ Ok y → x ≡ y
+same_ok r x y p q = let k = sym p ∙ q in cc
 
 module _ (config : Config) (now : ℕ) (source : Addr) (bytes : List ℕ) where
   -- no frame
@@ -216,10 +220,10 @@ module _ (config : Config) {M I O T : Type 0} {g : _} where
 
   -- what is printed of a turn says what it did
   pub controls : (old new : Hand M (Part I O) Made T g) (now : ℕ) (answer : ControlTurn) (ports ports_now keys keys_now : ℕ) (opened opened_now : Option (List PortCall))
-      (drew drew_now : Option (List KeyCall)) (before after : Option (List LinkCall)) (source : Addr) (bytes : List ℕ) (read_fails reply_fails : Bool) (e : Option coded.Printed)
+      (drew drew_now : Option (List KeyCall)) (before after : Option (List LinkCall)) (source : Addr) (bytes : List ℕ) (read_fails reply_fails : Bool) (e : Result coded.Printed Untold)
       → Turned config old new now answer ports ports_now keys keys_now opened opened_now drew drew_now before after → TellsEvent answer read_fails reply_fails after source bytes e
       → Controlled config now (made_by old) source bytes read_fails reply_fails opened opened_now drew drew_now e (made_by new)
-  controls old new now answer ports ports_now keys keys_now opened opened_now drew drew_now before after source bytes read_fails reply_fails None turned tells = tt
-  controls old new now answer ports ports_now keys keys_now opened opened_now drew drew_now before after source bytes read_fails reply_fails (Some e) turned tells =
+  controls old new now answer ports ports_now keys keys_now opened opened_now drew drew_now before after source bytes read_fails reply_fails (Err why) turned tells = tt
+  controls old new now answer ports ports_now keys keys_now opened opened_now drew drew_now before after source bytes read_fails reply_fails (Ok e) turned tells =
       controls_line now source bytes reply_fails (event_of e) old new ports ports_now keys keys_now opened opened_now drew drew_now read_fails answer before after turned.made turned.follows
       turned.given turned.calls tells

@@ -1,6 +1,6 @@
 -- What a step of a script did.
-use Rattle.std.proofs.Common.{◌≡◌, ◌∙◌, refl, sym, ap, subst, ℕ, ◌+◌, ◌<◌, ◌≤◌, Bool, true, false, ◌||◌, List, [], ◌∷◌, ◌++◌, Option, Some, None, inl, inr, map, length, is_some, arith}
-use Rattle.std.specs.Prelude.{MatchOption}
+use Rattle.std.proofs.Common.{◌≡◌, ◌∙◌, refl, sym, ap, subst, ℕ, ◌+◌, ◌<◌, ◌≤◌, Bool, true, false, ◌||◌, List, [], ◌∷◌, ◌++◌, Option, Some, None, Result, Ok, Err, inl, inr, map, length, is_some, arith}
+use Rattle.std.specs.Prelude.{MatchResult}
 use Rattle.std.specs.List.{list_any}
 use Rattle.std.proofs.lemmas.List.{length-map, map-append, append-nil, append_assoc}
 use Rattle.relay_outside.specs.declared.address.Addr.{Addr}
@@ -29,6 +29,7 @@ use Rattle.relay_script.specs.Steps.{Step}
 use Rattle.relay_script.specs.Printing as event
 use Rattle.relay_script.specs.Printing.{Printed, event_of}
 use Rattle.relay_script.specs.declared.event.Printed as coded
+use Rattle.replay_steps.specs.declared.ended.Untold.{Untold}
 use Rattle.replay_steps.specs.declared.stepping.Stepped.{Stepped}
 use Rattle.replay_steps.specs.declared.stepping.Stepped.TheVariants as stepped
 use Rattle.replay_devices.specs.Steps as model
@@ -134,10 +135,10 @@ pub one_event : (e : Printed) (P : Printed → Type 0) → P e → PrintsOne (e 
 one_event e P p = record { event = e; prints_are = refl; holds = p }
 
 -- an event that was printed, where there was memory for it
-pub of_event : (config : Config) (seed : ℕ) (r : Course) (s : Step) (new : Course) (o : Option coded.Printed) (did : Stepped)
-    → MatchOption o (did ≡ stepped.OutOfMemory) (λ (e : coded.Printed). did ≡ stepped.Prints e) → ((e : coded.Printed) → o ≡ Some e → Makes config seed r s (event_of e ∷ []) new) → OfStep config seed r s did new
-of_event config seed r s new None did is makes = subst (λ (d : Stepped). OfStep config seed r s d new) (sym is) tt
-of_event config seed r s new (Some e) did is makes = subst (λ (d : Stepped). OfStep config seed r s d new) (sym is) (makes e refl)
+pub of_event : (config : Config) (seed : ℕ) (r : Course) (s : Step) (new : Course) (o : Result coded.Printed Untold) (did : Stepped)
+    → MatchResult o (λ (e : coded.Printed). did ≡ stepped.Prints e) (λ (why : Untold). did ≡ stepped.Untold why) → ((e : coded.Printed) → o ≡ Ok e → Makes config seed r s (event_of e ∷ []) new) → OfStep config seed r s did new
+of_event config seed r s new (Err why) did is makes = subst (λ (d : Stepped). OfStep config seed r s d new) (sym is) tt
+of_event config seed r s new (Ok e) did is makes = subst (λ (d : Stepped). OfStep config seed r s d new) (sym is) (makes e refl)
 
 module _ (config : Config) (seed : ℕ) (l : List Entry) (was : ReceiptList) (clock : ℕ) (past : List Happening) where
   module _ (failing : Bool) (asked : failing ≡ fails model.Taking past) where
@@ -190,26 +191,26 @@ module _ (config : Config) (seed : ℕ) (l : List Entry) (was : ReceiptList) (cl
 -- Relays, with a watch.
 
 module _ (config : Config) (seed : ℕ) (l : List Entry) (was : ReceiptList) (clock : ℕ) (old now : WatchState) where
-  pub passed : (port : ℕ) (source : Addr) (bytes : List ℕ) (r : Receipt) (mid new : List Entry) (o : Option coded.Printed) (did : Stepped) (failing : Bool)
-      → MatchOption o (did ≡ stepped.OutOfMemory) (λ (e : coded.Printed). did ≡ stepped.Prints e)
+  pub passed : (port : ℕ) (source : Addr) (bytes : List ℕ) (r : Receipt) (mid new : List Entry) (o : Result coded.Printed Untold) (did : Stepped) (failing : Bool)
+      → MatchResult o (λ (e : coded.Printed). did ≡ stepped.Prints e) (λ (why : Untold). did ≡ stepped.Untold why)
       → ((past : List Happening) → StandsFor config seed past old → failing ≡ fails model.Taking past)
       → (failing ≡ false) × TakesPacket config l port source bytes (taken_by r) mid → RelaysSo config seed clock mid (taken_by r) o old now new
       → StepsSo config seed did old now (λ past past_now. OfStep config seed (course_of l was clock past) (step.Packet port source bytes) did (course_of new was clock past_now))
-  passed port source bytes r mid new None did failing tells asked takes relays =
+  passed port source bytes r mid new (Err why) did failing tells asked takes relays =
       subst (λ (d : Stepped). StepsSo config seed d old now (λ past past_now. OfStep config seed (course_of l was clock past) (step.Packet port source bytes) d (course_of new was clock past_now)))
       (sym tells) tt
-  passed port source bytes r mid new (Some e) did failing tells asked takes relays =
+  passed port source bytes r mid new (Ok e) did failing tells asked takes relays =
       subst (λ (d : Stepped). StepsSo config seed d old now (λ past past_now. OfStep config seed (course_of l was clock past) (step.Packet port source bytes) d (course_of new was clock past_now)))
       (sym tells) (λ past s.
       let f = relays past s in
       (f.0, passes_packet config seed l was clock past port source bytes r (event_of e) mid new f.0 (sym (asked past s) ∙ takes.0) takes.1 f.1, f.2))
 
-  pub relayed : (number : ℕ) (r : Receipt) (new : List Entry) (is : ReceiptList) (o : Option coded.Printed) (did : Stepped)
-      → MatchOption o (did ≡ stepped.OutOfMemory) (λ (e : coded.Printed). did ≡ stepped.Prints e) → (out : TakesOut number r was is) → RelaysSo config seed clock l (taken_by r) o old now new
+  pub relayed : (number : ℕ) (r : Receipt) (new : List Entry) (is : ReceiptList) (o : Result coded.Printed Untold) (did : Stepped)
+      → MatchResult o (λ (e : coded.Printed). did ≡ stepped.Prints e) (λ (why : Untold). did ≡ stepped.Untold why) → (out : TakesOut number r was is) → RelaysSo config seed clock l (taken_by r) o old now new
       → StepsSo config seed did old now (λ past past_now. OfStep config seed (course_of l was clock past) (step.Relay number) did (course_of new is clock past_now))
-  relayed number r new later None did tells out relays =
+  relayed number r new later (Err why) did tells out relays =
       subst (λ (d : Stepped). StepsSo config seed d old now (λ past past_now. OfStep config seed (course_of l was clock past) (step.Relay number) d (course_of new later clock past_now))) (sym tells) tt
-  relayed number r new later (Some e) did tells out relays =
+  relayed number r new later (Ok e) did tells out relays =
       subst (λ (d : Stepped). StepsSo config seed d old now (λ past past_now. OfStep config seed (course_of l was clock past) (step.Relay number) d (course_of new later clock past_now)))
       (sym tells) (λ past s. let f = relays past s in (f.0, relays_held config seed l was clock past number r (event_of e) new f.0 later out f.1, f.2))
 

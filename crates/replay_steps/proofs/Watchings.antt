@@ -10,6 +10,7 @@ use Rattle.relay_outside.specs.declared.ports.PortCall.TheVariants.{Open, Close}
 use Rattle.relay_outside.specs.declared.settings.Config.{Config}
 use Rattle.replay_devices.specs.Devices.{Happening}
 use Rattle.replay_devices.specs.Watch.{WatchState, StandsFor}
+use Rattle.replay_steps.specs.declared.ended.Untold.{Untold}
 use Rattle.replay_steps.specs.declared.stepping.Stepped.{Stepped}
 use Rattle.replay_steps.specs.declared.stepping.Stepped.TheVariants as stepped
 use Rattle.relay_script.specs.Steps.{Step}
@@ -39,27 +40,27 @@ pub draws_watched : (config : Config) (seed : ℕ) (xs : List KeyCall) (x : KeyC
 draws_watched config seed xs x first second third before last past s =
     let b = before past s in let l = last b.0 b.2 in (l.0, draws_more seed xs x past b.0 l.0 b.1 l.1, l.2)
 
--- a step that did not run out of memory
+-- a step of which it is told what it did
 pub stepped_so : (config : Config) (seed : ℕ) (did : Stepped) (old new : WatchState) (P : List Happening → List Happening → Type 0) → StepsSo config seed did old new P → (past : List Happening) → StandsFor config seed past old
-    → (did ≡ stepped.OutOfMemory) ⊎ ((now : List Happening) × P past now × StandsFor config seed now new)
+    → ((why : Untold) × (did ≡ stepped.Untold why)) ⊎ ((now : List Happening) × P past now × StandsFor config seed now new)
 stepped_so config seed stepped.Quiet old new P so past s = inr (so past s)
 stepped_so config seed (stepped.Prints e) old new P so past s = inr (so past s)
 stepped_so config seed stepped.Faulty old new P so past s = inr (so past s)
-stepped_so config seed stepped.OutOfMemory old new P so past s = inl refl
+stepped_so config seed (stepped.Untold why) old new P so past s = inl (why, refl)
 
 -- what a step did, said in another way
 pub steps_less : (config : Config) (seed : ℕ) (did : Stepped) (old new : WatchState) (P Q : List Happening → List Happening → Type 0) → ((past now : List Happening) → P past now → Q past now) → StepsSo config seed did old new P → StepsSo config seed did old new Q
 steps_less config seed stepped.Quiet old new P Q less so = λ past s. let f = so past s in (f.0, less past f.0 f.1, f.2)
 steps_less config seed (stepped.Prints e) old new P Q less so = λ past s. let f = so past s in (f.0, less past f.0 f.1, f.2)
 steps_less config seed stepped.Faulty old new P Q less so = λ past s. let f = so past s in (f.0, less past f.0 f.1, f.2)
-steps_less config seed stepped.OutOfMemory old new P Q less so = tt
+steps_less config seed (stepped.Untold why) old new P Q less so = tt
 
 -- a step that notes nothing
 pub steps_unwatched : (config : Config) (seed : ℕ) (did : Stepped) (w : WatchState) (P : List Happening → List Happening → Type 0) → ((past : List Happening) → StandsFor config seed past w → P past past) → StepsSo config seed did w w P
 steps_unwatched config seed stepped.Quiet w P here = λ past s. (past, here past s, s)
 steps_unwatched config seed (stepped.Prints e) w P here = λ past s. (past, here past s, s)
 steps_unwatched config seed stepped.Faulty w P here = λ past s. (past, here past s, s)
-steps_unwatched config seed stepped.OutOfMemory w P here = tt
+steps_unwatched config seed (stepped.Untold why) w P here = tt
 
 pub false_is : (b : Bool) → not b ≡ true → b ≡ false
 false_is true is = absurd (let k : false ≡ true = is in cc)
@@ -79,16 +80,16 @@ found_end config port ip (Some e) has is = (e, has)
 
 module _ (config : Config) (seed : ℕ) (r : List Happening → Course) (s : Step) (did : Stepped) (new : List Happening → Course) (old now : WatchState)
     (so : StepsSo config seed did old now (λ past past_now. OfStep config seed (r past) s did (new past_now))) (past : List Happening) (stands : StandsFor config seed past old) where
-  -- what a step did, whether or not it ran out of memory
+  -- what a step did, whether or not that is told
   pub some_step : (past_now : List Happening) × OfStep config seed (r past) s did (new past_now)
   some_step = elim (stepped_so config seed did old now (λ past past_now. OfStep config seed (r past) s did (new past_now)) so past stands) [
-    | inl is ↦ (past, subst (λ (d : Stepped). OfStep config seed (r past) s d (new past)) (sym is) tt)
+    | inl untold ↦ (past, subst (λ (d : Stepped). OfStep config seed (r past) s d (new past)) (sym untold.1) tt)
     | inr found ↦ (found.0, found.1)
   ]
 
-  -- what one did that did not run out of memory
-  pub one_step : (did ≡ stepped.OutOfMemory → ⊥) → (past_now : List Happening) × OfStep config seed (r past) s did (new past_now) × StandsFor config seed past_now now
+  -- what one did of which that is told
+  pub one_step : ((why : Untold) → did ≡ stepped.Untold why → ⊥) → (past_now : List Happening) × OfStep config seed (r past) s did (new past_now) × StandsFor config seed past_now now
   one_step fed = elim (stepped_so config seed did old now (λ past past_now. OfStep config seed (r past) s did (new past_now)) so past stands) [
-    | inl is ↦ absurd (fed is)
+    | inl untold ↦ absurd (fed untold.0 untold.1)
     | inr found ↦ found
   ]

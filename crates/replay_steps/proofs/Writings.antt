@@ -16,10 +16,12 @@ use Rattle.replay_devices.specs.declared.script.Ending.TheVariants as ending
 use Rattle.replay_devices.specs.Scripts.{Reads}
 use Rattle.replay_steps.specs.declared.ended.Ended.{Ended}
 use Rattle.replay_steps.specs.declared.ended.Ended.TheVariants as ended
+use Rattle.replay_steps.specs.declared.ended.Untold.{Untold}
+use Rattle.replay_steps.specs.declared.ended.Untold.TheVariants as untold
 use Rattle.replay_steps.specs.declared.stepping.Stepped.{Stepped}
 use Rattle.replay_steps.specs.declared.stepping.Stepped.TheVariants as stepped
 use Rattle.replay_steps.specs.Steps.{Course, at_first, after, Makes, IsFaulty, OfStep, Plays, Stops}
-use Rattle.replay_steps.specs.Written.{written, unwritten, EndsFor, DidTell, DidPrint, DidStep, Played, Demands, FailsAt, PlayedSome, DidSteps, DidEnd, DidFinish, PlayedAnd, DidWrite, DidPlay, Replays}
+use Rattle.replay_steps.specs.Written.{written, unwritten, EndsFor, ended_by, DidTell, DidPrint, DidStep, Played, Demands, FailsAt, PlayedSome, DidSteps, DidEnd, DidFinish, PlayedAnd, DidWrite, DidPlay, Replays}
 use Rattle.replay_steps.proofs.Courses.{plays_more}
 
 -- One line.
@@ -71,12 +73,12 @@ module _ (config : Config) (seed : ℕ) (before : List Step) (r : Course) (s : S
     writes_are = both_written xs ys x.prints (event_of e ∷ []) x.writes_are y;
   }
   went_on stepped.Faulty makes xs ys x y = absurd y
-  went_on stepped.OutOfMemory makes xs ys x y = absurd (let k : None ≡ Some ended.OutOfMemory = y.0 in cc)
+  went_on (stepped.Untold why) makes xs ys x y = absurd (let k : None ≡ Some (ended_by why) = y.0 in cc)
 
   -- a step by which the replay ends
   module _ (steps behind : List Step) (steps_are : steps ≡ before ++ s ∷ behind) (l : List Entry) (line_is : line ≡ length before + 1) (entries_are : new.entries ≡ l) where
-    out_of_memory : (xs ys : List WriteCall) → PlayedTo config seed before r xs → ys ≡ [] → PlayedSome config seed steps (xs ++ ys)
-    out_of_memory xs ys x none = record {
+    ended_there : (xs ys : List WriteCall) → PlayedTo config seed before r xs → ys ≡ [] → PlayedSome config seed steps (xs ++ ys)
+    ended_there xs ys x none = record {
       before = before;
       after = s ∷ behind;
       steps_are = steps_are;
@@ -108,7 +110,8 @@ module _ (config : Config) (seed : ℕ) (before : List Step) (r : Course) (s : S
     printed event ended.ScriptFault xs ys x makes y = absurd y
     printed event ended.ScriptRead xs ys x makes y = absurd y
     printed event ended.PrintFault xs ys x makes y = failed event xs ys x y (inl makes)
-    printed event ended.OutOfMemory xs ys x makes y = out_of_memory xs ys x y
+    printed event ended.OutOfMemory xs ys x makes y = ended_there xs ys x y
+    printed event ended.DeviceFault xs ys x makes y = absurd y
 
     told_faulty : (end : Ended) (xs ys : List WriteCall) → PlayedTo config seed before r xs → IsFaulty r s → new ≡ r → DidTell line end ys → DidSteps config seed steps l (Some end) (xs ++ ys)
     told_faulty ended.Finished xs ys x faulty same y = absurd y
@@ -127,14 +130,19 @@ module _ (config : Config) (seed : ℕ) (before : List Step) (r : Course) (s : S
     told_faulty ended.ScriptRead xs ys x faulty same y = absurd y
     told_faulty ended.PrintFault xs ys x faulty same y =
         failed (ScriptFault (length before + 1)) xs ys x (y ∙ ap (λ (n : ℕ). unwritten (ScriptFault n) ∷ []) line_is) (inr (faulty, refl, same))
-    told_faulty ended.OutOfMemory xs ys x faulty same y = out_of_memory xs ys x y
+    told_faulty ended.OutOfMemory xs ys x faulty same y = ended_there xs ys x y
+    told_faulty ended.DeviceFault xs ys x faulty same y = absurd y
+
+    untold_there : (why : Untold) (xs ys : List WriteCall) → PlayedTo config seed before r xs → ys ≡ [] → DidSteps config seed steps l (Some (ended_by why)) (xs ++ ys)
+    untold_there untold.OutOfMemory xs ys x none = ended_there xs ys x none
+    untold_there untold.DeviceFault xs ys x none = ended_there xs ys x none
 
     pub ended_in : (did : Stepped) (end : Ended) → OfStep config seed r s did new → (xs ys : List WriteCall) → PlayedTo config seed before r xs → DidStep did line (Some end) ys
         → DidSteps config seed steps l (Some end) (xs ++ ys)
     ended_in stepped.Quiet end makes xs ys x y = absurd (let k : Some end ≡ None = y.0 in cc)
     ended_in (stepped.Prints e) end makes xs ys x y = printed (event_of e) end xs ys x makes y
     ended_in stepped.Faulty end makes xs ys x y = told_faulty end xs ys x makes.0 makes.1 y
-    ended_in stepped.OutOfMemory end makes xs ys x y = subst (λ (o : Option Ended). DidSteps config seed steps l o (xs ++ ys)) (sym y.0) (out_of_memory xs ys x y.1)
+    ended_in (stepped.Untold why) end makes xs ys x y = subst (λ (o : Option Ended). DidSteps config seed steps l o (xs ++ ys)) (sym y.0) (untold_there why xs ys x y.1)
 
 -- some of the steps were made
 pub some_played : (config : Config) (seed : ℕ) (steps before behind : List Step) (r : Course) → steps ≡ before ++ behind → (xs : List WriteCall) → PlayedTo config seed before r xs → PlayedSome config seed steps xs
@@ -185,6 +193,7 @@ module _ (config : Config) (seed : ℕ) (steps : List Step) (l : List Entry) whe
     plays = x.plays;
     writes_are = none_written xs ys x.prints x.writes_are y;
   }
+  after_tell line ended.DeviceFault at xs ys x y = absurd y
 
   after_end : (line : ℕ) (how : Ending) (end : Ended) → line ≡ length steps + 1 → (xs ys : List WriteCall) → Played config seed steps l xs → DidEnd how line end ys → DidWrite config seed steps how end l (xs ++ ys)
   after_end line ending.End end at xs ys x y = subst (λ (e : Ended). DidWrite config seed steps ending.End e l (xs ++ ys)) (sym y.0) (refl, no_more xs ys y.1 x)
@@ -198,6 +207,7 @@ module _ (config : Config) (seed : ℕ) (steps : List Step) (l : List Entry) whe
   ended_early how ended.ScriptRead xs x = absurd x
   ended_early how ended.PrintFault xs x = inl x
   ended_early how ended.OutOfMemory xs x = x
+  ended_early how ended.DeviceFault xs x = x
 
   nothing_more : (P : List WriteCall → Type 0) (xs ys : List WriteCall) → ys ≡ [] → P xs → P (xs ++ ys)
   nothing_more P xs ys none p = subst (λ (zs : List WriteCall). P (xs ++ zs)) (sym none) (subst P (sym (append-nil xs)) p)
@@ -215,6 +225,7 @@ module _ (config : Config) (seed : ℕ) (steps : List Step) (l : List Entry) whe
   and_stopped how ended.ScriptRead stops xs x = (l, x, stops)
   and_stopped how ended.PrintFault stops xs x = (l, x, stops)
   and_stopped how ended.OutOfMemory stops xs x = x
+  and_stopped how ended.DeviceFault stops xs x = x
 
   pub after_stop : (line : ℕ) (ran : Option Ended) (how : Ending) (end : Ended) → (ran ≡ None → line ≡ length steps + 1) → Stops config l → (xs ys : List WriteCall)
       → DidSteps config seed steps l ran xs → DidFinish ran how line end ys → DidPlay config seed steps how end (xs ++ ys)
@@ -228,3 +239,4 @@ replays config seed steps how ended.ScriptFault read read_now reads writes did =
 replays config seed steps how ended.ScriptRead read read_now reads writes did = record { steps = steps; how = how; reads_are = reads; did = did }
 replays config seed steps how ended.PrintFault read read_now reads writes did = record { steps = steps; how = how; reads_are = reads; did = did }
 replays config seed steps how ended.OutOfMemory read read_now reads writes did = inr (record { steps = steps; how = how; reads_are = reads; did = did })
+replays config seed steps how ended.DeviceFault read read_now reads writes did = record { steps = steps; how = how; reads_are = reads; did = did }

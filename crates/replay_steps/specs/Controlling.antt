@@ -1,5 +1,5 @@
 -- What the control link of a replay tells of a control turn, and what is printed of it.
-use Rattle.std.specs.Prelude.{◌≡◌, ℕ, Bool, true, false, List, Option, Some, None}
+use Rattle.std.specs.Prelude.{◌≡◌, ℕ, Bool, true, false, List, Option, Some, None, Result, Ok, Err}
 use Rattle.relay_outside.specs.declared.address.Addr.{Addr}
 use Rattle.relay_outside.specs.declared.keys.KeyCall.{KeyCall}
 use Rattle.relay_outside.specs.declared.link.LinkCall.{LinkCall}
@@ -14,6 +14,7 @@ use Rattle.relay_script.specs.declared.event.Printed as coded
 use Rattle.relay_script.specs.Printing as event
 use Rattle.relay_script.specs.Printing.{Printed, event_of}
 use Rattle.replay_devices.specs.Link.{last_taken}
+use Rattle.replay_steps.specs.declared.ended.Untold.{Untold}
 use Rattle.replay_steps.specs.Steps.{filled, Controls}
 
 -- the event is that of a reply, the last one that the link says it sent
@@ -42,13 +43,13 @@ TellsTurn turn.ReadFault read_fails reply_fails told source bytes e = (read_fail
 TellsTurn answer read_fails reply_fails told source bytes e = (read_fails ≡ false) × TellsTaken told source bytes × IsOfTurn answer reply_fails told e
 
 -- the same of what is printed; without memory for it, or where the link doesn't tell or did otherwise, nothing is said
-abbrev pub TellsEvent : ControlTurn → (read_fails reply_fails : Bool) → Option (List LinkCall) → Addr → List ℕ → Option coded.Printed → Type 0
-TellsEvent answer read_fails reply_fails told source bytes None = Unit {0}
-TellsEvent answer read_fails reply_fails told source bytes (Some e) = TellsTurn answer read_fails reply_fails told source bytes (event_of e)
+abbrev pub TellsEvent : ControlTurn → (read_fails reply_fails : Bool) → Option (List LinkCall) → Addr → List ℕ → Result coded.Printed Untold → Type 0
+TellsEvent answer read_fails reply_fails told source bytes (Err why) = Unit {0}
+TellsEvent answer read_fails reply_fails told source bytes (Ok e) = TellsTurn answer read_fails reply_fails told source bytes (event_of e)
 
 -- what a control turn did, where its event is printed, with the calls of the port maker and of the key source, where these tell them
 abbrev pub Controlled : Config → (clock : ℕ) → List Entry → Addr → List ℕ → (read_fails reply_fails : Bool) → (ports ports_now : Option (List PortCall)) → (keys keys_now : Option (List KeyCall))
-    → Option coded.Printed → List Entry → Type 0
-Controlled config clock l source bytes read_fails reply_fails ports ports_now keys keys_now None new = Unit {0}
-Controlled config clock l source bytes read_fails reply_fails ports ports_now keys keys_now (Some e) new =
+    → Result coded.Printed Untold → List Entry → Type 0
+Controlled config clock l source bytes read_fails reply_fails ports ports_now keys keys_now (Err why) new = Unit {0}
+Controlled config clock l source bytes read_fails reply_fails ports ports_now keys keys_now (Ok e) new =
     Gained ports ports_now (λ opened. Gained keys keys_now (λ drawn. Controls config clock l source bytes read_fails reply_fails opened drawn (event_of e) new))

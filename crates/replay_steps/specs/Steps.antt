@@ -328,12 +328,12 @@ IsFaulty r (step.Take port source bytes) = 64 ≤ length r.held
 IsFaulty r (step.Relay number) = list_any (is_under number) r.held ≡ false
 IsFaulty r _ = ⊥
 
--- what a step did: it was made, and printed this; or it can't be made, and nothing was done. If memory ran out, nothing is said
+-- what a step did: it was made, and printed this; or it can't be made, and nothing was done. If it can't be told, nothing is said
 abbrev pub OfStep : Config → (seed : ℕ) → Course → Step → Stepped → Course → Type 0
 OfStep config seed r s stepped.Quiet new = Makes config seed r s [] new
 OfStep config seed r s (stepped.Prints e) new = Makes config seed r s (event_of e ∷ []) new
 OfStep config seed r s stepped.Faulty new = IsFaulty r s × (new ≡ r)
-OfStep config seed r s stepped.OutOfMemory new = Unit {0}
+OfStep config seed r s (stepped.Untold why) new = Unit {0}
 
 -- Plays config seed steps r prints new: with these steps, each made where the ones before it came to, a replay comes from r to new, and
 -- this is printed

@@ -1,10 +1,11 @@
 -- What a watch notes of the calls of a control turn.
-use Rattle.std.specs.Prelude.{◌≡◌, ℕ, Bool, true, false, List, Option, Some, None, drop}
+use Rattle.std.specs.Prelude.{◌≡◌, ℕ, Bool, true, false, List, Option, Some, None, Result, Ok, Err, drop}
 use Rattle.relay_outside.specs.declared.keys.KeyCall.{KeyCall}
 use Rattle.relay_outside.specs.declared.ports.PortCall.{PortCall}
 use Rattle.relay_outside.specs.declared.settings.Config.{Config}
 use Rattle.replay_devices.specs.Devices.{Happening}
 use Rattle.replay_devices.specs.Watch.{WatchState, StandsFor}
+use Rattle.replay_steps.specs.declared.ended.Untold.{Untold}
 use Rattle.replay_steps.specs.declared.stepping.Stepped.{Stepped}
 use Rattle.replay_steps.specs.declared.stepping.Stepped.TheVariants as stepped
 use Rattle.call_cell.specs.declared.outcome.Lost.{Lost}
@@ -30,17 +31,17 @@ pub record WatchesTurn (config : Config) (seed : ℕ) (ports : Option (List Port
       Watches config seed old new
       (λ past now. (between : List Happening) × OpensAsked config (drop opened openings) past between × DrawsAsked seed (drop drawn draws) between now)
 
--- the same of a step that did this; if it ran out of memory, nothing is said
+-- the same of a step that did this; if it can't be told, nothing is said
 abbrev pub StepsSo : Config → (seed : ℕ) → Stepped → WatchState → WatchState → (List Happening → List Happening → Type 0) → Type 0
 StepsSo config seed stepped.Quiet old new P = Watches config seed old new P
 StepsSo config seed (stepped.Prints e) old new P = Watches config seed old new P
 StepsSo config seed stepped.Faulty old new P = Watches config seed old new P
-StepsSo config seed stepped.OutOfMemory old new P = Unit {0}
+StepsSo config seed (stepped.Untold why) old new P = Unit {0}
 
 -- the same of what is printed of a relay; without memory for it, or where its send failed otherwise, nothing is said
-abbrev pub RelaysSo : Config → (seed clock : ℕ) → List Entry → Packet → Option coded.Printed → WatchState → WatchState → List Entry → Type 0
-RelaysSo config seed clock l p None old now new = Unit {0}
-RelaysSo config seed clock l p (Some e) old now new = Watches config seed old now (λ past past_now. RelaysPacket config clock l past p.1 (event_of e) new past_now)
+abbrev pub RelaysSo : Config → (seed clock : ℕ) → List Entry → Packet → Result coded.Printed Untold → WatchState → WatchState → List Entry → Type 0
+RelaysSo config seed clock l p (Err why) old now new = Unit {0}
+RelaysSo config seed clock l p (Ok e) old now new = Watches config seed old now (λ past past_now. RelaysPacket config clock l past p.1 (event_of e) new past_now)
 
 -- By which port a relay with this outcome sent, and whether its send returned Ok
 

@@ -15,6 +15,8 @@ use Rattle.replay_devices.specs.declared.writing.WriteFault.{WriteFault}
 use Rattle.replay_devices.specs.declared.writing.WriteFault.TheVariants as fault
 use Rattle.replay_steps.specs.declared.ended.Ended.{Ended}
 use Rattle.replay_steps.specs.declared.ended.Ended.TheVariants as ended
+use Rattle.replay_steps.specs.declared.ended.Untold.{Untold}
+use Rattle.replay_steps.specs.declared.ended.Untold.TheVariants as untold
 use Rattle.replay_steps.specs.declared.stepping.Stepped.{Stepped}
 use Rattle.replay_steps.specs.declared.stepping.Stepped.TheVariants as stepped
 use Rattle.replay_steps.specs.Steps.{Course, at_first, Makes, IsFaulty, Plays, Stops}
@@ -32,6 +34,11 @@ abbrev pub EndsFor : WriteFault → Ended → Type 0
 EndsFor fault.OutOfMemory end = end ≡ ended.OutOfMemory
 EndsFor fault.Failed end = end ≡ ended.PrintFault
 
+-- how a replay ends where it can't be told what a step did
+abbrev pub ended_by : Untold → Ended
+ended_by untold.OutOfMemory = ended.OutOfMemory
+ended_by untold.DeviceFault = ended.DeviceFault
+
 -- One step.
 
 -- what is written where the line of this number is faulty
@@ -41,6 +48,7 @@ DidTell line ended.PrintFault writes = writes ≡ unwritten (ScriptFault line) �
 DidTell line ended.OutOfMemory writes = writes ≡ []
 DidTell line ended.Finished writes = ⊥
 DidTell line ended.ScriptRead writes = ⊥
+DidTell line ended.DeviceFault writes = ⊥
 
 -- what is written of an event, after which the replay goes on or ends
 abbrev pub DidPrint : Printed → Option Ended → List WriteCall → Type 0
@@ -50,6 +58,7 @@ DidPrint event (Some ended.OutOfMemory) writes = writes ≡ []
 DidPrint event (Some ended.Finished) writes = ⊥
 DidPrint event (Some ended.ScriptFault) writes = ⊥
 DidPrint event (Some ended.ScriptRead) writes = ⊥
+DidPrint event (Some ended.DeviceFault) writes = ⊥
 
 -- what is written of a step of the line with this number, and how the replay ends by it
 abbrev pub DidStep : Stepped → (line : ℕ) → Option Ended → List WriteCall → Type 0
@@ -57,7 +66,7 @@ DidStep stepped.Quiet line end writes = (end ≡ None) × (writes ≡ [])
 DidStep (stepped.Prints event) line end writes = DidPrint (event_of event) end writes
 DidStep stepped.Faulty line None writes = ⊥
 DidStep stepped.Faulty line (Some end) writes = DidTell line end writes
-DidStep stepped.OutOfMemory line end writes = (end ≡ Some ended.OutOfMemory) × (writes ≡ [])
+DidStep (stepped.Untold why) line end writes = (end ≡ Some (ended_by why)) × (writes ≡ [])
 
 -- Several steps, from the first on.
 
@@ -117,6 +126,7 @@ DidSteps config seed steps l None writes = Played config seed steps l writes
 DidSteps config seed steps l (Some ended.ScriptFault) writes = StopsAt config seed steps l writes
 DidSteps config seed steps l (Some ended.PrintFault) writes = FailsAt config seed steps l writes
 DidSteps config seed steps l (Some ended.OutOfMemory) writes = PlayedSome config seed steps writes
+DidSteps config seed steps l (Some ended.DeviceFault) writes = PlayedSome config seed steps writes
 DidSteps config seed steps l (Some ended.Finished) writes = ⊥
 DidSteps config seed steps l (Some ended.ScriptRead) writes = ⊥
 
@@ -150,10 +160,12 @@ DidWrite config seed steps how ended.ScriptRead l writes = (how ≡ ending.Fault
 DidWrite config seed steps how ended.ScriptFault l writes = AtFault config seed steps how l (StopsAt config seed) (written (ScriptFault (length steps + 1))) writes
 DidWrite config seed steps how ended.PrintFault l writes = AtFault config seed steps how l (FailsAt config seed) (unwritten (ScriptFault (length steps + 1))) writes
 DidWrite config seed steps how ended.OutOfMemory l writes = PlayedSome config seed steps writes
+DidWrite config seed steps how ended.DeviceFault l writes = PlayedSome config seed steps writes
 
 -- the same of some entries, after which all calls were stopped
 abbrev pub DidPlay : Config → (seed : ℕ) → List Step → Ending → Ended → List WriteCall → Type 0
 DidPlay config seed steps how ended.OutOfMemory writes = PlayedSome config seed steps writes
+DidPlay config seed steps how ended.DeviceFault writes = PlayedSome config seed steps writes
 DidPlay config seed steps how end writes = (l : List Entry) × DidWrite config seed steps how end l writes × Stops config l
 
 -- the same of a script that this was read of

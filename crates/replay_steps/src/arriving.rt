@@ -20,6 +20,7 @@ ghost use Rattle.replay_steps.specs.Arrivals.{IsShutUnless};
 ghost use Rattle.replay_steps.specs.Steps.{Arrives, SendsAsked};
 ghost use Rattle.replay_steps.specs.Watching.{Watches, RelaysSo, send_of, failed_send_of};
 
+use crate::ended::Untold;
 use crate::ends::find_end;
 use crate::opened::is_open;
 use call_cell::{Lost, Outcome};
@@ -168,8 +169,8 @@ fn note_send(watch: &mut Watch, outcome: Outcome) -> bool
     done != failing
 }
 
-/// Relays a packet, handed a moment in milliseconds, and says what is printed. `None`: there was no memory for it, or its send failed
-/// where it had not to, or did not where it had to.
+/// Relays a packet, handed a moment in milliseconds, and returns what is printed, or why it can't be: there was no memory for it, or its
+/// send failed where it had not to, or did not where it had to.
 pub(crate) fn pass<I: InEnd, O: OutEnd, R: Wait>(
     rt: &R,
     alloc: Global,
@@ -179,7 +180,7 @@ pub(crate) fn pass<I: InEnd, O: OutEnd, R: Wait>(
     receipt: Receipt,
     watch: &mut Watch,
     now: u64,
-) -> (Option<Printed>, Hand<Relay<I, O>>)
+) -> (Result<Printed, Untold>, Hand<Relay<I, O>>)
     requires between { IsBetween config.now turns.now hand }
     requires receipt { IsIn config.now (made_by hand) (taken_by receipt) }
     requires all { parts hand ≡ 1024 }
@@ -189,10 +190,10 @@ pub(crate) fn pass<I: InEnd, O: OutEnd, R: Wait>(
 {
     let (outcome, sent, hand) = relay_between(rt, alloc, turns, hand, config, receipt, now);
     if !note_send(watch, outcome) {
-        return (None, hand);
+        return (Err(Untold::DeviceFault), hand);
     }
     match sent {
-        Ok(bytes) => (Some(Printed::Relayed { outcome, bytes }), hand),
-        Err(_) => (None, hand),
+        Ok(bytes) => (Ok(Printed::Relayed { outcome, bytes }), hand),
+        Err(_) => (Err(Untold::OutOfMemory), hand),
     }
 }

@@ -1,5 +1,5 @@
 //! The step of a line `ng`: one control turn.
-ghost use Rattle.std.specs.Prelude.{◌≡◌, IsTrue, IfSome, take};
+ghost use Rattle.std.specs.Prelude.{◌≡◌, IsTrue, IsSome, IfOk, take};
 ghost use Rattle.relay_outside.specs.LinkTape.{last_sent};
 ghost use Rattle.replay_devices.specs.Link.{last_taken};
 ghost use Rattle.turn_table.specs.Hands.{IsSameHand};
@@ -11,6 +11,7 @@ ghost use Rattle.relay_script.specs.Printing.{event_of};
 ghost use Rattle.replay_steps.specs.Controlling.{IsReply, TellsTaken, TellsEvent, Controlled};
 
 use crate::devices::Devices;
+use crate::ended::Untold;
 use ng_bencode::Text;
 use ng_server::{ControlTurn, DATAGRAM_ROOM, Desk, Server};
 use relay_core::Relay;
@@ -51,58 +52,70 @@ fn gave_line(link: &ReplayLink<'_>, source: Addr, bytes: &[u8]) -> bool
     }
 }
 
-/// The reply that was sent last.
-fn reply_event(alloc: Global, link: &ReplayLink<'_>) -> Option<Printed>
-    ensures { IfSome result (λ event. IsReply link.now.told (event_of event)) }
+/// Why the link didn't do as the script says: it tells nothing any more, for want of memory, or it did otherwise.
+fn cause_of(link: &ReplayLink<'_>) -> Untold
+    ensures { result ≡ Untold.DeviceFault → IsSome link.now.told }
 {
-    let (to, bytes) = link.last_sent()?;
-    let Ok(text) = Text::copy_of(alloc, bytes) else {
-        return None;
-    };
-    Some(Printed::Reply(to, text))
+    if link.tells() {
+        Untold::DeviceFault
+    } else {
+        Untold::OutOfMemory
+    }
 }
 
-/// What is printed of the control turn of a line. `None`: there was no memory for it, or the link does not tell it.
+/// The reply that was sent last.
+fn reply_event(alloc: Global, link: &ReplayLink<'_>) -> Result<Printed, Untold>
+    ensures { IfOk result (λ event. IsReply link.now.told (event_of event)) }
+{
+    let Some((to, bytes)) = link.last_sent() else {
+        return Err(cause_of(link));
+    };
+    let Ok(text) = Text::copy_of(alloc, bytes) else {
+        return Err(Untold::OutOfMemory);
+    };
+    Ok(Printed::Reply(to, text))
+}
+
+/// What is printed of the control turn of a line, or why it can't be.
 fn turn_event(
     alloc: Global,
     turn: ControlTurn,
     link: &ReplayLink<'_>,
     line: LineDatagram<'_>,
-) -> Option<Printed>
+) -> Result<Printed, Untold>
     ensures { TellsEvent turn line.entry.read_fails line.entry.reply_fails link.now.told line.entry.source line.entry.bytes.now result }
 {
     if turn == ControlTurn::ReadFault {
         return if line.read_fails {
-            Some(Printed::ReadFault)
+            Ok(Printed::ReadFault)
         } else {
-            None
+            Err(cause_of(link))
         };
     }
     if line.read_fails || !gave_line(link, line.source, line.bytes) {
-        return None;
+        return Err(cause_of(link));
     }
     match turn {
-        ControlTurn::Silent => Some(Printed::Silent),
+        ControlTurn::Silent => Ok(Printed::Silent),
         ControlTurn::ReplyFault => {
             if line.reply_fails {
-                Some(Printed::ReplyFault)
+                Ok(Printed::ReplyFault)
             } else {
-                None
+                Err(cause_of(link))
             }
         }
         ControlTurn::Replied => {
             if line.reply_fails {
-                None
+                Err(cause_of(link))
             } else {
                 reply_event(alloc, link)
             }
         }
-        ControlTurn::ReadFault | ControlTurn::Nothing | ControlTurn::End => None,
+        ControlTurn::ReadFault | ControlTurn::Nothing | ControlTurn::End => Err(cause_of(link)),
     }
 }
 
-/// Makes the control turn of the present line, handed a moment in milliseconds, and says what is printed.
-/// `None`: there was no memory for it, or the link tells nothing any more.
+/// Makes the control turn of the present line, handed a moment in milliseconds, and returns what is printed, or why it can't be.
 pub(crate) fn make_turn<'a, R: Wait>(
     rt: &R,
     alloc: Global,
@@ -112,7 +125,7 @@ pub(crate) fn make_turn<'a, R: Wait>(
     devices: &mut Devices<'a>,
     line: LineDatagram<'_>,
     now: u64,
-) -> Option<Printed>
+) -> Result<Printed, Untold>
     requires between { IsBetween server.now.config server.now.turns hand.old }
     requires open { OpensJust server.now.config (history_of hand.old) devices.old.ports.told }
     ensures same { IsSameHand hand.old hand.new }

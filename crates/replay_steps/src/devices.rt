@@ -1,6 +1,7 @@
 //! The devices of a replay.
-ghost use Rattle.std.specs.Prelude.{◌≡◌, ◌↔◌, Some, [], IsTrue, IsSome, IfOk};
+ghost use Rattle.std.specs.Prelude.{◌≡◌, Some, [], IsTrue, IsSome, IfOk};
 
+use crate::ended::Untold;
 use relay_outside::OutOfMemory;
 use relay_script::Step;
 use replay_devices::{ReplayKeys, ReplayLink, ReplayPorts, Timetable};
@@ -40,7 +41,20 @@ impl<'a> Devices<'a> {
     }
 
     /// Whether all of them still tell their lists.
-    pub(crate) fn tell(&self) -> bool {
+    pub(crate) fn tell(&self) -> bool
+        ensures { IsTrue result → IsSome self.now.link.told × IsSome self.now.ports.told × IsSome self.now.keys.told }
+    {
         self.link.tells() && self.ports.tells() && self.keys.tells()
+    }
+
+    /// Why one of them didn't do as the script says: it tells nothing any more, for want of memory, or it did otherwise.
+    pub(crate) fn cause(&self) -> Untold
+        ensures { result ≡ Untold.DeviceFault → IsSome self.now.link.told × IsSome self.now.ports.told × IsSome self.now.keys.told }
+    {
+        if self.tell() {
+            Untold::DeviceFault
+        } else {
+            Untold::OutOfMemory
+        }
     }
 }

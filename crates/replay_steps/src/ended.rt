@@ -11,4 +11,16 @@ pub enum Ended {
     PrintFault,
     /// There was no memory, or a device in memory told nothing any more.
     OutOfMemory,
+    /// A device in memory did otherwise than the script says. The steps of the lines before were made.
+    DeviceFault,
+}
+
+/// Why it can't be told what a step did.
+#[derive(Clone, Copy, PartialEq, Eq, Debug)]
+pub(crate) enum Untold {
+    /// There was no memory, or a device in memory told nothing any more.
+    OutOfMemory,
+    /// A device in memory did otherwise than the script says: it gave another datagram, packet or key, or a call failed where it had
+    /// not to, or did not where it had to.
+    DeviceFault,
 }

@@ -7,9 +7,10 @@ ghost use Rattle.relay_script.specs.Steps.{meaning};
 ghost use Rattle.replay_devices.specs.Watch.{StandsFor};
 ghost use Rattle.replay_steps.specs.Ready.{IsReady};
 ghost use Rattle.replay_steps.specs.Steps.{at_first, course_of};
-ghost use Rattle.replay_steps.specs.Written.{EndsFor, DidTell, DidStep, DidSteps};
+ghost use Rattle.replay_steps.specs.declared.ended.Untold.{Untold};
+ghost use Rattle.replay_steps.specs.Written.{EndsFor, ended_by, DidTell, DidStep, DidSteps};
 
-use crate::ended::Ended;
+use crate::ended::{Ended, Untold};
 use crate::state::ReplayState;
 use crate::stepping::{Stepped, make_step};
 use ng_server::Server;
@@ -28,6 +29,18 @@ fn write_ended(fault: WriteFault) -> Ended
     match fault {
         WriteFault::OutOfMemory => Ended::OutOfMemory,
         WriteFault::Failed => Ended::PrintFault,
+    }
+}
+
+/// How a replay ends where it can't be told what a step did.
+fn untold_ended(why: Untold) -> Ended
+    ensures by { result ≡ ended_by why }
+    ensures print { result ≢ Ended.PrintFault }
+    ensures read { result ≢ Ended.ScriptRead }
+{
+    match why {
+        Untold::OutOfMemory => Ended::OutOfMemory,
+        Untold::DeviceFault => Ended::DeviceFault,
     }
 }
 
@@ -50,7 +63,7 @@ fn write_step<O: LineSink>(alloc: Global, out: &mut O, stepped: Stepped, line: u
     ensures fault { result ≡ Some Ended.PrintFault → Rose (O.faults out.old) (O.faults out.new) }
     ensures later { O.faults out.old ≤ O.faults out.new }
     ensures end { result ≢ Some Ended.ScriptRead }
-    ensures out_of_memory { result ≡ None → stepped ≢ Stepped.OutOfMemory }
+    ensures known { result ≡ None → (why : Untold) → stepped ≢ Stepped.Untold why }
 {
     match stepped {
         Stepped::Quiet => None,
@@ -59,7 +72,7 @@ fn write_step<O: LineSink>(alloc: Global, out: &mut O, stepped: Stepped, line: u
             Err(fault) => Some(write_ended(fault)),
         },
         Stepped::Faulty => Some(tell_fault(alloc, out, line)),
-        Stepped::OutOfMemory => Some(Ended::OutOfMemory),
+        Stepped::Untold(why) => Some(untold_ended(why)),
     }
 }
 

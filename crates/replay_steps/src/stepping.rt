@@ -1,5 +1,5 @@
 //! One step of a script.
-ghost use Rattle.std.specs.Prelude.{◌≡◌, ◌+◌, ◌<◌, ◌^◌, ℕ, List, Some, MatchOption};
+ghost use Rattle.std.specs.Prelude.{◌≡◌, ◌+◌, ◌<◌, ◌^◌, ℕ, List, Some, Ok, MatchResult};
 ghost use Rattle.relay_outside.specs.declared.settings.Config.{Config};
 ghost use Rattle.relay_script.specs.Steps.{meaning};
 ghost use Rattle.relay_script.specs.Steps as line;
@@ -12,6 +12,7 @@ ghost use Rattle.replay_steps.specs.Moves.{MakesStep};
 
 use crate::arriving::{Arrived, LinePacket, arrive, pass};
 use crate::controlling::{LineDatagram, make_turn};
+use crate::ended::Untold;
 use crate::state::ReplayState;
 use crate::watching::{count_draws, count_openings, note_calls};
 use ng_server::Server;
@@ -32,17 +33,17 @@ pub(crate) enum Stepped {
     Prints(Printed),
     /// Its line is faulty: a receipt that isn't held is to be relayed, or one more is to be taken than may be held. Nothing was done.
     Faulty,
-    /// There was no memory, or a device did not tell what it did.
-    OutOfMemory,
+    /// It can't be told what it did.
+    Untold(Untold),
 }
 
-/// What is printed, where there was memory for it.
-fn tell_event(event: Option<Printed>) -> Stepped
-    ensures { MatchOption event (result ≡ Stepped.OutOfMemory) (λ e. result ≡ Stepped.Prints e) }
+/// What is printed, or why it can't be.
+fn tell_event(event: Result<Printed, Untold>) -> Stepped
+    ensures { MatchResult event (λ e. result ≡ Stepped.Prints e) (λ why. result ≡ Stepped.Untold why) }
 {
     match event {
-        Some(event) => Stepped::Prints(event),
-        None => Stepped::OutOfMemory,
+        Ok(event) => Stepped::Prints(event),
+        Err(why) => Stepped::Untold(why),
     }
 }
 
@@ -59,7 +60,7 @@ fn take_packet<'a, R: Wait>(
     ensures { MakesStep server.now.config server.now.turns (line.Take packet.entry.port packet.entry.source packet.entry.bytes.now) result.0 hand.entry result.1 state.old state.new }
 {
     let Some(told) = state.devices.ports.calls() else {
-        return (Stepped::OutOfMemory, hand);
+        return (Stepped::Untold(Untold::OutOfMemory), hand);
     };
     if state.receipts.is_full() {
         return (Stepped::Faulty, hand);
@@ -73,7 +74,7 @@ fn take_packet<'a, R: Wait>(
             hand,
         ),
         Arrived::Printed(event) => (Stepped::Prints(event), hand),
-        Arrived::Other => (Stepped::OutOfMemory, hand),
+        Arrived::Other => (Stepped::Untold(state.devices.cause()), hand),
     }
 }
 
@@ -127,7 +128,7 @@ fn pass_packet<'a, R: Wait>(
     ensures { MakesStep server.now.config server.now.turns (line.Packet packet.entry.port packet.entry.source packet.entry.bytes.now) result.0 hand.entry result.1 state.old state.new }
 {
     let Some(told) = state.devices.ports.calls() else {
-        return (Stepped::OutOfMemory, hand);
+        return (Stepped::Untold(Untold::OutOfMemory), hand);
     };
     let ReplayState {
         config,
@@ -144,7 +145,7 @@ fn pass_packet<'a, R: Wait>(
             (tell_event(event), hand)
         }
         Arrived::Printed(event) => (Stepped::Prints(event), hand),
-        Arrived::Other => (Stepped::OutOfMemory, hand),
+        Arrived::Other => (Stepped::Untold(state.devices.cause()), hand),
     }
 }
 
@@ -160,12 +161,12 @@ fn note_event(watch: &mut Watch, event: &Printed)
 }
 
 /// The same of what is printed.
-fn note_reply(watch: &mut Watch, event: &Option<Printed>)
-    ensures { (e : Printed) → event.now ≡ Some e → (config : Config) (seed : ℕ) (past : List Happening) → StandsFor config seed past watch.old → StandsFor config seed (replied (event_of e) past) watch.new }
+fn note_reply(watch: &mut Watch, event: &Result<Printed, Untold>)
+    ensures { (e : Printed) → event.now ≡ Ok e → (config : Config) (seed : ℕ) (past : List Happening) → StandsFor config seed past watch.old → StandsFor config seed (replied (event_of e) past) watch.new }
 {
     match event {
-        Some(event) => note_event(watch, event),
-        None => {}
+        Ok(event) => note_event(watch, event),
+        Err(_) => {}
     }
 }
 
@@ -202,7 +203,7 @@ fn control<'a, R: Wait>(
     let drawn = count_draws(&devices.keys);
     let event = make_turn(rt, alloc, server, hand, desk, devices, line, *clock);
     if !note_calls(watch, config, &devices.ports, opened, &devices.keys, drawn) {
-        return Stepped::OutOfMemory;
+        return Stepped::Untold(devices.cause());
     }
     note_reply(watch, &event);
     tell_event(event)

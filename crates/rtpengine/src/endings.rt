@@ -11,6 +11,8 @@ pub(crate) enum Ending {
     NoSeed(Error),
     /// The run ended, with its status and what the control link met.
     Ran(Status, Option<LinkFault>),
+    /// A replay ended, with its status.
+    Replayed(Status),
 }
 
 impl Ending {
@@ -18,7 +20,7 @@ impl Ending {
     pub(crate) fn status(&self) -> Status {
         match self {
             Ending::NoMemory | Ending::NoSeed(_) => Status::OutOfMemory,
-            Ending::Ran(status, _) => *status,
+            Ending::Ran(status, _) | Ending::Replayed(status) => *status,
         }
     }
 
@@ -27,9 +29,14 @@ impl Ending {
         let _ = match self {
             Ending::NoMemory => eprintln!(err; "rtpengine: out of memory"),
             Ending::NoSeed(error) => eprintln!(err; "rtpengine: no random bytes: {error}"),
-            Ending::Ran(Status::Ok, _) => Ok(()),
+            Ending::Ran(Status::Ok, _) | Ending::Replayed(Status::Ok) => Ok(()),
+            Ending::Replayed(Status::OutOfMemory) => eprintln!(err;
+                "rtpengine: out of memory, or a device in memory did otherwise than the script says"
+            ),
             Ending::Ran(Status::ControlFault, fault) => tell_fault(err, *fault),
-            Ending::Ran(status, _) => eprintln!(err; "rtpengine: {}", cause(*status)),
+            Ending::Ran(status, _) | Ending::Replayed(status) => {
+                eprintln!(err; "rtpengine: {}", cause(*status))
+            }
         };
     }
 }

@@ -100,5 +100,8 @@ where
         &mut StdLines::new(input),
         &mut StdSink::new(io::writer(rt)),
     );
-    Ending::Ran(status, control.fault())
+    match texts.as_slice().first() {
+        Some(&"replay") => Ending::Replayed(status),
+        _ => Ending::Ran(status, control.fault()),
+    }
 }

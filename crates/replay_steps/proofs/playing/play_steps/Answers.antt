@@ -65,7 +65,7 @@ returns-then-not-tell-clause-told g c seed begins =
     let told = c.steps.invariant.told seed begins in
     let from : List Happening → Course = λ past. course_of (made_by c.steps.hand) c.steps.state.receipts c.steps.state.clock past in
     let to : List Happening → Course = λ past. course_of (made_by c.make_step-stepped.result.1) c.make_step-stepped.new.state.receipts c.make_step-stepped.new.state.clock past in
-    let step = one_step config seed from (meaning x) did to c.steps.state.watch c.make_step-stepped.new.state.watch (c.make_step-stepped.ensures.steps seed) told.0 told.1 (c.write_step.ensures.out_of_memory c.in-None.is) in
+    let step = one_step config seed from (meaning x) did to c.steps.state.watch c.make_step-stepped.new.state.watch (c.make_step-stepped.ensures.steps seed) told.0 told.1 (c.write_step.ensures.known c.in-None.is) in
     let less = c.steps-test.true in
     let behind = map meaning (drop (suc made) steps) in
     gained_both (g.O.LineSink.told c.args.out.now) (g.O.LineSink.told c.steps.out) (g.O.LineSink.told c.write_step.new.out) (PlayedTo config seed (upto made steps) (from told.0))
@@ -112,7 +112,7 @@ steps-preserved g c =
       numbered = omega (arith, numbered);
       told = λ seed begins.
           let told = c.steps.invariant.told seed begins in
-          let step = one_step config seed from (meaning x) did to c.steps.state.watch c.make_step-stepped.new.state.watch (c.make_step-stepped.ensures.steps seed) told.0 told.1 (c.write_step.ensures.out_of_memory c.in-None.is) in (
+          let step = one_step config seed from (meaning x) did to c.steps.state.watch c.make_step-stepped.new.state.watch (c.make_step-stepped.ensures.steps seed) told.0 told.1 (c.write_step.ensures.known c.in-None.is) in (
             Made (step_of (meaning x)) ∷ step.0,
             c.in-Ok.ensures config seed step.0 step.2,
             gained_both (g.O.LineSink.told c.args.out.now) (g.O.LineSink.told c.steps.out) (g.O.LineSink.told c.write_step.new.out) (PlayedTo config seed (upto made steps) (from told.0))

@@ -6,6 +6,7 @@ use Rattle.ng_server.specs.Servers.{OpensJust, history_of}
 use Rattle.relay_script.specs.Printing.{event_of}
 use Rattle.relay_script.specs.Steps as line
 use Rattle.replay_steps.specs.declared.arriving.Arrived.{Arrived}
+use Rattle.replay_steps.specs.declared.ended.Untold.TheVariants as untold
 use Rattle.replay_steps.specs.declared.stepping.Stepped.TheVariants as stepped
 use Rattle.replay_steps.specs.Arrivals.{IsGood}
 use Rattle.replay_steps.specs.Steps.{Arrives}
@@ -33,7 +34,7 @@ pass-event-requires g c =
 
 pub returns-in_default : goal.returns-in_default
 returns-in_default g c =
-    stays c.args.server.now.config c.args.server.now.turns (line.Packet c.args.packet.port c.args.packet.source c.args.packet.bytes.now) stepped.OutOfMemory c.args.hand c.args.state.now c.requires.ready
+    stays c.args.server.now.config c.args.server.now.turns (line.Packet c.args.packet.port c.args.packet.source c.args.packet.bytes.now) (stepped.Untold untold.OutOfMemory) c.args.hand c.args.state.now c.requires.ready
     (λ seed past. tt)
 
 pub returns-in-Packet : goal.returns-in-Packet
