@@ -1,7 +1,8 @@
 //! An accepted answer.
-ghost use Rattle.std.specs.Prelude.{◌≡◌, ◌≤◌, [], length, true};
+ghost use Rattle.std.specs.Prelude.{◌≡◌, ◌≤◌, [], length};
 ghost use Rattle.relay_outside.specs.Told.{Gained};
 ghost use Rattle.turn_table.specs.Hands.{IsSameHand, SameTurns, entries};
+ghost use Rattle.call_cell.specs.Committing.{inbound_keys};
 ghost use Rattle.offer_answer.specs.Plan.{answer_text};
 ghost use Rattle.offer_answer.specs.Rounds.{AnswerAsk};
 ghost use Rattle.offer_answer.specs.Widths.{WritesFrom};
@@ -12,7 +13,6 @@ ghost use Rattle.relay_core.specs.Entries.{board_history};
 ghost use Rattle.relay_core.specs.Turning.{made_by};
 ghost use Rattle.media_ports.specs.Asked.{OpensNone};
 ghost use Rattle.board_turns.specs.Nesting.{MayNest};
-ghost use Rattle.board_turns.specs.InCells.{names_inbound};
 ghost use Rattle.board_turns.specs.Acting.{InTurn, DoesAct};
 ghost use Rattle.answer_command.specs.Due.{IsAnswerOf};
 ghost use Rattle.board_turns.specs.Ties.{Ties};
@@ -34,7 +34,7 @@ pub struct PlannedAnswer<'a, 's> {
     pub plan: BoardPlan,
     /// Its description.
     pub sdp: &'a Sdp<'s>,
-    /// Room for the contexts of 16 inbound keys, where the plan names one.
+    /// Room for the contexts of the inbound keys that the plan names.
     pub contexts: InContexts,
 }
 
@@ -56,7 +56,7 @@ pub fn answer_act<P: PortMaker, R: Wait>(
     requires due { (e : BoardEntry) × (of : Call) × (ask : AnswerAsk) × IsAnswerOf turn.now.config.now (board_history (made_by hand.old) turn.now.entry_id.number) turn.now.entry_id.moment e of ask answer.sdp.now answer.plan }
     requires writes { WritesFrom answer.plan.plan answer.sdp.now }
     requires room { (out.old.list ≡ []) × (answer.plan.plan.reply_len ≤ out.old.spare) }
-    requires contexts { names_inbound answer.plan.plan.signal ≡ true → 16 ≤ answer.contexts }
+    requires contexts { inbound_keys answer.plan.plan.signal ≤ answer.contexts }
     requires empty { gone.old ≡ [] }
     ensures same { IsSameHand hand.old hand.new × SameTurns hand.old hand.new }
     ensures may { MayNest turn.now.config.now turn.now.turns.now hand.new }

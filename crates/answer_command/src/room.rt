@@ -1,19 +1,16 @@
 //! The memory of an answer that the board planned.
-ghost use Rattle.std.specs.Prelude.{◌≡◌, ◌≤◌, ◌<◌, ◌^◌, [], IfOk, OnOk, if◌then◌else◌};
+ghost use Rattle.std.specs.Prelude.{◌≡◌, ◌≤◌, ◌<◌, ◌^◌, [], ◌∷◌, is_some, IfOk, OnOk, if◌then◌else◌};
 ghost use Rattle.cookie_cache.specs.Keepings.{IsCookie};
+ghost use Rattle.call_cell.specs.Committing.{inbound_keys};
 ghost use Rattle.control_messages.specs.Rooms.{IsReplyRoom};
-ghost use Rattle.board_turns.specs.InCells.{is_keyed, names_inbound};
 
 use call_cell::InContexts;
 use control_messages::{Request, reply_room};
 use ng_bencode::Text;
-use port_pool::{SectionSignal, Signal};
+use port_pool::{LegSignal, SectionSignal, Signal};
 use relay_outside::OutOfMemory;
 use sdp_text::Bytes;
 use std::alloc::Global;
-
-/// How many inbound keys a commit has at most.
-const MOST_KEYS: usize = 16;
 
 /// No description that is written for an answer has this many bytes.
 const MOST_BYTES: usize = 1 << 40;
@@ -40,33 +37,35 @@ fn text_room(alloc: Global, len: usize) -> Result<Bytes, OutOfMemory>
     Ok(text)
 }
 
-/// Whether a section names an inbound key for one of its legs.
-fn is_keyed(section: SectionSignal) -> bool
-    ensures { result ≡ is_keyed section }
+/// How many inbound keys are named for a leg: one or none.
+fn leg_keys(leg: &LegSignal) -> usize
+    ensures { result ≡ (if is_some leg.now.inbound then 1 else 0) }
+{
+    match leg.inbound {
+        None => 0,
+        Some(_) => 1,
+    }
+}
+
+/// How many inbound keys a section names.
+fn section_keys(section: SectionSignal) -> usize
+    ensures { result ≡ inbound_keys (section ∷ []) }
 {
     match section {
-        SectionSignal::Commit(a, b) => a.inbound.is_some() || b.inbound.is_some(),
-        SectionSignal::Reject => false,
+        SectionSignal::Commit(a, b) => leg_keys(&a) + leg_keys(&b),
+        SectionSignal::Reject => 0,
     }
 }
 
-/// Whether an answer names an inbound key.
-fn names_inbound(signal: &Signal) -> bool
-    ensures { result ≡ names_inbound signal.now }
+/// How many inbound keys an answer names.
+fn inbound_keys(signal: &Signal) -> usize
+    ensures { result ≡ inbound_keys signal.now }
 {
+    let mut keys = 0;
     for index in 0..signal.len() {
-        if is_keyed(signal.section(index)) {
-            return true;
-        }
+        keys += section_keys(signal.section(index));
     }
-    false
-}
-
-/// For how many inbound keys room is made: for none in an answer that names none, as one of plain RTP.
-fn context_count(signal: &Signal) -> usize
-    ensures { result ≡ (if names_inbound signal.now then 16 else 0) }
-{
-    if names_inbound(signal) { MOST_KEYS } else { 0 }
+    keys
 }
 
 /// The memory of an answer to this request that commits this, and whose description has at most this many bytes. There is none for 2^40 bytes.
@@ -78,14 +77,14 @@ pub(crate) fn answer_room(
 ) -> Result<AnswerRoom, OutOfMemory>
     requires { IsCookie request.now.cookie.now }
     ensures small { OnOk result (len < 2 ^ 40) }
-    ensures contexts { IfOk result (λ room. room.contexts ≡ (if names_inbound signal.now then 16 else 0)) }
+    ensures contexts { IfOk result (λ room. room.contexts ≡ inbound_keys signal.now) }
     ensures text { IfOk result (λ room. (room.text.list ≡ []) × (len ≤ room.text.spare)) }
     ensures reply { IfOk result (λ room. IsReplyRoom request.now.cookie.now request.now.body.now len room.reply) }
 {
     if len >= MOST_BYTES {
         return Err(OutOfMemory);
     }
-    let contexts = InContexts::reserve(alloc, context_count(signal))?;
+    let contexts = InContexts::reserve(alloc, inbound_keys(signal))?;
     let text = text_room(alloc, len)?;
     let reply = reply_room(alloc, request, len)?;
     Ok(AnswerRoom {

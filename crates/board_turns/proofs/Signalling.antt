@@ -1,7 +1,5 @@
 -- What an offer and an answer make of a cell.
-use Rattle.std.proofs.Common.{◌≡◌, refl, sym, ◌∙◌, ap, subst, ℕ, zero, suc, ◌≤◌, inl, inr, max, Bool, true, false, cond, ◌&&◌, ◌||◌, List, [], ◌∷◌, Option, Some, None, is_some, arith}
-use Rattle.std.specs.List.{count_by}
-use Rattle.std.proofs.lemmas.List.Sums.{count_by-le-length, sum_by-cons}
+use Rattle.std.proofs.Common.{◌≡◌, refl, sym, ◌∙◌, ap, subst, ℕ, ◌≤◌, inl, inr, max, List, [], ◌∷◌, arith}
 use Rattle.relay_outside.specs.declared.settings.Config.{Config}
 use Rattle.relay_outside.specs.declared.ports.InCall.{InCall}
 use Rattle.relay_outside.specs.declared.ports.OutCall.{OutCall}
@@ -9,25 +7,18 @@ use Rattle.relay_outside.specs.Told.{EndTold}
 use Rattle.turn_table.specs.declared.hands.Hand.{Hand}
 use Rattle.turn_table.specs.Hands.{EndsTurn}
 use Rattle.port_pool.specs.declared.pairs.Lease.{Lease}
-use Rattle.port_pool.specs.declared.holder.Holder.{Holder}
-use Rattle.port_pool.specs.declared.holder.Side.{Side}
-use Rattle.port_pool.specs.declared.holder.Side.TheVariants.{A, B}
-use Rattle.port_pool.specs.declared.signal.LegSignal.{LegSignal}
 use Rattle.port_pool.specs.declared.signal.SectionSignal.{SectionSignal}
-use Rattle.port_pool.specs.declared.signal.SectionSignal.TheVariants as said
-use Rattle.port_pool.specs.Signals.{NewKey, side_of, signal_at}
+use Rattle.port_pool.specs.Signals.{NewKey}
 use Rattle.call_cell.specs.declared.prepare.Prepare as prepared
 use Rattle.call_cell.specs.declared.cell.Cell as cell
-use Rattle.call_cell.specs.declared.leg.Leg.{Leg}
-use Rattle.call_cell.specs.Cells.{CellEvent, CellEntry, Prepare, Commit, Relay, Expire, Read, End, differs, in_force, legs, since_end}
-use Rattle.call_cell.specs.Keyed.{same_inbound}
+use Rattle.call_cell.specs.Cells.{CellEvent, CellEntry, Prepare, Commit, Relay, Expire, Read, End, since_end}
 use Rattle.call_cell.specs.Lasting.{kept}
 use Rattle.call_cell.specs.CellStanding.{CellFor}
-use Rattle.call_cell.specs.Committing.{NamesKeys, CellCommits, needs_contexts, needs_inbound, said_of, contexts_due, contexts_due_after}
+use Rattle.call_cell.specs.Committing.{NamesKeys, CellCommits, contexts_due, contexts_due_after, inbound_keys}
 use Rattle.call_cell.specs.Preparing.{PrepareFor, CanCome, CellPrepares, FitsPlaces, added}
 use Rattle.call_cell.proofs.Again.{can_come_again, names_keys_again}
 use Rattle.call_cell.proofs.Callers.{places_fit, due_is}
-use Rattle.call_cell.proofs.Few.{few}
+use Rattle.call_cell.proofs.Due.{due_named}
 use Rattle.call_cell.proofs.Nested.{entry_at, can_come_kept, names_keys_kept, due_kept}
 use Rattle.relay_core.specs.declared.part.Part.{Part}
 use Rattle.relay_core.specs.declared.part.Part.TheVariants as part
@@ -37,7 +28,7 @@ use Rattle.relay_core.specs.Standing.{CellIs, nested_of}
 use Rattle.relay_core.specs.Steps.{Relates}
 use Rattle.relay_core.specs.Turning.{IsAbove, made_by}
 use Rattle.board_turns.specs.Nesting.{leaving, gone_left}
-use Rattle.board_turns.specs.InCells.{moment_in, HasSpace, is_keyed, names_inbound, OfferComes, AnswerComes, TakesOffer, TakesAnswer, PreparesPart, CommitsPart, Prepares, Commits, OpenedFor}
+use Rattle.board_turns.specs.InCells.{moment_in, HasSpace, OfferComes, AnswerComes, TakesOffer, TakesAnswer, PreparesPart, CommitsPart, Prepares, Commits, OpenedFor}
 use Rattle.board_turns.proofs.Boxing.{Gives}
 
 -- Offers, answers and ends are nested.
@@ -58,54 +49,6 @@ kept_nested (e ∷ h) = kept_event e.moment e.event h (kept_nested h)
 -- two histories with the same nested entries have the same lasting ones
 pub same_lasting : (h k : List CellEntry) → nested_of h ≡ nested_of k → kept h ≡ kept k
 same_lasting h k same = sym (kept_nested h) ∙ ap (λ (l : List CellEntry). kept l) same ∙ kept_nested k
-
--- A signal that names no inbound key makes no inbound context.
-
-neither_left : (a b : Bool) → (a || b) ≡ false → a ≡ false
-neither_left false b none = refl
-neither_left true b none = none
-
-neither_right : (a b : Bool) → (a || b) ≡ false → b ≡ false
-neither_right false b none = none
-neither_right true b none = absurd (let n = none in cc)
-
-and_false : (a : Bool) → (a && false) ≡ false
-and_false true = refl
-and_false false = refl
-
-abbrev is_key : Option LegSignal → Bool
-is_key None = false
-is_key (Some s) = is_some s.inbound
-
-keyless_side : (side : Side) (s : SectionSignal) → is_keyed s ≡ false → is_key (side_of side s) ≡ false
-keyless_side A (said.Commit a b) none = neither_left (is_some a.inbound) (is_some b.inbound) none
-keyless_side B (said.Commit a b) none = neither_right (is_some a.inbound) (is_some b.inbound) none
-keyless_side A said.Reject none = refl
-keyless_side B said.Reject none = refl
-
-keyless_at : (signal : List SectionSignal) (section : ℕ) (side : Side) → names_inbound signal ≡ false → is_key (signal_at signal section side) ≡ false
-keyless_at [] section side none = refl
-keyless_at (s ∷ rest) zero side none = keyless_side side s (neither_left (is_keyed s) (names_inbound rest) none)
-keyless_at (s ∷ rest) (suc section) side none = keyless_at rest section side (neither_right (is_keyed s) (names_inbound rest) none)
-
-keyless_needs : (earlier now : Option LegSignal) → is_key now ≡ false → needs_inbound earlier now ≡ false
-keyless_needs earlier None none = refl
-keyless_needs earlier (Some s) none = ap (λ (b : Bool). differs same_inbound (Some s) earlier && b) none ∙ and_false (differs same_inbound (Some s) earlier)
-
-abbrev once : Bool → ℕ
-once b = cond b 1 0
-
-count_none : {X : Type 0} (p : X → Bool) (xs : List X) → ((x : X) → p x ≡ false) → count_by p xs ≡ 0
-count_none p [] none = refl
-count_none p (x ∷ xs) none =
-    let here : once (p x) ≡ 0 = ap (λ (b : Bool). once b) (none x) in
-    let rest = count_none p xs none in
-    sum_by-cons (λ y. cond (p y) 1 0) x xs ∙ omega (arith, here, rest)
-
-keyless_due : (h : List CellEntry) (signal : List SectionSignal) → names_inbound signal ≡ false → contexts_due_after h signal ≡ 0
-keyless_due h signal none =
-    count_none (λ (leg : Holder). needs_inbound (in_force h leg) (said_of signal leg)) (legs h)
-    (λ leg. keyless_needs (in_force h leg) (said_of signal leg) (keyless_at signal leg.section leg.side none))
 
 -- What a cell that is given takes.
 
@@ -139,27 +82,22 @@ module _ {I O : Type 0} where
         room = omega (arith, due, room);
       }
 
-  -- a cell has at most 16 legs, and so no more inbound contexts are due
-  few_due : (config : Config) (x : Part I O) (own : List CellEntry) (signal : List SectionSignal) → CellIs config x (nested_of own)
-      → contexts_due_after (since_end own) signal ≤ 16
-  few_due config (part.Board b) own signal is = absurd is
-  few_due config (part.Pair b) own signal is = absurd is
-  few_due config (part.Cell c) own signal is =
+  -- no more inbound contexts are due than the answer names inbound keys
+  due_fits : (config : Config) (x : Part I O) (own : List CellEntry) (signal : List SectionSignal) → CellIs config x (nested_of own)
+      → contexts_due_after (since_end own) signal ≤ inbound_keys signal
+  due_fits config (part.Board b) own signal is = absurd is
+  due_fits config (part.Pair b) own signal is = absurd is
+  due_fits config (part.Cell c) own signal is =
       let kept = due_kept own is.0 signal (same_lasting own is.0 (sym is.1)) in
       let due = due_is config c is.0 signal is.2 in
-      let legs = few config (since_end is.0) c.legs.items is.2.legs_for in
-      let counted = count_by-le-length (λ (leg : Leg O). needs_contexts signal leg) c.legs.items in
-      omega (arith, kept, due, legs, counted)
+      let keys = due_named config (since_end is.0) c.legs.items signal is.2.legs_for in
+      omega (arith, kept, due, keys)
 
   pub space_is : (config : Config) (x : Part I O) (l : List Entry) (cell n : ℕ) (signal : List SectionSignal) (contexts : ℕ)
       → CellIs config x (nested_of (cell_history l cell n)) → IsAbove l cell n → HasSpace l cell signal contexts
       → contexts_due_after (since_end (cell_history l cell n)) signal ≤ contexts
   space_is config x l cell n signal contexts is above (inl room) = room n above
-  space_is config x l cell n signal contexts is above (inr many) = by_key (names_inbound signal) refl
-    where
-      by_key : (named : Bool) → names_inbound signal ≡ named → contexts_due_after (since_end (cell_history l cell n)) signal ≤ contexts
-      by_key true named = let few = few_due config x (cell_history l cell n) signal is in let room = many named in omega (arith, few, room)
-      by_key false none = let due = keyless_due (since_end (cell_history l cell n)) signal none in omega (arith, due)
+  space_is config x l cell n signal contexts is above (inr many) = let due = due_fits config x (cell_history l cell n) signal is in omega (arith, due, many)
 
   offer_of : (x : Part I O) (c : cell.Cell O) (signal : prepared.Prepare O) (call : ℕ) (keys : List NewKey) (dropped : List ℕ) → x ≡ part.Cell c
       → TakesOffer x signal call keys dropped → OfferComes c signal call keys dropped

@@ -1,6 +1,5 @@
 -- What a nested step does to a cell.
-use Rattle.std.specs.Prelude.{◌≡◌, ◌≤◌, ◌||◌, ℕ, Bool, true, false, List, is_some, ◌⊎◌}
-use Rattle.std.specs.List.{list_any}
+use Rattle.std.specs.Prelude.{◌≡◌, ◌≤◌, ℕ, Bool, List, ◌⊎◌}
 use Rattle.relay_outside.specs.declared.settings.Config.{Config}
 use Rattle.relay_outside.specs.declared.ports.InCall.{InCall}
 use Rattle.relay_outside.specs.declared.ports.OutCall.{OutCall}
@@ -9,7 +8,6 @@ use Rattle.turn_table.specs.declared.hands.Hand.{Hand}
 use Rattle.port_pool.specs.declared.pairs.Lease.{Lease}
 use Rattle.turn_table.specs.Hands.{IsGiven}
 use Rattle.port_pool.specs.declared.signal.SectionSignal.{SectionSignal}
-use Rattle.port_pool.specs.declared.signal.SectionSignal.TheVariants as said
 use Rattle.port_pool.specs.Signals.{NewKey}
 use Rattle.call_cell.specs.declared.cell.Cell as cell
 use Rattle.call_cell.specs.declared.prepare.Prepare as prepared
@@ -17,7 +15,7 @@ use Rattle.call_cell.specs.Cells.{CellEvent, CellEntry, Prepare, since_end}
 use Rattle.port_pool.specs.declared.holder.Holder.{Holder}
 use Rattle.port_pool.specs.declared.reports.LegReport.{LegReport}
 use Rattle.call_cell.specs.Preparing.{PrepareFor, CanCome, CellPrepares}
-use Rattle.call_cell.specs.Committing.{NamesKeys, CellCommits, contexts_due_after}
+use Rattle.call_cell.specs.Committing.{NamesKeys, CellCommits, contexts_due_after, inbound_keys}
 use Rattle.call_cell.specs.CellStanding.{CellFor}
 use Rattle.call_cell.specs.Ending.{CellEnds}
 use Rattle.call_cell.specs.Expiring.{CellExpires}
@@ -56,18 +54,9 @@ CanCommit l cell signal = (n : ℕ) → IsAbove l cell n → NamesKeys (since_en
 abbrev pub HasRoom : List Entry → ℕ → List SectionSignal → ℕ → Type 0
 HasRoom l cell signal contexts = (n : ℕ) → IsAbove l cell n → contexts_due_after (since_end (cell_history l cell n)) signal ≤ contexts
 
--- a section names an inbound key for one of its legs
-abbrev pub is_keyed : SectionSignal → Bool
-is_keyed (said.Commit a b) = is_some a.inbound || is_some b.inbound
-is_keyed said.Reject = false
-
--- the signal names an inbound key
-abbrev pub names_inbound : List SectionSignal → Bool
-names_inbound signal = list_any is_keyed signal
-
--- or, where it names an inbound key, for as many as a cell may have legs
+-- or for as many as it names inbound keys, which are no fewer
 abbrev pub HasSpace : List Entry → ℕ → List SectionSignal → ℕ → Type 0
-HasSpace l cell signal contexts = HasRoom l cell signal contexts ⊎ (names_inbound signal ≡ true → 16 ≤ contexts)
+HasSpace l cell signal contexts = HasRoom l cell signal contexts ⊎ (inbound_keys signal ≤ contexts)
 
 -- the cell stands for a history after which the offer can come
 pub record OfferComes {O : Type 0} (cell : cell.Cell O) (signal : prepared.Prepare O) (call : ℕ) (keys : List NewKey) (dropped : List ℕ) : Type 0 where

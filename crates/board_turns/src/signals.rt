@@ -121,8 +121,8 @@ pub fn prepare_cell<I: InEnd, O: OutEnd, R: Wait>(
 }
 
 /// Commits in a cell what an answer says of the call's legs. The legs of the sections that it rejects go to `gone`, which is
-/// empty. `contexts` has room for each inbound key or suite other than the one in force, or, where the answer names an inbound key
-/// at all, for 16. Cells are numbered from 1.
+/// empty. `contexts` has room for each inbound key or suite other than the one in force, or for each inbound key that the answer
+/// names. Cells are numbered from 1.
 pub fn commit_cell<I: InEnd, O: OutEnd, R: Wait>(
     rt: &R,
     turn: &BoardTurn<I, O>,

@@ -70,31 +70,27 @@ apart_of {O} those pairs = record {
 
 -- The number of legs.
 
-side_number : Side → ℕ
+abbrev pub side_number : Side → ℕ
 side_number A = 0
 side_number B = 1
 
-number : {O : Type 0} → Leg O → ℕ
+abbrev pub number : {O : Type 0} → Leg O → ℕ
 number leg = leg.holder.section + leg.holder.section + side_number leg.holder.side
 
 side_small : (s : Side) → side_number s < 2
-unfolding side_number
 side_small A = omega arith
 side_small B = omega arith
 
 number_small : {O : Type 0} (leg : Leg O) → leg.holder.section < 8 → number leg < 16
-unfolding number
 number_small leg small = omega (arith, small, side_small leg.holder.side)
 
 side_same : (s t : Side) → side_number s ≡ side_number t → s ≡ t
-unfolding side_number
 side_same A A q = refl
 side_same B B q = refl
 side_same A B q = absurd (omega (arith, q))
 side_same B A q = absurd (omega (arith, q))
 
 number_apart : {O : Type 0} (a b : Leg O) → Apart a b → number a ≢ number b
-unfolding number
 number_apart a b apart same =
     let s = side_small a.holder.side in
     let t = side_small b.holder.side in
@@ -108,17 +104,22 @@ at_number : {O : Type 0} (those : List (Leg O)) (i d : ℕ) (x : Leg O) → i < 
 at_number {O} those i d x below =
     get_or-map (λ (leg : Leg O). number leg) those i x d below
 
-pub few : {O : Type 0} (config : Config) (h : List CellEntry) (those : List (Leg O)) → LegsFor config h those → length those ≤ 16
-few {O} config h those for =
+-- legs that are apart have different numbers
+pub numbers_apart : {O : Type 0} (those : List (Leg O)) → AllPairs (λ (a b : Leg O). Apart a b) those → AllPairs (λ (a b : ℕ). a ≢ b) (map (λ (leg : Leg O). number leg) those)
+numbers_apart {O} those pairs i j d less below =
     let f : Leg O → ℕ = λ (leg : Leg O). number leg in
-    let long : length (map f those) ≡ length those = length-map those f in
-    let pairs : AllPairs (λ (a b : ℕ). a ≢ b) (map f those) = λ i j d less below.
-    let two : j < length those = omega (arith, below, long) in
+    let two : j < length those = omega (arith, below, length-map those f) in
     let one : i < length those = omega (arith, less, two) in
     let x = some_of those j two in
     subst (λ (n : ℕ). n ≢ get_or (map f those) j d) (sym (at_number those i d x one))
     (subst (λ (n : ℕ). number (get_or those i x) ≢ n) (sym (at_number those j d x two))
-    (number_apart (get_or those i x) (get_or those j x) (pairs_of those for.apart i j x less two))) in
+    (number_apart (get_or those i x) (get_or those j x) (pairs i j x less two)))
+
+pub few : {O : Type 0} (config : Config) (h : List CellEntry) (those : List (Leg O)) → LegsFor config h those → length those ≤ 16
+few {O} config h those for =
+    let f : Leg O → ℕ = λ (leg : Leg O). number leg in
+    let long : length (map f those) ≡ length those = length-map those f in
+    let pairs = numbers_apart those (pairs_of those for.apart) in
     let small : (q : ℕ) → list_any (eqb q) (map f those) ≡ true → q < 16 = λ q any.
     let m = any_is_in (eqb q) (map f those) any in
     let n = mapped f those m.is_in in

@@ -39,6 +39,7 @@ pub mod Answered
 pub mod Answering
 pub mod Ended
 pub mod Few
+pub mod Due
 pub mod Boxed
 pub mod KeysEqual
 pub mod Ends

@@ -1,5 +1,5 @@
 -- What an answer's commit does to a leg, to the legs of a cell, and to the cell.
-use Rattle.std.specs.Prelude.{◌≡◌, ◌<◌, ◌&&◌, not, ℕ, Bool, false, max, List, [], ◌∷◌, map, filter, count_by, length, Option, Some, None, is_some, slice_index_or, if◌then◌else◌}
+use Rattle.std.specs.Prelude.{◌≡◌, ◌<◌, ◌+◌, ◌&&◌, not, ℕ, Bool, false, max, List, [], ◌∷◌, map, filter, count_by, length, Option, Some, None, is_some, slice_index_or, if◌then◌else◌}
 use Rattle.relay_outside.specs.declared.address.Addr.{Addr}
 use Rattle.relay_outside.specs.declared.settings.Config.{Config}
 use Rattle.rtp_packet.specs.declared.head.Half.{Half}
@@ -7,9 +7,11 @@ use Rattle.srtp_sources.specs.Notes.{Note}
 use Rattle.histories.specs.Words.{In}
 use Rattle.port_pool.specs.declared.pairs.Lease.{Lease}
 use Rattle.port_pool.specs.declared.holder.Holder.{Holder}
+use Rattle.port_pool.specs.declared.holder.Side.{Side}
+use Rattle.port_pool.specs.declared.holder.Side.TheVariants.{A, B}
 use Rattle.port_pool.specs.declared.signal.LegSignal.{LegSignal}
 use Rattle.port_pool.specs.declared.signal.SectionSignal.{SectionSignal}
-use Rattle.port_pool.specs.Signals.{NewKey, signal_at, is_rejected}
+use Rattle.port_pool.specs.Signals.{NewKey, side_of, signal_at, is_rejected}
 use Rattle.call_cell.specs.declared.receiving.Receiving.{Receiving}
 use Rattle.call_cell.specs.declared.leg.Leg.{Leg}
 use Rattle.call_cell.specs.declared.cell.Cell.{Cell}
@@ -77,6 +79,19 @@ contexts_due {O} signal those = count_by (λ (leg : Leg O). needs_contexts signa
 -- how many the history says
 abbrev pub contexts_due_after : List CellEntry → List SectionSignal → ℕ
 contexts_due_after h signal = count_by (λ leg. needs_inbound (in_force h leg) (said_of signal leg)) (legs h)
+
+-- what is committed for a leg names an inbound key
+abbrev pub has_inbound : Option LegSignal → Bool
+has_inbound None = false
+has_inbound (Some s) = is_some s.inbound
+
+-- in how many sections the signal names an inbound key for the leg of that side
+abbrev pub keys_of_side : Side → List SectionSignal → ℕ
+keys_of_side side signal = count_by (λ (section : SectionSignal). has_inbound (side_of side section)) signal
+
+-- how many inbound keys the signal names, in force or not
+abbrev pub inbound_keys : List SectionSignal → ℕ
+inbound_keys signal = keys_of_side A signal + keys_of_side B signal
 
 -- each leg is committed as the signal says
 abbrev pub LegsCommit : {O : Type 0} → List SectionSignal → List (Leg O) → List (Leg O) → Type 0

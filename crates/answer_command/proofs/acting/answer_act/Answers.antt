@@ -3,7 +3,7 @@ use Rattle.turn_table.specs.Hands.{entries}
 use Rattle.port_pool.specs.declared.signal.SectionSignal.{SectionSignal}
 use Rattle.port_pool.specs.Signals.{is_rejected}
 use Rattle.call_cell.specs.Cells.{Commit, since_end}
-use Rattle.call_cell.specs.Committing.{NamesKeys}
+use Rattle.call_cell.specs.Committing.{NamesKeys, inbound_keys}
 use Rattle.offer_answer.specs.Rounds.{AnswerAsk}
 use Rattle.offer_answer.specs.Rounds as round
 use Rattle.call_board.specs.Boards.{Shows}
@@ -17,7 +17,7 @@ use Rattle.relay_core.specs.Turning.{IsAbove, made_by}
 use Rattle.relay_core.proofs.Coming.{answer_names}
 use Rattle.relay_core.proofs.Histories.{good_history}
 use Rattle.relay_core.proofs.KeysOnce.{keys_once}
-use Rattle.board_turns.specs.InCells.{in_cell_of, names_inbound}
+use Rattle.board_turns.specs.InCells.{in_cell_of}
 use Rattle.board_turns.specs.Leaving.{legs_in}
 use Rattle.board_turns.proofs.Nesting.{above_rows}
 use Rattle.board_turns.specs.Ending.{leg_pairs}
@@ -74,7 +74,9 @@ commit_cell-requires-clause-names g c n above =
 pub commit_cell-requires-clause-room : goal.commit_cell-requires-clause-room
 commit_cell-requires-clause-room g c =
     let said : c.signal.result.now ≡ c.args.answer.plan.plan.signal = c.signal.ensures ∙ ap (λ p. p.signal) c.planned.ensures ∙ c.write_answer.ensures.signal in
-    inr (λ named. c.requires.contexts (sym (ap (λ (s : List SectionSignal). names_inbound s) said) ∙ named))
+    let same = ap (λ (s : List SectionSignal). inbound_keys s) said in
+    let room = c.requires.contexts in
+    inr (omega (arith, same, room))
 
 pub apply-requires : goal.apply-requires
 apply-requires g c =

@@ -1,9 +1,9 @@
-use Rattle.std.proofs.Common.{◌≡◌, ◌∙◌, refl, sym, ap, subst, arith, ℕ, Bool, true, List, Option, length}
-use Rattle.std.specs.Prelude.{option_map, if◌then◌else◌}
+use Rattle.std.proofs.Common.{◌≡◌, ◌∙◌, refl, sym, ap, subst, arith, ℕ, List, Option, length}
+use Rattle.std.specs.Prelude.{option_map}
 use Rattle.media_ports.proofs.Asked.{gained_no_opening}
 use Rattle.turn_table.specs.Hands.{entries}
 use Rattle.port_pool.specs.declared.signal.SectionSignal.{SectionSignal}
-use Rattle.board_turns.specs.InCells.{names_inbound}
+use Rattle.call_cell.specs.Committing.{inbound_keys}
 use Rattle.offer_answer.specs.declared.plan.Plan.{Plan}
 use Rattle.call_board.specs.declared.board.Board.{Board}
 use Rattle.call_board.specs.Acts.{Call}
@@ -73,16 +73,12 @@ write_described-requires-clause-small g c =
     let small = c.in-Ok-answer_room.ensures.small in
     omega (arith, is, within, count, same, small)
 
-abbrev room_for : Bool → ℕ
-room_for named = if named then 16 else 0
-
 pub answer_act-requires-clause-contexts : goal.answer_act-requires-clause-contexts
-answer_act-requires-clause-contexts g c named =
+answer_act-requires-clause-contexts g c =
     let said : c.signal.result.now ≡ c.in-Ok-plan_answer.plan.plan.signal = c.signal.ensures ∙ ap (λ (p : Plan). p.signal) c.planned-planned.ensures in
-    let keyed : room_for (names_inbound c.signal.result.now) ≡ room_for true =
-    ap (λ (s : List SectionSignal). room_for (names_inbound s)) said ∙ ap (λ (b : Bool). room_for b) named in
+    let same = ap (λ (s : List SectionSignal). inbound_keys s) said in
     let room = c.in-Ok-answer_room.ensures.contexts in
-    omega (arith, room, keyed)
+    omega (arith, room, same)
 
 pub answer_act-requires-clause-due : goal.answer_act-requires-clause-due
 answer_act-requires-clause-due g c =
