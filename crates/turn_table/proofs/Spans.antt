@@ -1,11 +1,13 @@
 -- A table begins, hands are cut and joined, and a table ends.
 use Rattle.std.proofs.Common.{◌≡◌, ◌≢◌, ℕ, zero, suc, ◌+◌, ◌*◌, ◌<◌, ◌≤◌, false, List, [], ◌∷◌, ◌++◌, map, length, set, get_or, Option, Some, None, slice_get, sym, refl, ap, ◌∙◌, subst, inr, ⊎_elim, arith, lt_of_not-le, length-set, eq-zero-or-pos}
 use Rattle.std.proofs.lemmas.Option.{slice_get_within}
-use mathlib.Core.Option.{some, some-injective, some-ne-none}
+use Rattle.std.proofs.lemmas.List.{set-get_or}
+use mathlib.Core.Option.{some, none, some-injective, some-ne-none}
+use mathlib.Core.Path.{Path}
 use mathlib.Core.Logic.{dite}
 use native.Mathlib.Decide.{ℕ_discrete, dec_le}
 use lib.ListN.{get_elem?, length-map}
-use Rattle.atomic_table.specs.Table.{State, opening, Splits, Joins}
+use Rattle.atomic_table.specs.Table.{State, step, keeps, Allows, opening, Splits, Joins}
 use Rattle.atomic_table.proofs.Lists.{at_set, set_here, set_else, at_longer}
 use Rattle.turn_table.specs.declared.machine.Entry.{Entry}
 use Rattle.turn_table.specs.declared.view.View.{View}
@@ -13,10 +15,11 @@ use Rattle.turn_table.specs.declared.view.Phase.TheVariants.{Nothing}
 use Rattle.turn_table.specs.Histories.{one_if, phase_at, is_at, times, Leaves, IsHistory}
 use Rattle.turn_table.specs.Layout.{rows_of, spot_of}
 use Rattle.turn_table.specs.Kept.{Stands, SeatOk, Kept, first_view, spent_view}
-use Rattle.turn_table.specs.Steps.{cut_left, cut_right, glued, WasTaken}
+use Rattle.turn_table.specs.Steps.{Sat, cut_left, cut_right, glued, surveyed, WasTaken}
 use Rattle.turn_table.proofs.Lists.{total_set, total_append, total_alone, in_split, get_there, seen_append, below_out, within, at_end}
 use Rattle.turn_table.proofs.Spots.{rows_hold}
 use Rattle.turn_table.proofs.Keeps.{not_held, others_spent, all_own}
+use Rattle.turn_table.proofs.Moved.{reviewed}
 
 -- the slots of a new table are home
 home_there : {A : Type 0} (xs : List A) (i : ℕ) (x : A) → get_elem? xs i ≡ some x → get_elem? (map some xs) i ≡ some (some x)
@@ -220,6 +223,36 @@ module _ {S E O : Type 0} (relates : S → E → O → S → Type 0) (reserved :
       (λ ne. not_his s r o.0 o.1 o.3 k (ap (λ (u : View S E O). phase_at u.turns k) (others_spent relates reserved starts s r id v at all o.0 o.1 ne o.3)) o.2)))
       (eq-zero-or-pos (r.cells k).0)
 
+  -- the history of the place k stands in the list of the hand with all parts
+  known : (s : St) (r : Rule s) (id : ℕ) (v : View S E O) → get_elem? s.views id ≡ some v → v.parts ≡ 1024 → (k : ℕ) (a : S) → slice_get starts k ≡ Some a → IsHistory v.entries k (r.log k)
+  known s r id v at all k a start = record {
+    named = (r.place k a start).named;
+    own = λ e i p. subst (λ j. slice_get (r.log j) e.number ≡ Some e) p ((r.seat id v at).tied e i).1;
+    all = λ i e there. all_own relates reserved starts s r id v at all k i e there;
+    once = λ i. sym (total_alone (λ (u : View S E O). times k i u.entries) s.views id v at (λ j u ne at'. ap (λ (z : View S E O). times k i z.entries) (others_spent relates reserved starts s r id v at all j u ne at'))) ∙ r.once k i;
+  }
+
+  -- the load by the hand with all parts
+  pub surveys : (slots id word : ℕ) (v : View S E O) → 0 < v.parts → Allows Rule slots id (v, []) word (λ n. n) (surveyed (step slots word 0 0 none) (v, []))
+  surveys slots id word v live s r deep at small = (
+    v,
+    keeps,
+    tt,
+    subst (λ ws. Rule record { words = ws; homes = s.homes; views = set s.views id v }) (sym (set-get_or s.words word 0))
+        (reviewed relates reserved starts s r id v at live v.seen v.tries (r.seat id v at).seen),
+    (
+      refl,
+      λ all. (let same = (r.seat id v at).same live in record {
+        range = λ e i. subst (λ (l : List S). e.place < length l) (sym same) ((r.seat id v at).tied e i).0;
+        histories = λ k a start. (r.log k, known s r id v at all k a (subst (λ (l : List S). slice_get l k ≡ Some a) same start));
+      }),
+    ),
+  )
+
+  pub surveys_at : (slots id word : ℕ) (me : Sat S E O) (v : View S E O) → Path (Sat S E O) me (v, []) → 0 < v.parts → Allows Rule slots id me word (λ n. n) (surveyed (step slots word 0 0 none) me)
+  surveys_at slots id word me v e live =
+      subst (λ m. Allows Rule slots id m word (λ n. n) (surveyed (step slots word 0 0 none) m)) (sym e) (surveys slots id word v live)
+
   -- the place k at the end: its history stands in the last hand's list, and its state is home
   pub closes : (s : St) (r : Rule s) (id : ℕ) (v : View S E O) → get_elem? s.views id ≡ some v → v.parts ≡ 1024 → ((k : ℕ) → phase_at v.turns k ≡ Nothing) → (k : ℕ) (a : S) → slice_get starts k ≡ Some a
       → (x : S) × (get_elem? s.homes (spot_of (rows_of (length starts)) k) ≡ some (some (Some x))) × Leaves relates a (r.log k) x × IsHistory v.entries k (r.log k)
@@ -229,10 +262,5 @@ module _ {S E O : Type 0} (relates : S → E → O → S → Type 0) (reserved :
         h.0,
         h.1,
         h.2,
-        record {
-          named = ok.named;
-          own = λ e i p. subst (λ j. slice_get (r.log j) e.number ≡ Some e) p ((r.seat id v at).tied e i).1;
-          all = λ i e there. all_own relates reserved starts s r id v at all k i e there;
-          once = λ i. sym (total_alone (λ (u : View S E O). times k i u.entries) s.views id v at (λ j u ne at'. ap (λ (z : View S E O). times k i z.entries) (others_spent relates reserved starts s r id v at all j u ne at'))) ∙ r.once k i;
-        },
+        known s r id v at all k a start,
       )

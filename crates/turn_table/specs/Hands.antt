@@ -7,7 +7,7 @@ use Rattle.turn_table.specs.declared.hands.Turns.{Turns}
 use Rattle.turn_table.specs.declared.hands.Hand.{Hand}
 use Rattle.turn_table.specs.declared.hands.Turn.{Turn}
 use Rattle.turn_table.specs.Histories.{In, seen_at, phase_at, Leaves, IsHistory}
-use Rattle.turn_table.specs.Steps.{entry, WasTaken, Given}
+use Rattle.turn_table.specs.Steps.{entry, WasTaken, Given, AreKnown}
 
 module _ {M S E O : Type 0} {g : _} where
   -- all that a hand knows
@@ -138,6 +138,14 @@ module _ {M S E O : Type 0} {g : _} where
   -- the hand h, after it took in the other
   abbrev pub IsJoined : Hand M S E O g → Hand M S E O g → Hand M S E O g → Type 0
   IsJoined h other h' = (h'.seat.table_id ≡ h.seat.table_id) × (starts h' ≡ starts h) × (entries h' ≡ entries h ++ entries other) × (parts h' ≡ parts h + parts other) × ((view h').main ≡ (view h).main) × HasNoTurn h' × ((k : ℕ) → seen h' k ≡ max (seen h k) (seen other k)) × (tries h' ≡ tries h ++ tries other)
+
+  -- of each place the hand's list has the whole history, and nothing else stands there
+  abbrev pub KnowsAll : Hand M S E O g → Type 0
+  KnowsAll h = AreKnown (view h)
+
+  -- the hand as it was
+  abbrev pub IsUnchanged : Hand M S E O g → Hand M S E O g → Type 0
+  IsUnchanged h h' = (h'.seat.table_id ≡ h.seat.table_id) × (view h' ≡ view h)
 
   -- each entry stands at a place of the table
   abbrev pub AreInRange : Hand M S E O g → Type 0

@@ -8,7 +8,7 @@ use Rattle.turn_table.specs.declared.machine.Entry.{Entry}
 use Rattle.turn_table.specs.declared.view.View.{View}
 use Rattle.turn_table.specs.declared.view.Phase.{Phase}
 use Rattle.turn_table.specs.declared.view.Phase.TheVariants.{Nothing, Marked, Out, Held, Counted}
-use Rattle.turn_table.specs.Histories.{In, seen_at, phase_at, Named, Leaves}
+use Rattle.turn_table.specs.Histories.{In, seen_at, phase_at, Named, Leaves, IsHistory}
 use Rattle.turn_table.specs.Layout.{rows_of, spot_of}
 use Rattle.turn_table.specs.Kept.{Kept}
 
@@ -109,7 +109,16 @@ pub record Given {S E O : Type 0} (relates : S → E → O → S → Type 0) (re
   pub main : v.main ≡ true → (i : ℕ) (e : Entry E O) → slice_get history i ≡ Some e → reserved e.event → In e v.entries
   pub whole : v.parts ≡ 1024 → (i : ℕ) (e : Entry E O) → slice_get history i ≡ Some e → In e v.entries
 
+-- each entry of this knowledge stands at a place of the table, and of each place its list has the whole history
+pub record AreKnown {S E O : Type 0} (v : View S E O) : Type 0 where
+  pub range : (e : Entry E O) → In e v.entries → e.place < length v.starts
+  pub histories : (k : ℕ) (a : S) → slice_get v.starts k ≡ Some a → (history : List (Entry E O)) × IsHistory v.entries k history
+
 module _ {S E O : Type 0} where
+  -- the load by a hand with all parts, which has the whole history of each place
+  abbrev pub surveyed : At S → Sat S E O → ℕ → Sat S E O → Type 0
+  surveyed st m e m' = (m' ≡ m) × (m.0.parts ≡ 1024 → AreKnown m.0)
+
   -- The compare-exchange of a mark, the one step that adds to the tries. It notes what it found there: 0, and the mark is set, and the state is out with this seat; or 1, and another hand had the turn
   abbrev pub marked : (S → E → O → S → Type 0) → (E → Type 0) → At S → Sat S E O → ℕ → Sat S E O → Type 0
   marked relates reserved st m e m' = (k : ℕ) → IsMark m.0 k st.word →

@@ -5,7 +5,7 @@ use crate::cased::{case_all, set_aside, uncase_all};
 use crate::hands::{Hand, OutOfMemory, Turns};
 use crate::layout;
 use crate::machine::Machine;
-use crate::plays::{Cut, Glue};
+use crate::plays::{Cut, Glue, Survey};
 use crate::room::Room;
 use atomic_table::Table;
 use std::alloc::{AllocError, Global};
@@ -23,7 +23,7 @@ fn clear_words(alloc: Global, count: usize) -> Result<Vec<u64>, AllocError>
 }
 
 impl<M: Machine> Turns<M> {
-    ghost use Rattle.turn_table.specs.Hands.{IsHandOf, IsFirstHand, starts, entries, parts, IsMain, HasNoTurn, IsCut, IsLeft, IsJoined, IsClosed, AreInRange};
+    ghost use Rattle.turn_table.specs.Hands.{IsHandOf, IsFirstHand, starts, entries, parts, IsMain, HasNoTurn, IsCut, IsLeft, IsJoined, IsClosed, AreInRange, KnowsAll, IsUnchanged};
 
     /// A table with a place for each state, in order, and its main hand.
     ///
@@ -87,6 +87,16 @@ impl<M: Machine> Turns<M> {
         self.table
             .shared
             .join_seat::<Glue>(&mut hand.seat, other.into_seat());
+    }
+
+    /// Looks at the table by the hand that has all parts: its list has the whole history of each place, as at the close.
+    pub fn survey(&self, hand: &mut Hand<M>)
+        requires table { IsHandOf self.now hand.old }
+        requires all { parts hand.old ≡ 1024 }
+        ensures same { IsUnchanged hand.old hand.new }
+        ensures whole { KnowsAll hand.new }
+    {
+        self.table.shared.load::<Survey>(&mut hand.seat, 0);
     }
 
     /// The states, in the order of the places. It takes no memory.

@@ -1,6 +1,6 @@
 //! The kinds of atomic step that a hand makes, each with what it tells: `specs/Steps.antt`.
 ghost use Rattle.turn_table.specs.Kept.{spent_view};
-ghost use Rattle.turn_table.specs.Steps.{marked, looked, counted, returned, emptied, reached, finished, freed, cut_left, cut_right, glued};
+ghost use Rattle.turn_table.specs.Steps.{marked, looked, counted, returned, emptied, reached, finished, freed, surveyed, cut_left, cut_right, glued};
 
 use crate::cased::Slot;
 use crate::machine::{Machine, Said};
@@ -69,6 +69,13 @@ pub(crate) struct Free;
 
 impl<S, E, O> Play<Slot<S>, View<S, E, O>> for Free {
     ghost then = { freed };
+}
+
+/// The load by which a hand with all parts knows each history.
+pub(crate) struct Survey;
+
+impl<S, E, O> Play<Slot<S>, View<S, E, O>> for Survey {
+    ghost then = { surveyed };
 }
 
 /// A new hand gets one part.
