@@ -2,6 +2,7 @@ pub mod Places
 pub mod Above
 pub mod Keeping
 pub mod Taken
+pub mod TwoRooms
 pub mod Relays
 pub mod Gates
 pub mod Visiting

@@ -1,6 +1,6 @@
 -- A relay by a lane, from what its turn gave to what its hand's list gained.
 use Rattle.std.proofs.Common.{◌≡◌, refl, sym, ◌∙◌, ap, subst, ℕ, ◌≤◌, true, max, List, [], ◌∷◌, ◌++◌, Option, length, take}
-use Rattle.std.proofs.lemmas.List.{length-take-le, take_at}
+use Rattle.std.proofs.lemmas.List.{length-take-le}
 use Rattle.relay_outside.specs.declared.settings.Config.{Config}
 use Rattle.relay_outside.specs.declared.ports.InCall.{InCall}
 use Rattle.relay_outside.specs.declared.ports.OutCall.{OutCall}
@@ -8,6 +8,7 @@ use Rattle.relay_outside.specs.Told.{EndTold}
 use Rattle.turn_table.specs.declared.hands.Hand.{Hand}
 use Rattle.turn_table.specs.Hands.{entries}
 use Rattle.turn_table.specs.Steps.{entry}
+use Rattle.call_cell.specs.declared.outcome.Incoming.{Incoming}
 use Rattle.call_cell.specs.declared.outcome.Outcome.{Outcome}
 use Rattle.call_cell.specs.declared.outcome.Outcome.TheVariants as outcomes
 use Rattle.call_cell.specs.declared.cell.Cell as cell
@@ -15,7 +16,7 @@ use Rattle.call_cell.specs.Cells as cells
 use Rattle.call_cell.specs.Cells.{CellEntry, Sending, since_end}
 use Rattle.call_cell.specs.CellStanding.{CellFor, CellRelays}
 use Rattle.call_cell.specs.Deeds.{deed}
-use Rattle.call_cell.specs.Standing.{sent_ok, FrontIs}
+use Rattle.call_cell.specs.Standing.{receipt_of, sent_ok, FrontIs}
 use Rattle.call_cell.proofs.Sends.{sent}
 use Rattle.relay_core.specs.declared.part.Part.{Part}
 use Rattle.relay_core.specs.declared.part.Part.TheVariants as part
@@ -29,12 +30,7 @@ use Rattle.media_lane.specs.Relaying.{relay_made, relay_by, bytes_left, AreSent,
 use Rattle.media_lane.proofs.Above.{above, made_more}
 use Rattle.media_lane.proofs.Keeping.{relay_keeps}
 
--- The buffer.
-
--- bytes that were copied to the front stand there
-pub front_kept : (len : ℕ) (buf bytes front rest : List ℕ) → front ≡ take len bytes → length front ≡ length (take len buf) → len ≤ length buf
-    → take len (front ++ rest) ≡ take len bytes
-front_kept len buf bytes front rest is long fits = take_at front rest len (long ∙ length-take-le len buf fits) ∙ is
+-- The bytes that left.
 
 sent_bytes : (config : Config) (h : List CellEntry) (p : cells.Receipt) (buf : List ℕ) (outcome : Outcome) → outcome ≡ (deed config (since_end h) p (sent_ok outcome)).outcome
     → FrontIs outcome (deed config (since_end h) p (sent_ok outcome)).sending buf
@@ -45,6 +41,13 @@ sent_bytes config h p buf (outcomes.Sent port to len) is front =
     (subst (λ (o : Option Sending). FrontIs (outcomes.Sent port to len) o buf) s.is_sending front)
 sent_bytes config h p buf (outcomes.Lost cause) is front = refl
 sent_bytes config h p buf (outcomes.Refused cause) is front = refl
+
+-- the packet of a receipt whose bytes were put at the front of a room
+pub put_packet : (number : ℕ) (packet : Incoming) (bytes front shown : List ℕ) → shown ≡ take packet.len bytes → packet.len ≤ length bytes → take (length shown) front ≡ shown
+    → receipt_of number packet front ≡ receipt_of number packet bytes
+put_packet number packet bytes front shown is within put =
+    ap (λ (them : List ℕ). record { take = number; half = packet.half; source = packet.source; bytes = them; holder = packet.holder })
+    (ap (λ (n : ℕ). take n front) (sym (ap (λ (them : List ℕ). length them) is ∙ length-take-le packet.len bytes within)) ∙ put ∙ is)
 
 -- The step.
 

@@ -8,9 +8,13 @@ use Rattle.turn_table.specs.declared.hands.Hand.{Hand}
 use Rattle.turn_table.specs.declared.machine.Entry as table
 use Rattle.turn_table.specs.Hands.{entries}
 use Rattle.turn_table.specs.Steps.{entry}
+use Rattle.port_pool.specs.declared.boxes.BoxTake.{BoxTake}
 use Rattle.port_pool.specs.Boxes.{Taken}
+use Rattle.port_pool.specs.Taking.{taken_of}
+use Rattle.call_cell.specs.declared.outcome.Incoming.{Incoming}
 use Rattle.call_cell.specs.declared.outcome.Outcome.{Outcome}
 use Rattle.call_cell.specs.Cells as cells
+use Rattle.call_cell.specs.Standing.{receipt_of}
 use Rattle.relay_core.specs.Entries.{Entry, box_of}
 use Rattle.relay_core.specs.Made.{Made, entry_of, list_of}
 use Rattle.relay_core.specs.Joining.{TakesOwnPairs}
@@ -86,6 +90,17 @@ more_totals vs v outcome s t packet sent refused lost c a = record {
   refused = counted_by (ends_with is_refused) vs v s.refused t.refused (is_refused outcome) refused a.refused c.refused;
   lost = counted_by (ends_with is_lost) vs v s.lost t.lost (is_lost outcome) lost a.lost c.lost;
 }
+
+-- What was taken, by the bytes of the room.
+
+pub packet_taken : (number : ℕ) (half : Half) (given : BoxTake) (packet : Incoming) (front room : List ℕ) → front ≡ room
+    → packet_by number half (taken_of given front) ≡ Some (receipt_of number packet front) → packet_by number half (taken_of given room) ≡ Some (receipt_of number packet room)
+packet_taken number half given packet front room is =
+    subst (λ (buf : List ℕ). packet_by number half (taken_of given buf) ≡ Some (receipt_of number packet buf)) is
+
+pub nothing_taken : (number : ℕ) (half : Half) (given : BoxTake) (front room : List ℕ) → front ≡ room → packet_by number half (taken_of given front) ≡ None
+    → packet_by number half (taken_of given room) ≡ None
+nothing_taken number half given front room is = subst (λ (buf : List ℕ). packet_by number half (taken_of given buf) ≡ None) is
 
 -- The visit.
 

@@ -1,5 +1,5 @@
 -- What a call of a lane does that finds its place busy.
-use Rattle.std.specs.Prelude.{◌≡◌, ◌^◌, ℕ, List, Option}
+use Rattle.std.specs.Prelude.{◌≡◌, ◌^◌, ℕ}
 use Rattle.relay_outside.specs.declared.ports.InCall.{InCall}
 use Rattle.relay_outside.specs.declared.ports.OutCall.{OutCall}
 use Rattle.relay_outside.specs.Told.{EndTold}

@@ -1,5 +1,6 @@
 pub mod Starts
 pub mod Receipts
+pub mod Rooms
 pub mod Lanes
 pub mod Busy
 pub mod Taking

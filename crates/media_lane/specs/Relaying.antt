@@ -1,5 +1,5 @@
 -- What a relay by a lane adds to the list of its hand.
-use Rattle.std.specs.Prelude.{◌≡◌, ℕ, List, [], ◌∷◌, ◌++◌, max, Option, Some, None}
+use Rattle.std.specs.Prelude.{◌≡◌, ℕ, List, [], ◌∷◌, ◌++◌, take, max, Option, Some, None}
 use Rattle.relay_outside.specs.declared.settings.Config.{Config}
 use Rattle.relay_outside.specs.declared.ports.InCall.{InCall}
 use Rattle.relay_outside.specs.declared.ports.OutCall.{OutCall}
@@ -44,6 +44,10 @@ abbrev pub bytes_left : Outcome → ℕ
 bytes_left (outcomes.Sent port to len) = len
 bytes_left (outcomes.Lost cause) = 0
 bytes_left (outcomes.Refused cause) = 0
+
+-- the bytes that left with it, where the packet's buffer holds these after
+abbrev pub bytes_sent : Outcome → List ℕ → List ℕ
+bytes_sent outcome buf = take (bytes_left outcome) buf
 
 -- a relay of this packet in a cell, handed this moment, after which the buffer holds these bytes
 abbrev pub RelaysPart : {I O : Type 0} → (O → EndTold OutCall) → (O → ℕ) → cells.Receipt → ℕ → Part I O → List ℕ → Outcome → Part I O → Type 0

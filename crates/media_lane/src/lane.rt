@@ -2,8 +2,7 @@ ghost use Rattle.std.specs.Prelude.{◌≡◌, ◌<◌, ◌≤◌, ◌+◌};
 ghost use Rattle.turn_table.specs.Hands.{HasNoTurn, starts};
 ghost use Rattle.media_lane.specs.Starts.{HasLaneStarts, starts_props};
 
-use call_cell::PacketBuffer;
-use port_pool::TakeBuffer;
+use crate::rooms::Rooms;
 use relay_core::{Happening, Part, Relay};
 use relay_outside::{Config, InEnd, OutEnd};
 use turn_table::{Hand, Machine};
@@ -21,16 +20,11 @@ where
     pub(crate) index: u32,
     /// How many lanes there are.
     pub(crate) lanes: u32,
-    /// Room for a datagram that is taken.
-    pub(crate) taken: TakeBuffer,
-    /// The packet of the last relay, as it was sent.
-    pub(crate) packet: PacketBuffer,
-    /// How many bytes the last relay sent.
-    pub(crate) sent: usize,
+    /// Room for a datagram that is taken, and for the packet of the last relay, as it was sent.
+    pub(crate) rooms: Rooms,
     ghost idle: { HasNoTurn hand },
     ghost begins: { HasLaneStarts config (starts hand) } by { Prim.hlevel starts_props },
     ghost one_of: { index < lanes },
-    ghost within: { sent ≤ 2064 },
 }
 
 impl<I: InEnd, O: OutEnd> Lane<I, O> {
@@ -53,9 +47,7 @@ impl<I: InEnd, O: OutEnd> Lane<I, O> {
             config: *config,
             index,
             lanes,
-            taken: [0; 2001],
-            packet: [0; 2064],
-            sent: 0,
+            rooms: Rooms::new(),
         }
     }
 
@@ -63,7 +55,7 @@ impl<I: InEnd, O: OutEnd> Lane<I, O> {
     pub fn sent_bytes(&self) -> &[u8]
         ensures { result.now ≡ sent_of self.now }
     {
-        &self.packet[..self.sent]
+        self.rooms.sent()
     }
 
     /// The lane's hand, which holds no turn.

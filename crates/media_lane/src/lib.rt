@@ -4,12 +4,12 @@
 //! memory: each makes one compare-exchange, and is busy exactly where another hand has the turn of that very place.
 //! `receive` and `relay` do the same by a hand that may wait, and try the place's mark until it is free.
 //!
-//! Module `receipt` has what a take gave, `answers` what the calls return, `lane` the lane, `receiving` and `relaying` its two
-//! steps, `sweeping` a round over its pairs, which may wait and keeps each datagram in the lane's room, `hinted` its part that goes
-//! by the clock's hints, `order` when that visits what, and how long it waits, `visited` the halves that it was at, `looping` sweep
+//! Module `receipt` has what a take gave, `answers` what the calls return, `lane` the lane, `rooms` where its packets stand, `receiving`
+//! and `relaying` its two steps, `sweeping` a round over its pairs, which may wait and relays each datagram where it was taken, `hinted`
+//! its part that goes by the clock's hints, `order` when that visits what, and how long it waits, `visited` the halves that it was at, `looping` sweep
 //! after sweep until the lane is told to end, `puts` the way to put each kind of turn, `laws` what callers know.
 //!
-//! `specs/Starts.antt` says what the places of a lane's table begin as, `specs/Lanes.antt` what contracts see in a lane,
+//! `specs/Starts.antt` says what the places of a lane's table begin as, `specs/Lanes.antt` what contracts see in a lane, `specs/Rooms.antt` in its rooms,
 //! `specs/Receipts.antt` what a receipt of a hand's list is, `specs/Busy.antt` what a busy call does, `specs/Taking.antt` and
 //! `specs/Relaying.antt` what a take and a relay add to the list of its hand, `specs/Visits.antt` and `specs/Sweeping.antt` what a
 //! sweep adds, `specs/Visited.antt` and `specs/Covering.antt` how far it has come, `specs/Looping.antt` what sweep after sweep adds,
@@ -35,6 +35,7 @@ mod puts;
 mod receipt;
 mod receiving;
 mod relaying;
+mod rooms;
 mod sweeping;
 mod visited;
 

@@ -1,5 +1,5 @@
 //! Datagrams are taken from boxes.
-ghost use Rattle.std.specs.Prelude.{◌≡◌, ◌<◌, ◌≤◌, ◌+◌, ℕ, [], ◌∷◌, ◌++◌, None, Some, MatchOption};
+ghost use Rattle.std.specs.Prelude.{◌≡◌, ◌<◌, ◌≤◌, ◌+◌, ℕ, [], ◌∷◌, ◌++◌, length, None, Some, MatchOption};
 ghost use Rattle.port_pool.specs.Ports.{pair_count};
 ghost use Rattle.port_pool.specs.Taking.{taken_of};
 ghost use Rattle.turn_table.specs.Hands as hands;
@@ -14,6 +14,7 @@ ghost use Rattle.media_lane.specs.declared.answers.Received.{Received};
 ghost use Rattle.media_lane.specs.Starts.{IsPair};
 ghost use Rattle.media_lane.specs.Taking.{box_take_made, Tells, IsShort, HasReceipt, Receives, TakesAtLast};
 ghost use Rattle.media_lane.specs.Lanes.{hand_of, list_of, config_of, sent_of, room_of, IsSameLane};
+ghost use Rattle.media_lane.specs.Rooms.{front_in, sent_in};
 ghost use Rattle.media_lane.specs.Receipts.{IsReceiptOf, KeepsList};
 ghost use Rattle.media_lane.specs.Visits.{packet_by};
 
@@ -21,6 +22,7 @@ use crate::answers::Received;
 use crate::lane::Lane;
 use crate::puts::put_take;
 use crate::receipt::Receipt;
+use crate::rooms::Rooms;
 use call_cell::Incoming;
 use port_pool::{BoxTake, TakeBuffer};
 use relay_core::{Part, Relay};
@@ -37,14 +39,15 @@ pub(crate) struct NumberedTake {
     pub(crate) given: BoxTake,
 }
 
-/// Takes from a box.
+/// Takes from a box, into the buffer.
 pub(crate) fn take_from<I: InEnd, O: OutEnd>(
     part: &mut Part<I, O>,
     half: Half,
     buf: &mut TakeBuffer,
 ) -> BoxTake
     requires { IsPair part.old }
-    ensures { Relates I.told I.faults O.told O.faults part.old (box_take_made half result buf.new) part.new }
+    ensures step { Relates I.told I.faults O.told O.faults part.old (box_take_made half result buf.new) part.new }
+    ensures long { length buf.new ≡ 2001 }
 {
     match part {
         Part::Pair(held) => held.take(half, buf),
@@ -53,13 +56,13 @@ pub(crate) fn take_from<I: InEnd, O: OutEnd>(
     }
 }
 
-/// Takes once of a half at the box whose turn this is, into the buffer, and puts the turn.
+/// Takes once of a half at the box whose turn this is, into the free room, and puts the turn.
 fn take_in_turn<I: InEnd, O: OutEnd>(
     turns: &Turns<Relay<I, O>>,
     hand: &mut Hand<Relay<I, O>>,
     turn: Turn<Relay<I, O>>,
     half: Half,
-    buf: &mut TakeBuffer,
+    rooms: &mut Rooms,
 ) -> NumberedTake
     requires table { IsHandOf turns.now hand.old }
     requires turn { HasTurn hand.old turn }
@@ -68,12 +71,13 @@ fn take_in_turn<I: InEnd, O: OutEnd>(
     ensures same { IsSameHand hand.old hand.new }
     ensures tried { tries hand.new ≡ tries hand.old }
     ensures number { result.number ≡ front_of turn }
-    ensures step { (after : Part I O) × Relates I.told I.faults O.told O.faults (state_of turn) (box_take_made half result.given buf.new) after }
-    ensures entry { EndsTurn (place_of turn) (front_of turn) (box_take_made half result.given buf.new) tt hand.old hand.new }
+    ensures step { (after : Part I O) × Relates I.told I.faults O.told O.faults (state_of turn) (box_take_made half result.given (front_in rooms.new)) after }
+    ensures entry { EndsTurn (place_of turn) (front_of turn) (box_take_made half result.given (front_in rooms.new)) tt hand.old hand.new }
+    ensures kept { sent_in rooms.new ≡ sent_in rooms.old }
 {
     let mut turn = turn;
-    let given = take_from(turn.state(), half, buf);
-    let number = put_take::<I, O, Brand>(turns, hand, turn, half, &given, buf);
+    let given = rooms.take_from(turn.state(), half);
+    let number = put_take::<I, O, Brand>(turns, hand, turn, half, &given, rooms);
     NumberedTake { number, given }
 }
 
@@ -146,8 +150,8 @@ impl<I: InEnd, O: OutEnd> Lane<I, O> {
             Ok(turn) => turn,
             Err(busy) => return Received::Busy { front: busy.front },
         };
-        let take = take_in_turn(turns, &mut self.hand, turn, half, &mut self.taken);
-        received(pair, take.number, half, take.given, &self.taken)
+        let take = take_in_turn(turns, &mut self.hand, turn, half, &mut self.rooms);
+        received(pair, take.number, half, take.given, self.rooms.front())
     }
 
     /// Takes one datagram of a half at the box of a pair, under one turn of that box, into the lane's room. It tries again until
@@ -173,7 +177,7 @@ impl<I: InEnd, O: OutEnd> Lane<I, O> {
     {
         let at_box = self.config.max_sessions as usize + 1 + pair as usize;
         let turn = turns.turn(rt, &mut self.hand, at_box);
-        take_in_turn(turns, &mut self.hand, turn, half, &mut self.taken)
+        take_in_turn(turns, &mut self.hand, turn, half, &mut self.rooms)
     }
 
     /// Takes one datagram of a half at the box of a pair, under one turn of that box. It takes no memory, and may wait: it tries
@@ -193,6 +197,6 @@ impl<I: InEnd, O: OutEnd> Lane<I, O> {
         ensures list { KeepsList (config_of self.old) (list_of self.old) (list_of self.new) }
     {
         let taken = self.take(rt, turns, pair, half);
-        received(pair, taken.number, half, taken.given, &self.taken)
+        received(pair, taken.number, half, taken.given, self.rooms.front())
     }
 }

@@ -6,54 +6,32 @@ ghost use Rattle.call_cell.specs.Cells.{CellEntry};
 ghost use Rattle.call_cell.specs.Standing.{receipt_of};
 ghost use Rattle.relay_core.specs.declared.part.Part.{Part};
 ghost use Rattle.relay_core.specs.Standing.{IsCellPart};
-ghost use Rattle.media_lane.specs.Relaying.{relay_by, RelaysPart, RelaysBy, RelaysAtLast, bytes_left};
+ghost use Rattle.media_lane.specs.Relaying.{relay_by, RelaysPart, RelaysBy, RelaysAtLast, bytes_left, bytes_sent};
 ghost use Rattle.media_lane.specs.Lanes.{packet_of, pair_of, hand_of, list_of, config_of, sent_of, room_of, IsSameLane};
+ghost use Rattle.media_lane.specs.Rooms.{front_in, last_in, sent_in};
 ghost use Rattle.media_lane.specs.Receipts.{IsReceiptOf, KeepsList};
 ghost use Rattle.media_lane.specs.Gated.{GainsGated};
 
 use crate::answers::Relayed;
 use crate::lane::Lane;
-use crate::puts::put_relay;
+use crate::puts::{Arrived, put_relay};
 use crate::receipt::Receipt;
+use crate::rooms::Rooms;
 use call_cell::{Incoming, Outcome, PacketBuffer};
-use port_pool::TakeBuffer;
-use relay_core::{Part, Relay};
+use relay_core::Relay;
 use relay_outside::{Gate, InEnd, OutEnd};
 use std::marker::Brand;
 use std::sync::Wait;
 use turn_table::{Hand, Turn, Turns};
 
-/// Relays a packet that this take gave in a cell, by way of the buffer. Its bytes stand at the front.
-pub(crate) fn relay_in<I: InEnd, O: OutEnd>(
-    part: &mut Part<I, O>,
-    take: u64,
-    packet: &Incoming,
-    bytes: &TakeBuffer,
-    buf: &mut PacketBuffer,
-    now: u64,
-) -> Outcome
-    requires cell { IsCellPart part.old }
-    requires short { packet.now.len ≤ 2000 }
-    ensures { RelaysPart O.told O.faults (receipt_of take packet.now bytes.now) now part.old buf.new result part.new }
-{
-    let len = packet.len;
-    buf[..len].copy_from_slice(&bytes[..len]);
-    match part {
-        Part::Cell(cell) => cell.relay(packet, buf, now),
-        Part::Board(_) => unreachable!(),
-        Part::Pair(_) => unreachable!(),
-    }
-}
-
-/// Relays a packet that this take gave in the cell whose turn this is, by way of the buffer, and puts the turn.
-fn relay_in_turn<I: InEnd, O: OutEnd>(
+/// Relays a packet that this take gave in the cell whose turn this is, where its bytes stand, and puts the turn.
+fn relay_in_turn<I: InEnd, O: OutEnd, A: Arrived>(
     turns: &Turns<Relay<I, O>>,
     hand: &mut Hand<Relay<I, O>>,
     turn: Turn<Relay<I, O>>,
     take: u64,
     packet: &Incoming,
-    bytes: &TakeBuffer,
-    buf: &mut PacketBuffer,
+    rooms: &mut Rooms,
     now: u64,
 ) -> Outcome
     requires table { IsHandOf turns.now hand.old }
@@ -61,19 +39,21 @@ fn relay_in_turn<I: InEnd, O: OutEnd>(
     requires untouched { taken_of turn ≡ state_of turn }
     requires at_cell { IsCellPart (state_of turn) }
     requires short { packet.now.len ≤ 2000 }
+    requires arrived { A.bytes ≡ front_in rooms.old }
     ensures same { IsSameHand hand.old hand.new }
     ensures tried { tries hand.new ≡ tries hand.old }
-    ensures step { (after : Part I O) × RelaysPart O.told O.faults (receipt_of take packet.now bytes.now) now (state_of turn) buf.new result after }
-    ensures entry { EndsTurn (place_of turn) (front_of turn) (relay_by (state_of turn) (receipt_of take packet.now bytes.now) now result) tt hand.old hand.new }
+    ensures step { (after : Part I O) × RelaysPart O.told O.faults (receipt_of take packet.now (front_in rooms.old)) now (state_of turn) (last_in rooms.new) result after }
+    ensures entry { EndsTurn (place_of turn) (front_of turn) (relay_by (state_of turn) (receipt_of take packet.now (front_in rooms.old)) now result) tt hand.old hand.new }
+    ensures sent { sent_in rooms.new ≡ bytes_sent result (last_in rooms.new) }
 {
     let mut turn = turn;
-    let outcome = relay_in(turn.state(), take, packet, bytes, buf, now);
-    put_relay::<I, O, Brand>(turns, hand, turn, take, packet, bytes, now, outcome);
+    let outcome = rooms.relay_in(turn.state(), take, packet, now);
+    put_relay::<I, O, A, Brand>(turns, hand, turn, take, packet, now, outcome);
     outcome
 }
 
 /// How many of a packet's bytes left with this outcome.
-fn bytes_left(outcome: Outcome, packet: &PacketBuffer) -> usize
+pub(crate) fn bytes_left(outcome: Outcome, packet: &PacketBuffer) -> usize
     ensures count { result ≡ min (bytes_left outcome) (length packet.now) }
     ensures within { result ≤ 2064 }
 {
@@ -114,22 +94,20 @@ impl<I: InEnd, O: OutEnd> Lane<I, O> {
             }
         };
         gate.inside(cell);
-        let done = relay_in_turn(
+        self.rooms.put(receipt.bytes());
+        Relayed::Done(relay_in_turn::<I, O, Brand>(
             turns,
             &mut self.hand,
             turn,
             receipt.take,
             &receipt.packet,
-            &receipt.bytes,
-            &mut self.packet,
+            &mut self.rooms,
             now,
-        );
-        self.sent = bytes_left(done, &self.packet);
-        Relayed::Done(done)
+        ))
     }
 
-    /// Relays the packet in the lane's room, which this take gave, in the cell of its leg, under one turn of that cell. It tries
-    /// again until it has the turn.
+    /// Relays the packet in the lane's room, which this take gave, in the cell of its leg, under one turn of that cell, where its bytes
+    /// stand. It tries again until it has the turn.
     pub(crate) fn relay_taken<W: Wait, G: Gate>(
         &mut self,
         rt: &W,
@@ -150,18 +128,15 @@ impl<I: InEnd, O: OutEnd> Lane<I, O> {
         let cell = packet.holder.cell;
         let turn = turns.turn(rt, &mut self.hand, cell as usize);
         gate.inside(cell);
-        let outcome = relay_in_turn(
+        relay_in_turn::<I, O, Brand>(
             turns,
             &mut self.hand,
             turn,
             take,
             packet,
-            &self.taken,
-            &mut self.packet,
+            &mut self.rooms,
             now,
-        );
-        self.sent = bytes_left(outcome, &self.packet);
-        outcome
+        )
     }
 
     /// Relays the packet of a receipt in the cell of its leg, handed the moment `now` in milliseconds, under one turn of that
@@ -182,7 +157,7 @@ impl<I: InEnd, O: OutEnd> Lane<I, O> {
         ensures list { KeepsList (config_of self.old) (list_of self.old) (list_of self.new) }
         ensures gated { GainsGated (G.passed gate.now) (list_of self.old) (list_of self.new) }
     {
-        self.taken = receipt.bytes;
+        self.rooms.put(receipt.bytes());
         self.relay_taken(rt, turns, gate, receipt.take, &receipt.packet, now)
     }
 }

@@ -81,7 +81,7 @@ impl<I: InEnd, O: OutEnd> Lane<I, O> {
         ensures gated { GainsGated (G.passed gate.now) (list_of self.old) (list_of self.new) }
     {
         let take = self.take(rt, turns, pair, half);
-        if let Some(packet) = packet_in(half, take.given, &self.taken) {
+        if let Some(packet) = packet_in(half, take.given, self.rooms.front()) {
             let outcome = self.relay_taken(rt, turns, gate, take.number, &packet, clock.now());
             totals.count(outcome);
         }

@@ -1,4 +1,4 @@
-use Rattle.std.proofs.Common.{sym, subst, [], ◌∷◌}
+use Rattle.std.proofs.Common.{sym, subst, ℕ, List, [], ◌∷◌}
 use Rattle.turn_table.specs.Steps.{entry}
 use Rattle.port_pool.specs.Taking.{taken_of}
 use Rattle.call_cell.specs.Standing.{receipt_of}
@@ -6,17 +6,21 @@ use Rattle.relay_core.specs.Entries.{box_of}
 use Rattle.relay_core.specs.Made.{entry_of}
 use Rattle.media_lane.specs.Lanes.{config_of, hand_of, list_of, room_of}
 use Rattle.media_lane.specs.Receipts.{IsReceiptOf, KeepsList}
+use Rattle.media_lane.specs.Taking.{IsShort}
 use Rattle.media_lane.specs.Relaying.{relay_made}
 use Rattle.media_lane.proofs.Above.{made_more}
 use Rattle.media_lane.proofs.Gates.{gains_both, gains_take}
-use Rattle.media_lane.proofs.Visiting.{keeps_both, visits_nothing, visits_packet}
+use Rattle.media_lane.proofs.Visiting.{keeps_both, packet_taken, nothing_taken, visits_nothing, visits_packet}
 use Rattle.media_lane.proofs.lane.Lane.visit.Goals as goal
+
+pub packet_in-requires : goal.packet_in-requires
+packet_in-requires g c = subst (λ (buf : List ℕ). IsShort (taken_of c.take-take.result.given buf)) (sym c.front.ensures) c.take-take.ensures.short
 
 pub relay_taken-outcome-requires-clause-receipt : goal.relay_taken-outcome-requires-clause-receipt
 relay_taken-outcome-requires-clause-receipt g c = (
   c.args.pair,
   subst (λ x. IsReceiptOf x (list_of c.take-take.new.self) c.args.pair (receipt_of c.take-take.result.number c.in-Some.packet (room_of c.take-take.new.self))) (sym c.take-take.ensures.same.0.config_is)
-      (c.take-take.ensures.receipt (receipt_of c.take-take.result.number c.in-Some.packet (room_of c.take-take.new.self)) (c.in-Some.ensures.packet c.take-take.result.number)),
+      (c.take-take.ensures.receipt (receipt_of c.take-take.result.number c.in-Some.packet (room_of c.take-take.new.self)) (packet_taken c.take-take.result.number c.args.half c.take-take.result.given c.in-Some.packet c.front.result.now (room_of c.take-take.new.self) c.front.ensures (c.in-Some.ensures.packet c.take-take.result.number))),
 )
 
 pub returns-in-Some-clause-visited : goal.returns-in-Some-clause-visited
@@ -24,7 +28,7 @@ returns-in-Some-clause-visited g c =
     let made = c.relay_taken-outcome.ensures.relayed in
     visits_packet (config_of c.args.self.now) (g.C.Clock.range c.args.clock.now) c.args.pair c.args.half (hand_of c.args.self.now) (hand_of c.take-take.new.self) (hand_of c.relay_taken-outcome.new.self)
     c.take-take.result.number (taken_of c.take-take.result.given (room_of c.take-take.new.self)) (receipt_of c.take-take.result.number c.in-Some.packet (room_of c.take-take.new.self)) c.now.result
-    c.relay_taken-outcome.result c.args.totals.now c.count.new.self made.number made.moment (c.in-Some.ensures.packet c.take-take.result.number)
+    c.relay_taken-outcome.result c.args.totals.now c.count.new.self made.number made.moment (packet_taken c.take-take.result.number c.args.half c.take-take.result.given c.in-Some.packet c.front.result.now (room_of c.take-take.new.self) c.front.ensures (c.in-Some.ensures.packet c.take-take.result.number))
     c.take-take.ensures.entry made.list_is c.now.ensures c.count.ensures
 
 pub returns-in-Some-clause-list : goal.returns-in-Some-clause-list
@@ -47,7 +51,7 @@ pub returns-in_default : goal.returns-in_default
 returns-in_default g c = record {
   same = c.take-take.ensures.same.0;
   visited = visits_nothing (config_of c.args.self.now) (g.C.Clock.range c.args.clock.now) c.args.pair c.args.half (hand_of c.args.self.now) (hand_of c.args.self.now) (hand_of c.take-take.new.self)
-      c.take-take.result.number (taken_of c.take-take.result.given (room_of c.take-take.new.self)) c.args.totals.now (c.in_default.ensures.packet c.take-take.result.number) c.take-take.ensures.entry;
+      c.take-take.result.number (taken_of c.take-take.result.given (room_of c.take-take.new.self)) c.args.totals.now (nothing_taken c.take-take.result.number c.args.half c.take-take.result.given c.front.result.now (room_of c.take-take.new.self) c.front.ensures (c.in_default.ensures.packet c.take-take.result.number)) c.take-take.ensures.entry;
   list = c.take-take.ensures.list;
   gated = gains_take (g.G.Gate.passed c.args.gate.now) (hand_of c.args.self.now) (hand_of c.take-take.new.self) (box_of (config_of c.args.self.now) c.args.pair) c.take-take.result.number c.args.half
       (taken_of c.take-take.result.given (room_of c.take-take.new.self)) c.take-take.ensures.entry;
