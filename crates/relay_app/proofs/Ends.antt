@@ -19,14 +19,17 @@ use Rattle.relay_core.specs.Entries.{Event, Board, Cell, Box, Entry, is_at, hist
 use Rattle.relay_core.specs.Made.{list_of, told, told_event}
 use Rattle.relay_core.specs.Told.{ins_told, outs_told, takes_of, takes_at, InsAreTold, OutsAreTold}
 use Rattle.relay_core.proofs.Refilling.{filter_mapped, picked_mapped}
-use Rattle.media_lane.specs.declared.answers.Totals.{Totals}
 use Rattle.media_ports.specs.Addresses.{port_address}
 use Rattle.media_ports.specs.Given.{address_in, IsOfPair, Agrees}
 use Rattle.media_ports.specs.Held.{TellsHeld}
 use Rattle.media_ports.proofs.Opened.{open_still, open_before}
+use Rattle.board_turns.specs.Between.{board_of}
+use Rattle.board_turns.specs.Stopping.{stop_entry}
 use Rattle.board_turns.specs.Ties.{AreTied}
+use Rattle.call_board.specs.Acts.{BoardEntry}
+use Rattle.relay_core.specs.Legal.{Legal}
+use Rattle.media_lane.specs.Visits.{Row}
 use Rattle.relay_app.specs.Ends.{AreTakes, AreSends, sends_at, AreEnds, OpensSame}
-use Rattle.relay_app.specs.Rounds.{Round, history_after, IsWhole}
 use Rattle.relay_app.proofs.Sends.{outs_sent}
 use Rattle.relay_app.proofs.Shut.{boxes_shut}
 
@@ -65,31 +68,33 @@ agreed : {C : Type 0} (said shown : Option (List C)) (all : List C) → Agrees s
 agreed {C} None shown all same is = tt
 agreed {C} (Some calls) shown all same is = subst (λ (s : Option (List C)). WhereTold s (λ calls. calls ≡ all)) same is
 
-module _ (config : Config) (threads : ℕ) (range : Option (ℕ × ℕ)) (rounds : List Round) (totals : Totals) (whole : IsWhole config threads range rounds totals) where
-  same_boxes : (place : ℕ) → box_history (list_of whole.rows) place (front (list_of whole.rows) place) ≡ box_history whole.list place (front whole.list place)
+-- a list of all steps of a run, after which the board's history is this one with the stop
+module _ (config : Config) (rows : List Row) (list : List Entry) (told_is : map told list ≡ list_of rows) (h : List BoardEntry) (legal : Legal config list)
+    (board_is : board_of list ≡ stop_entry h ∷ h) where
+  same_boxes : (place : ℕ) → box_history (list_of rows) place (front (list_of rows) place) ≡ box_history list place (front list place)
   same_boxes place =
-      ap (λ (l : List Entry). box_history l place (front l place)) (sym whole.told_is)
-      ∙ told_boxes whole.list place (front (map told whole.list) place)
-      ∙ ap (λ (n : ℕ). box_history whole.list place n) (told_front whole.list place)
+      ap (λ (l : List Entry). box_history l place (front l place)) (sym told_is)
+      ∙ told_boxes list place (front (map told list) place)
+      ∙ ap (λ (n : ℕ). box_history list place n) (told_front list place)
 
-  takes : InsAreTold config whole.rows → (calls : List PortCall) → AreTied config whole.rows calls → AreTakes config whole.list calls
+  takes : InsAreTold config rows → (calls : List PortCall) → AreTied config rows calls → AreTakes config list calls
   takes ins calls tied pair half low =
       let place = box_of config pair in
-      let shut : holder (box_history (list_of whole.rows) place (front (list_of whole.rows) place)) ≡ None =
-      ap holder (same_boxes place) ∙ boxes_shut config whole.list (history_after config rounds) whole.legal whole.board_is pair in
+      let shut : holder (box_history (list_of rows) place (front (list_of rows) place)) ≡ None =
+      ap holder (same_boxes place) ∙ boxes_shut config list (h) legal board_is pair in
       subst (λ (all : List InCall). WhereTold (taken_at calls (port_address config pair half)) (λ said. said ≡ all)) (ap (takes_of half) (same_boxes place))
-      (agreed (taken_at calls (port_address config pair half)) (ins_told whole.rows place half) (takes_at (list_of whole.rows) place half) (tied.takes pair half low)
+      (agreed (taken_at calls (port_address config pair half)) (ins_told rows place half) (takes_at (list_of rows) place half) (tied.takes pair half low)
       (ins pair half low shut))
 
-  sends : OutsAreTold whole.rows whole.list → (calls : List PortCall) → AreTied config whole.rows calls → AreSends config whole.list calls
+  sends : OutsAreTold rows list → (calls : List PortCall) → AreTied config rows calls → AreSends config list calls
   sends outs calls tied pair half low =
-      agreed (sent_at calls (port_address config pair half)) (outs_told whole.rows pair half) (sends_at whole.list pair half) (tied.sends pair half low)
-      (outs_sent whole.list whole.rows whole.told_is outs pair half)
+      agreed (sent_at calls (port_address config pair half)) (outs_told rows pair half) (sends_at list pair half) (tied.sends pair half low)
+      (outs_sent list rows told_is outs pair half)
 
-  pub whole_ends : InsAreTold config whole.rows → OutsAreTold whole.rows whole.list → (before now : Option (List PortCall)) → Gained before now (AreTied config whole.rows)
-      → Gained before now (AreEnds config whole.list)
+  pub whole_ends : InsAreTold config rows → OutsAreTold rows list → (before now : Option (List PortCall)) → Gained before now (AreTied config rows)
+      → Gained before now (AreEnds config list)
   whole_ends ins outs before now tied =
-      gained_less before now (AreTied config whole.rows) (AreEnds config whole.list)
+      gained_less before now (AreTied config rows) (AreEnds config list)
       (λ calls these. record { of_pairs = these.of_pairs; takes = takes ins calls these; sends = sends outs calls these }) tied
 
 -- Which addresses are open.

@@ -27,10 +27,10 @@ use Rattle.relay_app.specs.Turned.{DidTick}
 
 -- A turn of the board relays nothing.
 
-nested_no_relay : (v : Event) (x : Relayed) → is_nested v ≡ true → v ≡ Cell (Relay x) → ⊥
+pub nested_no_relay : (v : Event) (x : Relayed) → is_nested v ≡ true → v ≡ Cell (Relay x) → ⊥
 nested_no_relay v x nested is = absurd (let k : false ≡ true = ap (λ (w : Event). is_nested w) (sym is) ∙ nested in cc)
 
-board_no_relay : (moment : ℕ) (v : Event) (b : BoardEntry) (x : Relayed) → board_at moment v ≡ Some b → v ≡ Cell (Relay x) → ⊥
+pub board_no_relay : (moment : ℕ) (v : Event) (b : BoardEntry) (x : Relayed) → board_at moment v ≡ Some b → v ≡ Cell (Relay x) → ⊥
 board_no_relay moment v b x at is = absurd (let k : None ≡ Some b = ap (λ (w : Event). board_at moment w) (sym is) ∙ at in cc)
 
 module _ (gate : ℕ → Type 0) (config : Config) (l ns : List Entry) (b : Entry) (o : Orderly config l) (t : IsTurn config l ns b) where

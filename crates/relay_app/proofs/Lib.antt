@@ -1,7 +1,9 @@
+mod Between
 mod Counts
 mod Departures
 mod Ends
 mod Gates
+mod LoadRuns
 mod Loaded
 mod Loops
 pub mod MediaThreads

@@ -1,5 +1,5 @@
 -- The devices of a load, after it, and the line that it prints.
-use Rattle.std.proofs.Common.{◌≡◌, ◌∙◌, ◌⊎◌, inl, inr, ap, refl, sym, subst, ℕ, ◌*◌, Bool, true, false, List, [], ◌∷◌, ◌++◌, Option, Some, None, IsSome}
+use Rattle.std.proofs.Common.{◌≡◌, inl, inr, ap, refl, subst, ℕ, ◌*◌, Bool, true, false, List, [], ◌∷◌, Option, Some, None, IsSome}
 use Rattle.relay_outside.specs.declared.lines.WriteCall.{WriteCall}
 use Rattle.relay_outside.specs.declared.lines.WriteCall.TheVariants as put
 use Rattle.relay_outside.specs.declared.link.LinkCall.{LinkCall}
@@ -15,24 +15,24 @@ use Rattle.relay_outside.specs.declared.settings.Config.{Config}
 use Rattle.relay_app.specs.declared.status.Status.{Status}
 use Rattle.relay_app.specs.declared.status.Status.TheVariants as status
 use Rattle.relay_app.specs.declared.totals.Counts.{Counts}
-use Rattle.relay_app.specs.Served.{Outside, Gave, DidServe}
-use Rattle.relay_app.specs.Loads.{RunsLoad, DidLoad, Loads, load_line}
+use Rattle.relay_app.specs.Served.{Outside, Gave}
+use Rattle.relay_app.specs.Loads.{DidLoadTurns, RunsLoad, Loads, load_line}
 
 -- the run that a load is, in the words of its settings
 pub serve_as : (settings : LoadSettings) (gate : ℕ → Type 0) (limit : ℕ) (config : Config) (threads moment : ℕ) (outside : Outside) (ended : Status) (counts : Counts) (totals : Totals)
     → limit ≡ 1000000 → config ≡ settings.config → threads ≡ settings.lanes → moment ≡ 0 → ended ≡ status.Ok
-    → DidServe [] limit config threads (Some (moment, moment)) gate outside ended counts totals
-    → DidServe [] 1000000 settings.config settings.lanes (Some (0, 0)) gate outside status.Ok counts totals
+    → DidLoadTurns limit config threads (Some (moment, moment)) gate outside ended counts totals
+    → DidLoadTurns 1000000 settings.config settings.lanes (Some (0, 0)) gate outside status.Ok counts totals
 serve_as settings gate limit config threads moment outside ended counts totals limit_is config_is threads_are moment_is ended_is did =
-    subst (λ (e : Status). DidServe [] 1000000 settings.config settings.lanes (Some (0, 0)) gate outside e counts totals) ended_is
-    (subst (λ (n : ℕ). DidServe [] 1000000 settings.config settings.lanes (Some (n, n)) gate outside ended counts totals) moment_is
-    (subst (λ (n : ℕ). DidServe [] 1000000 settings.config n (Some (moment, moment)) gate outside ended counts totals) threads_are
-    (subst (λ (c : Config). DidServe [] 1000000 c threads (Some (moment, moment)) gate outside ended counts totals) config_is
-    (subst (λ (n : ℕ). DidServe [] n config threads (Some (moment, moment)) gate outside ended counts totals) limit_is did))))
+    subst (λ (e : Status). DidLoadTurns 1000000 settings.config settings.lanes (Some (0, 0)) gate outside e counts totals) ended_is
+    (subst (λ (n : ℕ). DidLoadTurns 1000000 settings.config settings.lanes (Some (n, n)) gate outside ended counts totals) moment_is
+    (subst (λ (n : ℕ). DidLoadTurns 1000000 settings.config n (Some (moment, moment)) gate outside ended counts totals) threads_are
+    (subst (λ (c : Config). DidLoadTurns 1000000 c threads (Some (moment, moment)) gate outside ended counts totals) config_is
+    (subst (λ (n : ℕ). DidLoadTurns n config threads (Some (moment, moment)) gate outside ended counts totals) limit_is did))))
 
 -- What is known of the devices when all has been taken
 module _ (settings : LoadSettings) (gate : ℕ → Type 0) (totals : Totals) (outside : Outside) (counts : Counts)
-    (did : DidServe [] 1000000 settings.config settings.lanes (Some (0, 0)) gate outside status.Ok counts totals)
+    (did : DidLoadTurns 1000000 settings.config settings.lanes (Some (0, 0)) gate outside status.Ok counts totals)
     (taken : totals.taken ≡ 2 * settings.calls * settings.packets) where
   all_told : (linked : Option (List LinkCall)) (opened : Option (List PortCall)) (moments : Option (List ℕ))
       → outside.link ≡ Some [] → outside.link_now ≡ linked → outside.opened ≡ Some [] → outside.opened_now ≡ opened → outside.timer ≡ Some [] → outside.timer_now ≡ moments

@@ -19,6 +19,7 @@ use Rattle.media_lane.specs.declared.answers.Totals.{Totals}
 use Rattle.media_lane.specs.Looping.{visits_of}
 use Rattle.media_lane.specs.Visits.{Row}
 use Rattle.media_lane.proofs.Sweeps.{rows_in}
+use Rattle.relay_app.specs.Loads.{IsLoadWhole}
 use Rattle.relay_app.specs.Rounds.{Round, with_heard, tick_of, history_after, entry_due, IsBoardTurn, MakesEntry, SweepsAlone, AreRounds, AreThreads, all_of, IsWhole}
 
 before_across : {A : Type 0} {x y : A} (xs ys : List A) → In x xs → In y ys → Before x y (xs ++ ys)
@@ -41,7 +42,7 @@ order_case l ns first second above e f (inr i) (inr j) x y p k = before_right l 
 both_in_order : (l ns : List Entry) → InOrder l → InOrder ns → ComesAbove l ns → InOrder (l ++ ns)
 both_in_order l ns first second above e f i j x y p k = order_case l ns first second above e f (in_append l ns i) (in_append l ns j) x y p k
 
-abbrev HasNoNested : List Entry → Type 0
+abbrev pub HasNoNested : List Entry → Type 0
 HasNoNested l = (e : Entry) → In e l → is_nested e.event ≡ false
 
 no_nested_in_order : (l : List Entry) → HasNoNested l → InOrder l
@@ -57,7 +58,7 @@ behind_in_order l ls none first =
 
 -- Rows of lanes.
 
-lane_not_nested : (v : Event) → IsOfLane v → is_nested v ≡ false
+pub lane_not_nested : (v : Event) → IsOfLane v → is_nested v ≡ false
 lane_not_nested (Board b) h = absurd h
 lane_not_nested (Cell (Prepare call legs keys dropped)) h = absurd h
 lane_not_nested (Cell (Commit signal)) h = absurd h
@@ -73,7 +74,7 @@ lane_not_nested (Box Close) h = absurd h
 abbrev pub AreOfLane : List Row → Type 0
 AreOfLane rows = (row : Row) → table_lists.In row rows → IsOfLane row.event.event
 
-lanes_no_nested : (rows : List Row) → AreOfLane rows → HasNoNested (list_of rows)
+pub lanes_no_nested : (rows : List Row) → AreOfLane rows → HasNoNested (list_of rows)
 lanes_no_nested rows lanes e i =
     let found = in_rows rows i in
     subst (λ (x : Entry). is_nested x.event ≡ false) found.is (lane_not_nested found.row.event.event (lanes found.row found.is_in))
@@ -100,7 +101,7 @@ threads_of_lane config index threads range (rows ∷ more) are row i =
 
 -- A turn of the board.
 
-board_not_nested : (moment : ℕ) (v : Event) (x : BoardEntry) → board_at moment v ≡ Some x → is_nested v ≡ false
+pub board_not_nested : (moment : ℕ) (v : Event) (x : BoardEntry) → board_at moment v ≡ Some x → is_nested v ≡ false
 board_not_nested moment (Board b) x is = refl
 board_not_nested moment (Cell c) x is = absurd (let k = is in cc)
 board_not_nested moment (Box b) x is = absurd (let k = is in cc)
@@ -157,3 +158,11 @@ module _ (config : Config) where
         (turn_in_order (whole.in_rounds ++ whole.last_sweep) _ whole.stop whole.is_stop
         (lanes_in_order whole.in_rounds whole.last_sweep (sweep_of_lane config threads range whole.last_sweep whole.is_sweep)
         (rounds_in_order rounds whole.in_rounds whole.are_rounds))))
+
+    -- and a whole load
+    pub load_in_order : (rounds : List Round) (totals : Totals) → (whole : IsLoadWhole config threads range rounds totals) → InOrder (list_of whole.rows)
+    load_in_order rounds totals whole =
+        subst (λ (xs : List Row). InOrder (list_of xs)) (sym whole.rows_are)
+        (turn_in_order (whole.in_rounds ++ all_of whole.beside) _ whole.stop whole.is_stop
+        (lanes_in_order whole.in_rounds (all_of whole.beside) (threads_of_lane config 0 threads range whole.beside whole.are_threads)
+        (rounds_in_order rounds whole.in_rounds whole.are_rounds)))

@@ -1,5 +1,5 @@
 -- The end of a run: the stop of all calls, and the close of the table.
-use Rattle.std.proofs.Common.{◌≡◌, refl, sym, subst, ℕ, ◌≤◌, ◌<◌, ◌^◌, arith, List, [], ◌++◌, Option, Some, None, All}
+use Rattle.std.proofs.Common.{◌≡◌, refl, sym, subst, ℕ, ◌≤◌, ◌<◌, ◌^◌, arith, List, [], ◌∷◌, ◌++◌, Option, Some, None, All, map}
 use Rattle.relay_outside.specs.declared.ports.PortCall.{PortCall}
 use Rattle.relay_outside.specs.declared.keys.KeyCall.{KeyCall}
 use Rattle.relay_outside.specs.declared.link.LinkCall.{LinkCall}
@@ -11,7 +11,9 @@ use Rattle.turn_table.specs.declared.hands.Hand.{Hand}
 use Rattle.call_board.specs.Acts.{BoardEntry}
 use Rattle.relay_core.specs.declared.part.Part.{Part}
 use Rattle.relay_core.specs.Entries.{Entry}
-use Rattle.relay_core.specs.Made.{Made, list_of}
+use Rattle.relay_core.specs.Legal.{Legal}
+use Rattle.relay_core.specs.Made.{Made, list_of, told}
+use Rattle.relay_core.specs.Safe.{Safe}
 use Rattle.relay_core.specs.Told.{InOrder, InsAreTold, OutsAreTold}
 use Rattle.relay_core.specs.Turning.{made_by}
 use Rattle.media_ports.specs.Given.{IsOfPair}
@@ -20,7 +22,8 @@ use Rattle.media_ports.specs.Asked as asked
 use Rattle.media_lane.specs.declared.answers.Totals.{Totals}
 use Rattle.media_lane.specs.Visits.{Row, AreTotals}
 use Rattle.media_lane.specs.Gated.{AreGated}
-use Rattle.board_turns.specs.Between.{IsBetween}
+use Rattle.board_turns.specs.Between.{board_of, IsBetween}
+use Rattle.board_turns.specs.Stopping.{stop_entry}
 use Rattle.board_turns.specs.Ties.{AreTied, Ties}
 use Rattle.board_turns.proofs.Firsts.{first_board, none_open}
 use Rattle.media_lane.specs.Totals.{HasTotals}
@@ -28,9 +31,10 @@ use Rattle.ng_server.specs.Servers.{OpensJust}
 use Rattle.relay_app.specs.declared.status.Status.{Status}
 use Rattle.relay_app.specs.declared.totals.Counts.{Counts}
 use Rattle.command_line.specs.declared.settings.Settings.{Settings}
-use Rattle.relay_app.specs.Rounds.{history_after, IsWhole}
+use Rattle.relay_app.specs.Ends.{HasAllSends, AreEnds, OpensSame}
+use Rattle.relay_app.specs.Rounds.{Round, history_after, IsWhole}
 use Rattle.relay_app.specs.Run.{OpensNone, TellsNone}
-use Rattle.relay_app.specs.Served.{Outside, HaveCauses, DidServe}
+use Rattle.relay_app.specs.Served.{Outside, HaveCauses, AreTold, DidServe}
 use Rattle.relay_app.specs.declared.serve.Looped.{Looped}
 use Rattle.relay_app.specs.Turned.{AddsSweep, DidTurns, MayTurn, CanWork, DidWork, MadeTurns}
 use Rattle.relay_app.proofs.Departures.{is_sent}
@@ -89,6 +93,42 @@ stopped_causes history then later p q port key causes entry given i is =
       key_fault = λ f. (let rose = caused.key_fault f in omega (arith, rose, q, key));
     }
 
+-- what is known of a run, besides its steps, by the list of them all
+pub record HasRun (config : Config) (gate : ℕ → Type 0) (rounds : List Round) (last : List ℕ) (ended : Status) (outside : Outside) (list : List Entry) : Type 0 where
+  pub gated : AreGated gate list
+  pub told : AreTold config [] rounds last ended outside
+  pub ends : Gained outside.opened outside.opened_now (AreEnds config list)
+  pub all_sent : HasAllSends config list
+  pub opens_same : OpensSame outside.opened outside.opened_now
+
+-- by its control turns, and the stop after them
+module _ (limit : ℕ) (config : Config) (threads : ℕ) (range : Option (ℕ × ℕ)) (gate : ℕ → Type 0) (l0 l1 : Option (List LinkCall)) (t0 t1 : Option (List ℕ)) (o0 o1 o2 : Option (List PortCall)) (k0 k1 : Option (List KeyCall))
+    (p0 p1 p2 q0 q1 : ℕ) (ended : Status) (counts : Counts) (first : List Row) (later : p1 ≤ p2) (closes : Gained o1 o2 asked.OpensNone)
+    (turns : DidTurns limit config threads range
+    (record { link = l0; link_now = l1; timer = t0; timer_now = t1; opened = o0; opened_now = o1; drew = k0; drew_now = k1; port_faults = p0; port_faults_now = p1; key_faults = q0; key_faults_now = q1 })
+    ended counts first) where
+  abbrev history : List BoardEntry
+  history = history_after config turns.rounds
+
+  pub ran : (rows : List Row) (list : List Entry) → map told list ≡ list_of rows → Legal config list → Safe config list → board_of list ≡ stop_entry history ∷ history
+      → OutsAreTold rows list → InsAreTold config rows → AreGated gate (list_of rows) → Gained o0 o2 (AreTied config rows) → TellsHeld config o0 [] → TellsHeld config o2 []
+      → HasRun config gate turns.rounds turns.last ended
+      (record { link = l0; link_now = l1; timer = t0; timer_now = t1; opened = o0; opened_now = o2; drew = k0; drew_now = k1; port_faults = p0; port_faults_now = p2; key_faults = q0; key_faults_now = q1 })
+      list
+  ran rows list told_is legal safe board_is outs ins gated tied shut shut_again = record {
+    gated = told_gated gate list (subst (λ (l : List Entry). AreGated gate l) (sym told_is) gated);
+    told = record {
+      link = turns.told.link;
+      timer = turns.told.timer;
+      ports = opened_alone config history o0 o1 o2 turns.told.ports closes;
+      keys = turns.told.keys;
+      causes = stopped_causes history _ _ refl refl later refl turns.told.causes;
+    };
+    ends = whole_ends config rows list told_is history legal board_is ins outs o0 o2 tied;
+    all_sent = λ e x w i is sending. is_sent config list history legal safe board_is e x w i is sending;
+    opens_same = opens_same config o0 o2 (gained_less o0 o2 (AreTied config rows) (λ calls. All (IsOfPair config) calls) (λ calls these. these.of_pairs) tied) shut shut_again;
+  }
+
 -- so the turns are those of a whole run
 pub ran_whole : (limit : ℕ) (config : Config) (threads : ℕ) (range : Option (ℕ × ℕ)) (gate : ℕ → Type 0) (l0 l1 : Option (List LinkCall)) (t0 t1 : Option (List ℕ)) (o0 o1 o2 : Option (List PortCall)) (k0 k1 : Option (List KeyCall))
     (p0 p1 p2 q0 q1 : ℕ) (ended : Status) (counts : Counts) (totals : Totals) (rows swept last beside all : List Row) → p1 ≤ p2 → Gained o1 o2 asked.OpensNone
@@ -102,30 +142,24 @@ pub ran_whole : (limit : ℕ) (config : Config) (threads : ℕ) (range : Option 
     ended counts totals
 ran_whole limit config threads range gate l0 l1 t0 t1 o0 o1 o2 k0 k1 p0 p1 p2 q0 q1 ended counts totals rows swept last beside all later closes turns whole gated sweep stop lanes joined ins shut shut_again =
     let run = whole.0 in
-    let tied : Gained o0 o2 (AreTied config run.rows) =
-    subst (λ (xs : List Row). Gained o0 o2 (AreTied config xs)) (sym whole.1)
-    (run_tied config threads range o0 o1 o2 rows swept last beside all turns.tied sweep stop lanes joined) in
-    let in_ends : InsAreTold config run.rows =
-    subst (λ (xs : List Row). InOrder (list_of xs) → InsAreTold config xs) (sym whole.1) ins (whole_in_order config threads range turns.rounds totals run) in
+    let done = ran limit config threads range gate l0 l1 t0 t1 o0 o1 o2 k0 k1 p0 p1 p2 q0 q1 ended counts rows later closes turns run.rows run.list run.told_is run.legal run.safe run.board_is whole.2
+    (subst (λ (xs : List Row). InOrder (list_of xs) → InsAreTold config xs) (sym whole.1) ins (whole_in_order config threads range turns.rounds totals run))
+    (subst (λ (xs : List Row). AreGated gate (list_of xs)) (sym whole.1) gated)
+    (subst (λ (xs : List Row). Gained o0 o2 (AreTied config xs)) (sym whole.1)
+    (run_tied config threads range o0 o1 o2 rows swept last beside all turns.tied sweep stop lanes joined))
+    shut shut_again in
     record {
       rounds = turns.rounds;
       last = turns.last;
       whole = run;
-      gated = told_gated gate run.list
-          (subst (λ (l : List Entry). AreGated gate l) (sym run.told_is) (subst (λ (xs : List Row). AreGated gate (list_of xs)) (sym whole.1) gated));
+      gated = done.gated;
       counts_are = turns.counts_are;
       has_ended = turns.has_ended;
       last_is = turns.last_is;
-      told = record {
-        link = turns.told.link;
-        timer = turns.told.timer;
-        ports = opened_alone config (history_after config turns.rounds) o0 o1 o2 turns.told.ports closes;
-        keys = turns.told.keys;
-        causes = stopped_causes (history_after config turns.rounds) _ _ refl refl later refl turns.told.causes;
-      };
-      ends = whole_ends config threads range turns.rounds totals run in_ends whole.2 o0 o2 tied;
-      all_sent = λ e x w i is sending. is_sent config run.list (history_after config turns.rounds) run.legal run.safe run.board_is e x w i is sending;
-      opens_same = opens_same config o0 o2 (gained_less o0 o2 (AreTied config run.rows) (λ calls. All (IsOfPair config) calls) (λ calls these. these.of_pairs) tied) shut shut_again;
+      told = done.told;
+      ends = done.ends;
+      all_sent = done.all_sent;
+      opens_same = done.opens_same;
     }
 
 -- of a port maker that was not called no port is open

@@ -1,18 +1,24 @@
 -- What is known of a thread of media: before its work, of its work, and after it.
-use Rattle.std.specs.Prelude.{◌≡◌, ◌<◌, ℕ, false, List, [], ◌∷◌, Option, length}
+use Rattle.std.specs.Prelude.{◌≡◌, ◌<◌, ◌≤◌, ℕ, false, List, [], ◌∷◌, ◌++◌, Option, length}
 use Rattle.relay_outside.specs.declared.settings.Config.{Config}
 use Rattle.turn_table.specs.declared.hands.Turns.{Turns}
+use Rattle.turn_table.specs.declared.hands.Hand.{Hand}
 use Rattle.turn_table.specs.Hands.{IsHandOf, view, entries, parts}
+use Rattle.histories.specs.Words.{In}
 use Rattle.relay_core.specs.declared.part.Part.{Part}
 use Rattle.relay_core.specs.declared.machine.Relay.{Relay}
+use Rattle.relay_core.specs.Entries.{Entry}
 use Rattle.relay_core.specs.Made.{Made}
+use Rattle.relay_core.specs.Turning.{made_by}
 use Rattle.media_lane.specs.declared.answers.Totals.{Totals}
 use Rattle.media_lane.specs.Lanes.{hand_of, config_of, index_of, lanes_of, list_of, IsSameLane}
 use Rattle.media_lane.specs.Looping.{AddsTotals, AreSweeps, visits_of, MakesSweeps}
 use Rattle.media_lane.specs.Receipts.{KeepsList}
-use Rattle.media_lane.specs.Gated.{GainsGated}
+use Rattle.media_lane.specs.Gated.{AreGated, GainsGated}
+use Rattle.media_lane.specs.Totals.{HasTotals}
 use Rattle.media_lane.specs.Visits.{Row, Visit, all_rows, AreTotals}
 use Rattle.relay_app.specs.declared.threads.MediaThread.{MediaThread}
+use Rattle.relay_app.specs.Rounds.{AreThreads, all_of}
 
 module _ {I O : Type 0} {gi : _} {go : _} {gm : _} where
   abbrev pub rows_of : MediaThread I O gi go gm → List Row
@@ -58,3 +64,18 @@ module _ {I O : Type 0} {gi : _} {go : _} {gm : _} where
     pub rows_are : rows_of thread ≡ all_rows config (visits_of sweeps)
     pub totals_are : AreTotals (visits_of sweeps) thread.totals
     pub list : KeepsList config [] (list_of thread.lane)
+
+-- at each place of the list its numbers run from 0
+abbrev pub CountsUp : List Entry → Type 0
+CountsUp l = (e : Entry) (n : ℕ) → In e l → n ≤ e.number → (f : Entry) × In f l × (f.place ≡ e.place) × (f.number ≡ n)
+
+module _ {M I O : Type 0} {g : _} where
+  -- Threads of media made these rows, and nothing else was done; before them the main hand's list had all entries of each place
+  pub record RelaysDue (config : Config) (threads : ℕ) (range : Option (ℕ × ℕ)) (gate : ℕ → Type 0) (old new : Hand M (Part I O) Made (Unit {0}) g) (was is : Totals) : Type 0 where
+    pub beside : List (List Row)
+    pub list_is : entries new ≡ entries old ++ all_of beside
+    pub as_many : length beside ≡ threads
+    pub are_threads : AreThreads config 0 threads range beside
+    pub counted : CountsUp (made_by old)
+    pub gated : AreGated gate (made_by old) → AreGated gate (made_by new)
+    pub totals : HasTotals (made_by old) was → HasTotals (made_by new) is

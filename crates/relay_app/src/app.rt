@@ -102,12 +102,7 @@ where
         close_table(server, hand);
         return Status::ControlFault;
     };
-    let prepared = Prepared {
-        hand,
-        desk,
-        room,
-        due: None,
-    };
+    let prepared = Prepared { hand, desk, room };
     let looped = serve_turns(rt, alloc, settings, server, prepared, devices, media);
     put_totals(&mut line, looped.counts, looped.totals);
     match out.write(line.as_slice()) {

@@ -18,9 +18,6 @@ pub(crate) trait ControlWork<V, X, D> {
     fn work<W: Wait>(&mut self, rt: &W, server: &V, media: &X, devices: &mut D)
         requires { can_work self.old server.now devices.old }
         ensures { did server.now media.now self.old devices.old self.new devices.new };
-
-    /// Whether they ended as they should.
-    fn went_well(&self) -> bool;
 }
 
 /// A thread of media over a table `S`. Its relays are handed `X`.
@@ -55,10 +52,31 @@ where
     );
 }
 
+/// Runs all threads of media after the control turns. Where these did not end as they should, the halt word is set from the start.
+pub(crate) fn run_after<R, S, X, L>(
+    rt: &R,
+    turns: &S,
+    media: &X,
+    threads: &mut Vec<L>,
+    went_well: bool,
+)
+where
+    R: Threads + Wait + Sync,
+    S: Sync,
+    X: Sync,
+    L: MediaWork<S, X> + Send,
+    requires some { 0 < length threads.old.items }
+    requires threads { All (λ thread. L.can_work thread turns.now) threads.old.items }
+    ensures as_many { length threads.new.items ≡ length threads.old.items }
+    ensures threads { (i : ℕ) (d : _) → i < length threads.old.items → L.did turns.now media.now (slice_index_or threads.old.items i d) (slice_index_or threads.new.items i d) }
+{
+    let halt = AtomicBool::new(!went_well);
+    media_threads(rt, turns, media, &halt, threads.as_mut_slice());
+}
+
 /// Makes all control turns in this thread, and then sets the halt word; until it is set media is relayed in as many others as there are threads of media.
 /// Where no thread can be started, the control turns are made first, and each thread of media does its work after them: the library
 /// runs the first of two closures last then, and so the control loop is the second. Without a thread of media the control turns are made alone.
-/// Where the threads are to run after the control turns, these are made first, and the halt word is set from the start if they didn't end as they should.
 pub(crate) fn run_beside<R, V, S, X, D, M, L>(
     rt: &R,
     server: &V,
@@ -67,7 +85,6 @@ pub(crate) fn run_beside<R, V, S, X, D, M, L>(
     devices: &mut D,
     control: &mut M,
     threads: &mut Vec<L>,
-    is_after: bool,
 )
 where
     R: Threads + Wait + Sync,
@@ -83,12 +100,6 @@ where
 {
     if threads.is_empty() {
         control.work(rt, server, media, devices);
-        return;
-    }
-    if is_after {
-        control.work(rt, server, media, devices);
-        let halt = AtomicBool::new(!control.went_well());
-        media_threads(rt, turns, media, &halt, threads.as_mut_slice());
         return;
     }
     let threads = threads.as_mut_slice();

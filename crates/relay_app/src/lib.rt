@@ -6,6 +6,7 @@
 mod app;
 mod beside;
 mod devices;
+mod load_run;
 mod loading;
 mod replaying;
 mod serve;

@@ -10,7 +10,8 @@ ghost use Rattle.relay_app.specs.Loads.{RunsLoad, Loads, IsLoaded, load_line};
 
 use crate::app::{line_room, thread_room};
 use crate::devices::{Devices, Media};
-use crate::serve::{Prepared, serve_turns};
+use crate::load_run::load_turns;
+use crate::serve::Prepared;
 use crate::status::Status;
 use crate::threads::Due;
 use crate::totals::put_number;
@@ -109,20 +110,25 @@ where
         keys: &mut keys,
         timer: &mut timer,
     };
-    let looped = serve_turns(
+    let due = Due {
+        pairs: 2 * settings.calls,
+        packets: settings.packets,
+    };
+    let looped = load_turns(
         rt,
         alloc,
         &run_settings(settings),
         server,
         prepared,
+        due,
         &mut devices,
         &media,
     );
     let Status::Ok = looped.status else {
         return None;
     };
-    let due = 2 * u64::from(settings.calls) * u64::from(settings.packets);
-    if looped.totals.taken != due
+    let all = 2 * u64::from(settings.calls) * u64::from(settings.packets);
+    if looped.totals.taken != all
         || !link.is_spent(settings.calls)
         || !ports.tells()
         || !timer.tells()
@@ -180,15 +186,7 @@ where
     let Ok((server, hand)) = Server::start(alloc, settings.config) else {
         return Status::OutOfMemory;
     };
-    let prepared = Prepared {
-        hand,
-        desk,
-        room,
-        due: Some(Due {
-            pairs: 2 * settings.calls,
-            packets: settings.packets,
-        }),
-    };
+    let prepared = Prepared { hand, desk, room };
     let Some(totals) = run_load(rt, alloc, settings, server, prepared, gate) else {
         return Status::OutOfMemory;
     };

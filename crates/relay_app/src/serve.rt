@@ -27,7 +27,7 @@ ghost use Rattle.relay_app.specs.Turned.{AddsSweep, TicksWhenDue, DidTurns, CanW
 use crate::beside::{ControlWork, run_beside};
 use crate::devices::{Devices, Media, Tells};
 use crate::status::Status;
-use crate::threads::{Due, MediaThread, join_threads, make_threads};
+use crate::threads::{MediaThread, join_threads, make_threads};
 use crate::totals::{Counts, no_totals};
 use command_line::Settings;
 use media_lane::{Totals, sweep_between};
@@ -52,7 +52,7 @@ pub(crate) struct Looped {
 
 impl Looped {
     /// Nothing was done yet: a run that makes no control turn has spent its turns.
-    fn not_begun() -> Looped {
+    pub(crate) fn not_begun() -> Looped {
         Looped {
             status: Status::TurnsSpent,
             counts: Counts {
@@ -161,12 +161,12 @@ pub(crate) struct ControlLoop<I: InEnd, O: OutEnd>
 where
     Relay<I, O>: Machine<State = Part<I, O>, Event = Happening, Outcome = ()>,
 {
-    alloc: Global,
-    settings: Settings,
+    pub(crate) alloc: Global,
+    pub(crate) settings: Settings,
     /// It stands here before and after the loop.
-    hand: Option<Hand<Relay<I, O>>>,
-    desk: Desk<O>,
-    looped: Looped,
+    pub(crate) hand: Option<Hand<Relay<I, O>>>,
+    pub(crate) desk: Desk<O>,
+    pub(crate) looped: Looped,
 }
 
 impl<N, P, K, T, C, G, I, O> ControlWork<
@@ -248,10 +248,6 @@ where
         self.looped = looped;
         self.hand = Some(hand);
     }
-
-    fn went_well(&self) -> bool {
-        self.looped.status == Status::Ok
-    }
 }
 
 /// What a run has taken memory for when it begins, besides its server.
@@ -265,8 +261,6 @@ where
     pub(crate) desk: Desk<O>,
     /// An empty list with room for the threads of media.
     pub(crate) room: Vec<MediaThread<I, O>>,
-    /// The datagrams that come, where that is known: then the threads of media run after the control turns, and not beside them.
-    pub(crate) due: Option<Due>,
 }
 
 /// Closes the table of a server by a hand that has all parts, and lets go what its places hold.
@@ -288,7 +282,7 @@ where
 
 /// Serves with a server that has taken no turn yet: its control turns, with as many threads of media beside them as the settings say, then the
 /// stop, which ends all calls, and the close of its table. Where no thread relays media, a sweep stands after each control turn and before
-/// the stop. Where it is known how many datagrams come, the threads of media run after the control turns.
+/// the stop.
 pub(crate) fn serve_turns<N, P, K, T, C, G, R>(
     rt: &R,
     alloc: Global,
@@ -330,7 +324,6 @@ where
         mut hand,
         desk,
         room,
-        due,
     } = prepared;
     let count = settings.threads;
     let mut threads = make_threads(
@@ -339,7 +332,7 @@ where
         room,
         count,
         &settings.config,
-        due,
+        None,
     );
     let mut control = ControlLoop {
         alloc,
@@ -356,7 +349,6 @@ where
         devices,
         &mut control,
         &mut threads,
-        due.is_some(),
     );
     let ControlLoop {
         alloc: _,

@@ -1,6 +1,6 @@
 //! The threads of media of a run: each is a lane by a hand that is split from the main one, and is joined to it again at the end.
 ghost use Rattle.std.specs.Prelude.{◌≡◌, ◌+◌, ◌<◌, ◌≤◌, ◌++◌, ℕ, All, [], map, length, vec_capacity, slice_index_or};
-ghost use Rattle.turn_table.specs.Hands.{IsHandOf, HasNoTurn, starts, entries, parts};
+ghost use Rattle.turn_table.specs.Hands.{IsHandOf, HasNoTurn, view, starts, entries, parts};
 ghost use Rattle.media_lane.specs.Lanes.{hand_of};
 ghost use Rattle.board_turns.specs.Between.{IsBetween};
 ghost use Rattle.relay_app.specs.Rounds.{all_of};
@@ -117,6 +117,7 @@ pub(crate) fn join_threads<I: InEnd, O: OutEnd>(
     ensures table { IsHandOf turns.now hand.new }
     ensures idle { HasNoTurn hand.new }
     ensures starts { starts hand.new ≡ starts hand.old }
+    ensures main { (view hand.new).main ≡ (view hand.old).main }
     ensures parts { parts hand.new ≡ parts hand.old + length threads.items }
     ensures list { entries hand.new ≡ entries hand.old ++ all_of (map (λ thread. rows_of thread) threads.items) }
     ensures totals { AddsEach threads.items totals.old totals.new }

@@ -12,6 +12,7 @@ loop-thread-init g c =
       table = c.requires.table;
       idle = c.requires.idle;
       starts_are = refl;
+      main_is = refl;
       others = all_reversed (λ thread. MayJoin c.args.turns.now thread) c.args.threads.items c.reverse.new.self.items c.reverse.ensures.items c.requires.others;
       parts_are = omega (arith, c.reverse.ensures.len);
       list = ap (λ zs. entries c.args.hand.now ++ rest zs) back;
@@ -38,6 +39,7 @@ loop-thread-preserved g c =
       table = joined.0 ∙ before.table;
       idle = joined.5;
       starts_are = joined.1 ∙ before.starts_are;
+      main_is = joined.4 ∙ before.main_is;
       others = others.0;
       parts_are = (let sum = joined.3 in let all = before.parts_are in omega (arith, sum, one, long, all));
       list = next_list c.loop-thread.threads.items c.pop.new.self.items c.in-Some.thread items (entries c.loop-thread.hand) (entries c.join_hand.new.hand) _

@@ -1,6 +1,6 @@
 use Rattle.std.proofs.Common.{◌≡◌, ◌+◌, ◌++◌, All, length, map, reverse}
 use Rattle.std.specs.Prelude.{vec_len}
-use Rattle.turn_table.specs.Hands.{IsHandOf, HasNoTurn, starts, entries, parts}
+use Rattle.turn_table.specs.Hands.{IsHandOf, HasNoTurn, view, starts, entries, parts}
 use Rattle.media_lane.specs.declared.answers.Totals.{Totals}
 use Rattle.relay_app.specs.Rounds.{all_of}
 use Rattle.relay_app.specs.Threads.{rows_of, MayJoin, AddsEach}
@@ -11,6 +11,7 @@ invariant-loop-thread g l = record {
   table : IsHandOf l.turns l.hand;
   idle : HasNoTurn l.hand;
   starts_are : starts l.hand ≡ starts l.fn.hand;
+  main_is : (view l.hand).main ≡ (view l.fn.hand).main;
   others : All (λ thread. MayJoin l.turns thread) l.threads.items;
   parts_are : parts l.hand + length l.threads.items ≡ parts l.fn.hand + length l.fn.threads.items;
   list : entries l.hand ++ all_of (map (λ thread. rows_of thread) (reverse l.threads.items)) ≡ entries l.fn.hand ++ all_of (map (λ thread. rows_of thread) l.fn.threads.items);
