@@ -1,4 +1,5 @@
-"""Offers, answers and deletes calls over UDP, waiting for each reply, and prints nanoseconds a call.
+"""Offers, answers and deletes calls over UDP, waiting for each reply, and prints nanoseconds a call: the mean, the median, and what the
+fastest tenth took at most, which other work on the machine disturbs least.
 
 Usage: bench/calls.py PORT CALLS [OTHERS] [KEPT] [bencode | json] [newest | oldest]. Before, it offers and answers that many other calls,
 and sends that many pings, so that their replies are kept. After each call's answer it deletes that call, so that the others stay, or the
@@ -54,10 +55,13 @@ for other in other_calls:
 ask(datagram("p", ping, command="ping") for ping in range(kept))
 # each call is ended, the others first where the oldest goes
 ends = [*other_calls, *range(calls)] if oldest else [*range(calls), *other_calls]
-measured = [it for call in range(calls) for it in set_up(call) + end(ends[call])]
-start = time.perf_counter_ns()
-ask(measured)
-taken = time.perf_counter_ns() - start
+measured = [set_up(call) + end(ends[call]) for call in range(calls)]
+times = []
+for datagrams in measured:
+    start = time.perf_counter_ns()
+    ask(datagrams)
+    times.append(time.perf_counter_ns() - start)
 for call in ends[calls:]:
     ask(end(call))
-print(taken // calls, "ns a call")
+times.sort()
+print(sum(times) // calls, "ns a call,", times[calls // 2], "the median,", times[calls // 10], "the fastest tenth at most")
