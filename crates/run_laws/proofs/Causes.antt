@@ -20,7 +20,7 @@ use Rattle.run_laws.specs.Causes.{ReachesEnd, IsCausedBy, HasFailed}
 use Rattle.run_laws.proofs.Ends.{last, not_bind, not_failed, in_none, not_among, in_rounds}
 
 -- what a device that tells its calls gained
-gained : {C : Type 0} (P : List C → Type 0) (old new : Option (List C)) (before calls : List C) → old ≡ Some before → new ≡ Some (before ++ calls) → Gained old new P → P calls
+pub gained : {C : Type 0} (P : List C → Type 0) (old new : Option (List C)) (before calls : List C) → old ≡ Some before → new ≡ Some (before ++ calls) → Gained old new P → P calls
 gained {C} P old new before calls was is g =
     let h : Gained (Some before) (Some (before ++ calls)) P =
     subst (λ (x : Option (List C)). Gained (Some before) x P) is (subst (λ (x : Option (List C)). Gained x new P) was g) in

@@ -5,14 +5,18 @@ ghost use Rattle.relay_outside.specs.Told.{Rose};
 ghost use Rattle.call_board.specs.Kept.{kept};
 ghost use Rattle.board_turns.specs.Controls.{Hearing};
 ghost use Rattle.board_laws.specs.Answered.{IsAnswered};
+ghost use Rattle.command_line.specs.declared.settings.LoadSettings.{LoadSettings};
 ghost use Rattle.command_line.specs.declared.settings.Settings.{Settings};
+ghost use Rattle.media_lane.specs.declared.answers.Totals.{Totals};
 ghost use Rattle.relay_app.specs.declared.status.Status.{Status};
 ghost use Rattle.relay_app.specs.declared.status.Status.TheVariants as status;
+ghost use Rattle.relay_app.specs.Loads.{RunsLoad};
 ghost use Rattle.relay_app.specs.Rounds.{Round, history_after};
 ghost use Rattle.relay_app.specs.Run.{Serves, DidRun};
 ghost use Rattle.relay_app.specs.Served.{Outside};
 ghost use Rattle.run_laws.specs.Answered.{moment_in, turn_in};
 ghost use Rattle.run_laws.specs.Causes.{ReachesEnd, IsCausedBy, HasFailed};
+ghost use Rattle.run_laws.specs.Loaded.{HasEndsBy, AreBeforeEnds};
 
 use relay_outside::Gate;
 
@@ -45,4 +49,16 @@ pub fn datagrams_of_a_run_are_answered<G: Gate>()
         kept (history_after settings.config earlier) x.source x.cookie (moment_in settings.config earlier r) ≡ None →
         (Rose outside.port_faults outside.port_faults_now → ⊥) → (Rose outside.key_faults outside.key_faults_now → ⊥) →
         IsAnswered settings.config (history_after settings.config earlier) (turn_in settings.config earlier r x) }
+{}
+
+/// Theorem (no run-time code): in a run of `load` each relay stands at its cell before every End of that cell, as their numbers there say; for each
+/// End belongs to the entry of the board that is the stop, so that no call ends before it.
+///
+/// No datagram of a load is a delete, since each is an offer or an answer by its text (`TellsLoad`); and no tick is made, since each moment is 0. What
+/// a run says of itself is `RunsLoad`, of which `loads`, a clause of `run`, speaks; that each relay stands after every Commit is its `ordered`.
+pub fn relays_of_a_load_stand_before_its_ends<G: Gate>()
+    ensures before_ends { (settings : LoadSettings) (gate : G) (totals : Totals) (runs : RunsLoad settings (G.passed gate) totals) →
+        AreBeforeEnds runs.did.whole.list }
+    ensures by_stop { (settings : LoadSettings) (gate : G) (totals : Totals) (runs : RunsLoad settings (G.passed gate) totals) →
+        HasEndsBy runs.did.whole.list runs.did.whole.is_stop.last.number }
 {}
