@@ -1,6 +1,12 @@
-use Rattle.std.proofs.Common.{ap, arith, List, ℕ}
-use Rattle.media_lane.proofs.Relays.{front_kept, part_relays}
+use Rattle.std.proofs.Common.{◌≡◌, ◌∙◌, ◌≤◌, ◌++◌, ap, arith, List, length, take, ℕ}
+use Rattle.std.proofs.lemmas.List.{length-take-le, take_at}
+use Rattle.media_lane.proofs.Relays.{part_relays}
 use Rattle.tests_media.proofs.media_lane_tests.beside.relay_in.Goals as goal
+
+-- bytes that were copied to the front stand there
+front_kept : (len : ℕ) (buf bytes front rest : List ℕ) → front ≡ take len bytes → length front ≡ length (take len buf) → len ≤ length buf
+    → take len (front ++ rest) ≡ take len bytes
+front_kept len buf bytes front rest is long fits = take_at front rest len (long ∙ length-take-le len buf fits) ∙ is
 
 pub returns : goal.returns
 returns g c =
