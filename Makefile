@@ -30,6 +30,7 @@ check:
 	tools/links
 	tools/refusing-calls
 	tools/man-page
+	attacks/try --look
 	rt ci
 
 # Writes the man page from docs/PROTOCOL.md.
