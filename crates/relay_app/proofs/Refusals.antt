@@ -10,11 +10,11 @@ use Rattle.command_line.specs.Refusals.{begins_usage}
 use Rattle.command_line.specs.declared.settings.Settings.{Settings}
 use Rattle.command_line.specs.declared.settings.ReplaySettings.{ReplaySettings}
 use Rattle.command_line.specs.declared.settings.LoadSettings.{LoadSettings}
-use Rattle.relay_app.specs.Loads.{Loads}
-use Rattle.relay_app.specs.declared.status.Status.TheVariants as status
-use Rattle.relay_app.specs.Served.{Outside}
+use Rattle.relay_runs.specs.Loads.{Loads}
+use Rattle.relay_runs.specs.declared.status.Status.TheVariants as status
+use Rattle.relay_runs.specs.Served.{Outside}
 use Rattle.relay_app.specs.Run.{Serves, StatusByWords, ReplayedBy, ReplaysBy, PrintsUsage, TellsLine}
-use Rattle.relay_app.proofs.Runs.{not_begun}
+use Rattle.relay_runs.proofs.Runs.{not_begun}
 
 pub serves_nothing : (settings : Option Settings) (range : Option (ℕ × ℕ)) (gate : ℕ → Type 0) (outside : Outside) (wrote : Option (List WriteCall)) → outside.link ≡ outside.link_now
     → outside.timer ≡ outside.timer_now → outside.opened ≡ outside.opened_now → outside.drew ≡ outside.drew_now

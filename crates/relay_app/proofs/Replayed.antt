@@ -9,8 +9,8 @@ use Rattle.replay_steps.specs.declared.ended.Ended.{Ended}
 use Rattle.replay_steps.specs.declared.ended.Ended.TheVariants as ended
 use Rattle.replay_steps.specs.Written.{Replays}
 use Rattle.command_line.specs.declared.settings.ReplaySettings.{ReplaySettings}
-use Rattle.relay_app.specs.declared.status.Status.{Status}
-use Rattle.relay_app.specs.declared.status.Status.TheVariants as status
+use Rattle.relay_runs.specs.declared.status.Status.{Status}
+use Rattle.relay_runs.specs.declared.status.Status.TheVariants as status
 use Rattle.relay_app.specs.Run.{ended_of, told_as, IsReplayed, ReplaysBy}
 
 -- what a device that did otherwise leaves written is what want of memory may leave

@@ -1,9 +1,1 @@
-pub mod Devices
-pub mod Ends
-pub mod Loads
-pub mod Numbered
-pub mod Rounds
 pub mod Run
-pub mod Served
-pub mod Threads
-pub mod Turned

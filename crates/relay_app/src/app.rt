@@ -1,115 +1,20 @@
-ghost use Rattle.std.specs.Prelude.{◌≡◌, ◌≤◌, ◌<◌, ◌^◌, [], vec_capacity, None, Some, IfOk, map};
+ghost use Rattle.std.specs.Prelude.{◌≡◌, None, map};
 ghost use Rattle.relay_outside.specs.Told.{Gained, Rose};
-ghost use Rattle.media_ports.specs.Held.{TellsHeld};
 ghost use Rattle.command_line.specs.Words.{settings, replay_settings, load_settings};
-ghost use Rattle.relay_app.specs.Devices.{AreSame, AreUnasked};
-ghost use Rattle.relay_app.specs.Loads.{Loads};
-ghost use Rattle.relay_app.specs.Run.{Serves, PrintsUsage, IsServed, StatusByWords, ReplayedBy, AreOfReplay, TellsNone};
+ghost use Rattle.relay_runs.specs.Loads.{Loads};
+ghost use Rattle.relay_runs.specs.Run.{Serves, TellsNone};
+ghost use Rattle.relay_app.specs.Run.{PrintsUsage, StatusByWords, ReplayedBy, AreOfReplay};
 
-use crate::devices::{Devices, Media, Tells};
-use crate::loading::load;
 use crate::replaying::replay_script;
-use crate::serve::{Prepared, close_table, serve_turns};
-use crate::status::Status;
-use crate::threads::MediaThread;
-use crate::totals::put_totals;
 use crate::usage::print_usage;
-use command_line::{Refusal, Settings, Task, read_words};
-use ng_bencode::Text;
-use ng_server::{Desk, Server};
+use command_line::{Refusal, Task, read_words};
 use relay_outside::{
-    Clock, ControlLink, Gate, InEnd, KeySource, LineSink, LineSource, OutEnd, OutOfMemory,
-    PortMaker, Timer,
+    Clock, ControlLink, Gate, KeySource, LineSink, LineSource, PortMaker, Timer,
 };
+use relay_runs::{Devices, Media, Status, load, serve};
 use std::alloc::Global;
 use std::sync::Wait;
 use std::thread::Threads;
-
-/// How many bytes the line of totals has at most.
-const LINE: usize = 512;
-
-/// An empty text with room for the line of totals.
-pub(crate) fn line_room(alloc: Global) -> Result<Text, OutOfMemory>
-    ensures { IfOk result (λ line. (line.list ≡ []) × (512 ≤ line.spare)) }
-{
-    let mut line = Text::new(alloc);
-    match line.reserve(LINE) {
-        Ok(()) => Ok(line),
-        Err(_) => Err(OutOfMemory),
-    }
-}
-
-/// An empty list with capacity for this many threads of media.
-pub(crate) fn thread_room<I: InEnd, O: OutEnd>(
-    alloc: Global,
-    count: u32,
-) -> Result<Vec<MediaThread<I, O>>, OutOfMemory>
-    ensures { IfOk result (λ room. (room.items ≡ []) × (count ≤ vec_capacity room)) }
-{
-    match Vec::with_capacity(alloc, count as usize) {
-        Ok(room) => Ok(room),
-        Err(_) => Err(OutOfMemory),
-    }
-}
-
-/// Serves the ng control protocol.
-fn serve<N, P, K, T, C, G, O, R>(
-    rt: &R,
-    alloc: Global,
-    settings: &Settings,
-    devices: &mut Devices<'_, '_, '_, '_, N, P, K, T>,
-    media: &Media<'_, '_, C, G>,
-    out: &mut O,
-) -> Status
-where
-    N: ControlLink,
-    P: PortMaker,
-    P::In: Send + Drop,
-    P::Out: Send + Drop,
-    K: KeySource,
-    T: Timer,
-    C: Clock + Sync,
-    G: Gate + Sync,
-    O: LineSink,
-    R: Threads + Wait + Sync,
-    requires turns { settings.now.turns < 2 ^ 63 }
-    requires threads { settings.now.threads ≤ 16 }
-    requires open { TellsHeld settings.now.config (P.told devices.old.ports.now) [] }
-    ensures same { AreSame devices.old devices.new }
-    ensures served { Serves (Some settings.now) (C.range media.now.clock.now) (G.passed media.now.gate.now)
-        (⟦<Devices<'static, 'static, 'static, 'static, N, P, K, T> as Tells>⟧.outside devices.old devices.new)
-        (O.told out.old) (O.told out.new) result }
-    ensures status { IsServed result }
-    ensures memory { result ≡ Status.OutOfMemory → AreUnasked devices.old devices.new × (out.new ≡ out.old) }
-    ensures shut { TellsHeld settings.now.config (P.told devices.new.ports.now) [] }
-    ensures later { ⟦<Devices<'static, 'static, 'static, 'static, N, P, K, T> as Tells>⟧.later devices.old devices.new × (O.faults out.old ≤ O.faults out.new) }
-    ensures control_fault { result ≡ Status.ControlFault → Rose (N.faults devices.old.link.now) (N.faults devices.new.link.now) }
-    ensures print_fault { result ≡ Status.PrintFault → Rose (O.faults out.old) (O.faults out.new) }
-{
-    let Ok(mut line) = line_room(alloc) else {
-        return Status::OutOfMemory;
-    };
-    let Ok(desk) = Desk::new(alloc) else {
-        return Status::OutOfMemory;
-    };
-    let Ok(room) = thread_room(alloc, settings.threads) else {
-        return Status::OutOfMemory;
-    };
-    let Ok((server, hand)) = Server::start(alloc, settings.config) else {
-        return Status::OutOfMemory;
-    };
-    let Ok(()) = devices.link.bind(settings.listen) else {
-        close_table(server, hand);
-        return Status::ControlFault;
-    };
-    let prepared = Prepared { hand, desk, room };
-    let looped = serve_turns(rt, alloc, settings, server, prepared, devices, media);
-    put_totals(&mut line, looped.counts, looped.totals);
-    match out.write(line.as_slice()) {
-        Ok(()) => looped.status,
-        Err(_) => Status::PrintFault,
-    }
-}
 
 /// Runs the relay as the words of a command line say, over the devices that it is handed, and returns how
 /// it ended.

@@ -4,17 +4,8 @@
 #![tactic(auto)]
 
 mod app;
-mod beside;
-mod devices;
-mod load_run;
-mod loading;
 mod replaying;
-mod serve;
-mod status;
-mod threads;
-mod totals;
-mod until;
 mod usage;
 
 pub use app::run;
-pub use status::Status;
+pub use relay_runs::Status;

@@ -3,9 +3,9 @@ ghost use Rattle.std.specs.Prelude.{◌≡◌, ◌≤◌, None, Some};
 ghost use Rattle.relay_outside.specs.Told.{Rose};
 ghost use Rattle.relay_app.specs.Run.{ended_of, told_as, StatusByWords, ReplayedBy};
 
-use crate::status::Status;
 use command_line::ReplaySettings;
 use relay_outside::{LineSink, LineSource};
+use relay_runs::Status;
 use replay_steps::{Ended, replay};
 use std::alloc::Global;
 use std::sync::Wait;

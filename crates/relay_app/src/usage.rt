@@ -3,9 +3,9 @@ ghost use Rattle.relay_outside.specs.Told.{Gained, Rose};
 ghost use Rattle.command_line.specs.Refusals.{begins_usage};
 ghost use Rattle.relay_app.specs.Run.{PrintsUsage, StatusByWords};
 
-use crate::status::Status;
 use command_line::Usage;
 use relay_outside::LineSink;
+use relay_runs::Status;
 
 /// Prints how words are written: a line, and then what the reader of the options says of them.
 pub(crate) fn print_usage<O: LineSink>(usage: &Usage, out: &mut O) -> Status

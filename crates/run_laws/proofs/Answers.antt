@@ -8,8 +8,8 @@ use Rattle.call_board.specs.Kept.{kept}
 use Rattle.board_turns.specs.Controls.{Hearing, entry_at}
 use Rattle.board_laws.specs.Answered.{IsAnswered}
 use Rattle.board_laws.proofs.Ends.{control_answered}
-use Rattle.relay_app.specs.Rounds.{Round, with_entry, with_heard, tick_of, entry_due, history_after}
-use Rattle.relay_app.specs.Served.{Outside, HaveCauses, IsCaused}
+use Rattle.relay_runs.specs.Rounds.{Round, with_entry, with_heard, tick_of, entry_due, history_after}
+use Rattle.relay_runs.specs.Served.{Outside, HaveCauses, IsCaused}
 use Rattle.run_laws.specs.Answered.{moment_in, turn_in}
 
 -- a history that goes on has the entries that it had

@@ -11,11 +11,11 @@ use Rattle.relay_outside.specs.declared.link.LinkGiven.TheVariants as given
 use Rattle.relay_outside.specs.Told.{Gained}
 use Rattle.command_line.specs.declared.settings.Settings.{Settings}
 use Rattle.media_lane.specs.Visits.{Row}
-use Rattle.relay_app.specs.declared.status.Status.{Status}
-use Rattle.relay_app.specs.declared.status.Status.TheVariants as status
-use Rattle.relay_app.specs.Rounds.{Round, AreRounds}
-use Rattle.relay_app.specs.Run.{Serves, DidRun}
-use Rattle.relay_app.specs.Served.{Outside, AreExchanges, AreCalls, HasEnded, counts_in, last_take, totals_line}
+use Rattle.relay_runs.specs.declared.status.Status.{Status}
+use Rattle.relay_runs.specs.declared.status.Status.TheVariants as status
+use Rattle.relay_runs.specs.Rounds.{Round, AreRounds}
+use Rattle.relay_runs.specs.Run.{Serves, DidRun}
+use Rattle.relay_runs.specs.Served.{Outside, AreExchanges, AreCalls, HasEnded, counts_in, last_take, totals_line}
 use Rattle.run_laws.specs.Causes.{ReachesEnd, IsCausedBy, HasFailed}
 use Rattle.run_laws.proofs.Ends.{last, not_bind, not_failed, in_none, not_among, in_rounds}
 

@@ -15,10 +15,10 @@ use Rattle.board_turns.specs.Controls.{Hearing, control_of, moment_at}
 use Rattle.ng_server.specs.Taking.{is_too_long, DidReply, DidFollow}
 use Rattle.ng_server.specs.declared.taking.ControlTurn.{ControlTurn}
 use Rattle.ng_server.specs.declared.taking.ControlTurn.TheVariants as turn
-use Rattle.relay_app.specs.declared.status.Status.{Status}
-use Rattle.relay_app.specs.declared.status.Status.TheVariants as status
-use Rattle.relay_app.specs.Rounds.{Round, status_after, history_after, AreRounds}
-use Rattle.relay_app.specs.Served.{AreExchanges}
+use Rattle.relay_runs.specs.declared.status.Status.{Status}
+use Rattle.relay_runs.specs.declared.status.Status.TheVariants as status
+use Rattle.relay_runs.specs.Rounds.{Round, status_after, history_after, AreRounds}
+use Rattle.relay_runs.specs.Served.{AreExchanges}
 use Rattle.run_laws.specs.Causes.{ReachesEnd}
 
 -- the take that found the end

@@ -48,10 +48,10 @@ use Rattle.board_turns.specs.Ticking.{tick_entry}
 use Rattle.ng_server.specs.Taking.{is_too_long, DidReply, DidFollow, DidTurn}
 use Rattle.ng_server.specs.declared.taking.ControlTurn.{ControlTurn}
 use Rattle.command_line.specs.declared.settings.LoadSettings.{LoadSettings}
-use Rattle.relay_app.specs.declared.status.Status.TheVariants as status
-use Rattle.relay_app.specs.Loads.{RunsLoad}
-use Rattle.relay_app.specs.Rounds.{Round, with_heard, tick_of, history_after, entry_due, moments, counted_from, is_second_later, is_tick_due, IsBoardTurn, MakesEntry, SweepsAlone, AreRounds, AreThreads, all_of}
-use Rattle.relay_app.specs.Served.{AreExchanges, AreCalls, last_take}
+use Rattle.relay_runs.specs.declared.status.Status.TheVariants as status
+use Rattle.relay_runs.specs.Loads.{RunsLoad}
+use Rattle.relay_runs.specs.Rounds.{Round, with_heard, tick_of, history_after, entry_due, moments, counted_from, is_second_later, is_tick_due, IsBoardTurn, MakesEntry, SweepsAlone, AreRounds, AreThreads, all_of}
+use Rattle.relay_runs.specs.Served.{AreExchanges, AreCalls, last_take}
 use Rattle.run_laws.specs.Loaded.{HasEndsBy, AreBeforeEnds}
 use Rattle.run_laws.proofs.Bodies.{framed_body}
 use Rattle.run_laws.proofs.Causes.{gained}

@@ -3,7 +3,7 @@ use Rattle.std.specs.Prelude.{ℕ, List}
 use Rattle.relay_outside.specs.declared.settings.Config.{Config}
 use Rattle.call_board.specs.Acts.{Control}
 use Rattle.board_turns.specs.Controls.{Hearing, control_of, moment_at}
-use Rattle.relay_app.specs.Rounds.{Round, history_after}
+use Rattle.relay_runs.specs.Rounds.{Round, history_after}
 
 -- the moment of a round that follows these: the one that was handed to its control turn, or the board's last one, where that is later
 abbrev pub moment_in : Config → List Round → Round → ℕ

@@ -7,9 +7,9 @@ use Rattle.relay_outside.specs.declared.link.LinkCall.{LinkCall}
 use Rattle.relay_outside.specs.declared.link.LinkCall.TheVariants as call
 use Rattle.relay_outside.specs.declared.link.LinkGiven.TheVariants as given
 use Rattle.command_line.specs.declared.settings.Settings.{Settings}
-use Rattle.relay_app.specs.declared.status.Status.{Status}
-use Rattle.relay_app.specs.declared.status.Status.TheVariants as status
-use Rattle.relay_app.specs.Served.{is_turn}
+use Rattle.relay_runs.specs.declared.status.Status.{Status}
+use Rattle.relay_runs.specs.declared.status.Status.TheVariants as status
+use Rattle.relay_runs.specs.Served.{is_turn}
 
 -- one of the takes found the end of the link
 abbrev pub ReachesEnd : List LinkCall → Type 0

@@ -1,6 +1,6 @@
 use Rattle.std.proofs.Common.{ap}
 use Rattle.relay_outside.specs.PortTape.{MakerTape}
-use Rattle.relay_app.proofs.Wholes.{never_called}
+use Rattle.relay_runs.proofs.Wholes.{never_called}
 use Rattle.call_bench.proofs.run_over.Goals as goal
 
 pub run-requires-clause-open : goal.run-requires-clause-open

@@ -1,0 +1,225 @@
+-- How the rows of a run grow: by a control turn, by a sweep, and by the stop.
+use Rattle.std.specs.Prelude.{is_some, unwrap_or}
+use Rattle.std.specs.Option.{option_map}
+use Rattle.std.proofs.Common.{◌≡◌, ◌∙◌, ap, refl, subst, sym, ℕ, zero, suc, ◌<◌, List, [], ◌∷◌, ◌++◌, length, append_assoc, append-nil, Bool, true, false, cond, Option, None, Some, map, arith}
+use Rattle.relay_outside.specs.declared.settings.Config.{Config}
+use Rattle.turn_table.specs.declared.hands.Turns.{Turns}
+use Rattle.turn_table.specs.declared.hands.Hand.{Hand}
+use Rattle.turn_table.specs.Histories as table_lists
+use Rattle.turn_table.specs.Hands.{entries}
+use Rattle.call_board.specs.Acts.{Call, BoardEntry}
+use Rattle.relay_core.specs.declared.part.Part.{Part}
+use Rattle.relay_core.specs.Entries.{Entry}
+use Rattle.relay_core.specs.Legal.{Legal}
+use Rattle.relay_core.specs.Safe.{Safe}
+use Rattle.relay_core.specs.Made.{Made, list_of, told}
+use Rattle.relay_core.specs.Timed.{AreTimed}
+use Rattle.relay_core.specs.Told.{OutsAreTold}
+use Rattle.relay_core.specs.Turning.{IsOfLane, made_by}
+use Rattle.relay_core.proofs.Recording.{lane_no_boards}
+use Rattle.media_lane.specs.declared.answers.Totals.{Totals}
+use Rattle.media_lane.specs.Sweeping.{Sweeps}
+use Rattle.media_lane.specs.Visits.{Row}
+use Rattle.board_turns.specs.Between.{board_of, IsBetween, MakesTurn}
+use Rattle.board_turns.specs.Stopping.{stop_entry}
+use Rattle.board_turns.specs.Ticking.{tick_entry}
+use Rattle.board_turns.proofs.Grown.{makes_history}
+use Rattle.board_turns.specs.Controls.{Hearing, entry_at, moment_at}
+use Rattle.ng_server.specs.declared.taking.ControlTurn.{ControlTurn}
+use Rattle.ng_server.specs.Taking.{Follows}
+use Rattle.media_lane.specs.Totals.{HasTotals}
+use Rattle.media_lane.proofs.Between.{lanes_board}
+use Rattle.media_lane.proofs.Counts.{turn_totals, told_totals}
+use Rattle.ng_server.proofs.Tellings.{told_board}
+use Rattle.relay_runs.specs.Rounds.{Round, status_after, entry_due, with_entry, with_heard, tick_of, history_after, with_ticks, latest, earliest, or_else, counted_from, is_tick_due, IsBoardTurn, HasHeard, MakesEntry, AreRounds, AreThreads, all_of, IsWhole}
+use Rattle.relay_runs.specs.Turned.{AddsSweep, DidTick}
+
+-- what a control turn added to the rows, or a tick
+pub record AddsTurn (config : Config) (entry : Option BoardEntry) (before after : List Row) : Type 0 where
+  pub rows : List Row
+  pub are : after ≡ before ++ rows
+  pub makes : MakesEntry config before entry rows
+
+-- one more round
+module _ (config : Config) (threads : ℕ) (range : Option (ℕ × ℕ)) (rounds : List Round) (r : Round) (before between swept after : List Row) where
+  pub one_more : status_after r.answer ≡ None → HasHeard r.answer r.heard → is_some r.ticked ≡ is_tick_due rounds r.handed
+      → AreRounds config threads range rounds before → AddsTurn config (entry_due config (history_after config rounds) r.handed r.heard) before between
+      → AddsSweep config threads range between swept → AddsTurn config (tick_of (with_heard config (history_after config rounds) r) r) swept after
+      → AreRounds config threads range (r ∷ rounds) after
+  one_more goes heard due are t s k =
+      let swept_is : swept ≡ (before ++ t.rows) ++ s.rows = s.are ∙ ap (λ (xs : List Row). xs ++ s.rows) t.are in
+      let tick : MakesEntry config ((before ++ t.rows) ++ s.rows) (tick_of (with_heard config (history_after config rounds) r) r) k.rows =
+      subst (λ (xs : List Row). MakesEntry config xs (tick_of (with_heard config (history_after config rounds) r) r) k.rows) swept_is k.makes in
+      (before, t.rows, s.rows, k.rows, k.are ∙ ap (λ (xs : List Row). xs ++ k.rows) swept_is, goes, heard, due, are, t.makes, s.alone, tick)
+
+-- From which moment the next second counts.
+
+earliest_some : (r : Round) (rounds : List Round) → is_some (earliest (r ∷ rounds)) ≡ true
+earliest_some r [] = refl
+earliest_some r (before ∷ rounds) = earliest_some before rounds
+
+-- the one that is there
+or_kept : (found : Option Round) (r : Round) → is_some found ≡ true → found ≡ or_else found (Some r)
+or_kept None r some = absurd (let k = some in cc)
+or_kept (Some x) r some = refl
+
+earliest_more : (r : Round) (rounds : List Round) → earliest (r ∷ rounds) ≡ or_else (earliest rounds) (Some r)
+earliest_more r [] = refl
+earliest_more r (before ∷ rounds) = or_kept (earliest (before ∷ rounds)) r (earliest_some before rounds)
+
+counted_case : (last first : Option Round) (r : Round)
+    → option_map (λ (q : Round). q.handed) (or_else last (or_else first (Some r))) ≡ Some (unwrap_or (option_map (λ (q : Round). q.handed) (or_else last first)) r.handed)
+counted_case (Some x) first r = refl
+counted_case None (Some x) r = refl
+counted_case None None r = refl
+
+-- after a round: from its own where a tick is in it, and else as before
+pub counted_next : (r : Round) (rounds : List Round) (ticks : Bool) → is_some r.ticked ≡ ticks
+    → counted_from (r ∷ rounds) ≡ Some (cond ticks r.handed (unwrap_or (counted_from rounds) r.handed))
+counted_next r rounds true is =
+    ap (λ (b : Bool). option_map (λ (q : Round). q.handed) (or_else (latest (cond b (r ∷ with_ticks rounds) (with_ticks rounds))) (earliest (r ∷ rounds)))) is
+counted_next r rounds false is =
+    ap (λ (b : Bool). option_map (λ (q : Round). q.handed) (or_else (latest (cond b (r ∷ with_ticks rounds) (with_ticks rounds))) (earliest (r ∷ rounds)))) is
+    ∙ ap (λ (o : Option Round). option_map (λ (q : Round). q.handed) (or_else (latest (with_ticks rounds)) o)) (earliest_more r rounds)
+    ∙ counted_case (latest (with_ticks rounds)) (earliest rounds) r
+
+pub no_rows : (rows : List Row) → list_of rows ≡ [] → rows ≡ []
+no_rows [] none = refl
+no_rows (row ∷ rows) none = absurd (let k = none in cc)
+
+-- before the first round
+pub no_rounds : (config : Config) (threads : ℕ) (range : Option (ℕ × ℕ)) (rows : List Row) → list_of rows ≡ [] → AreRounds config threads range [] rows
+no_rounds config threads range rows none = no_rows rows none
+
+-- where threads relay media, nothing stands between the turns
+pub no_sweep_rows : (config : Config) (threads : ℕ) (range : Option (ℕ × ℕ)) (rows : List Row) → 0 < threads → AddsSweep config threads range rows rows
+no_sweep_rows config zero range rows some = absurd (omega (arith, some))
+no_sweep_rows config (suc more) range rows some = record { rows = []; are = sym (append-nil rows); alone = refl }
+
+module _ {M I O : Type 0} {g : _} where
+  pub turn_rows : (config : Config) (old new : Hand M (Part I O) Made (Unit {0}) g) (now : ℕ) (answer : ControlTurn) (made : Option Hearing) → Follows config old new now answer made
+      → AddsTurn config (entry_due config (board_of (made_by old)) now made) (entries old) (entries new)
+  turn_rows config old new now answer None follows = record {
+    rows = [];
+    are = ap (λ (h : Hand M (Part I O) Made (Unit {0}) g). entries h) follows.1 ∙ sym (append-nil (entries old));
+    makes = refl;
+  }
+  turn_rows config old new now answer (Some x) follows =
+      let m = follows.1 in
+      record {
+        rows = m.rows ++ m.row ∷ [];
+        are = m.list_is ∙ append_assoc (entries old) m.rows (m.row ∷ []);
+        makes = record { nested = m.rows; last = m.row; rows_are = refl; turn = m.turn; is = m.is };
+      }
+
+  pub tick_rows : (config : Config) (old new : Hand M (Part I O) Made (Unit {0}) g) (now : ℕ) (ticked : Option (List Call)) → DidTick config old new now ticked
+      → AddsTurn config (option_map (tick_entry (board_of (made_by old)) now) ticked) (entries old) (entries new)
+  tick_rows config old new now None did = record {
+    rows = [];
+    are = ap (λ (h : Hand M (Part I O) Made (Unit {0}) g). entries h) did ∙ sym (append-nil (entries old));
+    makes = refl;
+  }
+  tick_rows config old new now (Some calls) did = record {
+    rows = did.rows ++ did.row ∷ [];
+    are = did.list_is ∙ append_assoc (entries old) did.rows (did.row ∷ []);
+    makes = record { nested = did.rows; last = did.row; rows_are = refl; turn = did.turn; is = did.is };
+  }
+
+  pub sweep_rows : (config : Config) (threads : ℕ) (range : Option (ℕ × ℕ)) (old new : Hand M (Part I O) Made (Unit {0}) g) → threads ≡ 0
+      → (swept : Totals) × Sweeps config 0 1 range old new swept → AddsSweep config threads range (entries old) (entries new)
+  sweep_rows config threads range old new none swept =
+      let s = swept.1 in
+      subst (λ (n : ℕ). AddsSweep config n range (entries old) (entries new)) (sym none)
+      (record { rows = _; are = s.list_is; alone = record { visits = s.visits; rows_are = refl; is_sweep = record { passed = s.passed; own_once = s.own_once } } })
+
+  -- what is recorded of a turn, by how it ended
+  pub turn_heard : (config : Config) (old new : Hand M (Part I O) Made (Unit {0}) g) (now : ℕ) (answer : ControlTurn) (made : Option Hearing) → Follows config old new now answer made
+      → HasHeard answer made
+  turn_heard config old new now answer None follows = follows.0
+  turn_heard config old new now answer (Some x) follows = follows.0
+
+  -- the board's history, with the entry of a turn
+  pub board_after : (config : Config) (turns : Turns M (Part I O) Made (Unit {0})) (old new : Hand M (Part I O) Made (Unit {0}) g) (now : ℕ) (answer : ControlTurn) (made : Option Hearing)
+      → IsBetween config turns old → IsBetween config turns new → Follows config old new now answer made
+      → board_of (made_by new) ≡ with_entry (board_of (made_by old)) (entry_due config (board_of (made_by old)) now made)
+  board_after config turns old new now answer None before after follows =
+      ap (λ (h : Hand M (Part I O) Made (Unit {0}) g). board_of (made_by h)) follows.1
+  board_after config turns old new now answer (Some x) before after follows =
+      makes_history config turns old new (entry_at config (board_of (made_by old)) (moment_at (board_of (made_by old)) now) x) before after follows.1
+
+  -- and with that of a tick
+  pub board_ticked : (config : Config) (turns : Turns M (Part I O) Made (Unit {0})) (old new : Hand M (Part I O) Made (Unit {0}) g) (now : ℕ) (ticked : Option (List Call))
+      → IsBetween config turns old → IsBetween config turns new → DidTick config old new now ticked
+      → board_of (made_by new) ≡ with_entry (board_of (made_by old)) (option_map (tick_entry (board_of (made_by old)) now) ticked)
+  board_ticked config turns old new now None before after did = ap (λ (h : Hand M (Part I O) Made (Unit {0}) g). board_of (made_by h)) did
+  board_ticked config turns old new now (Some calls) before after did =
+      makes_history config turns old new (tick_entry (board_of (made_by old)) now calls) before after did
+
+  -- a control turn makes no take and no relay
+  pub follows_totals : (config : Config) (turns : Turns M (Part I O) Made (Unit {0})) (old new : Hand M (Part I O) Made (Unit {0}) g) (now : ℕ) (answer : ControlTurn) (made : Option Hearing)
+      (totals : Totals) → IsBetween config turns old → Follows config old new now answer made → HasTotals (made_by old) totals → HasTotals (made_by new) totals
+  follows_totals config turns old new now answer None totals before follows counts =
+      subst (λ (h : Hand M (Part I O) Made (Unit {0}) g). HasTotals (made_by h) totals) (sym follows.1) counts
+  follows_totals config turns old new now answer (Some x) totals before follows counts =
+      turn_totals config old new (entry_at config (board_of (made_by old)) (moment_at (board_of (made_by old)) now) x) totals before.orderly follows.1 counts
+
+  -- The last sweep, the stop, the join of the threads' hands, and the close of the table: first is the hand after the rounds, swept that after
+  -- the sweep, last that after the stop, all that after the join.
+  module _ (config : Config) (threads : ℕ) (range : Option (ℕ × ℕ)) (rounds : List Round) (totals : Totals) (turns : Turns M (Part I O) Made (Unit {0}))
+      (first swept last all : Hand M (Part I O) Made (Unit {0}) g) (beside : List (List Row))
+      (are : AreRounds config threads range rounds (entries first)) (history_is : board_of (made_by first) ≡ history_after config rounds)
+      (same : board_of (made_by swept) ≡ board_of (made_by first)) (s : AddsSweep config threads range (entries first) (entries swept))
+      (before : IsBetween config turns swept) (after : IsBetween config turns last)
+      (makes : MakesTurn config swept last (stop_entry (board_of (made_by swept))))
+      (as_many : length beside ≡ threads) (are_threads : AreThreads config 0 threads range beside)
+      (of_lanes : (row : Row) → table_lists.In row (all_of beside) → IsOfLane row.event.event) (joined_is : entries all ≡ entries last ++ all_of beside)
+      (counts : HasTotals (made_by all) totals)
+      (closed : (l : List Entry) × (map told l ≡ made_by all) × Legal config l × Safe config l × OutsAreTold (entries all) l) (timed : AreTimed (entries all)) where
+    history : board_of (made_by swept) ≡ history_after config rounds
+    history = same ∙ history_is
+
+    abbrev stop : List Row
+    stop = makes.rows ++ makes.row ∷ []
+
+    main_rows : entries last ≡ (entries first ++ s.rows) ++ stop
+    main_rows = makes.list_is ∙ append_assoc (entries swept) makes.rows (makes.row ∷ []) ∙ ap (λ (xs : List Row). xs ++ stop) s.are
+
+    rows_are : entries all ≡ ((entries first ++ s.rows) ++ stop) ++ all_of beside
+    rows_are = joined_is ∙ ap (λ (xs : List Row). xs ++ all_of beside) main_rows
+
+    stopped : IsBoardTurn config (entries first ++ s.rows) (stop_entry (history_after config rounds)) stop
+    stopped =
+        subst (λ (h : List BoardEntry). IsBoardTurn config (entries first ++ s.rows) (stop_entry h) stop) history
+        (subst (λ (xs : List Row). IsBoardTurn config xs (stop_entry (board_of (made_by swept))) stop) s.are
+        (record { nested = makes.rows; last = makes.row; rows_are = refl; turn = makes.turn; is = makes.is }))
+
+    pub whole_run : (whole : IsWhole config threads range rounds totals) × (whole.rows ≡ entries all) × OutsAreTold whole.rows whole.list
+    whole_run = (
+      record {
+        in_rounds = entries first;
+        last_sweep = s.rows;
+        stop = stop;
+        beside = beside;
+        are_rounds = are;
+        is_sweep = s.alone;
+        is_stop = stopped;
+        as_many = as_many;
+        are_threads = are_threads;
+        rows = entries all;
+        rows_are = rows_are;
+        timed = timed;
+        list = closed.0;
+        told_is = closed.1;
+        legal = closed.2;
+        safe = closed.3;
+        board_is =
+            sym (told_board closed.0) ∙ ap board_of closed.1
+            ∙ ap (λ (xs : List Row). board_of (list_of xs)) joined_is
+            ∙ lanes_board (entries last) (all_of beside) (λ row i. lane_no_boards row.event.event (of_lanes row i))
+            ∙ makes_history config turns swept last (stop_entry (board_of (made_by swept))) before after makes
+            ∙ ap (λ (h : List BoardEntry). stop_entry h ∷ h) history;
+        totals_are = told_totals closed.0 totals (subst (λ (l : List Entry). HasTotals l totals) (sym closed.1) counts);
+      },
+      refl,
+      closed.4,
+    )

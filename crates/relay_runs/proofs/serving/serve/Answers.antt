@@ -1,0 +1,32 @@
+use Rattle.std.proofs.Common.{◌∙◌, inl, inr, refl, true, false}
+use Rattle.relay_runs.specs.declared.status.Status.TheVariants as status
+use Rattle.relay_runs.proofs.Runs.{loop_prints, not_begun, not_bound, bound_runs}
+use Rattle.relay_runs.proofs.serving.serve.Goals as goal
+
+pub returns-in_default-clause-served : goal.returns-in_default-clause-served
+returns-in_default-clause-served g c = not_begun c.args.settings.now _ _ _ _ refl refl refl refl
+
+pub returns-in_default-new-clause-served : goal.returns-in_default-new-clause-served
+returns-in_default-new-clause-served g c = not_begun c.args.settings.now _ _ _ _ refl refl refl refl
+
+pub returns-in_default-thread_room-clause-served : goal.returns-in_default-thread_room-clause-served
+returns-in_default-thread_room-clause-served g c = not_begun c.args.settings.now _ _ _ _ refl refl refl refl
+
+pub returns-in_default-start-clause-served : goal.returns-in_default-start-clause-served
+returns-in_default-start-clause-served g c = not_begun c.args.settings.now _ _ _ _ refl refl refl refl
+
+pub returns-in_default-bind-clause-served : goal.returns-in_default-bind-clause-served
+returns-in_default-bind-clause-served g c = not_bound c.args.settings.now _ _ _ _ c.in_default-bind.ensures.told refl refl refl
+
+pub returns-in-Ok-write-clause-served : goal.returns-in-Ok-write-clause-served
+returns-in-Ok-write-clause-served g c =
+    bound_runs _ _ _ _ _ _ _ _ _ _ _ _ _ c.args.settings.now _ _ _ c.serve_turns-looped.result.status c.serve_turns-looped.result.counts c.serve_turns-looped.result.totals
+    c.in-Ok-bind.ensures.told c.in-Ok-start.ensures.config c.serve_turns-looped.ensures.did
+    c.serve_turns-looped.result.status _ _ c.as_slice.result.now true (inl refl) (c.as_slice.ensures ∙ c.put_totals.ensures)
+    (loop_prints c.serve_turns-looped.result.status c.serve_turns-looped.ensures.ends) c.in-Ok-write.ensures.told
+
+pub returns-clause-served : goal.returns-clause-served
+returns-clause-served g c =
+    bound_runs _ _ _ _ _ _ _ _ _ _ _ _ _ c.args.settings.now _ _ _ c.serve_turns-looped.result.status c.serve_turns-looped.result.counts c.serve_turns-looped.result.totals
+    c.in-Ok-bind.ensures.told c.in-Ok-start.ensures.config c.serve_turns-looped.ensures.did
+    status.PrintFault _ _ c.as_slice.result.now false (inr refl) (c.as_slice.ensures ∙ c.put_totals.ensures) refl c.in-Err.ensures.told

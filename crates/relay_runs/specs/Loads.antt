@@ -1,0 +1,129 @@
+-- What a run of `load` does.
+use Rattle.std.specs.Prelude.{◌≡◌, ◌⊎◌, ◌<◌, ℕ, ◌*◌, ◌==◌, true, false, List, [], ◌∷◌, ◌++◌, Option, Some, None, codes, decimal, length, map}
+use Rattle.std.specs.List.{list_all}
+use Rattle.relay_outside.specs.declared.lines.WriteCall.{WriteCall}
+use Rattle.relay_outside.specs.declared.lines.WriteCall.TheVariants as put
+use Rattle.relay_outside.specs.declared.link.LinkCall.{LinkCall}
+use Rattle.relay_outside.specs.declared.ports.PortCall.{PortCall}
+use Rattle.relay_outside.specs.declared.settings.Config.{Config}
+use Rattle.relay_outside.specs.Told.{Gained}
+use Rattle.histories.specs.Words.{In}
+use Rattle.port_pool.specs.declared.signal.SectionSignal.{SectionSignal}
+use Rattle.call_cell.specs.Cells.{Commit, Relay, Relayed}
+use Rattle.relay_core.specs.Entries.{Cell, Entry, is_nested}
+use Rattle.relay_core.specs.Legal.{Legal}
+use Rattle.relay_core.specs.Made.{list_of, told}
+use Rattle.relay_core.specs.Safe.{Safe}
+use Rattle.relay_core.specs.Timed.{AreTimed}
+use Rattle.load_maker.specs.Links.{TellsLoad}
+use Rattle.load_maker.specs.Takes.{HasGivenAll}
+use Rattle.media_lane.specs.declared.answers.Totals.{Totals}
+use Rattle.media_lane.specs.Gated.{AreGated}
+use Rattle.media_lane.specs.Totals.{HasTotals}
+use Rattle.media_lane.specs.Visits.{Row}
+use Rattle.board_turns.specs.Between.{board_of}
+use Rattle.board_turns.specs.Stopping.{stop_entry}
+use Rattle.command_line.specs.declared.settings.LoadSettings.{LoadSettings}
+use Rattle.relay_runs.specs.declared.status.Status.{Status}
+use Rattle.relay_runs.specs.declared.status.Status.TheVariants as status
+use Rattle.relay_runs.specs.declared.totals.Counts.{Counts}
+use Rattle.relay_runs.specs.Ends.{HasAllSends, AreEnds, OpensSame}
+use Rattle.relay_runs.specs.Rounds.{Round, history_after, IsBoardTurn, AreRounds, AreThreads, all_of}
+use Rattle.relay_runs.specs.Served.{Outside, Gave, counts_in, last_take, HasEnded, AreTold}
+
+-- the line of a load, for this number of calls, and these counts of relays by their outcome
+abbrev pub load_line : (calls : ℕ) → Totals → List ℕ
+load_line calls totals =
+    codes "calls " ++ decimal calls ++ codes " sent " ++ decimal totals.sent ++ codes " refused " ++ decimal totals.refused ++ codes " lost "
+    ++ decimal totals.lost ++ 10 ∷ []
+
+-- Each relay of the list stands at its cell after all nested entries of the board's turns before that of this number, each Commit among
+-- them, and before all of that turn: as their numbers there say
+pub record AreBetween (l : List Entry) (stop : ℕ) : Type 0 where
+  pub after_commits : (e f : Entry) (x : Relayed) (signal : List SectionSignal) → In e l → In f l → e.event ≡ Cell (Relay x) → f.event ≡ Cell (Commit signal)
+      → f.place ≡ e.place → f.number < e.number
+  pub after_turns : (e f : Entry) (x : Relayed) → In e l → In f l → e.event ≡ Cell (Relay x) → is_nested f.event ≡ true → f.place ≡ e.place
+      → f.board < stop → f.number < e.number
+  pub before_stop : (e f : Entry) (x : Relayed) → In e l → In f l → e.event ≡ Cell (Relay x) → is_nested f.event ≡ true → f.place ≡ e.place
+      → f.board ≡ stop → e.number < f.number
+
+-- All steps of a load: those of its control turns, then those of each thread, and then those of the stop, each step at the moment that its
+-- event makes of the one that it was handed. With what each relay noted, protected and sent added to its outcome they are a list that is
+-- legal, and so safe; the board's entries in it are the history and the stop, these are the counts of its takes and relays, and each relay
+-- stands at its cell between the control turns and the stop
+pub record IsLoadWhole (config : Config) (threads : ℕ) (range : Option (ℕ × ℕ)) (rounds : List Round) (totals : Totals) : Type 0 where
+  pub in_rounds : List Row
+  pub beside : List (List Row)
+  pub stop : List Row
+  pub are_rounds : AreRounds config threads range rounds in_rounds
+  pub as_many : length beside ≡ threads
+  pub are_threads : AreThreads config 0 threads range beside
+  pub is_stop : IsBoardTurn config (in_rounds ++ all_of beside) (stop_entry (history_after config rounds)) stop
+  -- all of them, in this order
+  pub rows : List Row
+  pub rows_are : rows ≡ (in_rounds ++ all_of beside) ++ stop
+  pub timed : AreTimed rows
+  pub list : List Entry
+  pub told_is : map told list ≡ list_of rows
+  pub legal : Legal config list
+  pub safe : Safe config list
+  pub board_is : board_of list ≡ stop_entry (history_after config rounds) ∷ history_after config rounds
+  pub totals_are : HasTotals list totals
+  pub ordered : AreBetween list is_stop.last.number
+
+-- A load whose control turns ended with this status: its rounds, with all its steps, and what the devices told of them, the port maker also of the
+-- ends that it was given back. The gate was passed at the cell of each relay among the steps
+pub record DidLoadTurns (limit : ℕ) (config : Config) (threads : ℕ) (range : Option (ℕ × ℕ)) (gate : ℕ → Type 0) (outside : Outside) (ended : Status) (counts : Counts) (totals : Totals) : Type 0 where
+  pub rounds : List Round
+  -- the moment of the take that ended them
+  pub last : List ℕ
+  pub whole : IsLoadWhole config threads range rounds totals
+  pub gated : AreGated gate whole.list
+  pub counts_are : counts ≡ counts_in rounds
+  pub has_ended : HasEnded ended limit counts.turns
+  pub last_is : length last ≡ length (last_take ended)
+  pub told : AreTold config [] rounds last ended outside
+  pub ends : Gained outside.opened outside.opened_now (AreEnds config whole.list)
+  pub all_sent : HasAllSends config whole.list
+  pub opens_same : OpensSame outside.opened outside.opened_now
+
+-- Devices in memory were driven as `DidLoadTurns` says, with as many threads of media as the words say lanes, and with these counts.
+-- What their link took are the datagrams that make the calls, all of them and in order, and each reply was a success; each moment was 0; and
+-- the in ends, which were all given back, gave just the packets that the two sides of the calls send, all of them and in order
+pub record RunsLoad (settings : LoadSettings) (gate : ℕ → Type 0) (totals : Totals) : Type 0 where
+  pub outside : Outside
+  pub counts : Counts
+  pub calls : List LinkCall
+  pub opened : List PortCall
+  pub moments : List ℕ
+  pub link : (outside.link ≡ Some []) × (outside.link_now ≡ Some calls)
+  pub ports : (outside.opened ≡ Some []) × (outside.opened_now ≡ Some opened)
+  pub timer : (outside.timer ≡ Some []) × (outside.timer_now ≡ Some moments)
+  pub did : DidLoadTurns 1000000 settings.config settings.lanes (Some (0, 0)) gate outside status.Ok counts totals
+  pub heard : TellsLoad (2 * settings.calls) true calls
+  pub at_zero : list_all (λ moment. moment == 0) moments ≡ true
+  pub gave : HasGivenAll settings.config.interface settings.config.port_min settings.calls settings.packets (Some opened)
+  pub all_taken : totals.taken ≡ 2 * settings.calls * settings.packets
+
+-- and one line was printed, or the sink did not take it
+pub record DidLoad (settings : LoadSettings) (gate : ℕ → Type 0) (wrote wrote_now : Option (List WriteCall)) (answer : Status) : Type 0 where
+  pub totals : Totals
+  pub runs : RunsLoad settings gate totals
+  pub printed : ((answer ≡ status.Ok) × Gave wrote wrote_now (put.Write (load_line settings.calls totals) true ∷ []))
+      ⊎ ((answer ≡ status.PrintFault) × Gave wrote wrote_now (put.Write (load_line settings.calls totals) false ∷ []))
+
+-- With words of `load`: memory ran out, and nothing was printed, or the run is as `DidLoad` says
+abbrev pub Loads : Option LoadSettings → (gate : ℕ → Type 0) → (wrote wrote_now : Option (List WriteCall)) → Status → Type 0
+Loads None gate wrote wrote_now answer = Unit {0}
+Loads (Some settings) gate wrote wrote_now answer = ((answer ≡ status.OutOfMemory) × Gave wrote wrote_now []) ⊎ DidLoad settings gate wrote wrote_now answer
+
+-- how a run of `load` may end
+abbrev pub IsLoaded : Status → Type 0
+IsLoaded status.Ok = Unit {0}
+IsLoaded status.PrintFault = Unit {0}
+IsLoaded status.OutOfMemory = Unit {0}
+IsLoaded status.Usage = ⊥
+IsLoaded status.ControlFault = ⊥
+IsLoaded status.ScriptFault = ⊥
+IsLoaded status.TurnsSpent = ⊥
+IsLoaded status.ScriptRead = ⊥

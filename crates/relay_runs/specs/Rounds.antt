@@ -1,0 +1,189 @@
+-- The steps of a run. Those of the main hand, in the order in which they were made: rounds, each a control turn, and the stop. Where no thread
+-- relays media, a sweep of media follows each control turn and precedes the stop; else each thread made sweeps meanwhile. At the end of a
+-- round stands a tick, about once a second.
+use Rattle.std.specs.Prelude.{◌≡◌, ◌+◌, ◌<◌, ℕ, zero, suc, Bool, true, false, nat_le, List, [], ◌∷◌, ◌++◌, Option, None, Some, is_some, map, filter, length}
+use Rattle.std.specs.Option.{option_map}
+use Rattle.relay_outside.specs.declared.settings.Config.{Config}
+use Rattle.call_board.specs.Acts.{Call, BoardEntry}
+use Rattle.relay_core.specs.Entries.{Entry, board_entry}
+use Rattle.relay_core.specs.Legal.{Legal}
+use Rattle.relay_core.specs.Safe.{Safe}
+use Rattle.relay_core.specs.Made.{entry_of, list_of, told}
+use Rattle.relay_core.specs.Timed.{AreTimed}
+use Rattle.relay_core.specs.Turning.{IsTurn}
+use Rattle.media_lane.specs.declared.answers.Totals.{Totals}
+use Rattle.media_lane.specs.Visits.{Row, Visit, all_rows}
+use Rattle.media_lane.specs.Looping.{IsSweep, AreSweeps, visits_of}
+use Rattle.board_turns.specs.Between.{board_of}
+use Rattle.board_turns.specs.Stopping.{stop_entry}
+use Rattle.board_turns.specs.Ticking.{tick_entry}
+use Rattle.board_turns.specs.Controls.{Hearing, entry_at, moment_at}
+use Rattle.ng_server.specs.Taking.{is_answered}
+use Rattle.ng_server.specs.declared.taking.ControlTurn.{ControlTurn}
+use Rattle.ng_server.specs.declared.taking.ControlTurn.TheVariants as turn
+use Rattle.media_lane.specs.Totals.{HasTotals}
+use Rattle.relay_runs.specs.declared.status.Status.{Status}
+use Rattle.relay_runs.specs.declared.status.Status.TheVariants as status
+
+-- A control turn after which the run goes on: the moment that the timer gave for its take, how it ended, and of a datagram with a frame what
+-- is recorded of it, with what the ports and the keys gave; and the calls that the tick after it ended, where a tick was made
+pub record Round : Type 0 where
+  pub handed : ℕ
+  pub answer : ControlTurn
+  pub heard : Option Hearing
+  pub ticked : Option (List Call)
+
+-- the status with which a run ends after a control turn, where it does not go on
+abbrev pub status_after : ControlTurn → Option Status
+status_after turn.Replied = None
+status_after turn.ReplyFault = None
+status_after turn.Silent = None
+status_after turn.Nothing = None
+status_after turn.End = Some status.Ok
+status_after turn.ReadFault = Some status.ControlFault
+
+-- the entry that the board's history demands of what is recorded: at the moment that was handed, or at the board's last one, where that is later
+abbrev pub entry_due : Config → List BoardEntry → ℕ → Option Hearing → Option BoardEntry
+entry_due config history now heard = option_map (entry_at config history (moment_at history now)) heard
+
+abbrev pub with_entry : List BoardEntry → Option BoardEntry → List BoardEntry
+with_entry history None = history
+with_entry history (Some entry) = entry ∷ history
+
+-- a history after what is recorded of a control turn
+abbrev pub with_heard : Config → List BoardEntry → Round → List BoardEntry
+with_heard config history r = with_entry history (entry_due config history r.handed r.heard)
+
+-- the entry of the tick of a round after that history, at the moment of its control turn, where a tick was made
+abbrev pub tick_of : List BoardEntry → Round → Option BoardEntry
+tick_of history r = option_map (tick_entry history r.handed) r.ticked
+
+abbrev pub with_tick : List BoardEntry → Round → List BoardEntry
+with_tick history r = with_entry history (tick_of history r)
+
+-- the board's history after these rounds; of both the latest comes first
+abbrev pub history_after : Config → List Round → List BoardEntry
+history_after config [] = []
+history_after config (r ∷ rounds) = with_tick (with_heard config (history_after config rounds) r) r
+
+-- the moments that were handed to them, in order
+abbrev pub moments : List Round → List ℕ
+moments [] = []
+moments (r ∷ rounds) = moments rounds ++ r.handed ∷ []
+
+-- When a tick is made.
+
+-- the rounds that have one
+abbrev pub with_ticks : List Round → List Round
+with_ticks rounds = filter (λ r. is_some r.ticked) rounds
+
+abbrev pub latest : List Round → Option Round
+latest [] = None
+latest (r ∷ rounds) = Some r
+
+abbrev pub earliest : List Round → Option Round
+earliest [] = None
+earliest (r ∷ []) = Some r
+earliest (r ∷ before ∷ rounds) = earliest (before ∷ rounds)
+
+-- the one, or where there is none the other
+abbrev pub or_else : Option Round → Option Round → Option Round
+or_else None other = other
+or_else (Some r) other = Some r
+
+-- the moment from which the next second counts: that of the last tick, or where there was none that of the first control turn
+abbrev pub counted_from : List Round → Option ℕ
+counted_from rounds = option_map (λ r. r.handed) (or_else (latest (with_ticks rounds)) (earliest rounds))
+
+-- at least a second after that moment
+abbrev pub is_second_later : Option ℕ → ℕ → Bool
+is_second_later None now = false
+is_second_later (Some then) now = nat_le (then + 1000) now
+
+-- whether a tick is due in the round that follows these, by the moment that was handed to its control turn
+abbrev pub is_tick_due : List Round → ℕ → Bool
+is_tick_due rounds now = is_second_later (counted_from rounds) now
+
+-- A turn of the board after these rows: the nested entries that its entry owes, in their order, and then the entry
+pub record IsBoardTurn (config : Config) (before : List Row) (e : BoardEntry) (rows : List Row) : Type 0 where
+  pub nested : List Row
+  pub last : Row
+  pub rows_are : rows ≡ nested ++ last ∷ []
+  pub turn : IsTurn config (list_of before) (list_of nested) (entry_of last)
+  pub is : board_entry (entry_of last) ≡ Some e
+
+-- the same of a control turn, and of a tick: without an entry there is no turn of the board
+abbrev pub MakesEntry : Config → List Row → Option BoardEntry → List Row → Type 0
+MakesEntry config before None rows = rows ≡ []
+MakesEntry config before (Some e) rows = IsBoardTurn config before e rows
+
+-- The rows of one sweep by the hand of a lane: one take of each half of each of its own pairs, in any order. Right after a take that gave
+-- a datagram stands the one relay of it, which was handed a moment of the clock's range
+pub record HasSwept (config : Config) (index lanes : ℕ) (range : Option (ℕ × ℕ)) (rows : List Row) : Type 0 where
+  pub visits : List Visit
+  pub rows_are : rows ≡ all_rows config visits
+  pub is_sweep : IsSweep config index lanes range visits
+
+-- What the main hand sweeps, by how many threads relay media: all pairs, where there is none, and else nothing
+abbrev pub SweepsAlone : Config → (threads : ℕ) → Option (ℕ × ℕ) → List Row → Type 0
+SweepsAlone config zero range rows = HasSwept config 0 1 range rows
+SweepsAlone config (suc more) range rows = rows ≡ []
+
+-- a control turn that sent a reply, or failed to send it, took a datagram with a frame, and no other did
+abbrev pub HasHeard : ControlTurn → Option Hearing → Type 0
+HasHeard answer None = is_answered answer ≡ false
+HasHeard answer (Some x) = is_answered answer ≡ true
+
+-- the rows of these rounds: a tick is made exactly where it is due, and stands last
+abbrev pub AreRounds : Config → (threads : ℕ) → Option (ℕ × ℕ) → List Round → List Row → Type 0
+AreRounds config threads range [] rows = rows ≡ []
+AreRounds config threads range (r ∷ rounds) rows =
+    (before : List Row) × (turn : List Row) × (sweep : List Row) × (tick : List Row) × (rows ≡ ((before ++ turn) ++ sweep) ++ tick)
+    × (status_after r.answer ≡ None)
+    × HasHeard r.answer r.heard
+    × (is_some r.ticked ≡ is_tick_due rounds r.handed)
+    × AreRounds config threads range rounds before
+    × MakesEntry config before (entry_due config (history_after config rounds) r.handed r.heard) turn
+    × SweepsAlone config threads range sweep
+    × MakesEntry config ((before ++ turn) ++ sweep) (tick_of (with_heard config (history_after config rounds) r) r) tick
+
+-- The rows of one thread of media: those of one sweep or of more, one after the other, of the pairs whose number is the thread's modulo
+-- the number of threads
+pub record IsThread (config : Config) (index threads : ℕ) (range : Option (ℕ × ℕ)) (rows : List Row) : Type 0 where
+  pub sweeps : List (List Visit)
+  pub some : 0 < length sweeps
+  pub are_sweeps : AreSweeps config index threads range sweeps
+  pub rows_are : rows ≡ all_rows config (visits_of sweeps)
+
+-- the rows of each of the threads, from that with this number on
+abbrev pub AreThreads : Config → (index threads : ℕ) → Option (ℕ × ℕ) → List (List Row) → Type 0
+AreThreads config index threads range [] = Unit {0}
+AreThreads config index threads range (rows ∷ more) = IsThread config index threads range rows × AreThreads config (index + 1) threads range more
+
+abbrev pub all_of : List (List Row) → List Row
+all_of [] = []
+all_of (rows ∷ more) = rows ++ all_of more
+
+-- All steps of a run: those of its rounds, of one more sweep where no thread relays media, and of the stop, and those of each thread, each step
+-- at the moment that its event makes of the one that it was handed. With what each relay noted, protected and sent added to its outcome they
+-- are a list that is legal, and so safe; the board's entries in it are the history and the stop, and these are the counts of its takes and relays
+pub record IsWhole (config : Config) (threads : ℕ) (range : Option (ℕ × ℕ)) (rounds : List Round) (totals : Totals) : Type 0 where
+  pub in_rounds : List Row
+  pub last_sweep : List Row
+  pub stop : List Row
+  pub beside : List (List Row)
+  pub are_rounds : AreRounds config threads range rounds in_rounds
+  pub is_sweep : SweepsAlone config threads range last_sweep
+  pub is_stop : IsBoardTurn config (in_rounds ++ last_sweep) (stop_entry (history_after config rounds)) stop
+  pub as_many : length beside ≡ threads
+  pub are_threads : AreThreads config 0 threads range beside
+  -- all of them, those of the threads after those of the main hand
+  pub rows : List Row
+  pub rows_are : rows ≡ ((in_rounds ++ last_sweep) ++ stop) ++ all_of beside
+  pub timed : AreTimed rows
+  pub list : List Entry
+  pub told_is : map told list ≡ list_of rows
+  pub legal : Legal config list
+  pub safe : Safe config list
+  pub board_is : board_of list ≡ stop_entry (history_after config rounds) ∷ history_after config rounds
+  pub totals_are : HasTotals list totals

@@ -1,0 +1,138 @@
+//! The control turns of a load, then its threads of media, and then its end: one after the other, so that each relay stands at its cell after
+//! all that the control turns made there, and before all that the stop makes.
+ghost use Rattle.std.specs.Prelude.{◌≡◌, ◌≤◌, ◌<◌, ◌^◌, [], vec_capacity};
+ghost use Rattle.turn_table.specs.Hands.{parts};
+ghost use Rattle.relay_core.specs.Turning.{made_by};
+ghost use Rattle.media_ports.specs.Held.{TellsHeld};
+ghost use Rattle.board_turns.specs.Between.{IsBetween, board_of};
+ghost use Rattle.relay_runs.specs.Devices.{AreSame};
+ghost use Rattle.relay_runs.specs.Loads.{DidLoadTurns};
+ghost use Rattle.relay_runs.specs.Threads.{RelaysDue};
+
+use crate::beside::{ControlWork, run_after};
+use crate::devices::{Devices, Media, Tells};
+use crate::serve::{ControlLoop, Looped, Prepared, close_table};
+use crate::status::Status;
+use crate::threads::{Due, MediaThread, join_threads, make_threads};
+use command_line::Settings;
+use ng_server::Server;
+use relay_core::Relay;
+use relay_outside::{Clock, ControlLink, Gate, InEnd, KeySource, OutEnd, PortMaker, Timer};
+use std::alloc::Global;
+use std::sync::Wait;
+use std::thread::Threads;
+use turn_table::{Hand, Turns};
+
+/// Has threads of media relay the datagrams that are due, by hands that are split from the main one and joined to it again, and adds what came of
+/// them. Before the split and after the join the main hand has the whole history of each place.
+fn relay_due<I, O, C, G, R>(
+    rt: &R,
+    turns: &Turns<Relay<I, O>>,
+    hand: &mut Hand<Relay<I, O>>,
+    room: Vec<MediaThread<I, O>>,
+    settings: &Settings,
+    due: Due,
+    media: &Media<'_, '_, C, G>,
+    looped: &mut Looped,
+)
+where
+    I: InEnd + Send + Drop,
+    O: OutEnd + Send + Drop,
+    C: Clock + Sync,
+    G: Gate + Sync,
+    R: Threads + Wait + Sync,
+    requires threads { settings.now.threads ≤ 16 }
+    requires some { 0 < settings.now.threads }
+    requires empty { room.items ≡ [] }
+    requires room { settings.now.threads ≤ vec_capacity room }
+    requires all { parts hand.old ≡ 1024 }
+    requires between { IsBetween settings.now.config turns.now hand.old }
+    ensures between { IsBetween settings.now.config turns.now hand.new }
+    ensures parts { parts hand.new ≡ parts hand.old }
+    ensures history { board_of (made_by hand.new) ≡ board_of (made_by hand.old) }
+    ensures relays { RelaysDue settings.now.config settings.now.threads (C.range media.now.clock.now) (G.passed media.now.gate.now) hand.old hand.new looped.old.totals looped.new.totals }
+    ensures same { (looped.new.status ≡ looped.old.status) × (looped.new.counts ≡ looped.old.counts) }
+{
+    turns.survey(hand);
+    let mut threads = make_threads(
+        turns,
+        hand,
+        room,
+        settings.threads,
+        &settings.config,
+        Some(due),
+    );
+    let went_well = looped.status == Status::Ok;
+    run_after(rt, turns, media, &mut threads, went_well);
+    join_threads(turns, hand, threads, &mut looped.totals);
+    turns.survey(hand);
+}
+
+/// Runs a load with a server that has taken no turn yet: its control turns, then as many threads of media as the settings say, each until it took
+/// what is due, then the stop, which ends all calls, and the close of its table.
+pub(crate) fn load_turns<N, P, K, T, C, G, R>(
+    rt: &R,
+    alloc: Global,
+    settings: &Settings,
+    server: Server<P>,
+    prepared: Prepared<P::In, P::Out>,
+    due: Due,
+    devices: &mut Devices<'_, '_, '_, '_, N, P, K, T>,
+    media: &Media<'_, '_, C, G>,
+) -> Looped
+where
+    N: ControlLink,
+    P: PortMaker,
+    P::In: Send + Drop,
+    P::Out: Send + Drop,
+    K: KeySource,
+    T: Timer,
+    C: Clock + Sync,
+    G: Gate + Sync,
+    R: Threads + Wait + Sync,
+    requires limit { settings.now.turns < 2 ^ 63 }
+    requires threads { settings.now.threads ≤ 16 }
+    requires some { 0 < settings.now.threads }
+    requires config { server.config ≡ settings.now.config }
+    requires between { IsBetween server.config server.turns prepared.hand }
+    requires nothing { made_by prepared.hand ≡ [] }
+    requires all { parts prepared.hand ≡ 1024 }
+    requires empty { prepared.room.items ≡ [] }
+    requires room { settings.now.threads ≤ vec_capacity prepared.room }
+    requires open { TellsHeld server.config (P.told devices.old.ports.now) [] }
+    ensures same { AreSame devices.old devices.new }
+    ensures did { DidLoadTurns settings.now.turns server.config settings.now.threads (C.range media.now.clock.now) (G.passed media.now.gate.now)
+        (⟦<Devices<'static, 'static, 'static, 'static, N, P, K, T> as Tells>⟧.outside devices.old devices.new)
+        result.status result.counts result.totals }
+{
+    let Prepared { hand, desk, room } = prepared;
+    let mut control = ControlLoop {
+        alloc,
+        settings: *settings,
+        hand: Some(hand),
+        desk,
+        looped: Looped::not_begun(),
+    };
+    control.work(rt, &server, media, devices);
+    let ControlLoop {
+        alloc: _,
+        settings: _,
+        hand,
+        mut desk,
+        mut looped,
+    } = control;
+    let Some(mut hand) = hand else { unreachable!() };
+    relay_due(
+        rt,
+        server.turns(),
+        &mut hand,
+        room,
+        settings,
+        due,
+        media,
+        &mut looped,
+    );
+    server.stop(rt, &mut hand, &mut desk, devices.ports);
+    close_table(server, hand);
+    looped
+}
