@@ -35,7 +35,7 @@ use Rattle.relay_runs.specs.Ends.{HasAllSends, AreEnds, OpensSame}
 use Rattle.relay_runs.specs.Rounds.{Round, history_after, IsWhole}
 use Rattle.relay_runs.specs.Run.{OpensNone, TellsNone}
 use Rattle.relay_runs.specs.Served.{Outside, HaveCauses, AreTold, DidServe}
-use Rattle.relay_runs.specs.declared.serve.Looped.{Looped}
+use Rattle.relay_runs.specs.declared.turns.Looped.{Looped}
 use Rattle.relay_runs.specs.Turned.{AddsSweep, DidTurns, MayTurn, CanWork, DidWork, MadeTurns}
 use Rattle.relay_runs.proofs.Departures.{is_sent}
 use Rattle.relay_runs.proofs.Ends.{whole_ends, opens_same}

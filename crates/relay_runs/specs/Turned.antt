@@ -20,7 +20,7 @@ use Rattle.ng_server.specs.Servers.{OpensJust, history_of}
 use Rattle.relay_runs.specs.declared.status.Status.{Status}
 use Rattle.relay_runs.specs.declared.status.Status.TheVariants as status
 use Rattle.relay_runs.specs.declared.totals.Counts.{Counts}
-use Rattle.relay_runs.specs.declared.serve.Looped.{Looped}
+use Rattle.relay_runs.specs.declared.turns.Looped.{Looped}
 use Rattle.command_line.specs.declared.settings.Settings.{Settings}
 use Rattle.relay_runs.specs.Rounds.{Round, history_after, moments, counted_from, is_second_later, AreRounds, SweepsAlone}
 use Rattle.relay_runs.specs.Served.{Outside, Gave, OpensBy, draws, HaveCauses, counts_in, AreExchanges, last_take, HasEnded, AreTold}

@@ -7,7 +7,7 @@ mod beside;
 mod devices;
 mod load_run;
 mod loading;
-mod serve;
+mod turns;
 mod serving;
 mod status;
 mod threads;

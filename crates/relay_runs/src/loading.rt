@@ -10,7 +10,7 @@ ghost use Rattle.relay_runs.specs.Loads.{RunsLoad, Loads, IsLoaded, load_line};
 
 use crate::devices::{Devices, Media};
 use crate::load_run::load_turns;
-use crate::serve::Prepared;
+use crate::turns::Prepared;
 use crate::serving::{line_room, thread_room};
 use crate::status::Status;
 use crate::threads::Due;

@@ -6,7 +6,7 @@ ghost use Rattle.relay_runs.specs.Devices.{AreSame, AreUnasked};
 ghost use Rattle.relay_runs.specs.Run.{Serves, IsServed};
 
 use crate::devices::{Devices, Media, Tells};
-use crate::serve::{Prepared, close_table, serve_turns};
+use crate::turns::{Prepared, close_table, serve_turns};
 use crate::status::Status;
 use crate::threads::MediaThread;
 use crate::totals::put_totals;

@@ -3,7 +3,7 @@ use Rattle.turn_table.specs.Hands.{entries}
 use Rattle.relay_runs.specs.Turned.{AddsSweep}
 use Rattle.relay_runs.proofs.Rounds.{sweep_rows}
 use Rattle.relay_runs.proofs.Wholes.{moved_between}
-use Rattle.relay_runs.proofs.serve.sweep_alone.Goals as goal
+use Rattle.relay_runs.proofs.turns.sweep_alone.Goals as goal
 
 pub sweep_between-requires : goal.sweep_between-requires
 sweep_between-requires g c =

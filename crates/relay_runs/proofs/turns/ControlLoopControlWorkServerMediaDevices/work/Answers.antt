@@ -9,7 +9,7 @@ use Rattle.relay_runs.proofs.Rounds.{follows_totals}
 use Rattle.relay_runs.proofs.Wholes.{did_work, first_totals, may_turn, opens_again}
 use Rattle.relay_runs.specs.declared.status.Status.{Status}
 use Rattle.relay_runs.specs.declared.status.Status.TheVariants as status
-use Rattle.relay_runs.proofs.serve.ControlLoopControlWorkServerMediaDevices.work.Goals as goal
+use Rattle.relay_runs.proofs.turns.ControlLoopControlWorkServerMediaDevices.work.Goals as goal
 
 pub turns-init : goal.turns-init
 turns-init g c =

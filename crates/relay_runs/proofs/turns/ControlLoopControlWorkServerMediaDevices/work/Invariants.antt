@@ -7,7 +7,7 @@ use Rattle.media_lane.specs.Totals.{HasTotals}
 use Rattle.ng_server.specs.Servers.{OpensJust, history_of}
 use Rattle.relay_runs.specs.Devices.{AreSame}
 use Rattle.relay_runs.specs.Turned.{Running}
-use Rattle.relay_runs.proofs.serve.ControlLoopControlWorkServerMediaDevices.work.Given as goal
+use Rattle.relay_runs.proofs.turns.ControlLoopControlWorkServerMediaDevices.work.Given as goal
 
 abbrev pub invariant-turns : goal.invariant-turns
 invariant-turns g l = record {

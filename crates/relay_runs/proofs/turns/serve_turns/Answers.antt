@@ -13,7 +13,7 @@ use Rattle.relay_runs.proofs.Gates.{makes_gated, joined_gated}
 use Rattle.relay_runs.proofs.MediaThreads.{are_done, are_hands, as_many, may_join, all_gated, all_threads, all_of_lane, all_sound, all_totals}
 use Rattle.relay_runs.proofs.Rounds.{whole_run}
 use Rattle.relay_runs.proofs.Wholes.{moved_between, may_begin, made_turns, ran_whole}
-use Rattle.relay_runs.proofs.serve.serve_turns.Goals as goal
+use Rattle.relay_runs.proofs.turns.serve_turns.Goals as goal
 
 pub make_threads-threads-requires-clause-between : goal.make_threads-threads-requires-clause-between
 make_threads-threads-requires-clause-between g c =

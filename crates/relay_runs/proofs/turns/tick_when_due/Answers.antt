@@ -1,6 +1,6 @@
 use Rattle.std.proofs.Common.{Some}
 use Rattle.media_lane.proofs.Counts.{turn_totals}
-use Rattle.relay_runs.proofs.serve.tick_when_due.Goals as goal
+use Rattle.relay_runs.proofs.turns.tick_when_due.Goals as goal
 
 pub returns-clause-ticks : goal.returns-clause-ticks
 returns-clause-ticks g c =
