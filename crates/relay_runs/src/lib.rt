@@ -7,11 +7,11 @@ mod beside;
 mod devices;
 mod load_run;
 mod loading;
-mod turns;
 mod serving;
 mod status;
 mod threads;
 mod totals;
+mod turns;
 mod until;
 
 pub use devices::{Devices, Media, Tells};

@@ -1,19 +1,29 @@
 //! A whole replay.
-ghost use Rattle.std.specs.Prelude.{◌≡◌, ◌≢◌, ◌⊎◌, ◌≤◌, Option, Some, map, length};
+ghost use Rattle.std.specs.Prelude.{◌≡◌, ◌≢◌, ◌⊎◌, ◌≤◌, ℕ, [], Option, Some, map, length};
 ghost use Rattle.relay_outside.specs.Told.{Gained, Rose};
+ghost use Rattle.turn_table.specs.Hands.{IsSameHand};
+ghost use Rattle.relay_core.specs.Turning.{made_by};
+ghost use Rattle.board_turns.specs.Between.{IsBetween, MakesTurn, board_of};
+ghost use Rattle.board_turns.specs.Stopping.{stop_entry};
 ghost use Rattle.relay_script.specs.Steps.{meaning};
+ghost use Rattle.replay_devices.specs.Watch.{StandsFor};
+ghost use Rattle.replay_steps.specs.Ready.{IsReady};
+ghost use Rattle.replay_steps.specs.Steps.{at_first, course_of};
 ghost use Rattle.replay_steps.specs.Written.{DidEnd, DidFinish, DidPlay, Replays};
 
 use crate::devices::Devices;
 use crate::ended::Ended;
+use crate::held::Receipts;
 use crate::playing::{play_steps, tell_fault};
 use crate::state::ReplayState;
-use ng_server::Server;
+use ng_server::{Desk, Server};
+use relay_core::Relay;
 use relay_outside::{Config, LineSink, LineSource};
 use relay_script::Step;
-use replay_devices::{Ending, Timetable, read_script};
+use replay_devices::{Ending, ReplayIn, ReplayOut, ReplayPorts, Timetable, Watch, read_script};
 use std::alloc::Global;
 use std::sync::Wait;
+use turn_table::Hand;
 
 /// How a replay ends whose steps were all made, by how the reading of its script ended.
 fn end_script<O: LineSink>(alloc: Global, out: &mut O, ending: Ending, line: u32) -> Ended
@@ -49,6 +59,50 @@ fn end_replay<O: LineSink>(
     }
 }
 
+/// Ends all calls of a replay.
+fn stop<'a, R: Wait>(
+    rt: &R,
+    server: &Server<ReplayPorts<'a>>,
+    hand: &mut Hand<Relay<ReplayIn<'a>, ReplayOut<'a>>>,
+    state: &mut ReplayState<'a>,
+)
+    requires { IsReady server.now.config server.now.turns hand.old state.old }
+    ensures same { IsSameHand hand.old hand.new }
+    ensures between { IsBetween server.now.config server.now.turns hand.new }
+    ensures makes { MakesTurn server.now.config hand.old hand.new (stop_entry (board_of (made_by hand.old))) }
+{
+    let ReplayState { desk, devices, .. } = state;
+    server.stop(rt, hand, desk, &mut devices.ports);
+}
+
+/// Plays a script that was read, from this state on, by a server that has taken no turn yet.
+fn play_on<'a, O: LineSink, R: Wait>(
+    rt: &R,
+    alloc: Global,
+    server: Server<ReplayPorts<'a>>,
+    hand: Hand<Relay<ReplayIn<'a>, ReplayOut<'a>>>,
+    state: ReplayState<'a>,
+    steps: &'a [Step],
+    ending: Ending,
+    out: &mut O,
+) -> Ended
+    requires most { length steps.now ≤ 50000 }
+    requires ready { IsReady server.config server.turns hand state }
+    requires none { course_of (made_by hand) state.receipts state.clock [] ≡ at_first }
+    ensures told { (seed : ℕ) → StandsFor server.entry.config seed [] state.entry.watch → Gained (O.told out.old) (O.told out.new) (DidPlay server.entry.config seed (map meaning steps.now) ending result) }
+    ensures fault { result ≡ Ended.PrintFault → Rose (O.faults out.old) (O.faults out.new) }
+    ensures later { O.faults out.old ≤ O.faults out.new }
+    ensures read { result ≡ Ended.ScriptRead → ending ≡ Ending.Fault }
+{
+    let mut state = state;
+    let (ended, line, hand) = play_steps(rt, alloc, &server, hand, &mut state, steps, out);
+    let ended = end_replay(alloc, out, ended, ending, line + 1);
+    let mut hand = hand;
+    stop(rt, &server, &mut hand, &mut state);
+    drop(server.close(hand));
+    ended
+}
+
 /// Plays a script that was read, with devices by this timetable.
 fn play<'a, O: LineSink, R: Wait>(
     rt: &R,
@@ -66,24 +120,30 @@ fn play<'a, O: LineSink, R: Wait>(
     ensures later { O.faults out.old ≤ O.faults out.new }
     ensures read { result ≡ Ended.ScriptRead → ending ≡ Ending.Fault }
 {
-    let Ok(mut state) = ReplayState::new(alloc, config, steps, timetable, seed) else {
+    let Ok(watch) = Watch::new(alloc, seed) else {
+        return Ended::OutOfMemory;
+    };
+    let Ok(receipts) = Receipts::new(alloc) else {
+        return Ended::OutOfMemory;
+    };
+    let Ok(desk) = Desk::new(alloc) else {
+        return Ended::OutOfMemory;
+    };
+    let Ok(devices) = Devices::new(alloc, steps, timetable, seed) else {
         return Ended::OutOfMemory;
     };
     let Ok((server, hand)) = Server::start(alloc, *config) else {
         return Ended::OutOfMemory;
     };
-    let (ended, line, hand) = play_steps(rt, alloc, &server, hand, &mut state, steps, out);
-    let ended = end_replay(alloc, out, ended, ending, line + 1);
-    let mut hand = hand;
-    let ReplayState {
-        mut desk,
+    let state = ReplayState {
+        config: *config,
+        desk,
         devices,
-        ..
-    } = state;
-    let Devices { mut ports, .. } = devices;
-    server.stop(rt, &mut hand, &mut desk, &mut ports);
-    drop(server.close(hand));
-    ended
+        watch,
+        receipts,
+        clock: 0,
+    };
+    play_on(rt, alloc, server, hand, state, steps, ending, out)
 }
 
 /// Replays the script that a source gives, with this configuration and keys of that seed after those of its lines, and writes a

@@ -16,7 +16,7 @@ use outside_real::{
 use relay_app::run;
 use relay_outside::OpenGate;
 use std::alloc::{AllocError, Global};
-use std::io::{self, BufReader};
+use std::io::{self, BufRead, BufReader};
 use std::net::Net;
 use std::process::ExitCode;
 use std::random::RandomSource;
@@ -68,8 +68,37 @@ fn link<'a, R: Net>(net: &'a R, readiness: &'a Readiness, threads: u32) -> UdpLi
     }
 }
 
-/// Makes the devices and runs the relay: sockets, the system's hints of which are readable, its clock, keys
-/// from a seed of the runtime's random source, standard input and output. Without memory or a seed nothing is run.
+/// Makes the devices and runs the relay: sockets, the system's hints of which are readable, its clock, keys from this
+/// seed, this input and standard output.
+fn run_with<R, B>(rt: &R, alloc: Global, words: &[&str], seed: [u8; 32], input: B) -> Ending
+where
+    R: Threads + Wait + Sync + Net + Clock + Print + Eprint,
+    B: BufRead + Drop,
+{
+    let media = media_of(alloc, words);
+    let readiness = Readiness::new(alloc, media.threads, media.first_port);
+    let mut control = link(rt, &readiness, media.threads);
+    let status = run(
+        rt,
+        alloc,
+        words,
+        &mut control,
+        &mut UdpMaker::new(rt, &readiness),
+        &mut ChaChaKeys::from_seed(seed),
+        &mut SystemTimer::new(rt),
+        &SystemClock::new(rt, &readiness),
+        &OpenGate::new(),
+        &mut StdLines::new(input),
+        &mut StdSink::new(io::writer(rt)),
+    );
+    match words.first() {
+        Some(&"replay") => Ending::Replayed(status),
+        _ => Ending::Ran(status, control.fault()),
+    }
+}
+
+/// Runs the relay over the devices of this machine, with a seed of the runtime's random source and standard input. Without memory
+/// or a seed nothing is run.
 fn start<R>(rt: &R, alloc: Global, words: &Vec<String>) -> Ending
 where
     R: Threads + Wait + Sync + Net + Clock + RandomSource + Input + Print + Eprint,
@@ -81,27 +110,8 @@ where
         Ok(seed) => seed,
         Err(error) => return Ending::NoSeed(error),
     };
-    let Ok(input) = BufReader::new(alloc, rt.reader()) else {
-        return Ending::NoMemory;
-    };
-    let media = media_of(alloc, texts.as_slice());
-    let readiness = Readiness::new(alloc, media.threads, media.first_port);
-    let mut control = link(rt, &readiness, media.threads);
-    let status = run(
-        rt,
-        alloc,
-        texts.as_slice(),
-        &mut control,
-        &mut UdpMaker::new(rt, &readiness),
-        &mut ChaChaKeys::from_seed(seed),
-        &mut SystemTimer::new(rt),
-        &SystemClock::new(rt, &readiness),
-        &OpenGate::new(),
-        &mut StdLines::new(input),
-        &mut StdSink::new(io::writer(rt)),
-    );
-    match texts.as_slice().first() {
-        Some(&"replay") => Ending::Replayed(status),
-        _ => Ending::Ran(status, control.fault()),
+    match BufReader::new(alloc, rt.reader()) {
+        Ok(input) => run_with(rt, alloc, texts.as_slice(), seed, input),
+        Err(_) => Ending::NoMemory,
     }
 }
