@@ -2,6 +2,8 @@ use Rattle.std.proofs.Common.{◌≡◌, ◌∙◌, ◌++◌, refl, sym, ap, sub
 use Rattle.std.proofs.lemmas.List.{length-map}
 use Rattle.turn_table.specs.Hands.{entries}
 use Rattle.offer_answer.specs.Offering.{pair_count, key_count}
+use Rattle.offer_answer.specs.Widths.{WritesFrom}
+use Rattle.port_pool.specs.declared.pairs.Lease.{Lease}
 use Rattle.call_board.specs.declared.board_plan.BoardPlan.{BoardPlan}
 use Rattle.call_board.specs.Boards.{Shows, lease_at, leases_of, pairs_in}
 use Rattle.call_board.specs.Pairs.{free, held}
@@ -20,6 +22,7 @@ use Rattle.board_turns.proofs.Tying.{ties_both, ties_gone, ties_uncalled}
 use Rattle.board_turns.proofs.Unopened.{gone_open_none}
 use Rattle.offer_command.specs.Leasing.{with_taken}
 use Rattle.offer_command.specs.Undoing.{keys_before}
+use Rattle.offer_command.specs.Brings.{HasLegRoom, HasToldRoom, HasListRoom}
 use Rattle.offer_command.proofs.OpensAsked.{gained_pairs, gained_undone}
 use Rattle.offer_command.proofs.Counted.{plan_few, may_lease}
 use Rattle.offer_command.specs.Offers.{target_of, offer_of, dropped_legs, leased_view, next_key, demand_of, text_of, with_offer}
@@ -260,3 +263,74 @@ returns-clause-ties g c =
     (ties_gone g.P.Out.OutEnd.told config (told c.lease_offer.new.ports) (told c.close_legs.new.ports) rows (entries c.prepare_offer.new.hand) (entries c.close_legs.new.hand) gone
     (have_ports config gone (dropped_legs h (offer_of config h id ask draws)) (c.prepare_offer.ensures.went id ask d))
     c.prepare_offer.ensures.leave c.close_legs.ensures.takes c.close_legs.ensures.closes)
+
+pub list_ports-requires-clause-room : goal.list_ports-requires-clause-room
+list_ports-requires-clause-room g c =
+    let many = c.in-Ok.ensures.pairs in
+    let room = c.requires.room.numbers.1 in
+    omega (arith, many, room)
+
+pub prepare_offer-requires-clause-count : goal.prepare_offer-requires-clause-count
+prepare_offer-requires-clause-count g c = c.in-Ok.ensures.pairs ∙ ap (λ (q : BoardPlan). pair_count q.plan) (sym c.in-Ok.ensures.plan)
+
+pub prepare_offer-requires-clause-opened : goal.prepare_offer-requires-clause-opened
+prepare_offer-requires-clause-opened g c = c.in-Ok.ensures.opened ∙ prepare_offer-requires-clause-count g c
+
+pub prepare_offer-requires-clause-keys : goal.prepare_offer-requires-clause-keys
+prepare_offer-requires-clause-keys g c = c.in-Ok.ensures.keys ∙ ap (λ (q : BoardPlan). key_count q.plan) (sym c.in-Ok.ensures.plan)
+
+pub prepare_offer-requires-clause-room : goal.prepare_offer-requires-clause-room
+prepare_offer-requires-clause-room g c =
+    let is = sym c.in-Ok.ensures.plan in
+    let room = c.requires.room in (
+      subst (λ (q : BoardPlan). HasLegRoom q.plan c.args.offer.room.bring.prepare) is room.prepare,
+      subst (λ (q : BoardPlan). HasToldRoom q.plan c.args.offer.room.bring.changes) is room.changes,
+      subst (λ (q : BoardPlan). HasListRoom q.plan c.args.offer.room.bring.legs) is room.legs,
+    )
+
+pub apply_offer-requires-clause-ports : goal.apply_offer-requires-clause-ports
+apply_offer-requires-clause-ports g c =
+    ap length (c.as_slice.ensures.value ∙ c.list_ports.ensures) ∙ length-map c.in-Ok.leased.leases.list (λ (lease : Lease). lease.rtp_port)
+    ∙ c.in-Ok.ensures.pairs ∙ ap (λ (q : BoardPlan). pair_count q.plan) (sym c.in-Ok.ensures.plan)
+
+pub apply_offer-requires-clause-keys : goal.apply_offer-requires-clause-keys
+apply_offer-requires-clause-keys g c = c.in-Ok.ensures.keys ∙ ap (λ (q : BoardPlan). key_count q.plan) (sym c.in-Ok.ensures.plan)
+
+pub apply_offer-requires-clause-made : goal.apply_offer-requires-clause-made
+apply_offer-requires-clause-made g c = subst (λ (q : BoardPlan). WritesFrom q.plan c.args.offer.sdp.now) (sym c.in-Ok.ensures.plan) c.requires.made
+
+pub apply_offer-requires-clause-room : goal.apply_offer-requires-clause-room
+apply_offer-requires-clause-room g c =
+    let same = ap (λ (q : BoardPlan). q.plan.reply_len) c.in-Ok.ensures.plan in
+    let room = c.requires.room.text.1 in
+    omega (arith, same, room)
+
+pub returns-clause-replies : goal.returns-clause-replies
+returns-clause-replies g c = c.close_legs.ensures.replies ∙ c.apply_offer.ensures.replies ∙ c.lease_offer.ensures.replies
+
+pub returns-clause-later : goal.returns-clause-later
+returns-clause-later g c =
+    let leased = c.lease_offer.ensures.later.0 in
+    let closed = c.close_legs.ensures.later in
+    (omega (arith, leased, closed), c.lease_offer.ensures.later.1)
+
+pub prepare_offer-requires-clause-ends : goal.prepare_offer-requires-clause-ends
+prepare_offer-requires-clause-ends g c = c.in-Ok.ensures.are_opened
+
+pub returns-in-Err-clause-same : goal.returns-in-Err-clause-same
+returns-in-Err-clause-same g c = ((refl, refl, refl, refl), λ j. refl)
+
+pub returns-in-Err-clause-early : goal.returns-in-Err-clause-early
+returns-in-Err-clause-early g c = c.in-Err.ensures.early
+
+pub returns-in-Err-clause-draws_before : goal.returns-in-Err-clause-draws_before
+returns-in-Err-clause-draws_before g c = c.in-Err.ensures.draws_before
+
+pub returns-in-Err-clause-cause : goal.returns-in-Err-clause-cause
+returns-in-Err-clause-cause g c = c.in-Err.ensures.cause
+
+pub returns-clause-draws : goal.returns-clause-draws
+returns-clause-draws g c = c.in-Ok.ensures.draws
+
+pub close_legs-requires-clause-home : goal.close_legs-requires-clause-home
+close_legs-requires-clause-home g c = c.prepare_offer.ensures.home

@@ -8,13 +8,27 @@ use Rattle.call_board.specs.Views.{with_leases}
 use Rattle.call_board.specs.Boards.{Shows}
 use Rattle.offer_command.specs.Leasing.{pairs_of_plan, keys_of_plan, with_taken}
 use Rattle.offer_command.specs.Undoing.{UndoesPorts, ComesEarly, with_undone}
-use Rattle.offer_command.proofs.LeasesTaken.{free_alike, taken_ports, taken_closed, taken_open, taken_generations, taken_of_pairs, taken_draws, taken_out, few_before, undone_is}
+use Rattle.offer_command.proofs.LeasesTaken.{free_alike, taken_count, taken_ports, taken_closed, taken_open, taken_generations, taken_of_pairs, taken_draws, taken_out, few_before, undone_is}
 use Rattle.offer_command.proofs.LeasesUndone.{held_after, gained_pairs_uncalled, gained_undone_uncalled}
 use Rattle.offer_command.proofs.leasing.lease_offer.Goals as goal
 
 pub lease-leases-requires-clause-generations : goal.lease-leases-requires-clause-generations
 lease-leases-requires-clause-generations g c = λ pair.
     taken_generations c.args.config.now c.args.board.now (g.P.PortMaker.told c.args.ports.now) c.args.plan pair c.requires.can
+
+pub open_and_draw-requires-clause-opened : goal.open_and_draw-requires-clause-opened
+open_and_draw-requires-clause-opened g c =
+    let can = c.requires.can in
+    let is = c.lease-leases.ensures.leases c.args.config.now can.view can.shows can.are_free in
+    let many = taken_count c.args.config.now c.args.board.now (g.P.PortMaker.told c.args.ports.now) c.args.plan c.lease-leases.result.list can is in
+    let room = c.requires.opened.1 in
+    (c.requires.opened.0, omega (arith, many, room))
+
+pub open_and_draw-requires-clause-drawn : goal.open_and_draw-requires-clause-drawn
+open_and_draw-requires-clause-drawn g c =
+    let demanded : c.keys-count.result ≡ keys_of_plan c.args.plan = c.keys-count.ensures.count ∙ ap key_count (c.planned.ensures ∙ ap (λ (p : BoardPlan). p.plan) c.lease-leases.ensures.plan) in
+    let room = c.requires.drawn.1 in
+    (c.requires.drawn.0, omega (arith, demanded, room))
 
 pub open_and_draw-requires-clause-ports : goal.open_and_draw-requires-clause-ports
 open_and_draw-requires-clause-ports g c =
@@ -66,6 +80,24 @@ returns-in-Ok-clause-leases g c = λ v s.
     let can = c.requires.can in
     c.lease-leases.ensures.leases c.args.config.now v s (free_alike c.args.config.now c.args.board.now can.view v can.shows s can.are_free)
 
+pub returns-in-Ok-clause-pairs : goal.returns-in-Ok-clause-pairs
+returns-in-Ok-clause-pairs g c =
+    let can = c.requires.can in
+    let is = c.lease-leases.ensures.leases c.args.config.now can.view can.shows can.are_free in
+    taken_count c.args.config.now c.args.board.now (g.P.PortMaker.told c.args.ports.now) c.args.plan c.lease-leases.result.list can is
+
+pub returns-in-Ok-clause-keys : goal.returns-in-Ok-clause-keys
+returns-in-Ok-clause-keys g c =
+    let demanded : c.keys-count.result ≡ keys_of_plan c.args.plan = c.keys-count.ensures.count ∙ ap key_count (c.planned.ensures ∙ ap (λ (p : BoardPlan). p.plan) c.lease-leases.ensures.plan) in
+    c.in-Ok.ensures.count ∙ demanded
+
+pub returns-in-Ok-clause-low : goal.returns-in-Ok-clause-low
+returns-in-Ok-clause-low g c =
+    let can = c.requires.can in
+    let first = c.next_key-first_key.ensures c.args.config.now can.view can.shows in
+    let draws = can.draws in
+    omega (arith, first, draws)
+
 pub returns-in-Ok-clause-are_open : goal.returns-in-Ok-clause-are_open
 returns-in-Ok-clause-are_open g c = λ held now tells both.
     let can = c.requires.can in
@@ -86,6 +118,16 @@ returns-in-Err-clause-undone g c = λ v s.
     let back = c.undo_offer.ensures.returned config (with_taken v n c.keys.result) taken in
     subst (λ (k : ℕ). Shows config c.undo_offer.new.self (with_undone v n k)) c.keys.ensures
     (undone_is config c.undo_offer.new.self v c.lease-leases.result.list n c.keys.result is back)
+
+pub returns-in-Err-clause-early : goal.returns-in-Err-clause-early
+returns-in-Err-clause-early g c =
+    let can = c.requires.can in
+    let is = c.lease-leases.ensures.leases c.args.config.now can.view can.shows can.are_free in
+    let many = taken_count c.args.config.now c.args.board.now (g.P.PortMaker.told c.args.ports.now) c.args.plan c.lease-leases.result.list can is in
+    let demanded : c.keys-count.result ≡ keys_of_plan c.args.plan = c.keys-count.ensures.count ∙ ap key_count (c.planned.ensures ∙ ap (λ (p : BoardPlan). p.plan) c.lease-leases.ensures.plan) in
+    let fault = c.in-Err.fault in
+    subst (λ (n : ℕ). ComesEarly n (keys_of_plan c.args.plan) fault) many
+    (subst (λ (n : ℕ). ComesEarly (length c.lease-leases.result.list) n fault) demanded c.in-Err.ensures.early)
 
 pub returns-in-Err-clause-closes : goal.returns-in-Err-clause-closes
 returns-in-Err-clause-closes g c = λ v s.
@@ -119,3 +161,25 @@ returns-in-Err-clause-gives_back g c =
     let is = c.lease-leases.ensures.leases config can.view can.shows can.are_free in
     gained_undone_uncalled config c.lease-leases.result.list c.in-Err.fault (told c.args.ports.now) (told c.open_and_draw.new.ports)
     (taken_of_pairs config c.args.board.now (told c.args.ports.now) c.args.plan c.lease-leases.result.list can is) c.in-Err.ensures.closes
+
+pub returns-in-Ok-clause-calls : goal.returns-in-Ok-clause-calls
+returns-in-Ok-clause-calls g c =
+    let lease = c.lease-leases.ensures.calls in
+    let count = c.count_draws.ensures.calls in
+    record { calls_are = count.calls_are ∙ lease.calls_are; begun_is = count.begun_is ∙ lease.begun_is }
+
+pub returns-in-Ok-clause-replies : goal.returns-in-Ok-clause-replies
+returns-in-Ok-clause-replies g c = c.count_draws.ensures.replies ∙ c.lease-leases.ensures.replies
+
+pub returns-in-Err-clause-calls : goal.returns-in-Err-clause-calls
+returns-in-Err-clause-calls g c =
+    let lease = c.lease-leases.ensures.calls in
+    let count = c.count_draws-in-Err.ensures.calls in
+    let undo = c.undo_offer.ensures.calls in
+    record {
+      calls_are = undo.calls_are ∙ count.calls_are ∙ lease.calls_are;
+      begun_is = undo.begun_is ∙ count.begun_is ∙ lease.begun_is;
+    }
+
+pub returns-in-Err-clause-replies : goal.returns-in-Err-clause-replies
+returns-in-Err-clause-replies g c = c.undo_offer.ensures.replies ∙ c.count_draws-in-Err.ensures.replies ∙ c.lease-leases.ensures.replies

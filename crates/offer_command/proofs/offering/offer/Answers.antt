@@ -1,4 +1,4 @@
-use Rattle.std.proofs.Common.{◌≡◌, ◌∙◌, arith, refl, ap, subst, ℕ, ◌*◌, List}
+use Rattle.std.proofs.Common.{◌≡◌, ◌∙◌, arith, refl, ap, subst, ℕ, ◌*◌, List, length}
 use Rattle.turn_table.specs.Hands.{entries}
 use Rattle.offer_answer.specs.declared.plan.Plan.{Plan}
 use Rattle.offer_answer.specs.Offering.{pair_count, AsksOffer}
@@ -14,6 +14,7 @@ use Rattle.board_turns.specs.declared.device_answers.DeviceAnswers.TheVariants a
 use Rattle.board_turns.proofs.Givings.{given_as, offered_given, unasked_given}
 use Rattle.board_turns.proofs.Tellings.{is_short_carries}
 use Rattle.offer_command.specs.Offers.{CanOffer}
+use Rattle.offer_command.specs.Brings.{HasOfferRoom}
 use Rattle.offer_command.specs.Commands.{Gives, ask_of, undone_code, undone_answers}
 use Rattle.offer_command.proofs.Asked.{asks_for, lines_read, may_offer}
 use Rattle.offer_command.proofs.Carried.{gives_carries, misdescribed_carries, offered_carries, refuses_carries, turn_on, undone_carries}
@@ -210,3 +211,25 @@ returns-in-Err-plan_offer-clause-ties g c = ties_none c.args.turn.now.config.now
 
 pub returns-in_default-clause-ties : goal.returns-in_default-clause-ties
 returns-in_default-clause-ties g c = ties_none c.args.turn.now.config.now (g.P.PortMaker.told c.args.ports.now) (entries c.args.hand.now)
+
+pub read_description-requires : goal.read_description-requires
+read_description-requires g c =
+    let same = ap length c.as_slice.ensures in
+    let small = c.requires.small in
+    omega (arith, same, small)
+
+pub offer_act-requires-clause-room : goal.offer_act-requires-clause-room
+offer_act-requires-clause-room g c = subst (λ (p : Plan). HasOfferRoom p c.in-Ok-offer_memory.memory.room) c.planned.ensures c.in-Ok-offer_memory.ensures.room
+
+pub accepted-requires-clause-small : goal.accepted-requires-clause-small
+accepted-requires-clause-small g c =
+    let count = ap (λ (p : Plan). p.reply_len) c.planned.ensures in
+    let within = c.in-Ok-offer_act.ensures.within in
+    let small = c.in-Ok-offer_memory.ensures.small in
+    omega (arith, count, within, small)
+
+pub returns-in-Err-offer_act-clause-replies : goal.returns-in-Err-offer_act-clause-replies
+returns-in-Err-offer_act-clause-replies g c = c.offer_act.ensures.replies ∙ c.plan_offer.ensures.replies
+
+pub returns-clause-replies : goal.returns-clause-replies
+returns-clause-replies g c = c.offer_act.ensures.replies ∙ c.plan_offer.ensures.replies

@@ -17,7 +17,7 @@ use Rattle.relay_core.specs.Turning.{GainsNested, made_by}
 use Rattle.board_turns.proofs.Nesting.{same_again}
 use Rattle.offer_command.specs.Legs.{LegList}
 use Rattle.offer_command.specs.Opening.{AreShut, IsOpened}
-use Rattle.offer_command.proofs.LegsOpened.{none_done, one_done, all_legs, all_opened, all_parts, leases_left, ends_left, gains_nothing, gains_leg, shut_still, opened_since, popped, holder_for, pairs_left, holder_read, holder_same, added_more, added_none}
+use Rattle.offer_command.proofs.LegsOpened.{none_done, one_done, all_legs, all_opened, all_parts, no_ends_left, leases_left, ends_left, gains_nothing, gains_leg, shut_still, opened_since, popped, holder_for, pairs_left, holder_read, holder_same, added_more, added_none}
 use Rattle.offer_command.proofs.opening.open_legs.Goals as goal
 
 pub loop-index-init : goal.loop-index-init
@@ -51,6 +51,33 @@ pub unwrap-ends-requires : goal.unwrap-ends-requires
 unwrap-ends-requires g c =
     let low = ends_left _ _ _ _ _ _ _ _ _ _ _ _ c.loop-index.invariant.done (let a = c.loop-index-test.true in let b = c.requires.pairs in let d = c.pairs-index-end.ensures.count in let p = ap pairs_of_plan c.planned-demanded.ensures in omega arith) in
     c.pop-in-loop-index.ensures.left.1 low
+
+pub open_leg-requires-clause-pair : goal.open_leg-requires-clause-pair
+open_leg-requires-clause-pair g c =
+    let rest = c.pop.new.self.list in
+    let left = popped c.loop-index.leases.list rest c.pop.result c.unwrap-lease.result c.pop.ensures.list c.unwrap-lease.ensures in
+    let pairs = pairs_left c.loop-index.leases.list rest c.unwrap-lease.result c.pair.result left c.pair.ensures in
+    ((subst (AreFree (pair_count c.args.turn.now.config.now)) pairs c.loop-index.invariant.leased).0, sym c.pair.ensures)
+
+pub open_leg-requires-clause-cell : goal.open_leg-requires-clause-cell
+open_leg-requires-clause-cell g c =
+    let is = c.cell.ensures in
+    let low = c.requires.cell.0 in
+    let high = c.requires.cell.1 in
+    (omega (arith, is, low), omega (arith, is, high))
+
+pub open_leg-requires-clause-room : goal.open_leg-requires-clause-room
+open_leg-requires-clause-room g c =
+    let inv = c.loop-index.invariant in
+    let test = c.loop-index-test.true in
+    let end = c.pairs-index-end.ensures.count in
+    let count = ap pairs_of_plan c.planned-demanded.ensures in
+    let legs = c.requires.room.0 in
+    let told = c.requires.room.1 in
+    let left = inv.leg_room in
+    let room = inv.legs_room in
+    let many = inv.legs_count in
+    (omega (arith, test, end, count, legs, left), omega (arith, test, end, count, told, room, many))
 
 pub open_leg-requires-clause-shut : goal.open_leg-requires-clause-shut
 open_leg-requires-clause-shut g c =
@@ -140,3 +167,21 @@ returns-clause-parts g c =
     let d = c.pairs-index-end.ensures.count in
     let p = ap pairs_of_plan c.planned-demanded.ensures in
     all_parts _ _ _ _ _ _ _ _ _ _ _ _ c.loop-index.invariant.done (omega arith) (omega arith)
+
+pub destroy_empty-requires : goal.destroy_empty-requires
+destroy_empty-requires g c =
+    let past = c.loop-index-test.false in
+    let pairs = c.requires.pairs in
+    let end = c.pairs-index-end.ensures.count in
+    let count = ap pairs_of_plan c.planned-demanded.ensures in
+    let within = c.loop-index.auto.index-end in
+    no_ends_left _ _ _ _ _ _ _ _ _ _ _ _ c.loop-index.invariant.done (omega (arith, past, pairs, end, count, within))
+
+pub returns-clause-room : goal.returns-clause-room
+returns-clause-room g c =
+    let past = c.loop-index-test.false in
+    let end = c.pairs-index-end.ensures.count in
+    let count = ap pairs_of_plan c.planned-demanded.ensures in
+    let within = c.loop-index.auto.index-end in
+    let left = c.loop-index.invariant.leg_room in
+    (omega (arith, past, end, count, within, left), c.loop-index.invariant.key_room)

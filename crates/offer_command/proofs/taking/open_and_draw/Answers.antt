@@ -1,4 +1,4 @@
-use Rattle.std.proofs.Common.{◌≡◌, sym, subst, List, length, take, arith}
+use Rattle.std.proofs.Common.{◌≡◌, ◌≤◌, sym, subst, ℕ, List, length, take, arith}
 use Rattle.std.proofs.lemmas.List.{take_all}
 use Rattle.std.specs.List.{AllZip}
 use Rattle.relay_outside.specs.Told.{Gained, WhereTold}
@@ -9,6 +9,12 @@ use Rattle.media_ports.specs.Ends.{AreOpened}
 use Rattle.media_ports.proofs.UpTo.{told_all_open}
 use Rattle.offer_command.proofs.LeasesUndone.{gained_closed, same_after}
 use Rattle.offer_command.proofs.taking.open_and_draw.Goals as goal
+
+later_on : (first then last : ℕ) → first ≤ then → then ≤ last → first ≤ last
+later_on first then last before after = omega arith
+
+no_earlier : (count : ℕ) → count ≤ count
+no_earlier count = omega arith
 
 pub close_opened-requires-clause-open : goal.close_opened-requires-clause-open
 close_opened-requires-clause-open g c =
@@ -38,3 +44,16 @@ pub returns-then-is_err-clause-same : goal.returns-then-is_err-clause-same
 returns-then-is_err-clause-same g c =
     let told = g.P.PortMaker.told in
     same_after (addresses_of c.args.interface c.args.leases.now.list) (told c.args.ports.now) (told c.close_opened.new.ports) c.requires.closed (returns-then-is_err-clause-closes g c)
+
+pub returns-in-Err-clause-later : goal.returns-in-Err-clause-later
+returns-in-Err-clause-later g c = (c.open_pairs.ensures.cause.later, no_earlier (g.K.KeySource.faults c.args.keys.now))
+
+pub returns-then-is_err-clause-later : goal.returns-then-is_err-clause-later
+returns-then-is_err-clause-later g c =
+    let faults = g.P.PortMaker.faults in (
+      later_on (faults c.args.ports.now) (faults c.open_pairs.new.ports) (faults c.close_opened.new.ports) c.open_pairs.ensures.cause.later c.close_opened.ensures.later,
+      c.draw_keys.ensures.cause.later,
+    )
+
+pub returns-clause-later : goal.returns-clause-later
+returns-clause-later g c = (c.open_pairs.ensures.cause.later, c.draw_keys.ensures.cause.later)
