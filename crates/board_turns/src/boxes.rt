@@ -13,7 +13,7 @@ ghost use Rattle.board_turns.specs.Nesting.{MayNest, nested, leaving, ends_left,
 ghost use Rattle.board_turns.specs.Taken.{CanOpen, CanShut, FitEnds, HasEnds};
 
 use crate::board_turn::BoardTurn;
-use crate::puts::{put_closing, put_opening};
+use crate::puts::put_step;
 use port_pool::Holder;
 use relay_core::{Part, Relay};
 use relay_outside::{Config, InEnd, OutEnd};
@@ -77,7 +77,7 @@ pub fn open_box<I: InEnd, O: OutEnd, R: Wait>(
         .turns
         .turn(rt, hand, box_place(turn.config, holder.pair));
     open_part(step.state(), holder, rtp_end, rtcp_end);
-    put_opening::<I, O, Brand>(turn.turns, hand, step, turn.entry_id, holder);
+    put_step::<I, O, Holder, (), Brand>(turn.turns, hand, step, turn.entry_id, &holder, &());
 }
 
 /// Shuts the box of a pair and gives its ends back, that for RTP first: those that were opened for the pair's ports. The box is open.
@@ -99,6 +99,6 @@ pub fn shut_box<I: InEnd, O: OutEnd, R: Wait>(
 {
     let mut step = turn.turns.turn(rt, hand, box_place(turn.config, pair));
     let ends = shut_part(step.state());
-    put_closing::<I, O, Brand>(turn.turns, hand, step, turn.entry_id, &ends);
+    put_step::<I, O, (), (I, I), Brand>(turn.turns, hand, step, turn.entry_id, &(), &ends);
     ends
 }

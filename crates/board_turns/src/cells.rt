@@ -14,7 +14,7 @@ ghost use Rattle.board_turns.specs.InCells.{HasNewKeys, in_cell_of, moment_in, E
 ghost use Rattle.board_turns.specs.Leaving.{AllWent};
 
 use crate::board_turn::BoardTurn;
-use crate::puts::{put_end, put_expiry, put_reading};
+use crate::puts::put_step;
 use call_cell::{Gone, LegReports};
 use relay_core::{Part, Relay};
 use relay_outside::{Config, InEnd, OutEnd};
@@ -91,7 +91,7 @@ pub fn end_cell<I: InEnd, O: OutEnd, R: Wait>(
 {
     let mut step = turn.turns.turn(rt, hand, cell_place(turn.config, cell));
     end_part(step.state(), gone);
-    put_end::<I, O, Brand>(turn.turns, hand, step, turn.entry_id, gone);
+    put_step::<I, O, (), Gone<O>, Brand>(turn.turns, hand, step, turn.entry_id, &(), gone);
 }
 
 /// Whether the call of a cell is due to end at the moment of the board's entry. Nothing changes but the cell's last moment.
@@ -112,7 +112,7 @@ pub fn expire_cell<I: InEnd, O: OutEnd, R: Wait>(
 {
     let mut step = turn.turns.turn(rt, hand, cell_place(turn.config, cell));
     let due = expire_part(step.state(), turn.entry_id.moment);
-    put_expiry::<I, O, Brand>(turn.turns, hand, step, turn.entry_id, due);
+    put_step::<I, O, bool, (), Brand>(turn.turns, hand, step, turn.entry_id, &due, &());
     due
 }
 
@@ -136,5 +136,5 @@ pub fn read_cell<I: InEnd, O: OutEnd, R: Wait>(
 {
     let mut step = turn.turns.turn(rt, hand, cell_place(turn.config, cell));
     read_part(step.state(), out);
-    put_reading::<I, O, Brand>(turn.turns, hand, step, turn.entry_id, out);
+    put_step::<I, O, LegReports, (), Brand>(turn.turns, hand, step, turn.entry_id, out, &());
 }

@@ -15,7 +15,7 @@ ghost use Rattle.board_turns.specs.Leaving.{DroppedWent, RejectedWent};
 use crate::board_turn::BoardTurn;
 use crate::cells::cell_place;
 use crate::offered_changes::OfferedChanges;
-use crate::puts::{put_commit, put_prepare};
+use crate::puts::{put_prepare, put_step};
 use call_cell::{Gone, InContexts, Prepare};
 use port_pool::Signal;
 use relay_core::{Part, Relay};
@@ -148,5 +148,5 @@ pub fn commit_cell<I: InEnd, O: OutEnd, R: Wait>(
 {
     let mut step = turn.turns.turn(rt, hand, cell_place(turn.config, cell));
     commit_part(step.state(), signal, contexts, gone, turn.entry_id.moment);
-    put_commit::<I, O, Brand>(turn.turns, hand, step, turn.entry_id, signal, gone);
+    put_step::<I, O, Signal, Gone<O>, Brand>(turn.turns, hand, step, turn.entry_id, signal, gone);
 }

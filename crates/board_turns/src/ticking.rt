@@ -26,7 +26,7 @@ ghost use Rattle.board_turns.specs.Ties.{Ties};
 use crate::board_turn::{BoardEntryId, BoardTurn};
 use crate::cells::expire_cell;
 use crate::ending::end_call;
-use crate::putting::put_entry;
+use crate::puts::put_step;
 use call_board::Board;
 use call_cell::Gone;
 use relay_core::{Part, Relay, Says};
@@ -151,23 +151,6 @@ fn tick_part<P: PortMaker, R: Wait>(
     }
 }
 
-/// Ends the board's turn with the step that X says, which was handed this moment.
-fn put_tick<I: InEnd, O: OutEnd, X: Says>(
-    turns: &Turns<Relay<I, O>>,
-    hand: &mut Hand<Relay<I, O>>,
-    turn: Turn<Relay<I, O>>,
-    now: u64,
-)
-    requires table { IsHandOf turns.now hand.old × IsMain hand.old }
-    requires turn { HasTurn hand.old turn }
-    requires step { Relates I.told I.faults O.told O.faults (taken_of turn) X.made (state_of turn) }
-    requires handed { X.made.handed ≡ now }
-    ensures same { IsSameHand hand.old hand.new }
-    ensures entry { EndsTurn (place_of turn) (front_of turn) X.made tt hand.old hand.new }
-{
-    put_entry::<I, O, X>(turns, hand, turn);
-}
-
 /// Makes a tick in a turn of the board: each live call is asked, in order of their creation, whether it is due, and ends where it is; then
 /// the board's entry of the tick is made. It returns how many calls ended. `now` is in milliseconds; a moment before that of the board's
 /// last entry counts as that one. `gone` is empty before and after. Between its steps the main hand waits for lanes; it takes no memory.
@@ -203,6 +186,6 @@ pub fn tick_turn<P: PortMaker, R: Wait>(
         },
     };
     let ended = tick_part(rt, &board_turn, hand, turn.state(), ports, gone);
-    put_tick::<P::In, P::Out, Brand>(turns, hand, turn, now);
+    put_step::<P::In, P::Out, (), (), Brand>(turns, hand, turn, board_turn.entry_id, &(), &());
     ended
 }

@@ -21,15 +21,15 @@ returns-clause-gained g c =
     let leg = c.args.holder in
     let given = c.turn-step.ensures.turn.1 in
     turn_gained c.args.turn.now.entry_id.number c.args.turn.now.entry_id.moment 0 (box_of c.args.turn.now.config.now leg.pair) c.box_place.result (Box (Open leg)) nothing_left tt c.args.hand.now c.turn-step.new.hand
-    c.put_opening.new.hand c.turn-step.result c.box_place.ensures (above_rows _ _ _ given.above) c.turn-step.ensures.same c.turn-step.ensures.turn.0 c.put_opening.ensures.entry
+    c.put_step.new.hand c.turn-step.result c.box_place.ensures (above_rows _ _ _ given.above) c.turn-step.ensures.same c.turn-step.ensures.turn.0 c.put_step.ensures.entry
 
 pub returns-clause-may : goal.returns-clause-may
 returns-clause-may g c =
     let leg = c.args.holder in
     let at = c.box_place.ensures in
     turn_may c.args.turn.now.config.now c.args.turn.now.turns.now c.args.turn.now.entry_id.number c.args.turn.now.entry_id.moment 0 (box_of c.args.turn.now.config.now leg.pair) c.box_place.result (Box (Open leg)) nothing_left tt
-    c.args.hand.now c.turn-step.new.hand c.put_opening.new.hand c.turn-step.result c.requires.may (omega (arith, at)) c.turn-step.ensures.same c.turn-step.ensures.turn.0
-    c.put_opening.ensures.same c.put_opening.ensures.entry (returns-clause-gained g c)
+    c.args.hand.now c.turn-step.new.hand c.put_step.new.hand c.turn-step.result c.requires.may (omega (arith, at)) c.turn-step.ensures.same c.turn-step.ensures.turn.0
+    c.put_step.ensures.same c.put_step.ensures.entry (returns-clause-gained g c)
 
 pub returns-clause-ends : goal.returns-clause-ends
 returns-clause-ends g c =

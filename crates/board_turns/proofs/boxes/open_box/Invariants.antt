@@ -3,5 +3,5 @@ use Rattle.relay_core.specs.Entries.{Box}
 use Rattle.board_turns.specs.Nesting.{nested}
 use Rattle.board_turns.proofs.boxes.open_box.Given as goal
 
-abbrev pub ghosts-put_opening : goal.ghosts-put_opening
-ghosts-put_opening g a = record { made = nested a.entry_id.number a.entry_id.moment 0 (Box (Open a.holder)) }
+abbrev pub ghosts-put_step : goal.ghosts-put_step
+ghosts-put_step g a = record { made = nested a.entry_id.number a.entry_id.moment 0 (Box (Open a.told.now)) }

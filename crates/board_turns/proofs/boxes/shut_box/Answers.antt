@@ -19,21 +19,21 @@ returns-clause-gained g c =
     let given = c.turn-step.ensures.turn.1 in
     turn_gained c.args.turn.now.entry_id.number c.args.turn.now.entry_id.moment 0 (box_of c.args.turn.now.config.now c.args.pair) c.box_place.result (Box Close)
     (ends_left g.I.InEnd.told c.shut_part-ends.result) tt c.args.hand.now c.turn-step.new.hand
-    c.put_closing.new.hand c.turn-step.result c.box_place.ensures (above_rows _ _ _ given.above) c.turn-step.ensures.same c.turn-step.ensures.turn.0 c.put_closing.ensures.entry
+    c.put_step.new.hand c.turn-step.result c.box_place.ensures (above_rows _ _ _ given.above) c.turn-step.ensures.same c.turn-step.ensures.turn.0 c.put_step.ensures.entry
 
 pub returns-clause-row : goal.returns-clause-row
 returns-clause-row g c =
     turn_row c.args.turn.now.entry_id.number c.args.turn.now.entry_id.moment 0 (box_of c.args.turn.now.config.now c.args.pair) c.box_place.result (Box Close)
-    (ends_left g.I.InEnd.told c.shut_part-ends.result) tt c.args.hand.now c.turn-step.new.hand c.put_closing.new.hand c.turn-step.result c.box_place.ensures
-    c.turn-step.ensures.same c.turn-step.ensures.turn.0 c.put_closing.ensures.entry
+    (ends_left g.I.InEnd.told c.shut_part-ends.result) tt c.args.hand.now c.turn-step.new.hand c.put_step.new.hand c.turn-step.result c.box_place.ensures
+    c.turn-step.ensures.same c.turn-step.ensures.turn.0 c.put_step.ensures.entry
 
 pub returns-clause-may : goal.returns-clause-may
 returns-clause-may g c =
     let at = c.box_place.ensures in
     turn_may c.args.turn.now.config.now c.args.turn.now.turns.now c.args.turn.now.entry_id.number c.args.turn.now.entry_id.moment 0 (box_of c.args.turn.now.config.now c.args.pair) c.box_place.result (Box Close)
     (ends_left g.I.InEnd.told c.shut_part-ends.result) tt
-    c.args.hand.now c.turn-step.new.hand c.put_closing.new.hand c.turn-step.result c.requires.may (omega (arith, at)) c.turn-step.ensures.same c.turn-step.ensures.turn.0
-    c.put_closing.ensures.same c.put_closing.ensures.entry (returns-clause-gained g c)
+    c.args.hand.now c.turn-step.new.hand c.put_step.new.hand c.turn-step.result c.requires.may (omega (arith, at)) c.turn-step.ensures.same c.turn-step.ensures.turn.0
+    c.put_step.ensures.same c.put_step.ensures.entry (returns-clause-gained g c)
 
 pub returns-clause-ends : goal.returns-clause-ends
 returns-clause-ends g c =

@@ -21,14 +21,14 @@ returns-clause-gained g c =
     let given = c.turn-step.ensures.turn.1 in
     turn_gained c.args.turn.now.entry_id.number c.args.turn.now.entry_id.moment (moment_in c.turn-step.result.taken.value) c.args.cell c.cell_place.result (Cell End)
     (gone_left g.O.OutEnd.told c.end_part.new.gone) tt c.args.hand.now
-    c.turn-step.new.hand c.put_end.new.hand c.turn-step.result c.cell_place.ensures (above_rows _ _ _ given.above) c.turn-step.ensures.same
-    c.turn-step.ensures.turn.0 c.put_end.ensures.entry
+    c.turn-step.new.hand c.put_step.new.hand c.turn-step.result c.cell_place.ensures (above_rows _ _ _ given.above) c.turn-step.ensures.same
+    c.turn-step.ensures.turn.0 c.put_step.ensures.entry
 
 pub returns-clause-row : goal.returns-clause-row
 returns-clause-row g c =
     turn_row c.args.turn.now.entry_id.number c.args.turn.now.entry_id.moment (moment_in c.turn-step.result.taken.value) c.args.cell c.cell_place.result (Cell End)
-    (gone_left g.O.OutEnd.told c.end_part.new.gone) tt c.args.hand.now c.turn-step.new.hand c.put_end.new.hand c.turn-step.result c.cell_place.ensures
-    c.turn-step.ensures.same c.turn-step.ensures.turn.0 c.put_end.ensures.entry
+    (gone_left g.O.OutEnd.told c.end_part.new.gone) tt c.args.hand.now c.turn-step.new.hand c.put_step.new.hand c.turn-step.result c.cell_place.ensures
+    c.turn-step.ensures.same c.turn-step.ensures.turn.0 c.put_step.ensures.entry
 
 pub returns-clause-may : goal.returns-clause-may
 returns-clause-may g c =
@@ -36,8 +36,8 @@ returns-clause-may g c =
     let low = c.requires.cell.0 in
     turn_may c.args.turn.now.config.now c.args.turn.now.turns.now c.args.turn.now.entry_id.number c.args.turn.now.entry_id.moment (moment_in c.turn-step.result.taken.value) c.args.cell c.cell_place.result (Cell End)
     (gone_left g.O.OutEnd.told c.end_part.new.gone) tt
-    c.args.hand.now c.turn-step.new.hand c.put_end.new.hand c.turn-step.result c.requires.may (omega (arith, at, low)) c.turn-step.ensures.same c.turn-step.ensures.turn.0
-    c.put_end.ensures.same c.put_end.ensures.entry (returns-clause-gained g c)
+    c.args.hand.now c.turn-step.new.hand c.put_step.new.hand c.turn-step.result c.requires.may (omega (arith, at, low)) c.turn-step.ensures.same c.turn-step.ensures.turn.0
+    c.put_step.ensures.same c.put_step.ensures.entry (returns-clause-gained g c)
 
 pub returns-clause-ended : goal.returns-clause-ended
 returns-clause-ended g c =

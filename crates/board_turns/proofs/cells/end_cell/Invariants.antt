@@ -5,5 +5,5 @@ use Rattle.board_turns.specs.Nesting.{leaving, gone_left}
 use Rattle.board_turns.specs.InCells.{moment_in}
 use Rattle.board_turns.proofs.cells.end_cell.Given as goal
 
-abbrev pub ghosts-put_end : goal.ghosts-put_end
-ghosts-put_end g a = record { made = leaving a.entry_id.number a.entry_id.moment (moment_in (taken_of a.turn)) (Cell End) (gone_left g.O.OutEnd.told a.gone.now) }
+abbrev pub ghosts-put_step : goal.ghosts-put_step
+ghosts-put_step g a = record { made = leaving a.entry_id.number a.entry_id.moment (moment_in (taken_of a.turn)) (Cell End) (gone_left g.O.OutEnd.told a.left.now) }

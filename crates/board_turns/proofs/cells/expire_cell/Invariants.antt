@@ -6,5 +6,5 @@ use Rattle.board_turns.specs.Nesting.{nested}
 use Rattle.board_turns.specs.InCells.{moment_in}
 use Rattle.board_turns.proofs.cells.expire_cell.Given as goal
 
-abbrev pub ghosts-put_expiry : goal.ghosts-put_expiry
-ghosts-put_expiry g a = record { made = nested a.entry_id.number a.entry_id.moment (max a.entry_id.moment (moment_in (taken_of a.turn))) (Cell (Expire a.due)) }
+abbrev pub ghosts-put_step : goal.ghosts-put_step
+ghosts-put_step g a = record { made = nested a.entry_id.number a.entry_id.moment (max a.entry_id.moment (moment_in (taken_of a.turn))) (Cell (Expire a.told.now)) }

@@ -17,8 +17,8 @@ pub returns-clause-gained : goal.returns-clause-gained
 returns-clause-gained g c =
     let given = c.turn-step.ensures.turn.1 in
     turn_gained c.args.turn.now.entry_id.number c.args.turn.now.entry_id.moment (moment_in c.turn-step.result.taken.value) c.args.cell c.cell_place.result (Cell (Read c.read_part.new.out))
-    nothing_left tt c.args.hand.now c.turn-step.new.hand c.put_reading.new.hand c.turn-step.result c.cell_place.ensures (above_rows _ _ _ given.above)
-    c.turn-step.ensures.same c.turn-step.ensures.turn.0 c.put_reading.ensures.entry
+    nothing_left tt c.args.hand.now c.turn-step.new.hand c.put_step.new.hand c.turn-step.result c.cell_place.ensures (above_rows _ _ _ given.above)
+    c.turn-step.ensures.same c.turn-step.ensures.turn.0 c.put_step.ensures.entry
 
 pub returns-clause-may : goal.returns-clause-may
 returns-clause-may g c =
@@ -26,8 +26,8 @@ returns-clause-may g c =
     let low = c.requires.cell.0 in
     turn_may c.args.turn.now.config.now c.args.turn.now.turns.now c.args.turn.now.entry_id.number c.args.turn.now.entry_id.moment (moment_in c.turn-step.result.taken.value) c.args.cell c.cell_place.result
     (Cell (Read c.read_part.new.out)) nothing_left tt
-    c.args.hand.now c.turn-step.new.hand c.put_reading.new.hand c.turn-step.result c.requires.may (omega (arith, at, low)) c.turn-step.ensures.same c.turn-step.ensures.turn.0
-    c.put_reading.ensures.same c.put_reading.ensures.entry (returns-clause-gained g c)
+    c.args.hand.now c.turn-step.new.hand c.put_step.new.hand c.turn-step.result c.requires.may (omega (arith, at, low)) c.turn-step.ensures.same c.turn-step.ensures.turn.0
+    c.put_step.ensures.same c.put_step.ensures.entry (returns-clause-gained g c)
 
 pub returns-clause-told : goal.returns-clause-told
 returns-clause-told g c =

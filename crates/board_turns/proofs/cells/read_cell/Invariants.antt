@@ -5,5 +5,5 @@ use Rattle.board_turns.specs.Nesting.{nested}
 use Rattle.board_turns.specs.InCells.{moment_in}
 use Rattle.board_turns.proofs.cells.read_cell.Given as goal
 
-abbrev pub ghosts-put_reading : goal.ghosts-put_reading
-ghosts-put_reading g a = record { made = nested a.entry_id.number a.entry_id.moment (moment_in (taken_of a.turn)) (Cell (Read a.out.now)) }
+abbrev pub ghosts-put_step : goal.ghosts-put_step
+ghosts-put_step g a = record { made = nested a.entry_id.number a.entry_id.moment (moment_in (taken_of a.turn)) (Cell (Read a.told.now)) }

@@ -27,14 +27,14 @@ returns-clause-gained g c =
     let given = c.turn-step.ensures.turn.1 in
     turn_gained c.args.turn.now.entry_id.number c.args.turn.now.entry_id.moment (max c.args.turn.now.entry_id.moment (moment_in c.turn-step.result.taken.value)) c.args.cell c.cell_place.result
     (Cell (Commit c.args.signal.now)) (gone_left g.O.OutEnd.told c.commit_part.new.gone) tt c.args.hand.now
-    c.turn-step.new.hand c.put_commit.new.hand c.turn-step.result c.cell_place.ensures (above_rows _ _ _ given.above) c.turn-step.ensures.same
-    c.turn-step.ensures.turn.0 c.put_commit.ensures.entry
+    c.turn-step.new.hand c.put_step.new.hand c.turn-step.result c.cell_place.ensures (above_rows _ _ _ given.above) c.turn-step.ensures.same
+    c.turn-step.ensures.turn.0 c.put_step.ensures.entry
 
 pub returns-clause-row : goal.returns-clause-row
 returns-clause-row g c =
     turn_row c.args.turn.now.entry_id.number c.args.turn.now.entry_id.moment (max c.args.turn.now.entry_id.moment (moment_in c.turn-step.result.taken.value)) c.args.cell c.cell_place.result
-    (Cell (Commit c.args.signal.now)) (gone_left g.O.OutEnd.told c.commit_part.new.gone) tt c.args.hand.now c.turn-step.new.hand c.put_commit.new.hand c.turn-step.result
-    c.cell_place.ensures c.turn-step.ensures.same c.turn-step.ensures.turn.0 c.put_commit.ensures.entry
+    (Cell (Commit c.args.signal.now)) (gone_left g.O.OutEnd.told c.commit_part.new.gone) tt c.args.hand.now c.turn-step.new.hand c.put_step.new.hand c.turn-step.result
+    c.cell_place.ensures c.turn-step.ensures.same c.turn-step.ensures.turn.0 c.put_step.ensures.entry
 
 pub returns-clause-may : goal.returns-clause-may
 returns-clause-may g c =
@@ -42,8 +42,8 @@ returns-clause-may g c =
     let low = c.requires.cell.0 in
     turn_may c.args.turn.now.config.now c.args.turn.now.turns.now c.args.turn.now.entry_id.number c.args.turn.now.entry_id.moment (max c.args.turn.now.entry_id.moment (moment_in c.turn-step.result.taken.value)) c.args.cell
     c.cell_place.result (Cell (Commit c.args.signal.now)) (gone_left g.O.OutEnd.told c.commit_part.new.gone) tt
-    c.args.hand.now c.turn-step.new.hand c.put_commit.new.hand c.turn-step.result c.requires.may (omega (arith, at, low)) c.turn-step.ensures.same c.turn-step.ensures.turn.0
-    c.put_commit.ensures.same c.put_commit.ensures.entry (returns-clause-gained g c)
+    c.args.hand.now c.turn-step.new.hand c.put_step.new.hand c.turn-step.result c.requires.may (omega (arith, at, low)) c.turn-step.ensures.same c.turn-step.ensures.turn.0
+    c.put_step.ensures.same c.put_step.ensures.entry (returns-clause-gained g c)
 
 pub returns-clause-committed : goal.returns-clause-committed
 returns-clause-committed g c =

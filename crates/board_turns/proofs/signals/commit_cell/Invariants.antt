@@ -6,7 +6,7 @@ use Rattle.board_turns.specs.Nesting.{leaving, gone_left}
 use Rattle.board_turns.specs.InCells.{moment_in}
 use Rattle.board_turns.proofs.signals.commit_cell.Given as goal
 
-abbrev pub ghosts-put_commit : goal.ghosts-put_commit
-ghosts-put_commit g a = record {
-  made = leaving a.entry_id.number a.entry_id.moment (max a.entry_id.moment (moment_in (taken_of a.turn))) (Cell (Commit a.signal.now)) (gone_left g.O.OutEnd.told a.gone.now);
+abbrev pub ghosts-put_step : goal.ghosts-put_step
+ghosts-put_step g a = record {
+  made = leaving a.entry_id.number a.entry_id.moment (max a.entry_id.moment (moment_in (taken_of a.turn))) (Cell (Commit a.told.now)) (gone_left g.O.OutEnd.told a.left.now);
 }

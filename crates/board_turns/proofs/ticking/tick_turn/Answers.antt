@@ -57,8 +57,8 @@ tick_part-ended-requires-clause-open g c =
     (subst (λ (h : List BoardEntry). TellsHeld c.args.config.now told (leg_pairs (held h)))
     (sym (begins_whole c.args.config.now c.args.turns.now c.args.hand.now c.turn-turn.new.hand c.turn-turn.result c.turn-turn.ensures.same.1 begins)) c.requires.«open»)
 
-pub put_tick-requires-clause-step : goal.put_tick-requires-clause-step
-put_tick-requires-clause-step g c =
+pub put_step-requires-clause-step : goal.put_step-requires-clause-step
+put_step-requires-clause-step g c =
     let begins = turn_begins g.P.In.InEnd.told g.P.In.InEnd.faults g.P.Out.OutEnd.told g.P.Out.OutEnd.faults c.args.config.now c.args.turns.now c.args.hand.now
     c.turn-turn.new.hand c.turn-turn.result c.requires.between c.turn-turn.ensures.same c.turn-turn.ensures.turn in
     let ends = at_front c.args.config.now c.turn-turn.new.hand c.tick_part-ended.new.hand c.front-number.result (front_of c.turn-turn.result) c.args.now c.tick_part-ended.result
@@ -76,8 +76,8 @@ returns-clause-between g c =
     let ends = at_front c.args.config.now c.turn-turn.new.hand c.tick_part-ended.new.hand c.front-number.result (front_of c.turn-turn.result) c.args.now c.tick_part-ended.result
     c.tick_part-ended.new.part (g.P.PortMaker.told c.tick_part-ended.new.ports) c.front-number.ensures c.tick_part-ended.ensures.ends in
     let put = tick_ends c.args.config.now c.args.turns.now c.turn-turn.new.hand c.tick_part-ended.new.hand c.turn-turn.result c.args.now c.tick_part-ended.result
-    c.tick_part-ended.new.part (g.P.PortMaker.told c.tick_part-ended.new.ports) ends.0 begins ends.1 ends.2 c.args.hand.now c.put_tick.new.hand tt c.requires.between
-    c.turn-turn.ensures.same c.turn-turn.ensures.turn.0 c.tick_part-ended.ensures.same c.put_tick.ensures.same c.put_tick.ensures.entry in
+    c.tick_part-ended.new.part (g.P.PortMaker.told c.tick_part-ended.new.ports) ends.0 begins ends.1 ends.2 c.args.hand.now c.put_step.new.hand tt c.requires.between
+    c.turn-turn.ensures.same c.turn-turn.ensures.turn.0 c.tick_part-ended.ensures.same c.put_step.ensures.same c.put_step.ensures.entry in
     put.between
 
 pub returns-clause-ticks : goal.returns-clause-ticks
@@ -87,8 +87,8 @@ returns-clause-ticks g c =
     let ends = at_front c.args.config.now c.turn-turn.new.hand c.tick_part-ended.new.hand c.front-number.result (front_of c.turn-turn.result) c.args.now c.tick_part-ended.result
     c.tick_part-ended.new.part (g.P.PortMaker.told c.tick_part-ended.new.ports) c.front-number.ensures c.tick_part-ended.ensures.ends in
     let put = tick_ends c.args.config.now c.args.turns.now c.turn-turn.new.hand c.tick_part-ended.new.hand c.turn-turn.result c.args.now c.tick_part-ended.result
-    c.tick_part-ended.new.part (g.P.PortMaker.told c.tick_part-ended.new.ports) ends.0 begins ends.1 ends.2 c.args.hand.now c.put_tick.new.hand tt c.requires.between
-    c.turn-turn.ensures.same c.turn-turn.ensures.turn.0 c.tick_part-ended.ensures.same c.put_tick.ensures.same c.put_tick.ensures.entry in
+    c.tick_part-ended.new.part (g.P.PortMaker.told c.tick_part-ended.new.ports) ends.0 begins ends.1 ends.2 c.args.hand.now c.put_step.new.hand tt c.requires.between
+    c.turn-turn.ensures.same c.turn-turn.ensures.turn.0 c.tick_part-ended.ensures.same c.put_step.ensures.same c.put_step.ensures.entry in
     record {
       calls = ends.0;
       makes = put.makes;
@@ -104,13 +104,13 @@ returns-clause-open g c =
     let ends = at_front c.args.config.now c.turn-turn.new.hand c.tick_part-ended.new.hand c.front-number.result (front_of c.turn-turn.result) c.args.now c.tick_part-ended.result
     c.tick_part-ended.new.part (g.P.PortMaker.told c.tick_part-ended.new.ports) c.front-number.ensures c.tick_part-ended.ensures.ends in
     let put = tick_ends c.args.config.now c.args.turns.now c.turn-turn.new.hand c.tick_part-ended.new.hand c.turn-turn.result c.args.now c.tick_part-ended.result
-    c.tick_part-ended.new.part (g.P.PortMaker.told c.tick_part-ended.new.ports) ends.0 begins ends.1 ends.2 c.args.hand.now c.put_tick.new.hand tt c.requires.between
-    c.turn-turn.ensures.same c.turn-turn.ensures.turn.0 c.tick_part-ended.ensures.same c.put_tick.ensures.same c.put_tick.ensures.entry in
+    c.tick_part-ended.new.part (g.P.PortMaker.told c.tick_part-ended.new.ports) ends.0 begins ends.1 ends.2 c.args.hand.now c.put_step.new.hand tt c.requires.between
+    c.turn-turn.ensures.same c.turn-turn.ensures.turn.0 c.tick_part-ended.ensures.same c.put_step.ensures.same c.put_step.ensures.entry in
     let told = g.P.PortMaker.told c.tick_part-ended.new.ports in
     let config = c.args.config.now in
     let h = board_of (made_by c.args.hand.now) in
     subst (λ (k : List BoardEntry). TellsHeld config told (leg_pairs (held k)))
-    (sym (makes_history config c.args.turns.now c.args.hand.now c.put_tick.new.hand (tick_entry h c.args.now ends.0) c.requires.between put.between put.makes))
+    (sym (makes_history config c.args.turns.now c.args.hand.now c.put_step.new.hand (tick_entry h c.args.now ends.0) c.requires.between put.between put.makes))
     (subst (λ (k : List BoardEntry). TellsHeld config told (leg_pairs (held (tick_entry k c.args.now ends.0 ∷ k))))
     (begins_whole config c.args.turns.now c.args.hand.now c.turn-turn.new.hand c.turn-turn.result c.turn-turn.ensures.same.1 begins) ends.1.opens)
 
@@ -122,5 +122,5 @@ returns-clause-ties g c =
     let turn = c.turn-turn.result in
     let mid = c.tick_part-ended.new.hand in
     ties_ended config before after (entries c.args.hand.now) (place_of turn) (front_of turn) (made_after mid (front_of turn) c.args.now c.tick_part-ended.new.part) tt mid
-    c.put_tick.new.hand refl refl c.put_tick.ensures.entry
+    c.put_step.new.hand refl refl c.put_step.ensures.entry
     (subst (λ (rows : List (table.Entry Made _)). Ties config before after rows (entries mid)) c.turn-turn.ensures.same.1 c.tick_part-ended.ensures.ties)

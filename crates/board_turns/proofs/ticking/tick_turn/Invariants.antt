@@ -2,5 +2,5 @@ use Rattle.turn_table.specs.Hands.{front_of, state_of}
 use Rattle.board_turns.proofs.TickTurns.{made_after}
 use Rattle.board_turns.proofs.ticking.tick_turn.Given as goal
 
-abbrev pub ghosts-put_tick : goal.ghosts-put_tick
-ghosts-put_tick g a = record { made = made_after a.hand.now (front_of a.turn) a.now (state_of a.turn) }
+abbrev pub ghosts-put_step : goal.ghosts-put_step
+ghosts-put_step g a = record { made = made_after a.hand.now (front_of a.turn) a.entry_id.moment (state_of a.turn) }
