@@ -55,6 +55,14 @@ module _ {I O : Type 0} where
   reads_part x cell told is takes reads =
       subst (λ (z : Part I O). ReadsPart z told) (sym is) (reads_all cell told (subst (λ (z : Part I O). TakesReading z) is takes) reads)
 
+  pub ends_part : (x : Part I O) (old new : cell.Cell O) (gone : List (Lease × O × O)) → x ≡ part.Cell old
+      → ((config : Config) (h : List CellEntry) → CellFor config old h → CellEnds config old new h gone) → EndsPart x (part.Cell new) gone
+  ends_part x old new gone is steps = subst (λ (z : Part I O). EndsPart z (part.Cell new) gone) (sym is) steps
+
+  pub expires_part : (x : Part I O) (old new : cell.Cell O) (now : ℕ) (due : Bool) → x ≡ part.Cell old
+      → ((config : Config) (h : List CellEntry) → CellFor config old h → CellExpires config old new h now due) → ExpiresPart x (part.Cell new) now due
+  expires_part x old new now due is steps = subst (λ (z : Part I O). ExpiresPart z (part.Cell new) now due) (sym is) steps
+
   pub counts_told : (x : Part I O) (cell : cell.Cell O) (told : List LegReport) → x ≡ part.Cell cell → TakesReading x
       → ((config : Config) (h : List CellEntry) → CellFor config cell h → CountsBelow (since_end h) → CellReads config cell h told)
       → (report : LegReport) → In report told → CountsFit report

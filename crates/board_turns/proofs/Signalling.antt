@@ -124,6 +124,11 @@ module _ {I O : Type 0} where
       omega (arith, due, room)
 
 module _ {I O : Type 0} where
+  pub commits_part : (x : Part I O) (old new : cell.Cell O) (signal : List SectionSignal) (now : ℕ) (gone : List (Lease × O × O)) → x ≡ part.Cell old
+      → ((config : Config) (h : List CellEntry) → CellFor config old h → NamesKeys (since_end h) signal → CellCommits config old new h signal now gone)
+      → CommitsPart x (part.Cell new) signal now gone
+  commits_part x old new signal now gone is steps = subst (λ (z : Part I O). CommitsPart z (part.Cell new) signal now gone) (sym is) steps
+
   pub prepares_part : (x : Part I O) (old new : cell.Cell O) (signal : prepared.Prepare O) (call : ℕ) (keys : List NewKey) (dropped : List ℕ) (now : ℕ)
       (gone : List (Lease × O × O)) → x ≡ part.Cell old → TakesOffer x signal call keys dropped
       → ((config : Config) (h : List CellEntry) (k : List NewKey) (d : List ℕ) → CellFor config old h → PrepareFor signal k d → CanCome config (since_end h) signal call k d
@@ -175,6 +180,13 @@ module _ {I O : Type 0} (it : I → EndTold InCall) (ic : I → ℕ) (ot : O →
               (names_keys_again config old a.history h signal (subst (λ (k : Config). CellFor k old a.history) (sym a.stands.config_is ∙ for.config_is) a.stands) for a.names),
         );
       })
+
+  -- the step tells the legs of what was prepared
+  pub relates_legs : (x y : Part I O) (number moment last call : ℕ) (told signal : prepared.Prepare O) (keys : List NewKey) (dropped : List ℕ) (left : Left) → told ≡ signal
+      → Relates it ic ot oc x (leaving number moment last (Cell (Prepare call (added signal) keys dropped)) left) y
+      → Relates it ic ot oc x (leaving number moment last (Cell (Prepare call (added told) keys dropped)) left) y
+  relates_legs x y number moment last call told signal keys dropped left same steps =
+      subst (λ (s : prepared.Prepare O). Relates it ic ot oc x (leaving number moment last (Cell (Prepare call (added s) keys dropped)) left) y) (sym same) steps
 
 module _ {M I O T : Type 0} {g : _} (it : I → EndTold InCall) (ic : I → ℕ) (ot : O → EndTold OutCall) (oc : O → ℕ) where
   pub prepares_by : (config : Config) (hand : Hand M (Part I O) Made T g) (place n : ℕ) (signal : prepared.Prepare O) (call : ℕ) (keys : List NewKey)

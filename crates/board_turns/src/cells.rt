@@ -31,44 +31,6 @@ pub(crate) fn cell_place(config: &Config, cell: u32) -> usize
     cell as usize
 }
 
-fn end_part<I: InEnd, O: OutEnd>(part: &mut Part<I, O>, gone: &mut Gone<O>)
-    requires cell { IsCellPart part.old }
-    requires empty { gone.old ≡ [] }
-    ensures step { (number handed : ℕ) → Relates I.told I.faults O.told O.faults part.old (leaving number handed (moment_in part.old) (Cell End) (gone_left O.told gone.new)) part.new }
-    ensures ends { EndsPart part.old part.new gone.new }
-{
-    match part {
-        Part::Cell(cell) => cell.end(gone),
-        Part::Board(_) => unreachable!(),
-        Part::Pair(_) => unreachable!(),
-    }
-}
-
-fn expire_part<I: InEnd, O: OutEnd>(part: &mut Part<I, O>, now: u64) -> bool
-    requires { IsCellPart part.old }
-    ensures step { (number : ℕ) → Relates I.told I.faults O.told O.faults part.old (nested number now (max now (moment_in part.old)) (Cell (Expire result))) part.new }
-    ensures expires { ExpiresPart part.old part.new now result }
-{
-    match part {
-        Part::Cell(cell) => cell.expire(now),
-        Part::Board(_) => unreachable!(),
-        Part::Pair(_) => unreachable!(),
-    }
-}
-
-fn read_part<I: InEnd, O: OutEnd>(part: &Part<I, O>, out: &mut LegReports)
-    requires { TakesReading part.now }
-    ensures step { (number handed : ℕ) → Relates I.told I.faults O.told O.faults part.now (nested number handed (moment_in part.now) (Cell (Read out.new))) part.now }
-    ensures reads { ReadsPart part.now out.new }
-    ensures counts { (report : LegReport) → In report out.new → CountsFit report }
-{
-    match part {
-        Part::Cell(cell) => cell.read_legs(out),
-        Part::Board(_) => unreachable!(),
-        Part::Pair(_) => unreachable!(),
-    }
-}
-
 /// Ends the call of a cell: the legs that it had go to `gone`, which is empty. Cells are numbered from 1.
 pub fn end_cell<I: InEnd, O: OutEnd, R: Wait>(
     rt: &R,
@@ -90,7 +52,12 @@ pub fn end_cell<I: InEnd, O: OutEnd, R: Wait>(
     ensures home { GoneHome O.told turn.now.config.now gone.new }
 {
     let mut step = turn.turns.turn(rt, hand, cell_place(turn.config, cell));
-    end_part(step.state(), gone);
+    let held = match step.state() {
+        Part::Cell(held) => held,
+        Part::Board(_) => unreachable!(),
+        Part::Pair(_) => unreachable!(),
+    };
+    held.end(gone);
     put_step::<I, O, (), Gone<O>, Brand>(turn.turns, hand, step, turn.entry_id, &(), gone);
 }
 
@@ -111,7 +78,12 @@ pub fn expire_cell<I: InEnd, O: OutEnd, R: Wait>(
     ensures asked { Expires I.told I.faults O.told O.faults turn.now.config.now hand.old cell turn.now.entry_id.moment result }
 {
     let mut step = turn.turns.turn(rt, hand, cell_place(turn.config, cell));
-    let due = expire_part(step.state(), turn.entry_id.moment);
+    let held = match step.state() {
+        Part::Cell(held) => held,
+        Part::Board(_) => unreachable!(),
+        Part::Pair(_) => unreachable!(),
+    };
+    let due = held.expire(turn.entry_id.moment);
     put_step::<I, O, bool, (), Brand>(turn.turns, hand, step, turn.entry_id, &due, &());
     due
 }
@@ -135,6 +107,11 @@ pub fn read_cell<I: InEnd, O: OutEnd, R: Wait>(
     ensures counts { (report : LegReport) → In report out.new → CountsFit report }
 {
     let mut step = turn.turns.turn(rt, hand, cell_place(turn.config, cell));
-    read_part(step.state(), out);
+    let held = match step.state() {
+        Part::Cell(held) => held,
+        Part::Board(_) => unreachable!(),
+        Part::Pair(_) => unreachable!(),
+    };
+    held.read_legs(out);
     put_step::<I, O, LegReports, (), Brand>(turn.turns, hand, step, turn.entry_id, out, &());
 }

@@ -25,49 +25,6 @@ use std::snapshot::Snapshot;
 use std::sync::Wait;
 use turn_table::Hand;
 
-fn prepare_part<I: InEnd, O: OutEnd>(
-    part: &mut Part<I, O>,
-    call: u64,
-    signal: Prepare<O>,
-    changes: &OfferedChanges,
-    gone: &mut Gone<O>,
-    now: u64,
-)
-    requires takes { TakesOffer part.old signal call (offered_keys changes.now) (offered_drops changes.now) }
-    requires ready { IsReady signal }
-    requires opened { OpenedFor O.told part.old signal }
-    requires empty { gone.old ≡ [] }
-    ensures step { (number : ℕ) → Relates I.told I.faults O.told O.faults part.old
-        (leaving number now (max now (moment_in part.old)) (Cell (preparing call (added signal) (offered_keys changes.now) (offered_drops changes.now))) (gone_left O.told gone.new)) part.new }
-    ensures prepares { PreparesPart part.old part.new signal call (offered_keys changes.now) (offered_drops changes.now) now gone.new }
-{
-    match part {
-        Part::Cell(cell) => cell.prepare(call, signal, gone, now),
-        Part::Board(_) => unreachable!(),
-        Part::Pair(_) => unreachable!(),
-    }
-}
-
-fn commit_part<I: InEnd, O: OutEnd>(
-    part: &mut Part<I, O>,
-    signal: &Signal,
-    contexts: InContexts,
-    gone: &mut Gone<O>,
-    now: u64,
-)
-    requires takes { TakesAnswer part.old signal.now contexts }
-    requires empty { gone.old ≡ [] }
-    ensures step { (number : ℕ) → Relates I.told I.faults O.told O.faults part.old
-        (leaving number now (max now (moment_in part.old)) (Cell (Commit signal.now)) (gone_left O.told gone.new)) part.new }
-    ensures commits { CommitsPart part.old part.new signal.now now gone.new }
-{
-    match part {
-        Part::Cell(cell) => cell.commit(signal, contexts, gone, now),
-        Part::Board(_) => unreachable!(),
-        Part::Pair(_) => unreachable!(),
-    }
-}
-
 /// Takes into a cell what an offer brings to the call with this number: its legs and keys, which `offered_changes` tells too. The legs
 /// of the sections that it drops go to `gone`, which is empty. The out ends of its legs were opened for the ports of their pairs, and not
 /// called since. Cells are numbered from 1.
@@ -100,14 +57,12 @@ pub fn prepare_cell<I: InEnd, O: OutEnd, R: Wait>(
 {
     let legs = Snapshot::of(&signal);
     let mut step = turn.turns.turn(rt, hand, cell_place(turn.config, cell));
-    prepare_part(
-        step.state(),
-        call,
-        signal,
-        changes,
-        gone,
-        turn.entry_id.moment,
-    );
+    let held = match step.state() {
+        Part::Cell(held) => held,
+        Part::Board(_) => unreachable!(),
+        Part::Pair(_) => unreachable!(),
+    };
+    held.prepare(call, signal, gone, turn.entry_id.moment);
     put_prepare::<I, O, Brand>(
         turn.turns,
         hand,
@@ -147,6 +102,11 @@ pub fn commit_cell<I: InEnd, O: OutEnd, R: Wait>(
     ensures home { GoneHome O.told turn.now.config.now gone.new }
 {
     let mut step = turn.turns.turn(rt, hand, cell_place(turn.config, cell));
-    commit_part(step.state(), signal, contexts, gone, turn.entry_id.moment);
+    let held = match step.state() {
+        Part::Cell(held) => held,
+        Part::Board(_) => unreachable!(),
+        Part::Pair(_) => unreachable!(),
+    };
+    held.commit(signal, contexts, gone, turn.entry_id.moment);
     put_step::<I, O, Signal, Gone<O>, Brand>(turn.turns, hand, step, turn.entry_id, signal, gone);
 }

@@ -1,22 +1,21 @@
-use Rattle.std.proofs.Common.{arith}
+use Rattle.std.proofs.Common.{arith, ◌∙◌, sym, subst}
 use Rattle.call_cell.specs.Cells.{Read}
 use Rattle.relay_core.specs.Entries.{Cell}
 use Rattle.relay_core.specs.Made.{nothing_left}
 use Rattle.board_turns.specs.InCells.{moment_in}
-use Rattle.board_turns.proofs.Nesting.{above_rows, turn_gained, turn_may}
-use Rattle.board_turns.proofs.Celling.{cell_given, reading_given, reads_by}
+use Rattle.relay_core.specs.Standing.{IsCellPart}
+use Rattle.board_turns.specs.Nesting.{nested}
+use Rattle.relay_core.specs.Steps.{Relates}
+use Rattle.relay_core.specs.declared.part.Part.{Part}
+use Rattle.relay_core.specs.declared.part.Part.TheVariants as part
+use Rattle.board_turns.proofs.Nesting.{above_rows, turn_gained, turn_may, may_turn, turn_same}
+use Rattle.board_turns.proofs.Celling.{cell_given, reading_given, reads_by, is_cell, read_relates, reads_part, counts_told}
 use Rattle.board_turns.proofs.cells.read_cell.Goals as goal
-
-pub read_part-requires : goal.read_part-requires
-read_part-requires g c =
-    reading_given g.I.InEnd.told g.I.InEnd.faults g.O.OutEnd.told g.O.OutEnd.faults c.args.turn.now.config.now c.args.turn.now.turns.now c.args.hand.now c.args.cell c.cell_place.result
-    c.turn-step.result.front _ c.state.result.now c.requires.may c.requires.cell.0 c.requires.cell.1 c.requires.keys c.cell_place.ensures c.state.ensures.value
-    c.turn-step.ensures.turn.0.2 c.turn-step.ensures.turn.1
 
 pub returns-clause-gained : goal.returns-clause-gained
 returns-clause-gained g c =
     let given = c.turn-step.ensures.turn.1 in
-    turn_gained c.args.turn.now.entry_id.number c.args.turn.now.entry_id.moment (moment_in c.turn-step.result.taken.value) c.args.cell c.cell_place.result (Cell (Read c.read_part.new.out))
+    turn_gained c.args.turn.now.entry_id.number c.args.turn.now.entry_id.moment (moment_in c.turn-step.result.taken.value) c.args.cell c.cell_place.result (Cell (Read c.read_legs.new.out))
     nothing_left tt c.args.hand.now c.turn-step.new.hand c.put_step.new.hand c.turn-step.result c.cell_place.ensures (above_rows _ _ _ given.above)
     c.turn-step.ensures.same c.turn-step.ensures.turn.0 c.put_step.ensures.entry
 
@@ -25,15 +24,82 @@ returns-clause-may g c =
     let at = c.cell_place.ensures in
     let low = c.requires.cell.0 in
     turn_may c.args.turn.now.config.now c.args.turn.now.turns.now c.args.turn.now.entry_id.number c.args.turn.now.entry_id.moment (moment_in c.turn-step.result.taken.value) c.args.cell c.cell_place.result
-    (Cell (Read c.read_part.new.out)) nothing_left tt
+    (Cell (Read c.read_legs.new.out)) nothing_left tt
     c.args.hand.now c.turn-step.new.hand c.put_step.new.hand c.turn-step.result c.requires.may (omega (arith, at, low)) c.turn-step.ensures.same c.turn-step.ensures.turn.0
     c.put_step.ensures.same c.put_step.ensures.entry (returns-clause-gained g c)
 
 pub returns-clause-told : goal.returns-clause-told
 returns-clause-told g c =
-    reads_by g.I.InEnd.told g.I.InEnd.faults g.O.OutEnd.told g.O.OutEnd.faults c.args.turn.now.config.now c.args.hand.now c.args.cell c.turn-step.result.front c.state.result.now
-    c.read_part.new.out
+    reads_by g.I.InEnd.told g.I.InEnd.faults g.O.OutEnd.told g.O.OutEnd.faults c.args.turn.now.config.now c.args.hand.now c.args.cell c.turn-step.result.front c.turn-step.result.taken.value
+    c.read_legs.new.out
     (cell_given g.I.InEnd.told g.I.InEnd.faults g.O.OutEnd.told g.O.OutEnd.faults c.args.turn.now.config.now c.args.turn.now.turns.now c.args.hand.now c.args.cell c.cell_place.result
-    c.turn-step.result.front _ c.state.result.now c.requires.may c.requires.cell.0 c.requires.cell.1 c.requires.keys c.cell_place.ensures c.state.ensures.value
+    c.turn-step.result.front _ c.turn-step.result.taken.value c.requires.may c.requires.cell.0 c.requires.cell.1 c.requires.keys c.cell_place.ensures c.turn-step.ensures.turn.0.1
     c.turn-step.ensures.turn.1)
-    c.read_part.ensures.reads
+    (reads_part c.turn-step.result.taken.value c.in-Cell.held c.read_legs.new.out (c.turn-step.ensures.turn.0.1 ∙ sym c.state.ensures.value ∙ c.in-Cell.is)
+    (reading_given g.I.InEnd.told g.I.InEnd.faults g.O.OutEnd.told g.O.OutEnd.faults c.args.turn.now.config.now c.args.turn.now.turns.now c.args.hand.now c.args.cell c.cell_place.result
+    c.turn-step.result.front _ c.turn-step.result.taken.value c.requires.may c.requires.cell.0 c.requires.cell.1 c.requires.keys c.cell_place.ensures c.turn-step.ensures.turn.0.1
+    c.turn-step.ensures.turn.0.2 c.turn-step.ensures.turn.1)
+    c.read_legs.ensures)
+
+pub returns-clause-counts : goal.returns-clause-counts
+returns-clause-counts g c report i =
+    counts_told c.turn-step.result.taken.value c.in-Cell.held c.read_legs.new.out (c.turn-step.ensures.turn.0.1 ∙ sym c.state.ensures.value ∙ c.in-Cell.is)
+    (reading_given g.I.InEnd.told g.I.InEnd.faults g.O.OutEnd.told g.O.OutEnd.faults c.args.turn.now.config.now c.args.turn.now.turns.now c.args.hand.now c.args.cell c.cell_place.result
+    c.turn-step.result.front _ c.turn-step.result.taken.value c.requires.may c.requires.cell.0 c.requires.cell.1 c.requires.keys c.cell_place.ensures c.turn-step.ensures.turn.0.1
+    c.turn-step.ensures.turn.0.2 c.turn-step.ensures.turn.1)
+    c.read_legs.ensures report i
+
+pub cell_place-requires : goal.cell_place-requires
+cell_place-requires g c =
+    c.requires.cell.1
+
+pub turn-step-requires-clause-table : goal.turn-step-requires-clause-table
+turn-step-requires-clause-table g c =
+    c.requires.may.of_table
+
+pub turn-step-requires-clause-place : goal.turn-step-requires-clause-place
+turn-step-requires-clause-place g c =
+    let at = c.cell_place.ensures in
+    let low = c.requires.cell.0 in
+    let high = c.requires.cell.1 in
+    may_turn c.args.turn.now.config.now c.args.turn.now.turns.now c.args.hand.now c.cell_place.result c.requires.may (omega (arith, at, low)) (omega (arith, at, high))
+
+pub unreachable-requires : goal.unreachable-requires
+unreachable-requires g c =
+    let is = cell_given g.I.InEnd.told g.I.InEnd.faults g.O.OutEnd.told g.O.OutEnd.faults c.args.turn.now.config.now c.args.turn.now.turns.now c.args.hand.now c.args.cell c.cell_place.result
+    c.turn-step.result.front _ c.state.result.now c.requires.may c.requires.cell.0 c.requires.cell.1 c.requires.keys c.cell_place.ensures c.state.ensures.value
+    c.turn-step.ensures.turn.1 in
+    subst IsCellPart c.in-Board.is (is_cell c.args.turn.now.config.now c.state.result.now _ is.1)
+
+pub unreachable-requires-in-Pair : goal.unreachable-requires-in-Pair
+unreachable-requires-in-Pair g c =
+    let is = cell_given g.I.InEnd.told g.I.InEnd.faults g.O.OutEnd.told g.O.OutEnd.faults c.args.turn.now.config.now c.args.turn.now.turns.now c.args.hand.now c.args.cell c.cell_place.result
+    c.turn-step.result.front _ c.state.result.now c.requires.may c.requires.cell.0 c.requires.cell.1 c.requires.keys c.cell_place.ensures c.state.ensures.value
+    c.turn-step.ensures.turn.1 in
+    subst IsCellPart c.in-Pair.is (is_cell c.args.turn.now.config.now c.state.result.now _ is.1)
+
+pub put_step-requires-clause-table : goal.put_step-requires-clause-table
+put_step-requires-clause-table g c =
+    (c.turn-step.ensures.same.0.0 ∙ c.requires.may.of_table, c.turn-step.ensures.same.0.3 ∙ c.requires.may.main)
+
+pub put_step-requires-clause-turn : goal.put_step-requires-clause-turn
+put_step-requires-clause-turn g c =
+    c.turn-step.ensures.turn.0.4
+
+pub returns-clause-same : goal.returns-clause-same
+returns-clause-same g c =
+    let at = c.cell_place.ensures in
+    let low = c.requires.cell.0 in
+    turn_same c.args.turn.now.config.now c.args.turn.now.turns.now c.cell_place.result
+    (nested c.args.turn.now.entry_id.number c.args.turn.now.entry_id.moment (moment_in c.turn-step.result.taken.value) (Cell (Read c.read_legs.new.out))) tt c.args.hand.now c.turn-step.new.hand c.put_step.new.hand c.turn-step.result c.requires.may
+    (omega (arith, at, low)) c.turn-step.ensures.same c.turn-step.ensures.turn.0 c.put_step.ensures.same c.put_step.ensures.entry
+
+pub put_step-requires-clause-step : goal.put_step-requires-clause-step
+put_step-requires-clause-step g c =
+    let step = read_relates g.I.InEnd.told g.I.InEnd.faults g.O.OutEnd.told g.O.OutEnd.faults c.turn-step.result.taken.value c.in-Cell.held c.read_legs.new.out
+    c.args.turn.now.entry_id.number c.args.turn.now.entry_id.moment (c.turn-step.ensures.turn.0.1 ∙ sym c.state.ensures.value ∙ c.in-Cell.is)
+    (reading_given g.I.InEnd.told g.I.InEnd.faults g.O.OutEnd.told g.O.OutEnd.faults c.args.turn.now.config.now c.args.turn.now.turns.now c.args.hand.now c.args.cell c.cell_place.result
+    c.turn-step.result.front _ c.turn-step.result.taken.value c.requires.may c.requires.cell.0 c.requires.cell.1 c.requires.keys c.cell_place.ensures c.turn-step.ensures.turn.0.1
+    c.turn-step.ensures.turn.0.2 c.turn-step.ensures.turn.1)
+    c.read_legs.ensures in
+    subst (λ (z : Part _ _). Relates g.I.InEnd.told g.I.InEnd.faults g.O.OutEnd.told g.O.OutEnd.faults c.turn-step.result.taken.value (nested c.args.turn.now.entry_id.number c.args.turn.now.entry_id.moment (moment_in c.turn-step.result.taken.value) (Cell (Read c.read_legs.new.out))) z) (c.turn-step.ensures.turn.0.1 ∙ sym c.state.ensures.value ∙ c.in-Cell.is) step

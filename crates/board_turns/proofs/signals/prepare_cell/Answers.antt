@@ -1,68 +1,64 @@
-use Rattle.std.proofs.Common.{arith, max}
+use Rattle.std.proofs.Common.{arith, max, ◌∙◌, sym, subst}
 use Rattle.call_cell.specs.Cells.{Prepare}
 use Rattle.call_cell.specs.Preparing.{added}
 use Rattle.relay_core.specs.Entries.{Cell}
 use Rattle.board_turns.specs.Bringing.{offered_keys, offered_drops}
 use Rattle.board_turns.specs.Nesting.{leaving, gone_left}
 use Rattle.board_turns.specs.InCells.{moment_in}
-use Rattle.board_turns.proofs.Nesting.{above_rows, turn_gained, turn_row, turn_same, turn_may}
-use Rattle.board_turns.proofs.Celling.{cell_given}
-use Rattle.board_turns.proofs.Signalling.{takes_offer, prepares_by, tells_legs}
+use Rattle.relay_core.specs.Standing.{IsCellPart}
+use Rattle.relay_core.specs.declared.part.Part.TheVariants as part
+use Rattle.board_turns.proofs.Nesting.{above_rows, turn_gained, turn_row, turn_same, turn_may, may_turn}
+use Rattle.board_turns.proofs.Celling.{cell_given, is_cell}
+use Rattle.board_turns.proofs.Signalling.{takes_offer, prepares_by, tells_legs, offer_fits, prepares_part, prepare_relates, relates_legs}
 use Rattle.board_turns.proofs.Leaving.{prepared_went}
 use Rattle.board_turns.proofs.Homing.{prepared_home, opened_for}
 use Rattle.board_turns.proofs.signals.prepare_cell.Goals as goal
-
-pub prepare_part-requires-clause-takes : goal.prepare_part-requires-clause-takes
-prepare_part-requires-clause-takes g c =
-    let is = cell_given g.I.InEnd.told g.I.InEnd.faults g.O.OutEnd.told g.O.OutEnd.faults c.args.turn.now.config.now c.args.turn.now.turns.now c.args.hand.now c.args.cell c.cell_place.result
-    c.turn-step.result.front _ c.state.result.now c.requires.may c.requires.cell.0 c.requires.cell.1 c.requires.keys c.cell_place.ensures c.state.ensures.value
-    c.turn-step.ensures.turn.1 in
-    let above = above_rows _ c.args.cell c.turn-step.result.front is.0.above in
-    takes_offer c.args.turn.now.config.now c.state.result.now _ c.args.signal c.args.call (offered_keys c.args.changes.now) (offered_drops c.args.changes.now) is.1 c.requires.tells
-    (c.requires.comes c.turn-step.result.front above)
 
 pub returns-clause-gained : goal.returns-clause-gained
 returns-clause-gained g c =
     let given = c.turn-step.ensures.turn.1 in
     turn_gained c.args.turn.now.entry_id.number c.args.turn.now.entry_id.moment (max c.args.turn.now.entry_id.moment (moment_in c.turn-step.result.taken.value)) c.args.cell c.cell_place.result
-    (Cell (Prepare c.args.call (added c.args.signal) (offered_keys c.args.changes.now) (offered_drops c.args.changes.now))) (gone_left g.O.OutEnd.told c.prepare_part.new.gone) tt c.args.hand.now
+    (Cell (Prepare c.args.call (added c.args.signal) (offered_keys c.args.changes.now) (offered_drops c.args.changes.now))) (gone_left g.O.OutEnd.told c.prepare.new.gone) tt c.args.hand.now
     c.turn-step.new.hand c.put_prepare.new.hand c.turn-step.result c.cell_place.ensures (above_rows _ _ _ given.above) c.turn-step.ensures.same
     c.turn-step.ensures.turn.0 (tells_legs c.turn-step.result.place c.turn-step.result.front c.args.turn.now.entry_id.number c.args.turn.now.entry_id.moment
     (max c.args.turn.now.entry_id.moment (moment_in c.turn-step.result.taken.value)) c.args.call c.of-legs.result.value c.args.signal (offered_keys c.args.changes.now)
-    (offered_drops c.args.changes.now) (gone_left g.O.OutEnd.told c.prepare_part.new.gone) tt c.turn-step.new.hand c.put_prepare.new.hand c.of-legs.ensures c.put_prepare.ensures.entry)
+    (offered_drops c.args.changes.now) (gone_left g.O.OutEnd.told c.prepare.new.gone) tt c.turn-step.new.hand c.put_prepare.new.hand c.of-legs.ensures c.put_prepare.ensures.entry)
 
 pub returns-clause-row : goal.returns-clause-row
 returns-clause-row g c =
     turn_row c.args.turn.now.entry_id.number c.args.turn.now.entry_id.moment (max c.args.turn.now.entry_id.moment (moment_in c.turn-step.result.taken.value)) c.args.cell c.cell_place.result
-    (Cell (Prepare c.args.call (added c.args.signal) (offered_keys c.args.changes.now) (offered_drops c.args.changes.now))) (gone_left g.O.OutEnd.told c.prepare_part.new.gone) tt c.args.hand.now c.turn-step.new.hand
+    (Cell (Prepare c.args.call (added c.args.signal) (offered_keys c.args.changes.now) (offered_drops c.args.changes.now))) (gone_left g.O.OutEnd.told c.prepare.new.gone) tt c.args.hand.now c.turn-step.new.hand
     c.put_prepare.new.hand c.turn-step.result c.cell_place.ensures c.turn-step.ensures.same c.turn-step.ensures.turn.0
     (tells_legs c.turn-step.result.place c.turn-step.result.front c.args.turn.now.entry_id.number c.args.turn.now.entry_id.moment
     (max c.args.turn.now.entry_id.moment (moment_in c.turn-step.result.taken.value)) c.args.call c.of-legs.result.value c.args.signal (offered_keys c.args.changes.now)
-    (offered_drops c.args.changes.now) (gone_left g.O.OutEnd.told c.prepare_part.new.gone) tt c.turn-step.new.hand c.put_prepare.new.hand c.of-legs.ensures c.put_prepare.ensures.entry)
+    (offered_drops c.args.changes.now) (gone_left g.O.OutEnd.told c.prepare.new.gone) tt c.turn-step.new.hand c.put_prepare.new.hand c.of-legs.ensures c.put_prepare.ensures.entry)
 
 pub returns-clause-may : goal.returns-clause-may
 returns-clause-may g c =
     let at = c.cell_place.ensures in
     let low = c.requires.cell.0 in
     turn_may c.args.turn.now.config.now c.args.turn.now.turns.now c.args.turn.now.entry_id.number c.args.turn.now.entry_id.moment (max c.args.turn.now.entry_id.moment (moment_in c.turn-step.result.taken.value)) c.args.cell
-    c.cell_place.result (Cell (Prepare c.args.call (added c.args.signal) (offered_keys c.args.changes.now) (offered_drops c.args.changes.now))) (gone_left g.O.OutEnd.told c.prepare_part.new.gone) tt
+    c.cell_place.result (Cell (Prepare c.args.call (added c.args.signal) (offered_keys c.args.changes.now) (offered_drops c.args.changes.now))) (gone_left g.O.OutEnd.told c.prepare.new.gone) tt
     c.args.hand.now c.turn-step.new.hand c.put_prepare.new.hand c.turn-step.result c.requires.may (omega (arith, at, low)) c.turn-step.ensures.same
     c.turn-step.ensures.turn.0 c.put_prepare.ensures.same (tells_legs c.turn-step.result.place c.turn-step.result.front c.args.turn.now.entry_id.number c.args.turn.now.entry_id.moment
     (max c.args.turn.now.entry_id.moment (moment_in c.turn-step.result.taken.value)) c.args.call c.of-legs.result.value c.args.signal (offered_keys c.args.changes.now)
-    (offered_drops c.args.changes.now) (gone_left g.O.OutEnd.told c.prepare_part.new.gone) tt c.turn-step.new.hand c.put_prepare.new.hand c.of-legs.ensures c.put_prepare.ensures.entry) (returns-clause-gained g c)
+    (offered_drops c.args.changes.now) (gone_left g.O.OutEnd.told c.prepare.new.gone) tt c.turn-step.new.hand c.put_prepare.new.hand c.of-legs.ensures c.put_prepare.ensures.entry) (returns-clause-gained g c)
 
 pub returns-clause-prepared : goal.returns-clause-prepared
 returns-clause-prepared g c =
     let is = cell_given g.I.InEnd.told g.I.InEnd.faults g.O.OutEnd.told g.O.OutEnd.faults c.args.turn.now.config.now c.args.turn.now.turns.now c.args.hand.now c.args.cell c.cell_place.result
-    c.turn-step.result.front _ c.state.result.now c.requires.may c.requires.cell.0 c.requires.cell.1 c.requires.keys c.cell_place.ensures c.state.ensures.value
+    c.turn-step.result.front _ c.turn-step.result.taken.value c.requires.may c.requires.cell.0 c.requires.cell.1 c.requires.keys c.cell_place.ensures c.turn-step.ensures.turn.0.1
     c.turn-step.ensures.turn.1 in
     let above = above_rows _ c.args.cell c.turn-step.result.front is.0.above in
+    let takes = takes_offer c.args.turn.now.config.now c.turn-step.result.taken.value _ c.args.signal c.args.call (offered_keys c.args.changes.now) (offered_drops c.args.changes.now) is.1 c.requires.tells
+    (c.requires.comes c.turn-step.result.front above) in
     prepares_by g.I.InEnd.told g.I.InEnd.faults g.O.OutEnd.told g.O.OutEnd.faults c.args.turn.now.config.now c.args.hand.now c.args.cell c.turn-step.result.front c.args.signal
-    c.args.call (offered_keys c.args.changes.now) (offered_drops c.args.changes.now) c.args.turn.now.entry_id.moment c.state.result.now c.prepare_part.new.part c.prepare_part.new.gone is
-    (c.requires.comes c.turn-step.result.front above) c.prepare_part.ensures.prepares
+    c.args.call (offered_keys c.args.changes.now) (offered_drops c.args.changes.now) c.args.turn.now.entry_id.moment c.turn-step.result.taken.value (part.Cell c.prepare.new.self) c.prepare.new.gone is
+    (c.requires.comes c.turn-step.result.front above)
+    (prepares_part c.turn-step.result.taken.value c.in-Cell.held c.prepare.new.self c.args.signal c.args.call (offered_keys c.args.changes.now) (offered_drops c.args.changes.now) c.args.turn.now.entry_id.moment c.prepare.new.gone (c.turn-step.ensures.turn.0.1 ∙ sym c.state.ensures.value ∙ c.in-Cell.is) takes c.prepare.ensures)
 
 pub returns-clause-went : goal.returns-clause-went
-returns-clause-went g c = prepared_went g.I.InEnd.told g.I.InEnd.faults g.O.OutEnd.told g.O.OutEnd.faults c.args.turn.now.config.now c.args.hand.now c.args.cell c.args.signal c.args.call (offered_keys c.args.changes.now) (offered_drops c.args.changes.now) c.args.turn.now.entry_id.moment c.prepare_part.new.gone (returns-clause-prepared g c)
+returns-clause-went g c = prepared_went g.I.InEnd.told g.I.InEnd.faults g.O.OutEnd.told g.O.OutEnd.faults c.args.turn.now.config.now c.args.hand.now c.args.cell c.args.signal c.args.call (offered_keys c.args.changes.now) (offered_drops c.args.changes.now) c.args.turn.now.entry_id.moment c.prepare.new.gone (returns-clause-prepared g c)
 
 pub returns-clause-same : goal.returns-clause-same
 returns-clause-same g c =
@@ -70,17 +66,71 @@ returns-clause-same g c =
     let low = c.requires.cell.0 in
     turn_same c.args.turn.now.config.now c.args.turn.now.turns.now c.cell_place.result
     (leaving c.args.turn.now.entry_id.number c.args.turn.now.entry_id.moment (max c.args.turn.now.entry_id.moment (moment_in c.turn-step.result.taken.value))
-    (Cell (Prepare c.args.call (added c.of-legs.result.value) (offered_keys c.args.changes.now) (offered_drops c.args.changes.now))) (gone_left g.O.OutEnd.told c.prepare_part.new.gone)) tt c.args.hand.now c.turn-step.new.hand c.put_prepare.new.hand c.turn-step.result c.requires.may
+    (Cell (Prepare c.args.call (added c.of-legs.result.value) (offered_keys c.args.changes.now) (offered_drops c.args.changes.now))) (gone_left g.O.OutEnd.told c.prepare.new.gone)) tt c.args.hand.now c.turn-step.new.hand c.put_prepare.new.hand c.turn-step.result c.requires.may
     (omega (arith, at, low)) c.turn-step.ensures.same c.turn-step.ensures.turn.0 c.put_prepare.ensures.same c.put_prepare.ensures.entry
 
 pub returns-clause-home : goal.returns-clause-home
 returns-clause-home g c =
     prepared_home g.I.InEnd.told g.I.InEnd.faults g.O.OutEnd.told g.O.OutEnd.faults c.args.turn.now.config.now c.args.turn.now.turns.now c.args.hand.now c.args.cell c.args.signal c.args.call (offered_keys c.args.changes.now)
-    (offered_drops c.args.changes.now) c.args.turn.now.entry_id.moment c.prepare_part.new.gone c.requires.may c.requires.cell.0 c.requires.cell.1 c.requires.keys (returns-clause-prepared g c)
+    (offered_drops c.args.changes.now) c.args.turn.now.entry_id.moment c.prepare.new.gone c.requires.may c.requires.cell.0 c.requires.cell.1 c.requires.keys (returns-clause-prepared g c)
 
-pub prepare_part-requires-clause-opened : goal.prepare_part-requires-clause-opened
-prepare_part-requires-clause-opened g c =
+pub cell_place-requires : goal.cell_place-requires
+cell_place-requires g c =
+    c.requires.cell.1
+
+pub turn-step-requires-clause-table : goal.turn-step-requires-clause-table
+turn-step-requires-clause-table g c =
+    c.requires.may.of_table
+
+pub turn-step-requires-clause-place : goal.turn-step-requires-clause-place
+turn-step-requires-clause-place g c =
+    let at = c.cell_place.ensures in
+    let low = c.requires.cell.0 in
+    let high = c.requires.cell.1 in
+    may_turn c.args.turn.now.config.now c.args.turn.now.turns.now c.args.hand.now c.cell_place.result c.requires.may (omega (arith, at, low)) (omega (arith, at, high))
+
+pub unreachable-requires : goal.unreachable-requires
+unreachable-requires g c =
     let is = cell_given g.I.InEnd.told g.I.InEnd.faults g.O.OutEnd.told g.O.OutEnd.faults c.args.turn.now.config.now c.args.turn.now.turns.now c.args.hand.now c.args.cell c.cell_place.result
     c.turn-step.result.front _ c.state.result.now c.requires.may c.requires.cell.0 c.requires.cell.1 c.requires.keys c.cell_place.ensures c.state.ensures.value
     c.turn-step.ensures.turn.1 in
-    opened_for g.I.InEnd.told g.O.OutEnd.told c.args.turn.now.config.now c.state.result.now _ c.args.signal is.1 c.requires.opened
+    subst IsCellPart c.in-Board.is (is_cell c.args.turn.now.config.now c.state.result.now _ is.1)
+
+pub unreachable-requires-in-Pair : goal.unreachable-requires-in-Pair
+unreachable-requires-in-Pair g c =
+    let is = cell_given g.I.InEnd.told g.I.InEnd.faults g.O.OutEnd.told g.O.OutEnd.faults c.args.turn.now.config.now c.args.turn.now.turns.now c.args.hand.now c.args.cell c.cell_place.result
+    c.turn-step.result.front _ c.state.result.now c.requires.may c.requires.cell.0 c.requires.cell.1 c.requires.keys c.cell_place.ensures c.state.ensures.value
+    c.turn-step.ensures.turn.1 in
+    subst IsCellPart c.in-Pair.is (is_cell c.args.turn.now.config.now c.state.result.now _ is.1)
+
+pub put_prepare-requires-clause-table : goal.put_prepare-requires-clause-table
+put_prepare-requires-clause-table g c =
+    (c.turn-step.ensures.same.0.0 ∙ c.requires.may.of_table, c.turn-step.ensures.same.0.3 ∙ c.requires.may.main)
+
+pub put_prepare-requires-clause-turn : goal.put_prepare-requires-clause-turn
+put_prepare-requires-clause-turn g c =
+    c.turn-step.ensures.turn.0.4
+
+pub prepare-requires-clause-room : goal.prepare-requires-clause-room
+prepare-requires-clause-room g c =
+    let is = cell_given g.I.InEnd.told g.I.InEnd.faults g.O.OutEnd.told g.O.OutEnd.faults c.args.turn.now.config.now c.args.turn.now.turns.now c.args.hand.now c.args.cell c.cell_place.result
+    c.turn-step.result.front _ c.turn-step.result.taken.value c.requires.may c.requires.cell.0 c.requires.cell.1 c.requires.keys c.cell_place.ensures c.turn-step.ensures.turn.0.1
+    c.turn-step.ensures.turn.1 in
+    let above = above_rows _ c.args.cell c.turn-step.result.front is.0.above in
+    let takes = takes_offer c.args.turn.now.config.now c.turn-step.result.taken.value _ c.args.signal c.args.call (offered_keys c.args.changes.now) (offered_drops c.args.changes.now) is.1 c.requires.tells
+    (c.requires.comes c.turn-step.result.front above) in
+    offer_fits c.turn-step.result.taken.value c.in-Cell.held c.args.signal c.args.call (offered_keys c.args.changes.now) (offered_drops c.args.changes.now) (c.turn-step.ensures.turn.0.1 ∙ sym c.state.ensures.value ∙ c.in-Cell.is) takes
+
+pub put_prepare-requires-clause-step : goal.put_prepare-requires-clause-step
+put_prepare-requires-clause-step g c =
+    let is = cell_given g.I.InEnd.told g.I.InEnd.faults g.O.OutEnd.told g.O.OutEnd.faults c.args.turn.now.config.now c.args.turn.now.turns.now c.args.hand.now c.args.cell c.cell_place.result
+    c.turn-step.result.front _ c.turn-step.result.taken.value c.requires.may c.requires.cell.0 c.requires.cell.1 c.requires.keys c.cell_place.ensures c.turn-step.ensures.turn.0.1
+    c.turn-step.ensures.turn.1 in
+    let above = above_rows _ c.args.cell c.turn-step.result.front is.0.above in
+    let takes = takes_offer c.args.turn.now.config.now c.turn-step.result.taken.value _ c.args.signal c.args.call (offered_keys c.args.changes.now) (offered_drops c.args.changes.now) is.1 c.requires.tells
+    (c.requires.comes c.turn-step.result.front above) in
+    let opened = opened_for g.I.InEnd.told g.O.OutEnd.told c.args.turn.now.config.now c.turn-step.result.taken.value _ c.args.signal is.1 c.requires.opened in
+    relates_legs g.I.InEnd.told g.I.InEnd.faults g.O.OutEnd.told g.O.OutEnd.faults c.turn-step.result.taken.value (part.Cell c.prepare.new.self) c.args.turn.now.entry_id.number c.args.turn.now.entry_id.moment (max c.args.turn.now.entry_id.moment (moment_in c.turn-step.result.taken.value)) c.args.call c.of-legs.result.value c.args.signal
+    (offered_keys c.args.changes.now) (offered_drops c.args.changes.now) (gone_left g.O.OutEnd.told c.prepare.new.gone) c.of-legs.ensures
+    (prepare_relates g.I.InEnd.told g.I.InEnd.faults g.O.OutEnd.told g.O.OutEnd.faults c.turn-step.result.taken.value c.in-Cell.held c.prepare.new.self c.args.signal c.args.call
+    (offered_keys c.args.changes.now) (offered_drops c.args.changes.now) c.args.turn.now.entry_id.moment c.prepare.new.gone c.args.turn.now.entry_id.number (c.turn-step.ensures.turn.0.1 ∙ sym c.state.ensures.value ∙ c.in-Cell.is) takes opened c.prepare.ensures)
