@@ -1,5 +1,5 @@
 -- What the main hand is given at a box, and what its ends then are.
-use Rattle.std.proofs.Common.{◌≡◌, refl, sym, subst, ℕ, ◌≤◌, Option, Some, None, IsSome, arith}
+use Rattle.std.proofs.Common.{◌≡◌, refl, sym, subst, ℕ, ◌≤◌, List, ◌∷◌, Option, Some, None, IsSome, arith}
 use Rattle.relay_outside.specs.declared.settings.Config.{Config}
 use Rattle.relay_outside.specs.declared.ports.InCall.{InCall}
 use Rattle.relay_outside.specs.declared.ports.OutCall.{OutCall}
@@ -9,19 +9,20 @@ use Rattle.turn_table.specs.declared.hands.Hand.{Hand}
 use Rattle.turn_table.specs.Hands.{view, entries, IsGiven}
 use Rattle.port_pool.specs.declared.holder.Holder.{Holder}
 use Rattle.port_pool.specs.declared.boxes.Opened.{Opened}
-use Rattle.port_pool.specs.Boxes.{holder}
-use Rattle.port_pool.specs.PairBoxes.{holder_of, ends_of}
+use Rattle.port_pool.specs.Boxes.{BoxEvent, FitsBox, Open, holder}
+use Rattle.port_pool.specs.declared.boxes.PairBox.{PairBox}
+use Rattle.port_pool.specs.PairBoxes.{BoxFor, holder_of, ends_of, ends_in, at_of, cells_of}
 use Rattle.relay_core.specs.declared.part.Part.{Part}
 use Rattle.relay_core.specs.declared.part.Part.TheVariants as part
-use Rattle.relay_core.specs.Entries.{box_history, box_of}
+use Rattle.relay_core.specs.Entries.{Box, box_history, box_of}
 use Rattle.relay_core.specs.Made.{Made}
 use Rattle.relay_core.specs.Standing.{BoxIs}
 use Rattle.relay_core.specs.Steps.{Relates, IsReserved}
 use Rattle.relay_core.specs.Turning.{made_by}
 use Rattle.relay_core.proofs.Given.{given_box}
 use Rattle.board_turns.proofs.Nesting.{above_rows}
-use Rattle.board_turns.specs.Nesting.{MayNest, IsShut, IsOpen, Opens, Shuts}
-use Rattle.board_turns.specs.Taken.{CanOpen, CanShut, HasEnds}
+use Rattle.board_turns.specs.Nesting.{MayNest, IsShut, IsOpen, Opens, Shuts, nested}
+use Rattle.board_turns.specs.Taken.{CanOpen, CanShut, FitEnds, HasEnds}
 
 -- a box without a holder has no ends
 pub no_ends : {I : Type 0} (o : Option (Opened I)) → holder_of o ≡ None → ends_of o ≡ None
@@ -38,6 +39,23 @@ module _ {I O : Type 0} where
   can_shut cells held (part.Board board) is some = absurd is
   can_shut cells held (part.Cell cell) is some = absurd is
   can_shut cells held (part.Pair box) is some = subst (λ (o : Option Holder). IsSome o) (sym is.0) some
+
+-- a shut box that is opened makes the step of an opening
+pub open_relates : {I O : Type 0} (it : I → EndTold InCall) (ic : I → ℕ) (ot : O → EndTold OutCall) (oc : O → ℕ) (x : Part I O) (old new : PairBox I) (leg : Holder)
+    (rtp rtcp : I) (number handed : ℕ) → x ≡ part.Pair old → CanOpen leg x → FitEnds it x (rtp, rtcp)
+    → ((h : List BoxEvent) → BoxFor old h → FitsBox h (Open leg) × BoxFor new (Open leg ∷ h)) → ends_in new ≡ Some (rtp, rtcp) → cells_of new ≡ cells_of old
+    → at_of new ≡ at_of old → Relates it ic ot oc x (nested number handed 0 (Box (Open leg))) (part.Pair new)
+open_relates {I = I} {O = O} it ic ot oc x old new leg rtp rtcp number handed is can fits history ends cells at =
+    let shut = subst (CanOpen leg) is can in
+    let fit = subst (λ (z : Part I O). FitEnds it z (rtp, rtcp)) is fits in
+    subst (λ (z : Part I O). Relates it ic ot oc z (nested number handed 0 (Box (Open leg))) (part.Pair new)) (sym is)
+    (record {
+      moment_is = refl;
+      cells_are = cells;
+      at_is = at;
+      ends = (no_ends old.opened shut.0, record { rtp = rtp; rtcp = rtcp; are_in = ends; rtp_is_new = fit.0; rtcp_is_new = fit.1 });
+      stands = history;
+    })
 
 module _ {M I O T : Type 0} {g : _} (it : I → EndTold InCall) (ic : I → ℕ) (ot : O → EndTold OutCall) (oc : O → ℕ) where
   abbrev pub Gives : Hand M (Part I O) Made T g → ℕ → ℕ → Part I O → Type 0

@@ -1,5 +1,5 @@
 -- The turn of a stop.
-use Rattle.std.proofs.Common.{◌≡◌, sym, subst, refl, ℕ, List, ◌∷◌, Option}
+use Rattle.std.proofs.Common.{◌≡◌, sym, subst, refl, ℕ, List, ◌∷◌}
 use Rattle.relay_outside.specs.declared.ports.InCall.{InCall}
 use Rattle.relay_outside.specs.declared.ports.OutCall.{OutCall}
 use Rattle.relay_outside.specs.declared.settings.Config.{Config}

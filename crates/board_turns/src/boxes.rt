@@ -10,7 +10,7 @@ ghost use Rattle.relay_core.specs.Scripts.{opening};
 ghost use Rattle.relay_core.specs.Steps.{Relates};
 ghost use Rattle.relay_core.specs.Turning.{GainsNested, made_by};
 ghost use Rattle.board_turns.specs.Nesting.{MayNest, nested, leaving, ends_left, AddsRow, IsShut, IsOpen, closing_of, Opens, Shuts};
-ghost use Rattle.board_turns.specs.Taken.{CanOpen, CanShut, FitEnds, HasEnds};
+ghost use Rattle.board_turns.specs.Taken.{CanShut, HasEnds};
 
 use crate::board_turn::BoardTurn;
 use crate::puts::put_step;
@@ -26,19 +26,6 @@ fn box_place(config: &Config, pair: u32) -> usize
     ensures { result ≡ box_of config.now pair }
 {
     config.max_sessions as usize + 1 + pair as usize
-}
-
-fn open_part<I: InEnd, O: OutEnd>(part: &mut Part<I, O>, holder: Holder, rtp_end: I, rtcp_end: I)
-    requires shut { CanOpen holder part.old }
-    requires ends { FitEnds I.told part.old (rtp_end, rtcp_end) }
-    ensures step { (number handed : ℕ) → Relates I.told I.faults O.told O.faults part.old (nested number handed 0 (Box (Open holder))) part.new }
-    ensures ends { HasEnds part.new (rtp_end, rtcp_end) }
-{
-    match part {
-        Part::Pair(pair) => pair.put_in(holder, rtp_end, rtcp_end),
-        Part::Board(_) => unreachable!(),
-        Part::Cell(_) => unreachable!(),
-    }
 }
 
 fn shut_part<I: InEnd, O: OutEnd>(part: &mut Part<I, O>) -> (I, I)
@@ -76,7 +63,12 @@ pub fn open_box<I: InEnd, O: OutEnd, R: Wait>(
     let mut step = turn
         .turns
         .turn(rt, hand, box_place(turn.config, holder.pair));
-    open_part(step.state(), holder, rtp_end, rtcp_end);
+    let held = match step.state() {
+        Part::Pair(held) => held,
+        Part::Board(_) => unreachable!(),
+        Part::Cell(_) => unreachable!(),
+    };
+    held.put_in(holder, rtp_end, rtcp_end);
     put_step::<I, O, Holder, (), Brand>(turn.turns, hand, step, turn.entry_id, &holder, &());
 }
 

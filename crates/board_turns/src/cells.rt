@@ -1,16 +1,15 @@
 //! The cell of a call: asked whether its call is due, asked what is told of its legs, and ended.
-ghost use Rattle.std.specs.Prelude.{◌≡◌, ◌≤◌, ℕ, [], ◌∷◌, max};
+ghost use Rattle.std.specs.Prelude.{◌≡◌, ◌≤◌, [], ◌∷◌};
 ghost use Rattle.turn_table.specs.Hands.{IsSameHand, SameTurns};
 ghost use Rattle.histories.specs.Words.{In};
 ghost use Rattle.port_pool.specs.declared.reports.LegReport.{LegReport};
 ghost use Rattle.port_pool.specs.Reports.{CountsFit};
 ghost use Rattle.call_cell.specs.Cells.{Expire, Read, End};
 ghost use Rattle.relay_core.specs.Entries.{Cell};
-ghost use Rattle.relay_core.specs.Standing.{IsCellPart, GoneHome};
-ghost use Rattle.relay_core.specs.Steps.{Relates};
+ghost use Rattle.relay_core.specs.Standing.{GoneHome};
 ghost use Rattle.relay_core.specs.Turning.{GainsNested, made_by};
-ghost use Rattle.board_turns.specs.Nesting.{MayNest, nested, leaving, gone_left, AddsRow};
-ghost use Rattle.board_turns.specs.InCells.{HasNewKeys, in_cell_of, moment_in, Ends, Expires, Reads, EndsPart, ExpiresPart, ReadsPart, TakesReading};
+ghost use Rattle.board_turns.specs.Nesting.{MayNest, gone_left, AddsRow};
+ghost use Rattle.board_turns.specs.InCells.{HasNewKeys, in_cell_of, Ends, Expires, Reads};
 ghost use Rattle.board_turns.specs.Leaving.{AllWent};
 
 use crate::board_turn::BoardTurn;

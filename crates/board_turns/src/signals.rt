@@ -1,15 +1,15 @@
 //! The cell of a call: prepared by an offer, and committed by an answer.
-ghost use Rattle.std.specs.Prelude.{◌≡◌, ◌≤◌, ℕ, [], ◌∷◌, max};
+ghost use Rattle.std.specs.Prelude.{◌≡◌, ◌≤◌, [], ◌∷◌};
 ghost use Rattle.turn_table.specs.Hands.{IsSameHand, SameTurns};
 ghost use Rattle.call_cell.specs.Cells.{Commit};
 ghost use Rattle.call_cell.specs.Preparing.{IsReady, PrepareFor, added};
 ghost use Rattle.relay_core.specs.Entries.{Cell};
 ghost use Rattle.relay_core.specs.Standing.{GoneHome};
-ghost use Rattle.relay_core.specs.Steps.{Relates, AreOpened};
+ghost use Rattle.relay_core.specs.Steps.{AreOpened};
 ghost use Rattle.relay_core.specs.Turning.{GainsNested, made_by};
-ghost use Rattle.board_turns.specs.Nesting.{MayNest, leaving, gone_left, AddsRow};
+ghost use Rattle.board_turns.specs.Nesting.{MayNest, gone_left, AddsRow};
 ghost use Rattle.board_turns.specs.Bringing.{offered_keys, offered_drops};
-ghost use Rattle.board_turns.specs.InCells.{HasNewKeys, in_cell_of, moment_in, preparing, CanPrepare, CanCommit, HasSpace, TakesOffer, OpenedFor, TakesAnswer, PreparesPart, CommitsPart, Prepares, Commits};
+ghost use Rattle.board_turns.specs.InCells.{HasNewKeys, in_cell_of, preparing, CanPrepare, CanCommit, HasSpace, Prepares, Commits};
 ghost use Rattle.board_turns.specs.Leaving.{DroppedWent, RejectedWent};
 
 use crate::board_turn::BoardTurn;

@@ -2,7 +2,7 @@
 ghost use Rattle.std.specs.Prelude.{◌≡◌, ◌≤◌, ◌<◌, ◌^◌, ℕ, max, List, [], ◌∷◌, if◌then◌else◌};
 ghost use Rattle.relay_outside.specs.declared.settings.Config.{Config};
 ghost use Rattle.relay_outside.specs.Told.{Gained, WhereTold};
-ghost use Rattle.turn_table.specs.Hands.{IsHandOf, IsMain, HasTurn, IsSameHand, SameTurns, EndsTurn, place_of, front_of, state_of, taken_of, entries, parts};
+ghost use Rattle.turn_table.specs.Hands.{IsSameHand, SameTurns, entries, parts};
 ghost use Rattle.port_pool.specs.declared.holder.Holder.{Holder};
 ghost use Rattle.call_board.specs.Acts.{Call};
 ghost use Rattle.call_board.specs.Boards.{BoardFor, Shows, KeepsReplies, CellsApart};
@@ -11,7 +11,6 @@ ghost use Rattle.call_board.specs.Views.{View, last_moment};
 ghost use Rattle.relay_core.specs.Entries.{board_history};
 ghost use Rattle.relay_core.specs.Legal.{Orderly};
 ghost use Rattle.relay_core.specs.Standing.{BoardIs};
-ghost use Rattle.relay_core.specs.Steps.{Relates};
 ghost use Rattle.relay_core.specs.Turning.{GainsNested, IsAbove, made_by};
 ghost use Rattle.media_ports.specs.Asked.{OpensNone};
 ghost use Rattle.media_ports.specs.Held.{OpensHeld, TellsHeld};
@@ -29,11 +28,11 @@ use crate::ending::end_call;
 use crate::puts::put_step;
 use call_board::Board;
 use call_cell::Gone;
-use relay_core::{Part, Relay, Says};
-use relay_outside::{Config, InEnd, OutEnd, PortMaker};
+use relay_core::{Part, Relay};
+use relay_outside::{Config, PortMaker};
 use std::marker::Brand;
 use std::sync::Wait;
-use turn_table::{Hand, Turn, Turns};
+use turn_table::{Hand, Turns};
 
 /// Asks the call at this place among the live ones, in order of their creation from 0, whether it is due, and ends it if it is.
 /// Returns whether it was due.

@@ -1,9 +1,11 @@
-use Rattle.std.proofs.Common.{sym, subst, arith}
+use Rattle.std.proofs.Common.{sym, subst, arith, ◌∙◌}
 use Rattle.port_pool.specs.Boxes.{Close}
 use Rattle.relay_core.specs.Entries.{Box, box_of}
 use Rattle.board_turns.specs.Nesting.{leaving, ends_left}
 use Rattle.board_turns.specs.Taken.{CanShut}
-use Rattle.board_turns.proofs.Nesting.{above_rows, turn_gained, turn_row, turn_may}
+use Rattle.relay_core.specs.Steps.{Relates}
+use Rattle.relay_core.specs.declared.part.Part.{Part}
+use Rattle.board_turns.proofs.Nesting.{above_rows, turn_gained, turn_row, turn_may, may_turn, turn_same}
 use Rattle.board_turns.proofs.Boxing.{open_given, shut_from}
 use Rattle.board_turns.proofs.Homing.{shut_home}
 use Rattle.board_turns.proofs.boxes.shut_box.Goals as goal
@@ -46,3 +48,33 @@ returns-clause-ends g c =
 pub returns-clause-home : goal.returns-clause-home
 returns-clause-home g c =
     shut_home g.I.InEnd.told g.I.InEnd.faults g.O.OutEnd.told g.O.OutEnd.faults c.args.turn.now.config.now c.args.turn.now.turns.now c.args.hand.now c.args.pair _ c.shut_part-ends.result c.requires.may (returns-clause-ends g c)
+
+pub turn-step-requires-clause-table : goal.turn-step-requires-clause-table
+turn-step-requires-clause-table g c =
+    c.requires.may.of_table
+
+pub turn-step-requires-clause-place : goal.turn-step-requires-clause-place
+turn-step-requires-clause-place g c =
+    let at = c.box_place.ensures in
+    let high = c.requires.pair in
+    may_turn c.args.turn.now.config.now c.args.turn.now.turns.now c.args.hand.now c.box_place.result c.requires.may (omega (arith, at)) (omega (arith, at, high))
+
+pub put_step-requires-clause-table : goal.put_step-requires-clause-table
+put_step-requires-clause-table g c =
+    (c.turn-step.ensures.same.0.0 ∙ c.requires.may.of_table, c.turn-step.ensures.same.0.3 ∙ c.requires.may.main)
+
+pub put_step-requires-clause-turn : goal.put_step-requires-clause-turn
+put_step-requires-clause-turn g c =
+    c.turn-step.ensures.turn.0.4
+
+pub returns-clause-same : goal.returns-clause-same
+returns-clause-same g c =
+    let at = c.box_place.ensures in
+    turn_same c.args.turn.now.config.now c.args.turn.now.turns.now c.box_place.result
+    (leaving c.args.turn.now.entry_id.number c.args.turn.now.entry_id.moment 0 (Box Close) (ends_left g.I.InEnd.told c.shut_part-ends.result)) tt c.args.hand.now c.turn-step.new.hand c.put_step.new.hand c.turn-step.result c.requires.may
+    (omega (arith, at)) c.turn-step.ensures.same c.turn-step.ensures.turn.0 c.put_step.ensures.same c.put_step.ensures.entry
+
+pub put_step-requires-clause-step : goal.put_step-requires-clause-step
+put_step-requires-clause-step g c =
+    subst (λ (z : Part _ _). Relates g.I.InEnd.told g.I.InEnd.faults g.O.OutEnd.told g.O.OutEnd.faults z (leaving c.args.turn.now.entry_id.number c.args.turn.now.entry_id.moment 0 (Box Close) (ends_left g.I.InEnd.told c.shut_part-ends.result)) c.shut_part-ends.new.part)
+    (c.state.ensures.value ∙ sym c.turn-step.ensures.turn.0.1) (c.shut_part-ends.ensures.step c.args.turn.now.entry_id.number c.args.turn.now.entry_id.moment)

@@ -7,7 +7,6 @@ use Rattle.relay_core.specs.Standing.{IsCellPart}
 use Rattle.board_turns.specs.Nesting.{nested}
 use Rattle.relay_core.specs.Steps.{Relates}
 use Rattle.relay_core.specs.declared.part.Part.{Part}
-use Rattle.relay_core.specs.declared.part.Part.TheVariants as part
 use Rattle.board_turns.proofs.Nesting.{above_rows, turn_gained, turn_may, may_turn, turn_same}
 use Rattle.board_turns.proofs.Celling.{cell_given, reading_given, reads_by, is_cell, read_relates, reads_part, counts_told}
 use Rattle.board_turns.proofs.cells.read_cell.Goals as goal

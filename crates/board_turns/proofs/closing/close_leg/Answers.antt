@@ -7,9 +7,9 @@ use Rattle.port_pool.specs.Boxes as boxes
 use Rattle.port_pool.specs.Ports.{port_address, AreOfPair}
 use Rattle.histories.specs.Words.{here}
 use Rattle.media_ports.specs.Addresses.{port_at}
-use Rattle.board_turns.specs.Nesting.{AddsRow, IsOpen, ends_left}
+use Rattle.board_turns.specs.Nesting.{AddsRow, IsOpen, ends_left, closing_of}
 use Rattle.relay_core.specs.Entries.{Box, box_of}
-use Rattle.relay_core.specs.Turning.{made_by}
+use Rattle.relay_core.specs.Turning.{made_by, GainsNested}
 use Rattle.board_turns.proofs.Lefts.{told_open, told_closed}
 use Rattle.board_turns.proofs.Tying.{takes_closed}
 use Rattle.board_turns.proofs.closing.close_leg.Goals as goal
@@ -53,3 +53,19 @@ returns-clause-takes g c =
     (subst (λ (p : ℕ). AddsRow (box_of c.args.turn.now.config.now p) (Box boxes.Close) (ends_left g.P.In.InEnd.told ends) c.args.hand.now c.shut_box-rtp_in.new.hand) c.pair.ensures
     c.shut_box-rtp_in.ensures.row)
     c.close_pair.ensures.closes
+
+pub shut_box-rtp_in-requires-clause-may : goal.shut_box-rtp_in-requires-clause-may
+shut_box-rtp_in-requires-clause-may g c =
+    c.requires.may
+
+pub returns-clause-same : goal.returns-clause-same
+returns-clause-same g c =
+    c.shut_box-rtp_in.ensures.same
+
+pub returns-clause-may : goal.returns-clause-may
+returns-clause-may g c =
+    c.shut_box-rtp_in.ensures.may
+
+pub returns-clause-gained : goal.returns-clause-gained
+returns-clause-gained g c =
+    subst (λ (p : ℕ). GainsNested c.args.turn.now.entry_id.number c.args.turn.now.entry_id.moment (closing_of c.args.turn.now.config.now p ∷ []) c.args.hand.now c.shut_box-rtp_in.new.hand) c.pair.ensures c.shut_box-rtp_in.ensures.gained

@@ -1,6 +1,6 @@
 use Rattle.std.proofs.Common.{◌∙◌, ◌++◌, refl, sym, ap, subst, ℕ, List, [], ◌∷◌, append_assoc, append-nil, arith}
 use Rattle.relay_outside.specs.declared.ports.PortCall.{PortCall}
-use Rattle.relay_outside.specs.Told.{WhereTold}
+use Rattle.relay_outside.specs.Told.{WhereTold, Gained}
 use Rattle.relay_outside.proofs.Telling.{gained_none, gained_both}
 use Rattle.histories.specs.Words.{has, there}
 use Rattle.histories.proofs.Lists.{in_left}
@@ -100,3 +100,56 @@ returns-clause-open g c held opens =
     let all = was.split ∙ ap (λ legs. was.closed ++ legs) none ∙ append-nil was.closed in
     subst (λ gone. WhereTold (g.P.PortMaker.told c.loop-leg.ports) (λ (calls : List PortCall). OpensHeld c.args.turn.now.config.now calls (pairs_left (pairs_in (leases_of gone)) held))) (sym all)
     (was.opens held opens)
+
+pub close_leg-requires-clause-may : goal.close_leg-requires-clause-may
+close_leg-requires-clause-may g c =
+    c.loop-leg.invariant.may
+
+pub returns-clause-same : goal.returns-clause-same
+returns-clause-same g c =
+    c.loop-leg.invariant.same
+
+pub returns-clause-may : goal.returns-clause-may
+returns-clause-may g c =
+    c.loop-leg.invariant.may
+
+pub returns-clause-calls : goal.returns-clause-calls
+returns-clause-calls g c =
+    c.loop-leg.invariant.calls
+
+pub returns-clause-replies : goal.returns-clause-replies
+returns-clause-replies g c =
+    c.loop-leg.invariant.replies
+
+pub returns-clause-takes : goal.returns-clause-takes
+returns-clause-takes g c =
+    c.loop-leg.invariant.takes
+
+pub returns-clause-later : goal.returns-clause-later
+returns-clause-later g c =
+    c.loop-leg.invariant.later
+
+pub returns-clause-gained : goal.returns-clause-gained
+returns-clause-gained g c =
+    let was = c.loop-leg.invariant in
+    let none = c.in_default.ensures.takes ∙ c.in_default.ensures.none refl in
+    let all = was.split ∙ ap (λ legs. was.closed ++ legs) none ∙ append-nil was.closed in
+    subst (λ gone. GainsNested c.args.turn.now.entry_id.number c.args.turn.now.entry_id.moment (closings_of c.args.turn.now.config.now gone) c.args.hand.now c.loop-leg.hand) (sym all) was.gained
+
+pub returns-clause-returned : goal.returns-clause-returned
+returns-clause-returned g c config v shows =
+    let was = c.loop-leg.invariant in
+    let none = c.in_default.ensures.takes ∙ c.in_default.ensures.none refl in
+    let all = was.split ∙ ap (λ legs. was.closed ++ legs) none ∙ append-nil was.closed in
+    subst (λ gone. Shows config c.loop-leg.board (with_returned v (pairs_in (leases_of gone)))) (sym all) (was.returned config v shows)
+
+pub returns-clause-closes : goal.returns-clause-closes
+returns-clause-closes g c =
+    let was = c.loop-leg.invariant in
+    let none = c.in_default.ensures.takes ∙ c.in_default.ensures.none refl in
+    let all = was.split ∙ ap (λ legs. was.closed ++ legs) none ∙ append-nil was.closed in
+    subst (λ gone. Gained (g.P.PortMaker.told c.args.ports.now) (g.P.PortMaker.told c.loop-leg.ports) (ClosesLegs g.P.Out.OutEnd.told c.args.turn.now.config.now.interface gone)) (sym all) was.closes
+
+pub returns-clause-empty : goal.returns-clause-empty
+returns-clause-empty g c =
+    c.in_default.ensures.none refl

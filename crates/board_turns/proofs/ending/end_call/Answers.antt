@@ -1,4 +1,4 @@
-use Rattle.std.proofs.Common.{◌≡◌, ◌∙◌, refl, ap, subst, ℕ, List, [], ◌∷◌}
+use Rattle.std.proofs.Common.{◌≡◌, ◌∙◌, refl, ap, subst, ℕ, List, [], ◌∷◌, sym, arith}
 use Rattle.relay_outside.specs.declared.ports.PortCall.{PortCall}
 use Rattle.relay_outside.specs.Told.{WhereTold}
 use Rattle.relay_outside.proofs.Telling.{gained_less}
@@ -11,8 +11,8 @@ use Rattle.relay_core.specs.Entries.{Cell}
 use Rattle.relay_core.specs.Scripts.{Owed}
 use Rattle.relay_core.specs.Turning.{GainsNested, made_by}
 use Rattle.media_ports.specs.Held.{OpensHeld}
-use Rattle.board_turns.specs.InCells.{in_cell_of}
-use Rattle.board_turns.proofs.Nesting.{above_rows, gains_more}
+use Rattle.board_turns.specs.InCells.{in_cell_of, HasNewKeys}
+use Rattle.board_turns.proofs.Nesting.{above_rows, gains_more, same_again}
 use Rattle.board_turns.specs.Closing.{ClosesLegs, closings_of, pairs_left}
 use Rattle.board_turns.specs.Ending.{ClosesTheirs, ending_of}
 use Rattle.board_turns.proofs.Ended.{cell_is, went_are, pairs_are, ports_are, closings_are, can_close}
@@ -109,3 +109,57 @@ returns-clause-ties g c =
     ties_gone sent config told (g.P.PortMaker.told c.close_legs.new.ports) (entries c.args.hand.now) (entries c.end_cell.new.hand) (entries c.close_legs.new.hand) gone
     (ports_are config gone legs are) (legs_leave sent gone cell (Cell End) c.args.hand.now c.end_cell.new.hand refl c.end_cell.ensures.row) c.close_legs.ensures.takes
     c.close_legs.ensures.closes
+
+pub end_cell-requires-clause-may : goal.end_cell-requires-clause-may
+end_cell-requires-clause-may g c =
+    c.requires.may
+
+pub end_cell-requires-clause-cell : goal.end_cell-requires-clause-cell
+end_cell-requires-clause-cell g c =
+    let can = c.requires.can.2 in
+    let is = cell_is c.args.turn.now.config.now (made_by c.args.hand.now) c.args.board.now (g.P.PortMaker.told c.args.ports.now) c.args.call c.requires.can.0 c.requires.can.1
+    c.end_call-cell.result can c.end_call-cell.ensures.cell in
+    let low = can.low in
+    let high = can.high in
+    (omega (arith, is, low), omega (arith, is, high))
+
+pub end_cell-requires-clause-keys : goal.end_cell-requires-clause-keys
+end_cell-requires-clause-keys g c =
+    let can = c.requires.can.2 in
+    let is = cell_is c.args.turn.now.config.now (made_by c.args.hand.now) c.args.board.now (g.P.PortMaker.told c.args.ports.now) c.args.call c.requires.can.0 c.requires.can.1
+    c.end_call-cell.result can c.end_call-cell.ensures.cell in
+    subst (λ (k : ℕ). HasNewKeys (made_by c.args.hand.now) k) (sym is) can.keys
+
+pub end_cell-requires-clause-empty : goal.end_cell-requires-clause-empty
+end_cell-requires-clause-empty g c =
+    c.requires.empty
+
+pub close_legs-requires-clause-may : goal.close_legs-requires-clause-may
+close_legs-requires-clause-may g c =
+    c.end_cell.ensures.may
+
+pub close_legs-requires-clause-home : goal.close_legs-requires-clause-home
+close_legs-requires-clause-home g c =
+    c.end_cell.ensures.home
+
+pub returns-clause-same : goal.returns-clause-same
+returns-clause-same g c =
+    let first = c.end_cell.ensures.same in
+    let second = c.close_legs.ensures.same in
+    (same_again c.args.hand.now c.end_cell.new.hand c.close_legs.new.hand first.0 second.0, λ j. second.1 j ∙ first.1 j)
+
+pub returns-clause-may : goal.returns-clause-may
+returns-clause-may g c =
+    c.close_legs.ensures.may
+
+pub returns-clause-replies : goal.returns-clause-replies
+returns-clause-replies g c =
+    c.close_legs.ensures.replies ∙ c.end_call-cell.ensures.replies
+
+pub returns-clause-later : goal.returns-clause-later
+returns-clause-later g c =
+    c.close_legs.ensures.later
+
+pub returns-clause-empty : goal.returns-clause-empty
+returns-clause-empty g c =
+    c.close_legs.ensures.empty

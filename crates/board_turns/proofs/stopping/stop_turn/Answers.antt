@@ -9,7 +9,8 @@ use Rattle.relay_core.specs.Entries.{board_history}
 use Rattle.relay_core.specs.Made.{Made}
 use Rattle.relay_core.specs.Turning.{IsAbove, made_by}
 use Rattle.board_turns.specs.Ending.{leg_pairs}
-use Rattle.board_turns.proofs.Betweens.{between_may, turn_begins, begins_whole}
+use Rattle.board_turns.proofs.Nesting.{same_again}
+use Rattle.board_turns.proofs.Betweens.{between_may, turn_begins, begins_whole, still_has}
 use Rattle.board_turns.proofs.StopTurns.{moved, moved_to, stopped_at, gained_at, stop_relates, stop_history, stop_ends}
 use Rattle.board_turns.specs.Stopping.{stop_made}
 use Rattle.board_turns.specs.Ties.{Ties}
@@ -106,3 +107,42 @@ returns-clause-ties g c =
     ties_ended config before after (entries c.args.hand.now) (place_of turn) (front_of turn) (stop_made (board_history (made_by mid) (front_of turn))) tt mid
     c.put_entry.new.hand refl refl c.put_entry.ensures.entry
     (subst (λ (rows : List (table.Entry Made _)). Ties config before after rows (entries mid)) c.turn-turn.ensures.same.1 c.stop_part-count.ensures.ties)
+
+pub turn-turn-requires-clause-table : goal.turn-turn-requires-clause-table
+turn-turn-requires-clause-table g c =
+    c.requires.between.of_table
+
+pub stop_part-count-requires-clause-empty : goal.stop_part-count-requires-clause-empty
+stop_part-count-requires-clause-empty g c =
+    c.requires.empty
+
+pub put_entry-requires-clause-table : goal.put_entry-requires-clause-table
+put_entry-requires-clause-table g c =
+    let first = c.turn-turn.ensures.same.0 in
+    let second = c.stop_part-count.ensures.same.0 in
+    (second.0 ∙ first.0 ∙ c.requires.between.of_table, second.3 ∙ first.3 ∙ c.requires.between.main)
+
+pub put_entry-requires-clause-turn : goal.put_entry-requires-clause-turn
+put_entry-requires-clause-turn g c =
+    still_has c.turn-turn.new.hand c.stop_part-count.new.hand c.turn-turn.result c.stop_part-count.ensures.same c.turn-turn.ensures.turn.0.4
+
+pub returns-clause-same : goal.returns-clause-same
+returns-clause-same g c =
+    same_again c.args.hand.now c.turn-turn.new.hand c.put_entry.new.hand c.turn-turn.ensures.same.0
+    (same_again c.turn-turn.new.hand c.stop_part-count.new.hand c.put_entry.new.hand c.stop_part-count.ensures.same.0 c.put_entry.ensures.same)
+
+pub returns-clause-closes : goal.returns-clause-closes
+returns-clause-closes g c =
+    c.stop_part-count.ensures.closes
+
+pub returns-clause-later : goal.returns-clause-later
+returns-clause-later g c =
+    c.stop_part-count.ensures.later
+
+pub returns-clause-empty : goal.returns-clause-empty
+returns-clause-empty g c =
+    c.stop_part-count.ensures.empty
+
+pub returns-clause-shut : goal.returns-clause-shut
+returns-clause-shut g c =
+    c.stop_part-count.ensures.shut

@@ -1,10 +1,10 @@
-use Rattle.std.proofs.Common.{sym, subst, ℕ, true, false, [], ◌∷◌, arith}
+use Rattle.std.proofs.Common.{sym, subst, ℕ, true, false, [], ◌∷◌, arith, ◌∙◌}
 use Rattle.turn_table.specs.Hands.{entries}
 use Rattle.call_cell.specs.Cells.{Expire}
 use Rattle.call_board.specs.Boards.{Shows}
 use Rattle.relay_core.specs.Turning.{GainsNested, made_by}
 use Rattle.board_turns.specs.InCells.{HasNewKeys, in_cell_of}
-use Rattle.board_turns.proofs.Nesting.{gains_more}
+use Rattle.board_turns.proofs.Nesting.{gains_more, same_again}
 use Rattle.board_turns.specs.Ending.{ending_of, with_end}
 use Rattle.board_turns.specs.Ticking.{IsDueBy}
 use Rattle.board_turns.proofs.Expiring.{index_below, number_there, cell_there, asked_can, due_by_whole, nothing_parts}
@@ -142,3 +142,37 @@ returns-clause-due g c of legs asks all =
     subst (λ (k : ℕ). IsDueBy config l k c.args.turn.now.entry_id.moment true) is
     (due_by_whole g.P.In.InEnd.told g.P.In.InEnd.faults g.P.Out.OutEnd.told g.P.Out.OutEnd.faults config c.args.hand.now c.cell_at-cell.result c.args.turn.now.entry_id.moment true may.parts
     may.numbered (omega (arith, is, low)) (omega (arith, is, high)) (subst (λ (k : ℕ). HasNewKeys l k) (sym is) asks.can.keys) all c.if-not-expire_cell.ensures.asked)
+
+pub expire_cell-requires-clause-may : goal.expire_cell-requires-clause-may
+expire_cell-requires-clause-may g c =
+    c.requires.may
+
+pub end_call-requires-clause-may : goal.end_call-requires-clause-may
+end_call-requires-clause-may g c =
+    c.if-not-expire_cell.ensures.may
+
+pub end_call-requires-clause-empty : goal.end_call-requires-clause-empty
+end_call-requires-clause-empty g c =
+    c.requires.empty
+
+pub returns-clause-same : goal.returns-clause-same
+returns-clause-same g c =
+    let first = c.if-not-expire_cell.ensures.same in
+    let second = c.end_call.ensures.same in
+    (same_again c.args.hand.now c.expire_cell.new.hand c.end_call.new.hand first.0 second.0, λ j. second.1 j ∙ first.1 j)
+
+pub returns-clause-may : goal.returns-clause-may
+returns-clause-may g c =
+    c.end_call.ensures.may
+
+pub returns-clause-replies : goal.returns-clause-replies
+returns-clause-replies g c =
+    c.end_call.ensures.replies
+
+pub returns-clause-later : goal.returns-clause-later
+returns-clause-later g c =
+    c.end_call.ensures.later
+
+pub returns-clause-empty : goal.returns-clause-empty
+returns-clause-empty g c =
+    c.end_call.ensures.empty

@@ -1,4 +1,4 @@
-use Rattle.std.proofs.Common.{refl, sym, subst, ℕ, List, ◌∷◌}
+use Rattle.std.proofs.Common.{refl, sym, subst, ℕ, List, ◌∷◌, ◌∙◌, ◌<◌, ◌^◌}
 use Rattle.turn_table.specs.declared.machine.Entry as table
 use Rattle.turn_table.specs.Hands.{place_of, front_of, state_of, taken_of, entries}
 use Rattle.call_board.specs.Acts.{BoardEntry}
@@ -11,7 +11,8 @@ use Rattle.board_turns.specs.Between.{board_of}
 use Rattle.board_turns.specs.Ending.{leg_pairs}
 use Rattle.board_turns.specs.Ticking.{tick_entry}
 use Rattle.board_turns.specs.Ties.{Ties}
-use Rattle.board_turns.proofs.Betweens.{between_may, turn_begins, begins_whole}
+use Rattle.board_turns.proofs.Nesting.{same_again}
+use Rattle.board_turns.proofs.Betweens.{between_may, turn_begins, begins_whole, still_has}
 use Rattle.board_turns.proofs.Grown.{makes_history}
 use Rattle.board_turns.proofs.StopTurns.{moved, moved_to}
 use Rattle.board_turns.proofs.TickTurns.{made_after, at_front, tick_relates, tick_ends, due_before_turn}
@@ -124,3 +125,42 @@ returns-clause-ties g c =
     ties_ended config before after (entries c.args.hand.now) (place_of turn) (front_of turn) (made_after mid (front_of turn) c.args.now c.tick_part-ended.new.part) tt mid
     c.put_step.new.hand refl refl c.put_step.ensures.entry
     (subst (λ (rows : List (table.Entry Made _)). Ties config before after rows (entries mid)) c.turn-turn.ensures.same.1 c.tick_part-ended.ensures.ties)
+
+pub turn-turn-requires-clause-table : goal.turn-turn-requires-clause-table
+turn-turn-requires-clause-table g c =
+    c.requires.between.of_table
+
+pub tick_part-ended-requires-clause-low : goal.tick_part-ended-requires-clause-low
+tick_part-ended-requires-clause-low g c =
+    subst (λ (k : ℕ). k < 2 ^ 56) (sym c.front-number.ensures) c.turn-turn.ensures.turn.0.2
+
+pub tick_part-ended-requires-clause-empty : goal.tick_part-ended-requires-clause-empty
+tick_part-ended-requires-clause-empty g c =
+    c.requires.empty
+
+pub put_step-requires-clause-table : goal.put_step-requires-clause-table
+put_step-requires-clause-table g c =
+    let first = c.turn-turn.ensures.same.0 in
+    let second = c.tick_part-ended.ensures.same.0 in
+    (second.0 ∙ first.0 ∙ c.requires.between.of_table, second.3 ∙ first.3 ∙ c.requires.between.main)
+
+pub put_step-requires-clause-turn : goal.put_step-requires-clause-turn
+put_step-requires-clause-turn g c =
+    still_has c.turn-turn.new.hand c.tick_part-ended.new.hand c.turn-turn.result c.tick_part-ended.ensures.same c.turn-turn.ensures.turn.0.4
+
+pub returns-clause-same : goal.returns-clause-same
+returns-clause-same g c =
+    same_again c.args.hand.now c.turn-turn.new.hand c.put_step.new.hand c.turn-turn.ensures.same.0
+    (same_again c.turn-turn.new.hand c.tick_part-ended.new.hand c.put_step.new.hand c.tick_part-ended.ensures.same.0 c.put_step.ensures.same)
+
+pub returns-clause-closes : goal.returns-clause-closes
+returns-clause-closes g c =
+    c.tick_part-ended.ensures.closes
+
+pub returns-clause-later : goal.returns-clause-later
+returns-clause-later g c =
+    c.tick_part-ended.ensures.later
+
+pub returns-clause-empty : goal.returns-clause-empty
+returns-clause-empty g c =
+    c.tick_part-ended.ensures.empty
