@@ -3,7 +3,7 @@
 //! A nested step is one turn of its own place, made while the hand holds the board's turn, and adds one entry to the hand's list,
 //! which belongs to the board's entry. Module `boxes` opens and shuts the box of a port pair, `cells` ends the call of a cell and
 //! asks it whether it is due and what is told of its legs, `signals` prepares a cell by an offer and commits it by an answer;
-//! `offered_changes` has what an offer brings besides its legs. `puts` puts a turn back, one way for each kind of event. `board_turn` has
+//! `offered_changes` has what an offer brings besides its legs. `puts` puts a turn back with the step that ends it. `board_turn` has
 //! the board's turn in which the steps are made, and its entry, to which they belong. `specs/Nesting.antt` says who may make such
 //! steps and what a step tells.
 //!
