@@ -13,7 +13,8 @@ use Rattle.command_line.specs.declared.settings.LoadSettings.{LoadSettings}
 use Rattle.relay_runs.specs.Loads.{Loads}
 use Rattle.relay_runs.specs.declared.status.Status.TheVariants as status
 use Rattle.relay_runs.specs.Served.{Outside}
-use Rattle.relay_app.specs.Run.{Serves, StatusByWords, ReplayedBy, ReplaysBy, PrintsUsage, TellsLine}
+use Rattle.relay_runs.specs.Run.{Serves}
+use Rattle.relay_app.specs.Run.{StatusByWords, ReplayedBy, ReplaysBy, PrintsUsage, TellsLine}
 use Rattle.relay_runs.proofs.Runs.{not_begun}
 
 pub serves_nothing : (settings : Option Settings) (range : Option (ℕ × ℕ)) (gate : ℕ → Type 0) (outside : Outside) (wrote : Option (List WriteCall)) → outside.link ≡ outside.link_now
