@@ -160,7 +160,7 @@ module _ {M I O T : Type 0} {g : _} where
       record { fits = d.fits; gained = d.gained; stands = d.stands; opens = d.opens }
 
   -- a reply is kept: it is given again, and nothing is done
-  pub repeat_deals : (config : Config) (turns : Turns M (Part I O) Made T) (hand : Hand M (Part I O) Made T g) (entry_id : BoardEntryId) (request : Request) (pairs : Option Entries)
+  repeat_deals : (config : Config) (turns : Turns M (Part I O) Made T) (hand : Hand M (Part I O) Made T g) (entry_id : BoardEntryId) (request : Request) (pairs : Option Entries)
       (chosen : List (Option CryptoLine)) (bytes : List ℕ) (board : Board) (told : Option (List PortCall)) → InTurn config turns hand entry_id board told → IsRequest request
       → kept (board_history (made_by hand) entry_id.number) request.source request.cookie.now entry_id.moment ≡ Some bytes
       → Deals config hand hand entry_id (hearing_as request pairs chosen Nothing) board told
@@ -174,6 +174,16 @@ module _ {M I O T : Type 0} {g : _} where
       (due_fits config h entry_id.moment c due is_due is.framed is.length_is (λ read. absurd (let k : false ≡ true = read in cc))
       (λ heard. absurd (let k : false ≡ true = heard in cc)) (record { no_opens = refl; no_draws = refl; none_failed = refl }, refl) (λ s t. refl))
       refl refl refl turn.shows
+
+  -- the same, of a record that says that no device was called
+  pub repeated_deals : (config : Config) (turns : Turns M (Part I O) Made T) (hand : Hand M (Part I O) Made T g) (entry_id : BoardEntryId) (request : Request) (turn_record : TurnRecord)
+      (bytes : List ℕ) (board : Board) (told : Option (List PortCall)) → InTurn config turns hand entry_id board told → IsRequest request
+      → kept (board_history (made_by hand) entry_id.number) request.source request.cookie.now entry_id.moment ≡ Some bytes → turn_record.device_answers ≡ Nothing
+      → Deals config hand hand entry_id (hearing_of request turn_record) board told
+  repeated_deals config turns hand entry_id request turn_record bytes board told turn is kept_is uncalled =
+      let pairs = pairs_if turn_record.dictionary in
+      subst (λ (given : DeviceAnswers). Deals config hand hand entry_id (hearing_as request pairs turn_record.chosen_lines given) board told) (sym uncalled)
+      (repeat_deals config turns hand entry_id request pairs turn_record.chosen_lines bytes board told turn is kept_is)
 
   -- memory ran out before anything was done
   pub short_deals : (config : Config) (turns : Turns M (Part I O) Made T) (hand : Hand M (Part I O) Made T g) (entry_id : BoardEntryId) (request : Request) (turn_record : TurnRecord) (was board : Board)
@@ -199,11 +209,19 @@ short_reply config h moment request pairs chosen device_answers none is =
     ∙ sym (fault_is config request.cookie.now request.body.now E17)
 
 -- a kept reply is the reply
-pub repeat_reply : (config : Config) (h : List BoardEntry) (moment : ℕ) (request : Request) (pairs : Option Entries) (chosen : List (Option CryptoLine)) (bytes : List ℕ)
+repeat_reply : (config : Config) (h : List BoardEntry) (moment : ℕ) (request : Request) (pairs : Option Entries) (chosen : List (Option CryptoLine)) (bytes : List ℕ)
     → kept h request.source request.cookie.now moment ≡ Some bytes
     → (control_of config h moment (hearing_as request pairs chosen Nothing)).reply ≡ bytes
 repeat_reply config h moment request pairs chosen bytes is =
     ap (λ (a : Answered). a.bytes) (repeated_due config h moment (unanswered (hearing_as request pairs chosen Nothing)) bytes is)
+
+-- the same, where no device was called
+pub repeated_reply : (config : Config) (h : List BoardEntry) (moment : ℕ) (request : Request) (pairs : Option Entries) (chosen : List (Option CryptoLine)) (device_answers : DeviceAnswers)
+    (bytes : List ℕ) → kept h request.source request.cookie.now moment ≡ Some bytes → device_answers ≡ Nothing
+    → (control_of config h moment (hearing_as request pairs chosen device_answers)).reply ≡ bytes
+repeated_reply config h moment request pairs chosen device_answers bytes kept_is uncalled =
+    ap (λ (given : DeviceAnswers). (control_of config h moment (hearing_as request pairs chosen given)).reply) uncalled
+    ∙ repeat_reply config h moment request pairs chosen bytes kept_is
 
 -- what the board finds is the reply that is kept
 pub is_kept_now : (h : List BoardEntry) (moment : ℕ) (source : Addr) (cookie : List ℕ) (o : Option (List ℕ)) → last_moment h ≤ moment

@@ -1,9 +1,9 @@
 -- From what follows a datagram to one control turn.
-use Rattle.std.proofs.Common.{◌≡◌, ◌∙◌, refl, sym, ap, subst, ℕ, List, [], ◌∷◌, ◌++◌, Option, Some, None, Bool, true, false, take, drop, length}
+use Rattle.std.proofs.Common.{◌≡◌, ◌≤◌, ◌∙◌, refl, sym, ap, subst, ℕ, List, [], ◌∷◌, ◌++◌, Option, Some, None, Bool, true, false, take, drop, length, arith}
 use Rattle.std.proofs.lemmas.List.{take_at}
 use Rattle.std.specs.Prelude.{Result, Ok, Err, nat_lt}
 use Rattle.ng_frame.specs.Frame.{frame, IsFrame}
-use Rattle.relay_outside.specs.Told.{Gains, Gained, is_done}
+use Rattle.relay_outside.specs.Told.{Gains, Gained, HasCause, Rose, is_done}
 use Rattle.relay_outside.specs.declared.address.Addr.{Addr}
 use Rattle.relay_outside.specs.declared.answers.Failed.{Failed}
 use Rattle.relay_outside.specs.declared.answers.Taken.{Taken}
@@ -28,7 +28,7 @@ use Rattle.board_turns.specs.Controls.{Hearing, control_of, moment_at}
 use Rattle.ng_server.specs.declared.taking.ControlTurn.{ControlTurn}
 use Rattle.ng_server.specs.declared.taking.ControlTurn.TheVariants as turn
 use Rattle.ng_server.specs.Turning.{Answers, IsRequest}
-use Rattle.ng_server.specs.Taking.{is_answered, turn_after, is_too_long, Exchanged, DidReply, DidFollow, DidTurn, Responded, Turned}
+use Rattle.ng_server.specs.Taking.{is_answered, turn_after, is_too_long, EndsAs, TakesDatagram, TakesNone, Exchanged, DidReply, DidFollow, DidTurn, Responded, Turned}
 
 -- a datagram with a frame is a request
 pub is_request : (datagram : List ℕ) (request : Request) → IsFrame datagram request.cookie.now request.body.now → frame datagram ≡ Some (request.cookie.now, request.body.now)
@@ -56,6 +56,18 @@ exchanged_so config h now from request too_long answer x done source cookie body
   answer_is = answer_is;
   sends_are = ap (λ (to : Addr). call.Send to (control_of config h (moment_at h now) x).reply done ∷ []) source_is;
 }
+
+ends_unanswered : (gave : LinkGiven) (answer : ControlTurn) → EndsAs gave answer → is_answered answer ≡ false
+ends_unanswered (given.Datagram from datagram) answer ends = absurd ends
+ends_unanswered given.Nothing answer ends = ap is_answered ends
+ends_unanswered given.End answer ends = ap is_answered ends
+ends_unanswered given.Failed answer ends = ap is_answered ends
+
+ends_followed : (config : Config) (h : List BoardEntry) (now : ℕ) (gave : LinkGiven) (answer : ControlTurn) → EndsAs gave answer → DidFollow config h now gave answer None []
+ends_followed config h now (given.Datagram from datagram) answer ends = absurd ends
+ends_followed config h now given.Nothing answer ends = (ends, refl, refl)
+ends_followed config h now given.End answer ends = (ends, refl, refl)
+ends_followed config h now given.Failed answer ends = (ends, refl, refl)
 
 module _ {M I O T : Type 0} {g : _} where
   pub responded : (config : Config) (old new : Hand M (Part I O) Made T g) (now : ℕ) (from : Addr) (datagram : List ℕ) (request : Request) (answer : ControlTurn)
@@ -120,44 +132,52 @@ module _ {M I O T : Type 0} {g : _} where
             (gained_one before mid it (λ xs. xs ≡ it ∷ []) gains refl) did.calls;
       }
 
--- the record of a take with a known answer, into a room of that size
-known : (old new : Option (List LinkCall)) (room : ℕ) (result answer : Result Taken Failed) (buf : List ℕ) → room ≡ 16385 → result ≡ answer
-    → Gains old new (call.Take room (link_given result buf)) → Gains old new (call.Take 16385 (link_given answer buf))
-known old new room result answer buf r e gains =
-    subst (λ (a : Result Taken Failed). Gains old new (call.Take 16385 (link_given a buf))) e (subst (λ (n : ℕ). Gains old new (call.Take n (link_given result buf))) r gains)
-
-module _ {M I O T : Type 0} {g : _} where
-  pub took : (config : Config) (old new : Hand M (Part I O) Made T g) (now : ℕ) (answer : ControlTurn) (ports ports_now keys keys_now : ℕ) (opened opened_now : Option (List PortCall)) (drew drew_now : Option (List KeyCall))
-      (before mid after : Option (List LinkCall)) (room : ℕ)
-      (result : Result Taken Failed) (buf : List ℕ) (from : Addr) (len : ℕ) → room ≡ 16385 → result ≡ Ok (taken.Datagram from len)
-      → Gains before mid (call.Take room (link_given result buf)) → Responded config old new now from (take len buf) answer ports ports_now keys keys_now opened opened_now drew drew_now mid after
-      → Turned config old new now answer ports ports_now keys keys_now opened opened_now drew drew_now before after
-  took config old new now answer ports ports_now keys keys_now opened opened_now drew drew_now before mid after room result buf from len room_is e gains did =
-      turned_by config old new now answer ports ports_now keys keys_now opened opened_now drew drew_now before mid after from (take len buf) (known before mid room result (Ok (taken.Datagram from len)) buf room_is e gains) did
-
-  -- the same, by bytes that are those of the room
+  -- a datagram was taken, and what followed it, by bytes that are those of the room
   pub took_seen : (config : Config) (old new : Hand M (Part I O) Made T g) (now : ℕ) (answer : ControlTurn) (ports ports_now keys keys_now : ℕ) (opened opened_now : Option (List PortCall)) (drew drew_now : Option (List KeyCall))
-      (before mid after : Option (List LinkCall)) (room : ℕ)
-      (result : Result Taken Failed) (buf items seen : List ℕ) (n : ℕ) (from : Addr) (len : ℕ) → seen ≡ take n (buf ++ drop (length buf) items) → length buf ≡ n → room ≡ 16385
-      → result ≡ Ok (taken.Datagram from len)
-      → Gains before mid (call.Take room (link_given result buf)) → Responded config old new now from (take len seen) answer ports ports_now keys keys_now opened opened_now drew drew_now mid after
+      (before mid after : Option (List LinkCall)) (buf items seen : List ℕ) (n : ℕ) (from : Addr) (len : ℕ) → seen ≡ take n (buf ++ drop (length buf) items) → length buf ≡ n
+      → TakesDatagram from (take len buf) before mid → Responded config old new now from (take len seen) answer ports ports_now keys keys_now opened opened_now drew drew_now mid after
       → Turned config old new now answer ports ports_now keys keys_now opened opened_now drew drew_now before after
-  took_seen config old new now answer ports ports_now keys keys_now opened opened_now drew drew_now before mid after room result buf items seen n from len is long room_is e gains did =
-      took config old new now answer ports ports_now keys keys_now opened opened_now drew drew_now before mid after room result buf from len room_is e gains
+  took_seen config old new now answer ports ports_now keys keys_now opened opened_now drew drew_now before mid after buf items seen n from len is long takes did =
+      turned_by config old new now answer ports ports_now keys keys_now opened opened_now drew drew_now before mid after from (take len buf) takes
       (subst (λ (bytes : List ℕ). Responded config old new now from (take len bytes) answer ports ports_now keys keys_now opened opened_now drew drew_now mid after)
       (is ∙ take_at buf (drop (length buf) items) n long) did)
 
-  pub took_nothing : (config : Config) (hand : Hand M (Part I O) Made T g) (now : ℕ) (ports ports_now keys keys_now : ℕ) (opened : Option (List PortCall)) (drew : Option (List KeyCall)) (before after : Option (List LinkCall)) (room : ℕ) (result : Result Taken Failed) (buf : List ℕ)
-      → room ≡ 16385 → result ≡ Ok taken.Nothing → Gains before after (call.Take room (link_given result buf)) → Turned config hand hand now turn.Nothing ports ports_now keys keys_now opened opened drew drew before after
-  took_nothing config hand now ports ports_now keys keys_now opened drew before after room result buf room_is e gains =
-      turned_alone config hand now turn.Nothing ports ports_now keys keys_now opened drew before after given.Nothing refl (refl, refl, refl) (known before after room result (Ok taken.Nothing) buf room_is e gains)
+  -- no datagram was taken
+  pub took_none : (config : Config) (hand : Hand M (Part I O) Made T g) (now : ℕ) (answer : ControlTurn) (ports ports_now keys keys_now : ℕ) (opened : Option (List PortCall)) (drew : Option (List KeyCall))
+      (before after : Option (List LinkCall)) → TakesNone answer before after → Turned config hand hand now answer ports ports_now keys keys_now opened opened drew drew before after
+  took_none config hand now answer ports ports_now keys keys_now opened drew before after takes =
+      turned_alone config hand now answer ports ports_now keys keys_now opened drew before after takes.gave (ends_unanswered takes.gave answer takes.ends)
+      (ends_followed config (board_of (made_by hand)) now takes.gave answer takes.ends) takes.gains
 
-  pub took_end : (config : Config) (hand : Hand M (Part I O) Made T g) (now : ℕ) (ports ports_now keys keys_now : ℕ) (opened : Option (List PortCall)) (drew : Option (List KeyCall)) (before after : Option (List LinkCall)) (room : ℕ) (result : Result Taken Failed) (buf : List ℕ)
-      → room ≡ 16385 → result ≡ Ok taken.End → Gains before after (call.Take room (link_given result buf)) → Turned config hand hand now turn.End ports ports_now keys keys_now opened opened drew drew before after
-  took_end config hand now ports ports_now keys keys_now opened drew before after room result buf room_is e gains =
-      turned_alone config hand now turn.End ports ports_now keys keys_now opened drew before after given.End refl (refl, refl, refl) (known before after room result (Ok taken.End) buf room_is e gains)
+-- a take that gave a datagram, by its result
+pub takes_datagram : (room : ℕ) (result : Result Taken Failed) (buf : List ℕ) (from : Addr) (len : ℕ) (before after : Option (List LinkCall)) → room ≡ 16385 → result ≡ Ok (taken.Datagram from len)
+    → Gains before after (call.Take room (link_given result buf)) → TakesDatagram from (take len buf) before after
+takes_datagram room result buf from len before after room_is e gains =
+    subst (λ (r : Result Taken Failed). Gains before after (call.Take 16385 (link_given r buf))) e (subst (λ (n : ℕ). Gains before after (call.Take n (link_given result buf))) room_is gains)
 
-  pub take_failed : (config : Config) (hand : Hand M (Part I O) Made T g) (now : ℕ) (ports ports_now keys keys_now : ℕ) (opened : Option (List PortCall)) (drew : Option (List KeyCall)) (before after : Option (List LinkCall)) (room : ℕ) (result : Result Taken Failed) (buf : List ℕ)
-      (failed : Failed) → room ≡ 16385 → result ≡ Err failed → Gains before after (call.Take room (link_given result buf)) → Turned config hand hand now turn.ReadFault ports ports_now keys keys_now opened opened drew drew before after
-  take_failed config hand now ports ports_now keys keys_now opened drew before after room result buf failed room_is e gains =
-      turned_alone config hand now turn.ReadFault ports ports_now keys keys_now opened drew before after given.Failed refl (refl, refl, refl) (known before after room result (Err failed) buf room_is e gains)
+-- a take that gave none
+pub takes_none : (room : ℕ) (result without : Result Taken Failed) (buf : List ℕ) (answer : ControlTurn) (before after : Option (List LinkCall)) → room ≡ 16385 → result ≡ without
+    → EndsAs (link_given without buf) answer → Gains before after (call.Take room (link_given result buf)) → TakesNone answer before after
+takes_none room result without buf answer before after room_is e ends gains = record {
+  gave = link_given without buf;
+  ends = ends;
+  gains = subst (λ (r : Result Taken Failed). Gains before after (call.Take 16385 (link_given r buf))) e (subst (λ (n : ℕ). Gains before after (call.Take n (link_given result buf))) room_is gains);
+}
+
+-- a take without a datagram ends no turn by the failed send of a reply
+pub none_replies : {P : Type 0} (gave : LinkGiven) (answer : ControlTurn) → EndsAs gave answer → answer ≡ turn.ReplyFault → P
+none_replies (given.Datagram from datagram) answer ends is = absurd ends
+none_replies given.Nothing answer ends is = absurd cc
+none_replies given.End answer ends is = absurd cc
+none_replies given.Failed answer ends is = absurd cc
+
+-- a turn whose reply was sent, or not, is none whose take failed
+pub reply_reads : {P : Type 0} (done : Bool) (answer : ControlTurn) → answer ≡ turn_after done → answer ≡ turn.ReadFault → P
+reply_reads true answer after is = absurd cc
+reply_reads false answer after is = absurd cc
+
+-- the send of a reply fails only where the count of faults rose
+pub reply_rose : (before mid after : ℕ) (sent : Result (Unit {0}) Failed) (answer : ControlTurn) → before ≤ mid → HasCause mid after sent → answer ≡ turn_after (is_done sent)
+    → answer ≡ turn.ReplyFault → Rose before after
+reply_rose before mid after (Ok done) answer late cause ends is = absurd cc
+reply_rose before mid after (Err failed) answer late cause ends is = let rose : Rose mid after = cause.failed in omega (arith, rose)

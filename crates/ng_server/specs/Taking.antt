@@ -1,7 +1,7 @@
 -- What one control turn does to its link, and to the main hand's list.
 use Rattle.std.specs.Prelude.{◌≡◌, ℕ, Bool, true, false, List, [], ◌∷◌, length, Option, None, Some, nat_lt}
 use Rattle.ng_frame.specs.Frame.{frame}
-use Rattle.relay_outside.specs.Told.{Gained}
+use Rattle.relay_outside.specs.Told.{Gains, Gained}
 use Rattle.relay_outside.specs.declared.address.Addr.{Addr}
 use Rattle.relay_outside.specs.declared.keys.KeyCall.{KeyCall}
 use Rattle.relay_outside.specs.declared.link.LinkGiven.{LinkGiven}
@@ -39,6 +39,23 @@ turn_after false = turn.ReplyFault
 -- whether a datagram has more bytes than one may have
 abbrev pub is_too_long : List ℕ → Bool
 is_too_long datagram = nat_lt 16384 (length datagram)
+
+-- a take that gave no datagram ends the turn so
+abbrev pub EndsAs : LinkGiven → ControlTurn → Type 0
+EndsAs (given.Datagram from datagram) answer = ⊥
+EndsAs given.Nothing answer = answer ≡ turn.Nothing
+EndsAs given.End answer = answer ≡ turn.End
+EndsAs given.Failed answer = answer ≡ turn.ReadFault
+
+-- one take into a room of 16,385 bytes, which gave this datagram
+abbrev pub TakesDatagram : Addr → List ℕ → (before after : Option (List LinkCall)) → Type 0
+TakesDatagram from datagram before after = Gains before after (call.Take 16385 (given.Datagram from datagram))
+
+-- one take into a room of 16,385 bytes, which gave no datagram and so ended the turn
+pub record TakesNone (answer : ControlTurn) (before after : Option (List LinkCall)) : Type 0 where
+  pub gave : LinkGiven
+  pub ends : EndsAs gave answer
+  pub gains : Gains before after (call.Take 16385 gave)
 
 module _ {M I O T : Type 0} {g : _} where
   -- a turn that replied added to the hand's list the board's turn of what is recorded, with the entry that the history demands; every

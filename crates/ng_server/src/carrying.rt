@@ -12,15 +12,14 @@ ghost use Rattle.board_turns.specs.Nesting.{MayNest};
 ghost use Rattle.board_turns.specs.Acting.{InTurn};
 ghost use Rattle.board_turns.specs.Telling.{IsAnew};
 ghost use Rattle.board_turns.specs.Carrying.{hearing_by, Carries};
-ghost use Rattle.ng_server.specs.Devices.{AreSame};
 ghost use Rattle.call_board.specs.Pairs.{free};
 ghost use Rattle.board_turns.specs.Giving.{given_by, IsGivenBy};
 ghost use Rattle.board_turns.specs.Ties.{Ties};
 
-use crate::devices::Devices;
 use answer_command::answer;
 use board_turns::{AskedCommand, BoardTurn, CommandOutcome, refused, told};
 use call_board::Board;
+use call_cell::Gone;
 use control_messages::{Body, Request, pong_datagram, read_body};
 use delete_command::delete;
 use ng_command::Command;
@@ -51,34 +50,37 @@ pub(crate) fn read_request(alloc: Global, request: &Request) -> Result<Body, Out
 }
 
 /// Carries out a command, or returns the error that there is in its place.
-pub(crate) fn carry_out<N, P: PortMaker, K: KeySource, R: Wait>(
+pub(crate) fn carry_out<P: PortMaker, K: KeySource, R: Wait>(
     rt: &R,
-    alloc: Global,
     turn: &BoardTurn<P::In, P::Out>,
     hand: &mut Hand<Relay<P::In, P::Out>>,
     board: &mut Board,
-    devices: &mut Devices<'_, '_, '_, '_, N, P, K, P::Out>,
-    request: &Request,
-    command: &Result<Command, ErrorCode>,
+    ports: &mut P,
+    keys: &mut K,
+    gone: &mut Gone<P::Out>,
+    asked: &AskedCommand<Result<Command, ErrorCode>>,
 ) -> CommandOutcome
-    requires turn { InTurn turn.now.config.now turn.now.turns.now hand.old turn.now.entry_id board.old (P.told devices.old.ports.now) }
-    requires anew { IsAnew (board_history (made_by hand.old) turn.now.entry_id.number) turn.now.entry_id.moment request.now }
-    requires empty { devices.old.gone.now ≡ [] }
-    requires small { IfOk command.now (λ asks. length (description_in (said asks)) ≤ length request.now.body.now) }
-    requires asked { (pairs : Option Entries) × (request.now.too_long ≡ false → Reads request.now.body.now pairs) × (command_in request.now.too_long pairs ≡ said_by command.now) }
-    ensures devices { AreSame devices.old devices.new }
+    requires turn { InTurn turn.now.config.now turn.now.turns.now hand.old turn.now.entry_id board.old (P.told ports.old) }
+    requires anew { IsAnew (board_history (made_by hand.old) turn.now.entry_id.number) turn.now.entry_id.moment asked.now.request.now }
+    requires empty { gone.old ≡ [] }
+    requires small { IfOk asked.now.input.now (λ asks. length (description_in (said asks)) ≤ length asked.now.request.now.body.now) }
+    requires asked { (pairs : Option Entries) × (asked.now.request.now.too_long ≡ false → Reads asked.now.request.now.body.now pairs) × (command_in asked.now.request.now.too_long pairs ≡ said_by asked.now.input.now) }
     ensures same { IsSameHand hand.old hand.new × SameTurns hand.old hand.new }
     ensures may { MayNest turn.now.config.now turn.now.turns.now hand.new }
-    ensures carries { (pairs : Option Entries) → (request.now.too_long ≡ false → Reads request.now.body.now pairs) → command_in request.now.too_long pairs ≡ said_by command.now →
-        Carries turn.now.config.now hand.old hand.new turn.now.entry_id (hearing_by request.now pairs result) result.reply board.new (P.told devices.new.ports.now) }
-    ensures link { devices.new.link.now ≡ devices.old.link.now }
+    ensures carries { (pairs : Option Entries) → (asked.now.request.now.too_long ≡ false → Reads asked.now.request.now.body.now pairs) → command_in asked.now.request.now.too_long pairs ≡ said_by asked.now.input.now →
+        Carries turn.now.config.now hand.old hand.new turn.now.entry_id (hearing_by asked.now.request.now pairs result) result.reply board.new (P.told ports.new) }
     ensures replies { KeepsReplies board.old board.new }
-    ensures empty { devices.new.gone.now ≡ [] }
-    ensures ties { Ties turn.now.config.now (P.told devices.old.ports.now) (P.told devices.new.ports.now) (entries hand.old) (entries hand.new) }
-    ensures later { (P.faults devices.old.ports.now ≤ P.faults devices.new.ports.now) × (K.faults devices.old.keys.now ≤ K.faults devices.new.keys.now) }
+    ensures empty { gone.new ≡ [] }
+    ensures ties { Ties turn.now.config.now (P.told ports.old) (P.told ports.new) (entries hand.old) (entries hand.new) }
+    ensures later { (P.faults ports.old ≤ P.faults ports.new) × (K.faults keys.old ≤ K.faults keys.new) }
     ensures given { let h = board_history (made_by hand.old) turn.now.entry_id.number in
-        IsGivenBy turn.now.config.now (free turn.now.config.now h) (given_by result.device_answers) (P.faults devices.old.ports.now) (P.faults devices.new.ports.now) (K.faults devices.old.keys.now) (K.faults devices.new.keys.now) (P.told devices.old.ports.now) (P.told devices.new.ports.now) (K.told devices.old.keys.now) (K.told devices.new.keys.now) }
+        IsGivenBy turn.now.config.now (free turn.now.config.now h) (given_by result.device_answers) (P.faults ports.old) (P.faults ports.new) (K.faults keys.old) (K.faults keys.new) (P.told ports.old) (P.told ports.new) (K.told keys.old) (K.told keys.new) }
 {
+    let AskedCommand {
+        request,
+        input: command,
+        alloc,
+    } = *asked;
     let command = match command {
         Ok(command) => command,
         Err(code) => return refused(alloc, request, *code, ChosenLines::none()),
@@ -90,9 +92,9 @@ pub(crate) fn carry_out<N, P: PortMaker, K: KeySource, R: Wait>(
             turn,
             hand,
             board,
-            devices.ports,
-            devices.keys,
-            devices.gone,
+            ports,
+            keys,
+            gone,
             &AskedCommand {
                 request,
                 input,
@@ -104,8 +106,8 @@ pub(crate) fn carry_out<N, P: PortMaker, K: KeySource, R: Wait>(
             turn,
             hand,
             board,
-            devices.ports,
-            devices.gone,
+            ports,
+            gone,
             &AskedCommand {
                 request,
                 input,
@@ -117,8 +119,8 @@ pub(crate) fn carry_out<N, P: PortMaker, K: KeySource, R: Wait>(
             turn,
             hand,
             board,
-            devices.ports,
-            devices.gone,
+            ports,
+            gone,
             &AskedCommand {
                 request,
                 input,

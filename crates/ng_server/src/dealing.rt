@@ -1,8 +1,15 @@
 //! A datagram, dealt with in the board's turn.
-ghost use Rattle.std.specs.Prelude.{◌≡◌, ◌≤◌, [], None};
+ghost use Rattle.std.specs.Prelude.{◌≡◌, ◌≤◌, [], None, false, IfOk, OnOk, length};
 ghost use Rattle.relay_outside.specs.Told.{HasCause};
 ghost use Rattle.turn_table.specs.Hands.{IsSameHand, SameTurns, entries};
+ghost use Rattle.ng_command.specs.Said.{said};
 ghost use Rattle.cookie_cache.specs.Keepings.{IsCookie};
+ghost use Rattle.cookie_cache.specs.Caches.{HasSparePlace};
+ghost use Rattle.control_messages.specs.Bodies.{pairs_in, said_by, description_in};
+ghost use Rattle.call_board.specs.Asked.{Reads, command_in};
+ghost use Rattle.call_board.specs.Boards.{Shows};
+ghost use Rattle.call_board.specs.Views.{View};
+ghost use Rattle.relay_outside.specs.declared.settings.Config.{Config};
 ghost use Rattle.relay_core.specs.Entries.{board_history};
 ghost use Rattle.relay_core.specs.Turning.{made_by};
 ghost use Rattle.board_turns.specs.Nesting.{MayNest};
@@ -22,14 +29,14 @@ use crate::devices::Devices;
 use crate::replying::reply_to;
 use crate::sending::{send, send_shortage};
 use crate::turn_record::TurnRecord;
-use board_turns::{BoardTurn, CommandOutcome, DeviceAnswers};
+use board_turns::{AskedCommand, BoardTurn, CommandOutcome, DeviceAnswers};
 use call_board::Board;
 use control_messages::{Body, Request};
-use ng_bencode::Text;
+use ng_bencode::{Pairs, Text};
 use ng_reply::ErrorCode;
 use offer_answer::ChosenLines;
 use relay_core::Relay;
-use relay_outside::{ControlLink, Failed, KeySource, PortMaker};
+use relay_outside::{ControlLink, Failed, KeySource, OutOfMemory, PortMaker};
 use std::alloc::Global;
 use std::sync::Wait;
 use turn_table::Hand;
@@ -60,6 +67,55 @@ fn answer_short<N: ControlLink>(link: &mut N, request: &Request) -> Answered
     Answered { turn_record, sent }
 }
 
+/// Sends a request the reply that is kept for it.
+fn repeat<N: ControlLink>(link: &mut N, request: &Request, kept: &[u8]) -> Answered
+    ensures nothing { (result.turn_record.dictionary ≡ None) × (result.turn_record.chosen_lines ≡ []) × (result.turn_record.device_answers ≡ DeviceAnswers.Nothing) }
+    ensures unasked { IsUnasked result.turn_record.device_answers }
+    ensures sent { Sends request.now.source kept.now result.sent (N.told link.old) (N.told link.new) }
+    ensures cause { HasCause (N.faults link.old) (N.faults link.new) result.sent }
+{
+    let sent = send(link, request.source, kept);
+    let turn_record = TurnRecord {
+        dictionary: None,
+        chosen_lines: ChosenLines::none(),
+        device_answers: DeviceAnswers::Nothing,
+    };
+    Answered { turn_record, sent }
+}
+
+/// A request that was read, and for whose reply there is room.
+#[derive(Drop)]
+struct Prepared {
+    /// Its cookie, under which the reply is kept.
+    cookie: Text,
+    /// What it asks.
+    asked: Body,
+}
+
+/// Reads a request, and makes room for its reply. What the board shows stays, also where memory runs out.
+fn prepare(alloc: Global, board: &mut Board, request: &Request) -> Result<Prepared, OutOfMemory>
+    ensures shows { (config : Config) (v : View) → Shows config board.old v → Shows config board.new v }
+    ensures place { OnOk result (HasSparePlace board.new.replies) }
+    ensures cookie { IfOk result (λ prepared. prepared.cookie.list ≡ request.now.cookie.now) }
+    ensures reads { IfOk result (λ prepared. request.now.too_long ≡ false → Reads request.now.body.now (pairs_in prepared.asked)) }
+    ensures command { IfOk result (λ prepared. command_in request.now.too_long (pairs_in prepared.asked) ≡ said_by prepared.asked.command) }
+    ensures small { IfOk result (λ prepared. IfOk prepared.asked.command (λ command. length (description_in (said command)) ≤ length request.now.body.now)) }
+{
+    board.reserve_reply()?;
+    let Ok(cookie) = Text::copy_of(alloc, request.cookie) else {
+        return Err(OutOfMemory);
+    };
+    let asked = read_request(alloc, request)?;
+    Ok(Prepared { cookie, asked })
+}
+
+/// The dictionary that a body spells.
+fn dictionary_of(asked: Body) -> Option<Pairs>
+    ensures { result ≡ asked.dictionary }
+{
+    asked.dictionary
+}
+
 /// Sends the reply that is kept for a request, where there is one; else carries its command out, sends its reply and keeps it.
 pub(crate) fn deal<N: ControlLink, P: PortMaker, K: KeySource, R: Wait>(
     rt: &R,
@@ -87,32 +143,30 @@ pub(crate) fn deal<N: ControlLink, P: PortMaker, K: KeySource, R: Wait>(
         IsGivenBy turn.now.config.now (free turn.now.config.now h) (given_by result.turn_record.device_answers) (P.faults devices.old.ports.now) (P.faults devices.new.ports.now) (K.faults devices.old.keys.now) (K.faults devices.new.keys.now) (P.told devices.old.ports.now) (P.told devices.new.ports.now) (K.told devices.old.keys.now) (K.told devices.new.keys.now) }
 {
     if let Some(kept) = board.find_reply(request.source, request.cookie, turn.entry_id.moment) {
-        let sent = send(devices.link, request.source, kept);
-        let turn_record = TurnRecord {
-            dictionary: None,
-            chosen_lines: ChosenLines::none(),
-            device_answers: DeviceAnswers::Nothing,
-        };
-        return Answered { turn_record, sent };
+        return repeat(devices.link, request, kept);
     }
-    if board.reserve_reply().is_err() {
-        return answer_short(devices.link, request);
-    }
-    let Ok(cookie) = Text::copy_of(alloc, request.cookie) else {
+    let Ok(prepared) = prepare(alloc, board, request) else {
         return answer_short(devices.link, request);
     };
-    let Ok(asked) = read_request(alloc, request) else {
-        return answer_short(devices.link, request);
-    };
-    let Body {
-        dictionary,
-        command,
-    } = asked;
+    let Prepared { cookie, asked } = prepared;
     let CommandOutcome {
         chosen_lines,
         device_answers,
         reply,
-    } = carry_out(rt, alloc, turn, hand, board, devices, request, &command);
+    } = carry_out(
+        rt,
+        turn,
+        hand,
+        board,
+        devices.ports,
+        devices.keys,
+        devices.gone,
+        &AskedCommand {
+            request: &*request,
+            input: &asked.command,
+            alloc,
+        },
+    );
     let sent = reply_to(
         board,
         devices.link,
@@ -122,7 +176,7 @@ pub(crate) fn deal<N: ControlLink, P: PortMaker, K: KeySource, R: Wait>(
         reply,
     );
     let turn_record = TurnRecord {
-        dictionary,
+        dictionary: dictionary_of(asked),
         chosen_lines,
         device_answers,
     };

@@ -1,5 +1,5 @@
-ghost use Rattle.std.specs.Prelude.{◌≡◌, ◌≤◌, ◌≢◌, List, [], map, length, IfOk};
-ghost use Rattle.relay_outside.specs.Told.{Gained, Rose};
+ghost use Rattle.std.specs.Prelude.{◌≡◌, ◌≤◌, ◌≢◌, List, [], map, length, take, IfOk, IfErr};
+ghost use Rattle.relay_outside.specs.Told.{Gained, Rose, is_done};
 ghost use Rattle.relay_outside.specs.declared.settings.Config.{Config};
 ghost use Rattle.turn_table.specs.Hands.{IsSameHand, IsHandOf, HasNoTurn, parts, starts, entries};
 ghost use Rattle.call_board.specs.Calls.{live};
@@ -17,11 +17,11 @@ ghost use Rattle.media_ports.specs.Held.{TellsHeld};
 ghost use Rattle.board_turns.specs.Between.{IsBetween, MakesTurn};
 ghost use Rattle.board_turns.specs.Stopping.{stop_entry};
 ghost use Rattle.board_turns.specs.Ticking.{Ticks};
-ghost use Rattle.ng_server.specs.Taking.{Turned};
+ghost use Rattle.ng_server.specs.Taking.{TakesDatagram, TakesNone, Turned, turn_after};
 ghost use Rattle.ng_server.specs.Servers.{OpensJust, history_of};
 ghost use Rattle.board_turns.specs.Ties.{Ties};
 
-use crate::desk::Desk;
+use crate::desk::{DATAGRAM_ROOM, Desk};
 use crate::devices::Devices;
 use crate::taking::ControlTurn;
 use crate::turn::answer_datagram;
@@ -29,7 +29,9 @@ use board_turns::{stop_turn, tick_turn};
 use control_messages::Request;
 use ng_frame::split;
 use relay_core::{Part, Relay, close_relay, parts};
-use relay_outside::{Config, ControlLink, InEnd, KeySource, OutEnd, OutOfMemory, PortMaker, Taken};
+use relay_outside::{
+    Addr, Config, ControlLink, Failed, InEnd, KeySource, OutEnd, OutOfMemory, PortMaker, Taken,
+};
 use std::alloc::Global;
 use std::sync::Wait;
 use turn_table::{Hand, Turns};
@@ -57,6 +59,37 @@ fn start_table<I: InEnd + Drop, O: OutEnd + Drop>(
     match Turns::start(alloc, states) {
         Ok(started) => Ok(started),
         Err(_) => Err(OutOfMemory),
+    }
+}
+
+/// Takes a datagram from the link into the front of a desk's room, and returns its source and its length; where there is none, how the
+/// turn ends.
+fn take_datagram<N: ControlLink>(
+    link: &mut N,
+    room: &mut [u8],
+) -> Result<(Addr, usize), ControlTurn>
+    requires { length room.old ≡ DATAGRAM_ROOM }
+    ensures within { IfOk result (λ taken. taken.1 ≤ length room.new) }
+    ensures taken { IfOk result (λ taken. TakesDatagram taken.0 (take taken.1 room.new) (N.told link.old) (N.told link.new)) }
+    ensures none { IfErr result (λ turn. TakesNone turn (N.told link.old) (N.told link.new)) }
+    ensures read_fault { IfErr result (λ turn. turn ≡ ControlTurn.ReadFault → Rose (N.faults link.old) (N.faults link.new)) }
+    ensures later { N.faults link.old ≤ N.faults link.new }
+{
+    match link.take(room) {
+        Ok(Taken::Datagram { from, len }) => Ok((from, len)),
+        Ok(Taken::Nothing) => Err(ControlTurn::Nothing),
+        Ok(Taken::End) => Err(ControlTurn::End),
+        Err(_) => Err(ControlTurn::ReadFault),
+    }
+}
+
+/// How a turn ends whose reply was sent, or not.
+fn turn_after(sent: Result<(), Failed>) -> ControlTurn
+    ensures { result ≡ turn_after (is_done sent) }
+{
+    match sent {
+        Ok(()) => ControlTurn::Replied,
+        Err(_) => ControlTurn::ReplyFault,
     }
 }
 
@@ -115,11 +148,9 @@ impl<P: PortMaker> Server<P> {
         ensures ties { Ties self.now.config (P.told ports.old) (P.told ports.new) (entries hand.old) (entries hand.new) }
         ensures later { (N.faults link.old ≤ N.faults link.new) × (P.faults ports.old ≤ P.faults ports.new) × (K.faults keys.old ≤ K.faults keys.new) }
     {
-        let (from, len) = match link.take(desk.datagram.as_mut_slice()) {
-            Ok(Taken::Datagram { from, len }) => (from, len),
-            Ok(Taken::Nothing) => return ControlTurn::Nothing,
-            Ok(Taken::End) => return ControlTurn::End,
-            Err(_) => return ControlTurn::ReadFault,
+        let (from, len) = match take_datagram(link, desk.datagram.as_mut_slice()) {
+            Ok((from, len)) => (from, len),
+            Err(turn) => return turn,
         };
         let datagram = &desk.datagram.as_slice()[..len];
         let Some((cookie, body)) = split(datagram) else {
@@ -147,11 +178,7 @@ impl<P: PortMaker> Server<P> {
             &request,
             now,
         );
-        match sent {
-            Ok(()) => {}
-            Err(_) => return ControlTurn::ReplyFault,
-        }
-        ControlTurn::Replied
+        turn_after(sent)
     }
 
     /// Ends all live calls, in order of their creation, and returns how many. Then no port of a pair is open. It may wait for turns;

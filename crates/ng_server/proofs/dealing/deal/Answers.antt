@@ -1,133 +1,126 @@
-use Rattle.std.proofs.Common.{ap, sym, subst, ℕ, List, Option, Some, None}
-use Rattle.relay_outside.specs.declared.link.LinkCall.{LinkCall}
+use Rattle.std.proofs.Common.{refl, sym, subst, ap, ◌∙◌, ◌≡◌, le_refl, false, ℕ, List, Option, Some}
 use Rattle.turn_table.specs.Hands.{entries}
+use Rattle.ng_bencode.specs.Room.{Room}
+use Rattle.ng_bencode.specs.declared.row.Row.{Row}
+use Rattle.ng_bencode.specs.declared.value.Value.{Value}
+use Rattle.control_messages.specs.Bodies.{pairs_if, said_by}
+use Rattle.call_board.specs.Asked.{Reads, command_in}
+use Rattle.call_board.specs.Pairs.{free}
 use Rattle.call_board.specs.Views.{view_of, at_moment}
 use Rattle.relay_core.specs.Entries.{board_history}
 use Rattle.relay_core.specs.Turning.{made_by}
-use Rattle.board_turns.proofs.Tying.{ties_none}
-use Rattle.board_turns.specs.declared.device_answers.DeviceAnswers.TheVariants.{Nothing}
-use Rattle.control_messages.specs.Bodies.{pairs_if}
-use Rattle.call_board.specs.Pairs.{free}
 use Rattle.board_turns.proofs.Givings.{unasked_given}
-use Rattle.board_turns.specs.Controls.{control_of}
+use Rattle.board_turns.proofs.Tying.{ties_none}
 use Rattle.board_turns.specs.Carrying.{hearing_by}
-use Rattle.ng_server.specs.Dealing.{datagram_of}
+use Rattle.board_turns.specs.Controls.{control_of}
 use Rattle.ng_server.specs.Sending.{Sends}
-use Rattle.ng_server.proofs.Kept.{anew, datagram_is, deals_kept, is_kept_now, repeat_deals, repeat_reply, short_deals, short_reply, turn_keeps}
+use Rattle.ng_server.proofs.Kept.{anew, datagram_is, deals_kept, is_kept_now, repeated_deals, repeated_reply, short_deals, short_reply, turn_keeps}
 use Rattle.ng_server.proofs.dealing.deal.Goals as goal
+
+pub find_reply-requires : goal.find_reply-requires
+find_reply-requires g c = c.requires.request.cookie
 
 pub returns-in-Some-clause-deals : goal.returns-in-Some-clause-deals
 returns-in-Some-clause-deals g c =
     let config = c.args.turn.now.config.now in
     let h = board_history (made_by c.args.hand.now) c.args.turn.now.entry_id.number in
     let found = c.in-Some.ensures config (at_moment (view_of config h) c.args.turn.now.entry_id.moment) c.requires.turn.shows in
-    repeat_deals config c.args.turn.now.turns.now c.args.hand.now c.args.turn.now.entry_id c.args.request.now None c.none.result c.in-Some.kept.now c.args.board.now
-    (g.P.PortMaker.told c.args.devices.now.ports.now) c.requires.turn c.requires.request
-    (is_kept_now h c.args.turn.now.entry_id.moment c.args.request.now.source c.args.request.now.cookie.now (Some c.in-Some.kept.now) c.requires.turn.timely found)
+    let is_kept = is_kept_now h c.args.turn.now.entry_id.moment c.args.request.now.source c.args.request.now.cookie.now (Some c.in-Some.kept.now) c.requires.turn.timely found in
+    repeated_deals config c.args.turn.now.turns.now c.args.hand.now c.args.turn.now.entry_id c.args.request.now c.repeat.result.turn_record c.in-Some.kept.now c.args.board.now
+    (g.P.PortMaker.told c.args.devices.now.ports.now) c.requires.turn c.requires.request is_kept c.repeat.ensures.nothing.2
 
 pub returns-in-Some-clause-sent : goal.returns-in-Some-clause-sent
 returns-in-Some-clause-sent g c =
     let config = c.args.turn.now.config.now in
     let h = board_history (made_by c.args.hand.now) c.args.turn.now.entry_id.number in
     let found = c.in-Some.ensures config (at_moment (view_of config h) c.args.turn.now.entry_id.moment) c.requires.turn.shows in
-    subst (λ (bytes : List ℕ). Sends c.args.request.now.source bytes c.send-sent.result (g.N.ControlLink.told c.args.devices.now.link.now) (g.N.ControlLink.told c.send-sent.new.link))
-    (sym (repeat_reply config h c.args.turn.now.entry_id.moment c.args.request.now None c.none.result c.in-Some.kept.now
-    (is_kept_now h c.args.turn.now.entry_id.moment c.args.request.now.source c.args.request.now.cookie.now (Some c.in-Some.kept.now) c.requires.turn.timely found))) c.send-sent.ensures.sent
+    let is_kept = is_kept_now h c.args.turn.now.entry_id.moment c.args.request.now.source c.args.request.now.cookie.now (Some c.in-Some.kept.now) c.requires.turn.timely found in
+    let turn_record = c.repeat.result.turn_record in
+    subst (λ (bytes : List ℕ). Sends c.args.request.now.source bytes c.repeat.result.sent (g.N.ControlLink.told c.args.devices.now.link.now) (g.N.ControlLink.told c.repeat.new.link))
+    (sym (repeated_reply config h c.args.turn.now.entry_id.moment c.args.request.now (pairs_if turn_record.dictionary) turn_record.chosen_lines turn_record.device_answers
+    c.in-Some.kept.now is_kept c.repeat.ensures.nothing.2)) c.repeat.ensures.sent
 
-pub returns-in-Some-clause-given : goal.returns-in-Some-clause-given
-returns-in-Some-clause-given g c =
-    let config = c.args.turn.now.config.now in
-    unasked_given config (free config (board_history (made_by c.args.hand.now) c.args.turn.now.entry_id.number)) Nothing (g.P.PortMaker.faults c.args.devices.now.ports.now) (g.P.PortMaker.faults c.args.devices.now.ports.now) (g.K.KeySource.faults c.args.devices.now.keys.now)
-    (g.K.KeySource.faults c.args.devices.now.keys.now) (g.P.PortMaker.told c.args.devices.now.ports.now) (g.K.KeySource.told c.args.devices.now.keys.now) tt
+pub returns-in-Some-clause-devices : goal.returns-in-Some-clause-devices
+returns-in-Some-clause-devices g c = (refl, refl, refl, refl)
+
+pub returns-in-Some-clause-same : goal.returns-in-Some-clause-same
+returns-in-Some-clause-same g c = ((refl, refl, refl, refl), λ j. refl)
+
+pub returns-in-Some-clause-may : goal.returns-in-Some-clause-may
+returns-in-Some-clause-may g c = c.requires.turn.may
+
+pub returns-in-Some-clause-cause : goal.returns-in-Some-clause-cause
+returns-in-Some-clause-cause g c = c.repeat.ensures.cause
+
+pub returns-in-Some-clause-empty : goal.returns-in-Some-clause-empty
+returns-in-Some-clause-empty g c = c.requires.empty
 
 pub returns-in-Some-clause-ties : goal.returns-in-Some-clause-ties
 returns-in-Some-clause-ties g c = ties_none c.args.turn.now.config.now (g.P.PortMaker.told c.args.devices.now.ports.now) (entries c.args.hand.now)
 
-pub returns-then-is_err-clause-deals : goal.returns-then-is_err-clause-deals
-returns-then-is_err-clause-deals g c =
+pub returns-in-Some-clause-later : goal.returns-in-Some-clause-later
+returns-in-Some-clause-later g c = (le_refl _, le_refl _)
+
+pub returns-in-Some-clause-given : goal.returns-in-Some-clause-given
+returns-in-Some-clause-given g c =
+    let config = c.args.turn.now.config.now in
+    unasked_given config (free config (board_history (made_by c.args.hand.now) c.args.turn.now.entry_id.number)) c.repeat.result.turn_record.device_answers (g.P.PortMaker.faults c.args.devices.now.ports.now)
+    (g.P.PortMaker.faults c.args.devices.now.ports.now) (g.K.KeySource.faults c.args.devices.now.keys.now) (g.K.KeySource.faults c.args.devices.now.keys.now)
+    (g.P.PortMaker.told c.args.devices.now.ports.now) (g.K.KeySource.told c.args.devices.now.keys.now) c.repeat.ensures.unasked
+
+pub answer_short-requires : goal.answer_short-requires
+answer_short-requires g c = c.requires.request.cookie
+
+pub returns-in_default-prepare-clause-deals : goal.returns-in_default-prepare-clause-deals
+returns-in_default-prepare-clause-deals g c =
     let config = c.args.turn.now.config.now in
     let h = board_history (made_by c.args.hand.now) c.args.turn.now.entry_id.number in
     let is_anew = anew config h c.args.turn.now.entry_id.moment c.args.request.now c.args.board.now c.requires.turn.timely c.requires.turn.shows c.requires.request c.in_default.ensures in
-    short_deals config c.args.turn.now.turns.now c.args.hand.now c.args.turn.now.entry_id c.args.request.now c.answer_short.result.turn_record c.args.board.now c.reserve_reply.new.self
-    (g.P.PortMaker.told c.args.devices.now.ports.now) c.requires.turn is_anew c.reserve_reply.ensures.shows c.answer_short.ensures.short.2
+    short_deals config c.args.turn.now.turns.now c.args.hand.now c.args.turn.now.entry_id c.args.request.now c.answer_short.result.turn_record c.args.board.now c.prepare.new.board
+    (g.P.PortMaker.told c.args.devices.now.ports.now) c.requires.turn is_anew c.prepare.ensures.shows c.answer_short.ensures.short.2
 
-pub returns-then-is_err-clause-sent : goal.returns-then-is_err-clause-sent
-returns-then-is_err-clause-sent g c =
+pub returns-in_default-prepare-clause-sent : goal.returns-in_default-prepare-clause-sent
+returns-in_default-prepare-clause-sent g c =
     let config = c.args.turn.now.config.now in
     let h = board_history (made_by c.args.hand.now) c.args.turn.now.entry_id.number in
     let is_anew = anew config h c.args.turn.now.entry_id.moment c.args.request.now c.args.board.now c.requires.turn.timely c.requires.turn.shows c.requires.request c.in_default.ensures in
     let turn_record = c.answer_short.result.turn_record in
     subst (λ (bytes : List ℕ). Sends c.args.request.now.source bytes c.answer_short.result.sent (g.N.ControlLink.told c.args.devices.now.link.now) (g.N.ControlLink.told c.answer_short.new.link))
-    (sym (short_reply config h c.args.turn.now.entry_id.moment c.args.request.now (pairs_if turn_record.dictionary)
-    turn_record.chosen_lines turn_record.device_answers is_anew.not_kept c.answer_short.ensures.short.2)) c.answer_short.ensures.sent
+    (sym (short_reply config h c.args.turn.now.entry_id.moment c.args.request.now (pairs_if turn_record.dictionary) turn_record.chosen_lines turn_record.device_answers
+    is_anew.not_kept c.answer_short.ensures.short.2)) c.answer_short.ensures.sent
 
-pub returns-then-is_err-clause-given : goal.returns-then-is_err-clause-given
-returns-then-is_err-clause-given g c =
+pub returns-in_default-prepare-clause-devices : goal.returns-in_default-prepare-clause-devices
+returns-in_default-prepare-clause-devices g c = (refl, refl, refl, refl)
+
+pub returns-in_default-prepare-clause-same : goal.returns-in_default-prepare-clause-same
+returns-in_default-prepare-clause-same g c = ((refl, refl, refl, refl), λ j. refl)
+
+pub returns-in_default-prepare-clause-may : goal.returns-in_default-prepare-clause-may
+returns-in_default-prepare-clause-may g c = c.requires.turn.may
+
+pub returns-in_default-prepare-clause-cause : goal.returns-in_default-prepare-clause-cause
+returns-in_default-prepare-clause-cause g c = c.answer_short.ensures.cause
+
+pub returns-in_default-prepare-clause-empty : goal.returns-in_default-prepare-clause-empty
+returns-in_default-prepare-clause-empty g c = c.requires.empty
+
+pub returns-in_default-prepare-clause-ties : goal.returns-in_default-prepare-clause-ties
+returns-in_default-prepare-clause-ties g c = ties_none c.args.turn.now.config.now (g.P.PortMaker.told c.args.devices.now.ports.now) (entries c.args.hand.now)
+
+pub returns-in_default-prepare-clause-later : goal.returns-in_default-prepare-clause-later
+returns-in_default-prepare-clause-later g c = (le_refl _, le_refl _)
+
+pub returns-in_default-prepare-clause-given : goal.returns-in_default-prepare-clause-given
+returns-in_default-prepare-clause-given g c =
     let config = c.args.turn.now.config.now in
-    unasked_given config (free config (board_history (made_by c.args.hand.now) c.args.turn.now.entry_id.number)) c.answer_short.result.turn_record.device_answers (g.P.PortMaker.faults c.args.devices.now.ports.now) (g.P.PortMaker.faults c.args.devices.now.ports.now) (g.K.KeySource.faults c.args.devices.now.keys.now) (g.K.KeySource.faults c.args.devices.now.keys.now)
+    unasked_given config (free config (board_history (made_by c.args.hand.now) c.args.turn.now.entry_id.number)) c.answer_short.result.turn_record.device_answers (g.P.PortMaker.faults c.args.devices.now.ports.now)
+    (g.P.PortMaker.faults c.args.devices.now.ports.now) (g.K.KeySource.faults c.args.devices.now.keys.now) (g.K.KeySource.faults c.args.devices.now.keys.now)
     (g.P.PortMaker.told c.args.devices.now.ports.now) (g.K.KeySource.told c.args.devices.now.keys.now) c.answer_short.ensures.unasked
-
-pub returns-then-is_err-clause-ties : goal.returns-then-is_err-clause-ties
-returns-then-is_err-clause-ties g c = ties_none c.args.turn.now.config.now (g.P.PortMaker.told c.args.devices.now.ports.now) (entries c.args.hand.now)
-
-pub returns-in_default-copy_of-clause-deals : goal.returns-in_default-copy_of-clause-deals
-returns-in_default-copy_of-clause-deals g c =
-    let config = c.args.turn.now.config.now in
-    let h = board_history (made_by c.args.hand.now) c.args.turn.now.entry_id.number in
-    let is_anew = anew config h c.args.turn.now.entry_id.moment c.args.request.now c.args.board.now c.requires.turn.timely c.requires.turn.shows c.requires.request c.in_default.ensures in
-    short_deals config c.args.turn.now.turns.now c.args.hand.now c.args.turn.now.entry_id c.args.request.now c.answer_short-in_default-copy_of.result.turn_record c.args.board.now c.reserve_reply.new.self
-    (g.P.PortMaker.told c.args.devices.now.ports.now) c.requires.turn is_anew c.reserve_reply.ensures.shows c.answer_short-in_default-copy_of.ensures.short.2
-
-pub returns-in_default-copy_of-clause-sent : goal.returns-in_default-copy_of-clause-sent
-returns-in_default-copy_of-clause-sent g c =
-    let config = c.args.turn.now.config.now in
-    let h = board_history (made_by c.args.hand.now) c.args.turn.now.entry_id.number in
-    let is_anew = anew config h c.args.turn.now.entry_id.moment c.args.request.now c.args.board.now c.requires.turn.timely c.requires.turn.shows c.requires.request c.in_default.ensures in
-    let turn_record = c.answer_short-in_default-copy_of.result.turn_record in
-    subst (λ (bytes : List ℕ). Sends c.args.request.now.source bytes c.answer_short-in_default-copy_of.result.sent (g.N.ControlLink.told c.args.devices.now.link.now) (g.N.ControlLink.told c.answer_short-in_default-copy_of.new.link))
-    (sym (short_reply config h c.args.turn.now.entry_id.moment c.args.request.now (pairs_if turn_record.dictionary)
-    turn_record.chosen_lines turn_record.device_answers is_anew.not_kept c.answer_short-in_default-copy_of.ensures.short.2)) c.answer_short-in_default-copy_of.ensures.sent
-
-pub returns-in_default-copy_of-clause-given : goal.returns-in_default-copy_of-clause-given
-returns-in_default-copy_of-clause-given g c =
-    let config = c.args.turn.now.config.now in
-    unasked_given config (free config (board_history (made_by c.args.hand.now) c.args.turn.now.entry_id.number)) c.answer_short-in_default-copy_of.result.turn_record.device_answers (g.P.PortMaker.faults c.args.devices.now.ports.now) (g.P.PortMaker.faults c.args.devices.now.ports.now) (g.K.KeySource.faults c.args.devices.now.keys.now) (g.K.KeySource.faults c.args.devices.now.keys.now)
-    (g.P.PortMaker.told c.args.devices.now.ports.now) (g.K.KeySource.told c.args.devices.now.keys.now) c.answer_short-in_default-copy_of.ensures.unasked
-
-pub returns-in_default-copy_of-clause-ties : goal.returns-in_default-copy_of-clause-ties
-returns-in_default-copy_of-clause-ties g c = ties_none c.args.turn.now.config.now (g.P.PortMaker.told c.args.devices.now.ports.now) (entries c.args.hand.now)
-
-pub returns-in_default-read_request-clause-deals : goal.returns-in_default-read_request-clause-deals
-returns-in_default-read_request-clause-deals g c =
-    let config = c.args.turn.now.config.now in
-    let h = board_history (made_by c.args.hand.now) c.args.turn.now.entry_id.number in
-    let is_anew = anew config h c.args.turn.now.entry_id.moment c.args.request.now c.args.board.now c.requires.turn.timely c.requires.turn.shows c.requires.request c.in_default.ensures in
-    short_deals config c.args.turn.now.turns.now c.args.hand.now c.args.turn.now.entry_id c.args.request.now c.answer_short-in_default-read_request.result.turn_record c.args.board.now c.reserve_reply.new.self
-    (g.P.PortMaker.told c.args.devices.now.ports.now) c.requires.turn is_anew c.reserve_reply.ensures.shows c.answer_short-in_default-read_request.ensures.short.2
-
-pub returns-in_default-read_request-clause-sent : goal.returns-in_default-read_request-clause-sent
-returns-in_default-read_request-clause-sent g c =
-    let config = c.args.turn.now.config.now in
-    let h = board_history (made_by c.args.hand.now) c.args.turn.now.entry_id.number in
-    let is_anew = anew config h c.args.turn.now.entry_id.moment c.args.request.now c.args.board.now c.requires.turn.timely c.requires.turn.shows c.requires.request c.in_default.ensures in
-    let turn_record = c.answer_short-in_default-read_request.result.turn_record in
-    subst (λ (bytes : List ℕ). Sends c.args.request.now.source bytes c.answer_short-in_default-read_request.result.sent (g.N.ControlLink.told c.args.devices.now.link.now) (g.N.ControlLink.told c.answer_short-in_default-read_request.new.link))
-    (sym (short_reply config h c.args.turn.now.entry_id.moment c.args.request.now (pairs_if turn_record.dictionary)
-    turn_record.chosen_lines turn_record.device_answers is_anew.not_kept c.answer_short-in_default-read_request.ensures.short.2)) c.answer_short-in_default-read_request.ensures.sent
-
-pub returns-in_default-read_request-clause-given : goal.returns-in_default-read_request-clause-given
-returns-in_default-read_request-clause-given g c =
-    let config = c.args.turn.now.config.now in
-    unasked_given config (free config (board_history (made_by c.args.hand.now) c.args.turn.now.entry_id.number)) c.answer_short-in_default-read_request.result.turn_record.device_answers (g.P.PortMaker.faults c.args.devices.now.ports.now) (g.P.PortMaker.faults c.args.devices.now.ports.now) (g.K.KeySource.faults c.args.devices.now.keys.now) (g.K.KeySource.faults c.args.devices.now.keys.now)
-    (g.P.PortMaker.told c.args.devices.now.ports.now) (g.K.KeySource.told c.args.devices.now.keys.now) c.answer_short-in_default-read_request.ensures.unasked
-
-pub returns-in_default-read_request-clause-ties : goal.returns-in_default-read_request-clause-ties
-returns-in_default-read_request-clause-ties g c = ties_none c.args.turn.now.config.now (g.P.PortMaker.told c.args.devices.now.ports.now) (entries c.args.hand.now)
 
 pub carry_out-chosen_lines-requires-clause-turn : goal.carry_out-chosen_lines-requires-clause-turn
 carry_out-chosen_lines-requires-clause-turn g c =
-    turn_keeps c.args.turn.now.config.now c.args.turn.now.turns.now c.args.hand.now c.args.turn.now.entry_id c.args.board.now c.reserve_reply.new.self (g.P.PortMaker.told c.args.devices.now.ports.now)
-    c.reserve_reply.ensures.shows c.requires.turn
+    turn_keeps c.args.turn.now.config.now c.args.turn.now.turns.now c.args.hand.now c.args.turn.now.entry_id c.args.board.now c.prepare.new.board (g.P.PortMaker.told c.args.devices.now.ports.now)
+    c.prepare.ensures.shows c.requires.turn
 
 pub carry_out-chosen_lines-requires-clause-anew : goal.carry_out-chosen_lines-requires-clause-anew
 carry_out-chosen_lines-requires-clause-anew g c =
@@ -136,26 +129,67 @@ carry_out-chosen_lines-requires-clause-anew g c =
     let is_anew = anew config h c.args.turn.now.entry_id.moment c.args.request.now c.args.board.now c.requires.turn.timely c.requires.turn.shows c.requires.request c.in_default.ensures in
     is_anew
 
+pub carry_out-chosen_lines-requires-clause-empty : goal.carry_out-chosen_lines-requires-clause-empty
+carry_out-chosen_lines-requires-clause-empty g c = c.requires.empty
+
+pub carry_out-chosen_lines-requires-clause-small : goal.carry_out-chosen_lines-requires-clause-small
+carry_out-chosen_lines-requires-clause-small g c = c.in-Ok.ensures.small
+
 pub carry_out-chosen_lines-requires-clause-asked : goal.carry_out-chosen_lines-requires-clause-asked
-carry_out-chosen_lines-requires-clause-asked g c = (pairs_if c.in-Ok-read_request.asked.dictionary, c.in-Ok-read_request.ensures.reads, c.in-Ok-read_request.ensures.command)
+carry_out-chosen_lines-requires-clause-asked g c = (pairs_if c.in-Ok.prepared.asked.dictionary, c.in-Ok.ensures.reads, c.in-Ok.ensures.command)
+
+pub reply_to-sent-requires-clause-cookie : goal.reply_to-sent-requires-clause-cookie
+reply_to-sent-requires-clause-cookie g c = (c.requires.request.cookie, c.in-Ok.ensures.cookie)
 
 pub returns-clause-deals : goal.returns-clause-deals
 returns-clause-deals g c =
+    let dictionary = c.dictionary_of.result in
+    let is : dictionary ≡ c.in-Ok.prepared.asked.dictionary = c.dictionary_of.ensures in
+    let reads : c.args.request.now.too_long ≡ false → Reads c.args.request.now.body.now (pairs_if dictionary) =
+    subst (λ (pairs : Option (Row (Room ℕ × Value))). c.args.request.now.too_long ≡ false → Reads c.args.request.now.body.now (pairs_if pairs)) (sym is) c.in-Ok.ensures.reads in
+    let command : command_in c.args.request.now.too_long (pairs_if dictionary) ≡ said_by c.in-Ok.prepared.asked.command =
+    ap (λ (pairs : Option (Row (Room ℕ × Value))). command_in c.args.request.now.too_long (pairs_if pairs)) is ∙ c.in-Ok.ensures.command in
+    let carries = c.carry_out-chosen_lines.ensures.carries (pairs_if dictionary) reads command in
     deals_kept c.args.turn.now.config.now c.args.turn.now.turns.now c.args.hand.now c.carry_out-chosen_lines.new.hand c.args.turn.now.entry_id c.args.request.now
-    (record { dictionary = c.in-Ok-read_request.asked.dictionary; chosen_lines = c.carry_out-chosen_lines.result.chosen_lines; device_answers = c.carry_out-chosen_lines.result.device_answers })
+    (record { dictionary = dictionary; chosen_lines = c.carry_out-chosen_lines.result.chosen_lines; device_answers = c.carry_out-chosen_lines.result.device_answers })
     c.carry_out-chosen_lines.result.reply c.args.board.now c.carry_out-chosen_lines.new.board c.reply_to-sent.new.board (g.P.PortMaker.told c.args.devices.now.ports.now)
-    (g.P.PortMaker.told c.carry_out-chosen_lines.new.devices.ports.now) c.requires.turn
-    (c.carry_out-chosen_lines.ensures.carries (pairs_if c.in-Ok-read_request.asked.dictionary) c.in-Ok-read_request.ensures.reads c.in-Ok-read_request.ensures.command) c.reply_to-sent.ensures.kept
+    (g.P.PortMaker.told c.carry_out-chosen_lines.new.ports) c.requires.turn carries c.reply_to-sent.ensures.kept
 
 pub returns-clause-sent : goal.returns-clause-sent
 returns-clause-sent g c =
     let config = c.args.turn.now.config.now in
     let h = board_history (made_by c.args.hand.now) c.args.turn.now.entry_id.number in
-    let pairs = pairs_if c.in-Ok-read_request.asked.dictionary in
-    let carries = c.carry_out-chosen_lines.ensures.carries pairs c.in-Ok-read_request.ensures.reads c.in-Ok-read_request.ensures.command in
-    let reply = c.carry_out-chosen_lines.result.reply in
+    let dictionary = c.dictionary_of.result in
+    let is : dictionary ≡ c.in-Ok.prepared.asked.dictionary = c.dictionary_of.ensures in
+    let reads : c.args.request.now.too_long ≡ false → Reads c.args.request.now.body.now (pairs_if dictionary) =
+    subst (λ (pairs : Option (Row (Room ℕ × Value))). c.args.request.now.too_long ≡ false → Reads c.args.request.now.body.now (pairs_if pairs)) (sym is) c.in-Ok.ensures.reads in
+    let command : command_in c.args.request.now.too_long (pairs_if dictionary) ≡ said_by c.in-Ok.prepared.asked.command =
+    ap (λ (pairs : Option (Row (Room ℕ × Value))). command_in c.args.request.now.too_long (pairs_if pairs)) is ∙ c.in-Ok.ensures.command in
+    let carries = c.carry_out-chosen_lines.ensures.carries (pairs_if dictionary) reads command in
     subst (λ (bytes : List ℕ). Sends c.args.request.now.source bytes c.reply_to-sent.result (g.N.ControlLink.told c.args.devices.now.link.now) (g.N.ControlLink.told c.reply_to-sent.new.link))
-    (datagram_is (control_of config h c.args.turn.now.entry_id.moment (hearing_by c.args.request.now pairs c.carry_out-chosen_lines.result)) reply carries.replies)
-    (subst (λ (before : Option (List LinkCall)).
-    Sends c.args.request.now.source (datagram_of c.args.request.now.cookie.now c.args.request.now.body.now reply) c.reply_to-sent.result before (g.N.ControlLink.told c.reply_to-sent.new.link))
-    (ap g.N.ControlLink.told c.carry_out-chosen_lines.ensures.link) c.reply_to-sent.ensures.sent)
+    (datagram_is (control_of config h c.args.turn.now.entry_id.moment (hearing_by c.args.request.now (pairs_if dictionary) c.carry_out-chosen_lines.result)) c.carry_out-chosen_lines.result.reply carries.replies)
+    c.reply_to-sent.ensures.sent
+
+pub returns-clause-devices : goal.returns-clause-devices
+returns-clause-devices g c = (refl, refl, refl, refl)
+
+pub returns-clause-same : goal.returns-clause-same
+returns-clause-same g c = c.carry_out-chosen_lines.ensures.same
+
+pub returns-clause-may : goal.returns-clause-may
+returns-clause-may g c = c.carry_out-chosen_lines.ensures.may
+
+pub returns-clause-cause : goal.returns-clause-cause
+returns-clause-cause g c = c.reply_to-sent.ensures.cause
+
+pub returns-clause-empty : goal.returns-clause-empty
+returns-clause-empty g c = c.carry_out-chosen_lines.ensures.empty
+
+pub returns-clause-ties : goal.returns-clause-ties
+returns-clause-ties g c = c.carry_out-chosen_lines.ensures.ties
+
+pub returns-clause-later : goal.returns-clause-later
+returns-clause-later g c = c.carry_out-chosen_lines.ensures.later
+
+pub returns-clause-given : goal.returns-clause-given
+returns-clause-given g c = c.carry_out-chosen_lines.ensures.given

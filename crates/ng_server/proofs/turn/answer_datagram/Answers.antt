@@ -155,3 +155,28 @@ returns-clause-ties g c =
     ties_ended config told told_now (entries c.args.hand.now) (place_of c.turn-turn.result) n (control_made config (board_history (made_by nested) n) c.args.now x) tt nested
     c.put_control.new.hand refl refl c.put_control.ensures.entry
     (subst (λ (rows : List (table.Entry Made (Unit {0}))). Ties config told told_now rows (entries nested)) c.turn-turn.ensures.same.1 c.deal-answered.ensures.ties)
+
+pub returns-clause-devices : goal.returns-clause-devices
+returns-clause-devices g c = c.deal-answered.ensures.devices
+
+pub returns-clause-cause : goal.returns-clause-cause
+returns-clause-cause g c = c.deal-answered.ensures.cause
+
+pub returns-clause-later : goal.returns-clause-later
+returns-clause-later g c = c.deal-answered.ensures.later
+
+pub returns-clause-empty : goal.returns-clause-empty
+returns-clause-empty g c = c.deal-answered.ensures.empty
+
+pub deal-answered-requires-clause-request : goal.deal-answered-requires-clause-request
+deal-answered-requires-clause-request g c = c.requires.request
+
+pub deal-answered-requires-clause-empty : goal.deal-answered-requires-clause-empty
+deal-answered-requires-clause-empty g c = c.requires.empty
+
+pub returns-clause-same : goal.returns-clause-same
+returns-clause-same g c =
+    let began = c.turn-turn.ensures.same.0 in
+    let dealt = c.deal-answered.ensures.same.0 in
+    let put = c.put_control.ensures.same in
+    (put.0 ∙ dealt.0 ∙ began.0, put.1 ∙ dealt.1 ∙ began.1, put.2 ∙ dealt.2 ∙ began.2, put.3 ∙ dealt.3 ∙ began.3)
