@@ -1,5 +1,5 @@
 -- A load: its control turns, the work of its threads of media between two surveys of the table, its stop, and the close of the table.
-use Rattle.std.proofs.Common.{◌≡◌, ◌∙◌, sym, ap, subst, refl, ℕ, ◌+◌, ◌<◌, ◌≤◌, List, [], ◌∷◌, ◌++◌, Option, map, length, append_assoc}
+use Rattle.std.proofs.Common.{◌≡◌, ◌∙◌, sym, ap, subst, refl, ℕ, ◌<◌, ◌≤◌, List, [], ◌∷◌, ◌++◌, Option, map, length, append_assoc}
 use Rattle.std.specs.Prelude.{slice_index_or}
 use Rattle.relay_outside.specs.declared.keys.KeyCall.{KeyCall}
 use Rattle.relay_outside.specs.declared.link.LinkCall.{LinkCall}
@@ -8,10 +8,9 @@ use Rattle.relay_outside.specs.declared.settings.Config.{Config}
 use Rattle.relay_outside.specs.Told.{Gained}
 use Rattle.turn_table.specs.declared.hands.Turns.{Turns}
 use Rattle.turn_table.specs.declared.hands.Hand.{Hand}
-use Rattle.turn_table.specs.declared.machine.Entry as table
 use Rattle.turn_table.specs.declared.view.View.{View}
 use Rattle.turn_table.specs.Histories.{phase_at}
-use Rattle.turn_table.specs.Hands.{IsHandOf, HasNoTurn, IsUnchanged, KnowsAll, view, starts, entries, parts}
+use Rattle.turn_table.specs.Hands.{IsHandOf, HasNoTurn, IsUnchanged, KnowsAll, view, starts, entries}
 use Rattle.call_board.specs.Acts.{BoardEntry}
 use Rattle.relay_core.specs.declared.part.Part.{Part}
 use Rattle.relay_core.specs.declared.machine.Relay.{Relay}

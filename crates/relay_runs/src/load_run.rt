@@ -11,9 +11,9 @@ ghost use Rattle.relay_runs.specs.Threads.{RelaysDue};
 
 use crate::beside::{ControlWork, run_after};
 use crate::devices::{Devices, Media, Tells};
-use crate::turns::{ControlLoop, Looped, Prepared, close_table};
 use crate::status::Status;
 use crate::threads::{Due, MediaThread, join_threads, make_threads};
+use crate::turns::{ControlLoop, Looped, Prepared, close_table};
 use command_line::Settings;
 use ng_server::Server;
 use relay_core::Relay;

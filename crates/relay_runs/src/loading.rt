@@ -1,20 +1,22 @@
 //! The command `load`.
-ghost use Rattle.std.specs.Prelude.{◌≡◌, ◌≤◌, [], Some, IfSome, IsTrue, vec_capacity};
+ghost use Rattle.std.specs.Prelude.{◌≡◌, ◌≤◌, ◌*◌, [], Some, true, IfSome, IsSome, IsTrue, vec_capacity};
 ghost use Rattle.relay_outside.specs.Told.{Rose};
 ghost use Rattle.turn_table.specs.Hands.{parts};
 ghost use Rattle.relay_core.specs.Turning.{made_by};
 ghost use Rattle.board_turns.specs.Between.{IsBetween};
 ghost use Rattle.command_line.specs.Values.{IsLoadInLimits};
+ghost use Rattle.load_maker.specs.Links.{IsOfLoad};
+ghost use Rattle.load_maker.specs.Moments.{AreZero};
 ghost use Rattle.load_maker.specs.Takes.{HasGivenAll};
 ghost use Rattle.relay_runs.specs.Loads.{RunsLoad, Loads, IsLoaded, load_line};
 
 use crate::devices::{Devices, Media};
 use crate::load_run::load_turns;
-use crate::turns::Prepared;
 use crate::serving::{line_room, thread_room};
 use crate::status::Status;
 use crate::threads::Due;
 use crate::totals::put_number;
+use crate::turns::{Looped, Prepared};
 use command_line::{LoadSettings, Settings};
 use load_maker::{LoadIn, LoadLink, LoadOut, LoadPorts, LoadTimer};
 use media_lane::Totals;
@@ -124,35 +126,61 @@ where
         &mut devices,
         &media,
     );
+    let Some(totals) = whole_totals(settings, &looped, &link, &ports, &timer) else {
+        return None;
+    };
+    Some(totals)
+}
+
+/// What came of the packets of a load, where its control turns went well, all packets were taken, and its devices tell all their calls and gave all
+/// that they had.
+fn whole_totals(
+    settings: &LoadSettings,
+    looped: &Looped,
+    link: &LoadLink,
+    ports: &LoadPorts,
+    timer: &LoadTimer,
+) -> Option<Totals>
+    requires { IsLoadInLimits settings.now }
+    ensures went { IfSome result (λ totals. (totals ≡ looped.now.totals) × (looped.now.status ≡ Status.Ok)) }
+    ensures taken { IfSome result (λ totals. totals.taken ≡ 2 * settings.now.calls * settings.now.packets) }
+    ensures spent { IfSome result (λ totals. (link.now.given ≡ 2 * settings.now.calls) × (link.now.well ≡ true) × IsSome link.now.told) }
+    ensures heard { IfSome result (λ totals. IsOfLoad link.now) }
+    ensures told { IfSome result (λ totals. IsSome ports.now.maker.told × IsSome timer.now) }
+    ensures zero { IfSome result (λ totals. AreZero timer.now) }
+    ensures gave { IfSome result (λ totals. HasGivenAll settings.now.config.interface settings.now.config.port_min settings.now.calls settings.now.packets ports.now.maker.told) }
+{
     let Status::Ok = looped.status else {
         return None;
     };
     let all = 2 * u64::from(settings.calls) * u64::from(settings.packets);
-    if looped.totals.taken != all
-        || !link.is_spent(settings.calls)
-        || !ports.tells()
-        || !timer.tells()
-    {
-        return None;
+    if looped.totals.taken == all && gave_all(settings, link, ports, timer) {
+        Some(looped.totals)
+    } else {
+        None
     }
-    if !gave_all(settings, &ports) {
-        return None;
-    }
-    Some(looped.totals)
 }
 
-/// Whether the ports of a load, all given back, gave all packets of the sides of its calls.
-fn gave_all(settings: &LoadSettings, ports: &LoadPorts) -> bool
+/// Whether the devices of a load tell all their calls, the link gave all datagrams, and the ports, all given back, gave all packets of the sides of
+/// the calls.
+fn gave_all(settings: &LoadSettings, link: &LoadLink, ports: &LoadPorts, timer: &LoadTimer) -> bool
     requires { settings.now.calls ≤ 1000 }
-    ensures { IsTrue result → HasGivenAll settings.now.config.interface settings.now.config.port_min settings.now.calls settings.now.packets ports.now.maker.told }
+    ensures spent { IsTrue result → (link.now.given ≡ 2 * settings.now.calls) × (link.now.well ≡ true) × IsSome link.now.told }
+    ensures heard { IsTrue result → IsOfLoad link.now }
+    ensures told { IsTrue result → IsSome ports.now.maker.told × IsSome timer.now }
+    ensures zero { IsTrue result → AreZero timer.now }
+    ensures gave { IsTrue result → HasGivenAll settings.now.config.interface settings.now.config.port_min settings.now.calls settings.now.packets ports.now.maker.told }
 {
     let config = &settings.config;
-    ports.gave_all(
-        config.interface,
-        config.port_min,
-        settings.calls,
-        settings.packets,
-    )
+    link.is_spent(settings.calls)
+        && ports.tells()
+        && timer.tells()
+        && ports.gave_all(
+            config.interface,
+            config.port_min,
+            settings.calls,
+            settings.packets,
+        )
 }
 
 /// Makes generated calls over devices in memory, has lanes of media relay the packets of their sides until all were taken, ends the calls

@@ -6,10 +6,10 @@ ghost use Rattle.relay_runs.specs.Devices.{AreSame, AreUnasked};
 ghost use Rattle.relay_runs.specs.Run.{Serves, IsServed};
 
 use crate::devices::{Devices, Media, Tells};
-use crate::turns::{Prepared, close_table, serve_turns};
 use crate::status::Status;
 use crate::threads::MediaThread;
 use crate::totals::put_totals;
+use crate::turns::{Prepared, close_table, serve_turns};
 use command_line::Settings;
 use ng_bencode::Text;
 use ng_server::{Desk, Server};
