@@ -8,9 +8,7 @@ ghost use Rattle.relay_app.specs.Run.{PrintsUsage, StatusByWords, ReplayedBy, Ar
 use crate::replaying::replay_script;
 use crate::usage::print_usage;
 use command_line::{Refusal, Task, read_words};
-use relay_outside::{
-    Clock, ControlLink, Gate, KeySource, LineSink, LineSource, PortMaker, Timer,
-};
+use relay_outside::{Clock, ControlLink, Gate, KeySource, LineSink, LineSource, PortMaker, Timer};
 use relay_runs::{Devices, Media, Status, load, serve};
 use std::alloc::Global;
 use std::sync::Wait;

@@ -1,4 +1,4 @@
-use Rattle.std.proofs.Common.{◌∙◌, sym, ap, Some}
+use Rattle.std.proofs.Common.{◌∙◌, sym, ap}
 use Rattle.relay_app.specs.Run.{ended_of}
 use Rattle.relay_app.proofs.Replayed.{told_by, told_status, told_read, told_print}
 use Rattle.relay_app.proofs.replaying.replay_script.Goals as goal
