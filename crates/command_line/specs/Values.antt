@@ -114,7 +114,7 @@ pub record IsLoadInLimits (settings : LoadSettings) : Type 0 where
   pub most_lanes : settings.lanes ≤ 16
   pub seed : settings.seed ≤ 18446744073709551615
 
--- how a run with these settings relays media: by how many threads, and where its first pair of ports begins
+-- how a run with these settings relays media: by how many threads, at how many pairs of ports, and where the first pair begins
 abbrev pub media : Option Settings → Option Media
 media None = None
-media (Some settings) = Some (record { threads = settings.threads; first_port = first_port settings.config })
+media (Some settings) = Some (record { threads = settings.threads; pairs = pair_count settings.config; first_port = first_port settings.config })

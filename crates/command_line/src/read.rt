@@ -8,7 +8,7 @@ ghost use Rattle.command_line.specs.Words.{settings, serve_settings, replay_word
 use crate::options::{load_command, replay_command, serve_command};
 use crate::refusal::{Refusal, refuse, refuse_by, refuse_values};
 use crate::settings::{LoadSettings, Media, ReplaySettings, Settings, Task};
-use crate::values::{find_load, find_replay, find_settings};
+use crate::values::{count_pairs, find_load, find_replay, find_settings};
 use clap::{ArgMatches, Command};
 use std::alloc::Global;
 
@@ -143,6 +143,7 @@ pub fn read_media<'a>(alloc: Global, words: &'a [&'a str]) -> Option<Media>
             let port_min = settings.config.port_min;
             Some(Media {
                 threads: settings.threads,
+                pairs: count_pairs(&settings.config),
                 first_port: port_min + port_min % 2,
             })
         }

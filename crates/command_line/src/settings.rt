@@ -43,6 +43,8 @@ pub struct LoadSettings {
 pub struct Media {
     /// How many threads relay it, at most 16; 0: the one that answers commands does.
     pub threads: u32,
+    /// How many pairs of ports the range holds: even ports whose next port is in it too.
+    pub pairs: u32,
     /// The RTP port of the first pair: the first even port of the range.
     pub first_port: u16,
 }

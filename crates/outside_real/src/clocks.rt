@@ -43,7 +43,7 @@ impl<'a, R: rt::Clock> Timer for SystemTimer<'a, R> {
 
 /// The system's monotonic clock, in milliseconds since this was made. It tells no range.
 ///
-/// Its hints of ports are the system's, as `Readiness` gives them.
+/// Its hints of pairs are the system's, as `Readiness` gives them.
 #[derive(Drop)]
 pub struct SystemClock<'a, R: rt::Clock> {
     clock: &'a R,
@@ -71,7 +71,9 @@ impl<'a, R: rt::Clock> Clock for SystemClock<'a, R> {
         millis_since(self.clock, &self.start)
     }
 
-    fn ready(&self, lane: u32, millis: u32, ports: &mut [u16]) -> usize {
-        self.readiness.wait(self.clock, lane, millis, ports)
+    /// At most 64 pairs; the control socket, and the pipe's end, which wakes each thread, have the number `u32::MAX`. Where the system
+    /// can't tell of all the thread's sockets, this returns 0 before the time is up, after 2 ms at most.
+    fn ready(&self, thread: u32, millis: u32, pairs: &mut [u32]) -> usize {
+        self.readiness.wait(self.clock, thread, millis, pairs)
     }
 }

@@ -18,15 +18,15 @@ const READ_MILLIS: u64 = 1;
 enum Waits<'a> {
     /// In the link's take, for at most this many milliseconds.
     InTake { millis: u32 },
-    /// In the sweep of lane 0, for which the socket is watched there. The take doesn't wait.
-    InSweep { readiness: &'a Readiness },
+    /// In the wait of the main thread before its sweep, for which the socket is watched there. The take doesn't wait.
+    BeforeSweep { readiness: &'a Readiness },
 }
 
 /// How long a take waits at most, in milliseconds.
 fn longest_wait(waits: &Waits) -> u32 {
     match waits {
         Waits::InTake { millis } => *millis,
-        Waits::InSweep { readiness: _ } => 0,
+        Waits::BeforeSweep { readiness: _ } => 0,
     }
 }
 
@@ -77,12 +77,13 @@ impl<'a, R: Net> UdpLink<'a, R> {
         UdpLink::that(net, stop, Waits::InTake { millis })
     }
 
-    /// A link whose takes don't wait, since the sweep of lane 0 does, and wakes for it and for the end of the pipe: for a
-    /// thread that also sweeps. It is not bound yet. Until it is, its takes and sends fail.
+    /// A link whose takes don't wait, since its thread waits before it sweeps, as thread 0, and wakes for the link's socket too:
+    /// for a thread that also sweeps. It wakes for the end of the pipe where these hints were made with it. The link is not
+    /// bound yet. Until it is, its takes and sends fail.
     pub fn watched(net: &'a R, stop: StopPipe, readiness: &'a Readiness) -> UdpLink<'a, R>
         ensures { result.faults ≡ 0 }
     {
-        UdpLink::that(net, stop, Waits::InSweep { readiness })
+        UdpLink::that(net, stop, Waits::BeforeSweep { readiness })
     }
 
     /// A link that waits in this way and is not bound yet.
@@ -107,15 +108,15 @@ impl<'a, R: Net> UdpLink<'a, R> {
 }
 
 /// A bound socket whose reads wait as is said.
-fn open<R: Net>(net: &R, waits: &Waits, stop: StopPipe, at: Addr) -> io::Result<UdpSocket> {
+fn open<R: Net>(net: &R, waits: &Waits, at: Addr) -> io::Result<UdpSocket> {
     let socket = UdpSocket::bind(net, socket_addr(at))?;
     match waits {
         Waits::InTake { millis: _ } => {
             socket.set_read_timeout(Some(Duration::from_millis(READ_MILLIS)))?;
         }
-        Waits::InSweep { readiness } => {
+        Waits::BeforeSweep { readiness } => {
             socket.set_nonblocking(true)?;
-            readiness.watch_control(&socket, stop);
+            readiness.watch_control(&socket);
         }
     }
     Ok(socket)
@@ -135,7 +136,7 @@ impl<'a, R: Net + Eprint> ControlLink for UdpLink<'a, R> {
     ghost faults = { λ link. link.faults };
 
     fn bind(&mut self, at: Addr) -> Result<(), Failed> {
-        match open(self.net, &self.waits, self.stop, at) {
+        match open(self.net, &self.waits, at) {
             Ok(socket) => {
                 announce(self.net, &socket, at);
                 self.socket = Some(socket);

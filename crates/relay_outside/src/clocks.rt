@@ -23,9 +23,10 @@ pub trait Clock {
     fn now(&self) -> u64
         ensures { WhereInRange (range self.now) result };
 
-    /// Waits until datagrams may stand at ports of a lane's pairs, for at most this many milliseconds, and writes these ports to the
-    /// front of the buffer; returns how many they are. It is a hint and promises nothing: a clock that knows of no port returns 0 at once.
-    fn ready(&self, _lane: u32, _millis: u32, _ports: &mut [u16]) -> usize {
+    /// Waits until datagrams may stand at ports of a thread's pairs, for at most this many milliseconds, and writes the numbers of these
+    /// pairs to the front of the buffer; returns how many they are. A pair may stand there twice, and a number may be no pair's. It is a
+    /// hint and promises nothing: a clock that knows of no pair returns 0 at once.
+    fn ready(&self, _thread: u32, _millis: u32, _pairs: &mut [u32]) -> usize {
         0
     }
 }

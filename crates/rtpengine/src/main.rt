@@ -14,7 +14,7 @@ use outside_real::{
     UdpMaker, read_seed,
 };
 use relay_app::run;
-use relay_outside::OpenGate;
+use relay_outside::{LaneShare, OpenGate};
 use std::alloc::{AllocError, Global};
 use std::io::{self, BufRead, BufReader};
 use std::net::Net;
@@ -47,21 +47,26 @@ fn texts_of(alloc: Global, words: &Vec<String>) -> Result<Vec<&str>, AllocError>
     Ok(texts)
 }
 
-/// What the words say of media; without words of `serve`, or out of memory, no threads: then no socket is opened.
+/// What the words say of media; without words of `serve`, or out of memory, no threads and no pairs: then no socket is opened.
 fn media_of<'a>(alloc: Global, words: &'a [&'a str]) -> Media {
     match read_media(alloc, words) {
         Some(media) => media,
         None => Media {
             threads: 0,
+            pairs: 0,
             first_port: 0,
         },
     }
 }
 
-/// The control link, which ends with the pipe at standard input: its take waits where media have threads of their own, and
-/// else the sweep does.
-fn link<'a, R: Net>(net: &'a R, readiness: &'a Readiness, threads: u32) -> UdpLink<'a, R> {
-    let stop = StopPipe::standard_input();
+/// The control link, which ends with the pipe: its take waits where media have threads of their own, and else its thread does
+/// before each sweep.
+fn link<'a, R: Net>(
+    net: &'a R,
+    stop: StopPipe,
+    readiness: &'a Readiness,
+    threads: u32,
+) -> UdpLink<'a, R> {
     match threads {
         0 => UdpLink::watched(net, stop, readiness),
         _ => UdpLink::waiting(net, stop, CONTROL_WAIT_MILLIS),
@@ -69,15 +74,17 @@ fn link<'a, R: Net>(net: &'a R, readiness: &'a Readiness, threads: u32) -> UdpLi
 }
 
 /// Makes the devices and runs the relay: sockets, the system's hints of which are readable, its clock, keys from this
-/// seed, this input and standard output.
+/// seed, this input and standard output. The end of standard input, where that is a pipe, ends each wait and the control link.
 fn run_with<R, B>(rt: &R, alloc: Global, words: &[&str], seed: [u8; 32], input: B) -> Ending
 where
     R: Threads + Wait + Sync + Net + Clock + Print + Eprint,
     B: BufRead + Drop,
 {
     let media = media_of(alloc, words);
-    let readiness = Readiness::new(alloc, media.threads, media.first_port);
-    let mut control = link(rt, &readiness, media.threads);
+    let share = LaneShare::of_pairs(media.threads, media.pairs);
+    let stop = StopPipe::standard_input();
+    let readiness = Readiness::new(alloc, share, media.first_port, stop);
+    let mut control = link(rt, stop, &readiness, media.threads);
     let status = run(
         rt,
         alloc,

@@ -5,8 +5,8 @@ use outside_real::{
     UdpLink, UdpMaker, UdpOut, addr_of, passes_by_itself, socket_addr,
 };
 use relay_outside::{
-    Addr, Clock, ControlLink, InEnd, Ip, KeySource, LineRead, LineSink, LineSource, OutEnd,
-    PortMaker, Taken, Timer,
+    Addr, Clock, ControlLink, InEnd, Ip, KeySource, LaneShare, LineRead, LineSink, LineSource,
+    OutEnd, PortMaker, Taken, Timer,
 };
 use std::alloc::Global;
 use std::fs::File;
@@ -36,9 +36,17 @@ fn at_port(host: u8, port: u16) -> Addr {
     }
 }
 
-/// The hints of two lanes, whose range begins at the port.
+/// The number for which the control socket and the pipe's end stand among the hints of pairs.
+const NO_PAIR: u32 = u32::MAX;
+
+/// The hints of two threads, whose range begins at the port and has eight pairs.
 fn hints(alloc: Global) -> Readiness {
-    Readiness::new(alloc, 2, PORT)
+    hints_of(alloc, 2, StopPipe::none())
+}
+
+/// The hints of so many threads, whose range begins at the port and has eight pairs.
+fn hints_of(alloc: Global, threads: u32, stop: StopPipe) -> Readiness {
+    Readiness::new(alloc, LaneShare::of_pairs(threads, 8), PORT, stop)
 }
 
 #[test]
@@ -149,78 +157,118 @@ fn an_address_of_the_other_family_can_not_be_sent_to(rt: HostRuntime) {
     maker.close(at, receiving, sending);
 }
 
-/// Whether the lane gives this port, and no other, within this many milliseconds.
-fn is_ready(clock: &impl Clock, lane: u32, millis: u32, port: u16) -> bool {
-    let mut ports = [0; 4];
-    ports[1] = PORT;
-    clock.ready(lane, millis, &mut ports) == 1 && ports[..2] == [port, PORT]
+/// Whether the thread is told this pair, and no other, within this many milliseconds.
+fn is_ready(clock: &impl Clock, thread: u32, millis: u32, pair: u32) -> bool {
+    let mut pairs = [7; 4];
+    clock.ready(thread, millis, &mut pairs) == 1 && pairs[..2] == [pair, 7]
 }
 
-/// Whether the lane gives nothing within a few milliseconds.
-fn is_idle(clock: &impl Clock, lane: u32) -> bool {
-    clock.ready(lane, SHORT, &mut [0; 4]) == 0
+/// Whether the thread is told nothing within a few milliseconds.
+fn is_idle(clock: &impl Clock, thread: u32) -> bool {
+    clock.ready(thread, SHORT, &mut [0; 4]) == 0
 }
 
 #[test]
-fn a_lane_is_told_the_ports_of_its_own_pairs(rt: HostRuntime) {
+fn a_thread_is_told_the_pairs_of_its_own_lanes(rt: HostRuntime) {
     let readiness = hints(rt.alloc());
     let clock = SystemClock::new(&rt, &readiness);
     let mut maker = UdpMaker::new(&rt, &readiness);
-    let (first, second) = (at_port(85, PORT + 1), at_port(85, PORT + 2));
+    let (first, second) = (at_port(85, PORT + 3), at_port(85, PORT + 4));
     let (mut one_in, mut one_out) = open(&rt, &mut maker, first);
     let (two_in, two_out) = open(&rt, &mut maker, second);
     let mut buf = [0; 4];
     assert!(rt; is_idle(&clock, 0) && is_idle(&clock, 1));
     assert!(rt; one_out.send(first, b"one").is_ok());
-    assert!(rt; is_ready(&clock, 0, LONG, PORT + 1));
-    assert!(rt; is_ready(&clock, 0, LONG, PORT + 1), "until it is taken");
+    assert!(rt; is_ready(&clock, 0, LONG, 1), "beside pair 0");
+    assert!(rt; is_ready(&clock, 0, LONG, 1), "until it is taken");
     assert!(rt; is_idle(&clock, 1));
     assert!(rt; takes(&mut one_in, &mut buf, Some((first, 3))));
     assert!(rt; is_idle(&clock, 0));
     assert!(rt; one_out.send(second, b"two").is_ok());
-    assert!(rt; is_ready(&clock, 1, LONG, PORT + 2));
+    assert!(rt; is_ready(&clock, 1, LONG, 2));
     maker.close(second, two_in, two_out);
     assert!(rt; is_idle(&clock, 0) && is_idle(&clock, 1), "after its close");
     maker.close(first, one_in, one_out);
 }
 
 #[test]
-fn a_short_buffer_is_filled_and_no_more(rt: HostRuntime) {
-    let readiness = Readiness::new(rt.alloc(), 0, PORT);
+fn a_pair_is_told_for_each_of_its_sockets(rt: HostRuntime) {
+    let readiness = hints_of(rt.alloc(), 0, StopPipe::none());
     let clock = SystemClock::new(&rt, &readiness);
     let mut maker = UdpMaker::new(&rt, &readiness);
-    let (first, second) = (at_port(86, PORT), at_port(86, PORT + 5));
-    let (one_in, mut one_out) = open(&rt, &mut maker, first);
+    let (first, second) = (at_port(86, PORT + 4), at_port(86, PORT + 5));
+    let (mut one_in, mut one_out) = open(&rt, &mut maker, first);
     let (two_in, two_out) = open(&rt, &mut maker, second);
     assert!(rt; one_out.send(first, b"one").is_ok());
     assert!(rt; one_out.send(second, b"two").is_ok());
-    let mut ports = [0; 4];
+    let mut pairs = [7; 4];
     assert!(rt;
-        clock.ready(0, LONG, &mut ports) == 2,
-        "no lane counts as one"
+        clock.ready(0, LONG, &mut pairs) == 2,
+        "no thread counts as one"
     );
-    ports.sort_unstable();
-    assert!(rt; ports == [0, 0, PORT, PORT + 5]);
+    assert!(rt; pairs == [2, 2, 7, 7]);
     assert!(rt; clock.ready(0, LONG, &mut [0; 1]) == 1);
     assert!(rt; clock.ready(0, SHORT, &mut []) == 0);
+    assert!(rt; takes(&mut one_in, &mut [0; 4], Some((first, 3))));
+    assert!(rt; is_ready(&clock, 0, LONG, 2));
     maker.close(first, one_in, one_out);
     maker.close(second, two_in, two_out);
 }
 
 #[test]
-fn a_lane_without_a_set_is_told_nothing(rt: HostRuntime) {
-    let readiness = hints(rt.alloc());
+fn sockets_are_told_in_turn_where_they_are_too_many(rt: HostRuntime) {
+    let readiness = hints_of(rt.alloc(), 1, StopPipe::none());
     let clock = SystemClock::new(&rt, &readiness);
+    let mut maker = UdpMaker::new(&rt, &readiness);
+    let mut ends = Vec::new(rt.alloc());
+    for port in PORT..PORT + 70 {
+        let at = at_port(97, port);
+        let (receiving, mut sending) = open(&rt, &mut maker, at);
+        assert!(rt; sending.send(at, b"one").is_ok());
+        assert!(rt; ends.push((receiving, sending)).is_ok());
+    }
+    let (mut first, mut second) = ([NO_PAIR; 70], [NO_PAIR; 70]);
+    assert!(rt; clock.ready(0, LONG, &mut first) == 64);
+    assert!(rt; clock.ready(0, LONG, &mut second) == 64);
+    for pair in 0..35 {
+        assert!(rt; first.contains(&pair) || second.contains(&pair));
+    }
+}
+
+/// Whether a wait of the thread gives nothing although its time isn't up.
+fn gives_up(clock: &impl Clock, thread: u32) -> bool {
     let start = clock.now();
-    assert!(rt; clock.ready(2, LONG, &mut [0; 4]) == 0);
-    assert!(rt;
-        clock.now() < start.saturating_add(u64::from(LONG)),
-        "it doesn't sleep for long"
-    );
+    let count = clock.ready(thread, LONG, &mut [0; 4]);
+    count == 0 && clock.now() < start.saturating_add(u64::from(LONG))
 }
 
 #[test]
-fn a_command_wakes_the_first_lane(rt: HostRuntime) {
+fn a_thread_without_a_set_is_told_nothing(rt: HostRuntime) {
+    let readiness = hints(rt.alloc());
+    let clock = SystemClock::new(&rt, &readiness);
+    assert!(rt; gives_up(&clock, 2) && !gives_up(&clock, 1));
+}
+
+#[test]
+fn a_set_that_lacks_something_tells_nothing(rt: HostRuntime) {
+    let Ok((reading, _writing)) = io::pipe(&rt) else {
+        panic!(rt; "no pipe");
+    };
+    let stop = StopPipe::of(&reading);
+    drop(reading);
+    // (what is closed can't be watched)
+    let readiness = hints_of(rt.alloc(), 1, stop);
+    let clock = SystemClock::new(&rt, &readiness);
+    let mut maker = UdpMaker::new(&rt, &readiness);
+    let at = at_port(96, PORT);
+    let (receiving, mut sending) = open(&rt, &mut maker, at);
+    assert!(rt; sending.send(at, b"one").is_ok());
+    assert!(rt; gives_up(&clock, 0) && gives_up(&clock, 0));
+    maker.close(at, receiving, sending);
+}
+
+#[test]
+fn a_command_wakes_the_first_thread(rt: HostRuntime) {
     let readiness = hints(rt.alloc());
     let clock = SystemClock::new(&rt, &readiness);
     let mut link = UdpLink::watched(&rt, StopPipe::none(), &readiness);
@@ -231,7 +279,7 @@ fn a_command_wakes_the_first_lane(rt: HostRuntime) {
     assert!(rt; link.take(&mut buf) == Ok(Taken::Nothing));
     assert!(rt; is_idle(&clock, 0));
     assert!(rt; peer.send(local(87), b"ping").is_ok());
-    assert!(rt; is_ready(&clock, 0, LONG, 0));
+    assert!(rt; is_ready(&clock, 0, LONG, NO_PAIR));
     assert!(rt; is_idle(&clock, 1));
     let ping = Taken::Datagram {
         from: local(88),
@@ -277,23 +325,22 @@ fn the_end_of_its_pipe_ends_a_link(rt: HostRuntime) {
 }
 
 #[test]
-fn the_end_of_its_pipe_ends_a_wait(rt: HostRuntime) {
-    let readiness = hints(rt.alloc());
-    let clock = SystemClock::new(&rt, &readiness);
+fn the_end_of_its_pipe_ends_each_wait(rt: HostRuntime) {
     let Ok((reading, writing)) = io::pipe(&rt) else {
         panic!(rt; "no pipe");
     };
     let stop = StopPipe::of(&reading);
+    let readiness = hints_of(rt.alloc(), 2, stop);
+    let clock = SystemClock::new(&rt, &readiness);
     let mut watched = UdpLink::watched(&rt, stop, &readiness);
     let mut waiting = UdpLink::waiting(&rt, stop, 60_000);
     let mut buf = [0; 4];
     assert!(rt; watched.bind(local(91)).is_ok());
     assert!(rt; waiting.bind(local(92)).is_ok());
-    assert!(rt; is_idle(&clock, 0));
+    assert!(rt; is_idle(&clock, 0) && is_idle(&clock, 1));
     assert!(rt; watched.take(&mut buf) == Ok(Taken::Nothing));
     drop(writing);
-    assert!(rt; is_ready(&clock, 0, LONG, 0));
-    assert!(rt; is_idle(&clock, 1));
+    assert!(rt; is_ready(&clock, 0, LONG, NO_PAIR) && is_ready(&clock, 1, LONG, NO_PAIR));
     assert!(rt; watched.take(&mut buf) == Ok(Taken::End));
     assert!(rt; waiting.take(&mut buf) == Ok(Taken::End), "within a minute");
 }

@@ -2,7 +2,7 @@ ghost use Rattle.std.specs.Prelude.{◌≡◌, Some, []};
 
 use relay_outside::{
     Addr, Arrivals, Clock, ControlLink, Copied, Failed, Gate, HandClock, HandTimer, InEnd, Ip,
-    KeyList, KeySource, LineRead, LineSink, LineSource, LinkGift, MemoryIn, MemoryLines,
+    KeyList, KeySource, LaneShare, LineRead, LineSink, LineSource, LinkGift, MemoryIn, MemoryLines,
     MemoryLink, MemoryMaker, MemoryOut, MemoryPort, MemorySink, OpenGate, OutEnd, Packet,
     PortMaker, SteadyKeys, SteadyLines, SteadyMaker, Taken, Timer,
 };
@@ -226,4 +226,28 @@ fn each_end_counts_its_own_calls_from_its_opening(rt: HostRuntime) {
         panic!(rt; "step {step} again");
     }
     maker.close(HERE, receiving, sending);
+}
+
+#[test]
+fn lanes_are_handed_out_two_by_two(rt: HostRuntime) {
+    let share = LaneShare::of_pairs(4, 5_000);
+    assert!(rt; share.lanes == 960);
+    assert!(rt; share.lane_of(7) == Some(7) && share.lane_of(967) == Some(7));
+    for (lane, thread, place) in [
+        (0, 0, 0),
+        (1, 0, 1),
+        (2, 1, 0),
+        (7, 3, 1),
+        (8, 0, 2),
+        (9, 0, 3),
+    ] {
+        assert!(rt; share.thread_of(lane) == thread && share.place_of(lane) == place);
+    }
+    assert!(rt;
+        LaneShare::of_pairs(0, 20).thread_of(19) == 0,
+        "none counts as one"
+    );
+    assert!(rt; LaneShare::of_pairs(4, 0).lane_of(7).is_none());
+    let each = LaneShare::one_each(3);
+    assert!(rt; each.lane_of(5) == Some(2) && each.thread_of(2) == 2 && each.place_of(2) == 0);
 }
