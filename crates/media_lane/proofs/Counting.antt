@@ -1,7 +1,7 @@
 -- How often each half of each pair was visited.
-use Rattle.std.proofs.Common.{◌≡◌, refl, sym, ◌∙◌, ap, subst, ℕ, ◌+◌, ◌*◌, ◌/◌, ◌%◌, ◌<◌, ◌≤◌, ◌⊎◌, inl, inr, ◌==◌, ◌&&◌, ◌||◌, nat_lt, Bool, true, false, cond, List, [], ◌∷◌, ◌++◌, Option, filter, length, length-append, append_assoc, arith}
+use Rattle.std.proofs.Common.{◌≡◌, refl, sym, ◌∙◌, ap, subst, ℕ, ◌+◌, ◌*◌, ◌/◌, ◌%◌, ◌<◌, ◌≤◌, ◌⊎◌, inl, inr, ◌==◌, ◌&&◌, nat_lt, Bool, true, false, cond, List, [], ◌∷◌, ◌++◌, Option, filter, length, length-append, append_assoc, append-nil, arith}
 use Rattle.std.proofs.Math.Nat.{mul-le-mul_left, div-add-mod, mod-eq_of_lt}
-use Rattle.std.proofs.lemmas.Bool.{cases_lt, cases_order, eqb-true}
+use Rattle.std.proofs.lemmas.Bool.{cases_lt, cases_order}
 use Rattle.std.proofs.lemmas.Bool.Decides.{nat_tests}
 use Rattle.relay_outside.specs.declared.settings.Config.{Config}
 use Rattle.rtp_packet.specs.declared.head.Half.{Half}
@@ -10,12 +10,11 @@ use Rattle.turn_table.specs.Hands.{entries}
 use Rattle.port_pool.specs.Ports.{pair_count}
 use Rattle.srtp_sources.specs.Notes.{is_half}
 use Rattle.relay_core.proofs.Turns.{filter_append, nothing_more}
-use Rattle.media_lane.specs.declared.lane.Lane.{Lane}
-use Rattle.media_lane.specs.declared.sweeping.Progress.{Progress}
-use Rattle.media_lane.specs.Lanes.{hand_of, list_of, config_of, index_of, lanes_of, IsSameLane}
+use Rattle.media_lane.specs.declared.answers.Totals.{Totals}
+use Rattle.media_lane.specs.declared.lane.LaneHand.{LaneHand}
+use Rattle.media_lane.specs.Lanes.{hand_in, list_in, config_in, index_in, lanes_in, IsSameHandOf}
 use Rattle.media_lane.specs.Receipts.{KeepsList}
 use Rattle.media_lane.specs.Visits.{Row, Visit, rows_of, all_rows, ArePassed, is_of, times, is_own, one_if, AreTotals}
-use Rattle.media_lane.specs.Visited.{is_marked}
 use Rattle.media_lane.specs.Gated.{GainsGated}
 use Rattle.media_lane.specs.Covering.{Covers}
 use Rattle.media_lane.specs.Sweeping.{VisitsOnce, Sweeps}
@@ -51,51 +50,107 @@ next_own lanes upto pair same below =
 
 -- Tests.
 
-joined : (m s : Bool) → (s ≡ true → m ≡ false) → one_if m + one_if s ≡ one_if (m || s)
-joined true true h = absurd (let k = h refl in cc)
-joined true false h = refl
-joined false true h = refl
-joined false false h = refl
+is_below : (a b : ℕ) → a < b → nat_lt a b ≡ true
+is_below a b h = grind (arith, nat_tests)
 
-one_of : (s own : Bool) → (s ≡ true → own ≡ true) → one_if s ≤ one_if own
-one_of true true h = omega arith
-one_of true false h = absurd (let k = h refl in cc)
-one_of false own h = omega arith
+not_below : (a b : ℕ) → b ≤ a → nat_lt a b ≡ false
+not_below a b h = grind (arith, nat_tests)
 
-both_or : (t u own : ℕ) (a b c : Bool) → one_if a + t ≡ one_if b → one_if b + u ≡ one_if c → t ≤ own → u ≤ own → t + u ≤ own
-both_or t u own a b true p q r s = omega arith
-both_or t u own a b false p q r s = omega arith
+is_same : (a b : ℕ) → a ≡ b → (a == b) ≡ true
+is_same a b h = grind (arith, nat_tests)
 
-still : (a b : Bool) (t : ℕ) → one_if a + t ≡ one_if b → a ≡ true → b ≡ true
-still true true t e q = refl
-still true false t e q = absurd (omega arith)
-still false b t e q = absurd (cc)
+not_same : (a b : ℕ) → (a < b) ⊎ (b < a) → (a == b) ≡ false
+not_same a b (inl h) = grind (arith, nat_tests)
+not_same a b (inr h) = grind (arith, nat_tests)
 
-exactly : (t : ℕ) (a b own : Bool) → a ≡ false → one_if a + t ≡ one_if b → t ≤ one_if own → (own ≡ true → b ≡ true) → t ≡ one_if own
-exactly t true b own q e below all = absurd (cc)
-exactly t false true true q e below all = omega arith
-exactly t false false true q e below all = absurd (let k = all refl in cc)
-exactly t false b false q e below all = omega arith
+-- the pair that is visited now is one below the next
+at_pair : (x y z own : Bool) → x ≡ false → y ≡ true → z ≡ true → own ≡ true → one_if (x && own) + one_if y ≡ one_if (z && own)
+at_pair false true true true p q r s = refl
+at_pair false true true false p q r s = absurd (cc)
+at_pair false true false own p q r s = absurd (cc)
+at_pair false false z own p q r s = absurd (cc)
+at_pair true y z own p q r s = absurd (cc)
 
-same_half : (a b : Half) → is_half a b ≡ true → a ≡ b
-same_half Rtp Rtp q = refl
-same_half Rtcp Rtcp q = refl
-same_half Rtp Rtcp q = absurd (cc)
-same_half Rtcp Rtp q = absurd (cc)
+-- one below it stays so
+before_pair : (x y z own : Bool) → x ≡ true → y ≡ false → z ≡ true → one_if (x && own) + one_if y ≡ one_if (z && own)
+before_pair true false true own p q r = omega arith
+before_pair true false false own p q r = absurd (cc)
+before_pair true true z own p q r = absurd (cc)
+before_pair false y z own p q r = absurd (cc)
 
-first_true : (a b : Bool) → (a && b) ≡ true → a ≡ true
-first_true true b q = refl
-first_true false b q = absurd (cc)
-
-second_true : (a b : Bool) → (a && b) ≡ true → b ≡ true
-second_true true b q = q
-second_true false b q = absurd (cc)
+-- and no other is one
+after_pair : (x y z own : Bool) → x ≡ false → y ≡ false → (z && own) ≡ false → one_if (x && own) + one_if y ≡ one_if (z && own)
+after_pair false false z own p q r = ap (λ (b : Bool). one_if b) (sym r)
+after_pair false true z own p q r = absurd (cc)
+after_pair true y z own p q r = absurd (cc)
 
 own_by : (pair count lanes index : ℕ) → pair < count → pair % lanes ≡ index → (nat_lt pair count && (pair % lanes == index)) ≡ true
 own_by pair count lanes index below own = grind (arith, nat_tests)
 
-own_is : (pair count lanes index : ℕ) → (nat_lt pair count && (pair % lanes == index)) ≡ true → (pair < count) × (pair % lanes ≡ index)
-own_is pair count lanes index q = (grind (arith, nat_tests), grind (arith, nat_tests))
+none_of : (b own : Bool) → (own ≡ true → b ≡ false) → (b && own) ≡ false
+none_of true true h = absurd (let k = h refl in cc)
+none_of true false h = refl
+none_of false own h = refl
+
+own_rest : (pair count lanes index : ℕ) → (nat_lt pair count && (pair % lanes == index)) ≡ true → pair % lanes ≡ index
+own_rest pair count lanes index q = grind (arith, nat_tests)
+
+own_below : (pair count lanes index : ℕ) → (nat_lt pair count && (pair % lanes == index)) ≡ true → pair < count
+own_below pair count lanes index q = grind (arith, nat_tests)
+
+either : (b own : Bool) → (own ≡ true → b ≡ true) → (b && own) ≡ own
+either true own h = refl
+either false true h = absurd (let k = h refl in cc)
+either false false h = refl
+
+one_half : (b : Bool) (half : Half) → one_if (b && is_half Rtp half) + one_if (b && is_half Rtcp half) ≡ one_if b
+one_half true Rtp = refl
+one_half true Rtcp = refl
+one_half false Rtp = refl
+one_half false Rtcp = refl
+
+-- the own pairs below the next one are those below this one, and this one
+module _ (count lanes index : ℕ) (upto : ℕ) (below : upto < count) (own : upto % lanes ≡ index) (some : 0 < lanes) where
+  next_below : (pair : ℕ)
+      → one_if (nat_lt pair upto && (nat_lt pair count && (pair % lanes == index))) + one_if (upto == pair) ≡ one_if (nat_lt pair (upto + lanes) && (nat_lt pair count && (pair % lanes == index)))
+  next_below pair =
+      elim (cases_order pair upto) [
+        | inl h ↦
+            at_pair (nat_lt pair upto) (upto == pair) (nat_lt pair (upto + lanes)) (nat_lt pair count && (pair % lanes == index)) (not_below pair upto (omega (arith, h)))
+            (is_same upto pair (sym h)) (is_below pair (upto + lanes) (omega (arith, h, some)))
+            (own_by pair count lanes index (omega (arith, h, below)) (ap (λ (n : ℕ). n % lanes) h ∙ own))
+        | inr (inl h) ↦
+            before_pair (nat_lt pair upto) (upto == pair) (nat_lt pair (upto + lanes)) (nat_lt pair count && (pair % lanes == index)) (is_below pair upto h)
+            (not_same upto pair (inr h)) (is_below pair (upto + lanes) (omega (arith, h)))
+        | inr (inr h) ↦
+            after_pair (nat_lt pair upto) (upto == pair) (nat_lt pair (upto + lanes)) (nat_lt pair count && (pair % lanes == index)) (not_below pair upto (omega (arith, h)))
+            (not_same upto pair (inl h)) (none_of (nat_lt pair (upto + lanes)) (nat_lt pair count && (pair % lanes == index)) (λ q. too_far pair h (own_rest pair count lanes index q)))
+      ]
+    where
+      too_far : (pair : ℕ) → upto < pair → pair % lanes ≡ index → nat_lt pair (upto + lanes) ≡ false
+      too_far pair h mine =
+          elim (cases_lt pair (upto + lanes)) [
+            | inl low ↦ absurd (apart lanes upto pair (own ∙ sym mine) h low)
+            | inr high ↦ not_below pair (upto + lanes) high
+          ]
+
+-- no own pair is below the first
+none_below : (count lanes index pair : ℕ) → index < lanes → one_if (nat_lt pair index && (nat_lt pair count && (pair % lanes == index))) ≡ 0
+none_below count lanes index pair one_of =
+    ap (λ (b : Bool). one_if b) (none_of (nat_lt pair index) (nat_lt pair count && (pair % lanes == index)) (λ q. not_first (own_rest pair count lanes index q)))
+  where
+    not_first : pair % lanes ≡ index → nat_lt pair index ≡ false
+    not_first mine =
+        elim (cases_lt pair index) [
+          | inl low ↦ absurd (none_before lanes index pair one_of mine low)
+          | inr high ↦ not_below pair index high
+        ]
+
+-- and all are below the end
+all_below : (count lanes index upto pair : ℕ) → count ≤ upto → one_if (nat_lt pair upto && (nat_lt pair count && (pair % lanes == index))) ≡ one_if (nat_lt pair count && (pair % lanes == index))
+all_below count lanes index upto pair end =
+    ap (λ (b : Bool). one_if b) (either (nat_lt pair upto) (nat_lt pair count && (pair % lanes == index))
+    (λ q. (let low = own_below pair count lanes index q in is_below pair upto (omega (arith, low, end)))))
 
 -- Lists of visits.
 
@@ -124,7 +179,7 @@ passed_append range (v ∷ vs) ws a b = (a.0, passed_append range vs ws a.1 b)
 -- How far a sweep has come.
 
 module _ {I O : Type 0} {gi : _} {go : _} {gm : _} where
-  pub same_both : (a b c : Lane I O gi go gm) → IsSameLane a b → IsSameLane b c → IsSameLane a c
+  pub same_both : (a b c : LaneHand I O gi go gm) → IsSameHandOf a b → IsSameHandOf b c → IsSameHandOf a c
   same_both a b c p q = record {
     hand = (q.hand.0 ∙ p.hand.0, q.hand.1 ∙ p.hand.1, q.hand.2 ∙ p.hand.2, q.hand.3 ∙ p.hand.3);
     config_is = q.config_is ∙ p.config_is;
@@ -132,123 +187,83 @@ module _ {I O : Type 0} {gi : _} {go : _} {gm : _} where
     lanes_is = q.lanes_is ∙ p.lanes_is;
   }
 
-  -- nothing was done
-  pub covers_nothing : (range : Option (ℕ × ℕ)) (gate : ℕ → Type 0) (lane : Lane I O gi go gm) (progress : Progress) → Covers range gate lane lane progress progress
-  covers_nothing range gate lane progress = record {
+  -- nothing was done: no own pair is below the first
+  pub covers_nothing : (range : Option (ℕ × ℕ)) (gate : ℕ → Type 0) (lane : LaneHand I O gi go gm) (totals : Totals) → Covers range gate (index_in lane) lane lane totals totals
+  covers_nothing range gate lane totals = record {
     same = record { hand = (refl, refl, refl, refl); config_is = refl; index_is = refl; lanes_is = refl };
     keeps = record { numbered = λ n. n; orderly = λ o. o; receiving = λ own r. r };
     visits = [];
-    list_is = sym (nothing_more (entries (hand_of lane)));
+    list_is = sym (append-nil (entries (hand_in lane)));
     passed = tt;
-    gated = gains_none gate (list_of lane);
-    marked = λ pair half. omega arith;
-    own = λ pair half. omega arith;
-    counted = λ earlier a. subst (λ (vs : List Visit). AreTotals vs progress.totals) (sym (nothing_more earlier)) a;
+    gated = gains_none gate (list_in lane);
+    own_once = λ pair half. sym (none_below (pair_count (config_in lane)) (lanes_in lane) (index_in lane) pair lane.one_of);
+    counted = λ earlier t. subst (λ (vs : List Visit). AreTotals vs totals) (sym (append-nil earlier)) t;
   }
 
-  -- a half was visited and marked that wasn't marked before
-  pub covers_visit : (range : Option (ℕ × ℕ)) (gate : ℕ → Type 0) (old new : Lane I O gi go gm) (before after : Progress) (pair : ℕ) (half : Half) → IsSameLane old new
-      → KeepsList (config_of old) (list_of old) (list_of new) → VisitsOnce (config_of old) range pair half (hand_of old) (hand_of new) before.totals after.totals
-      → GainsGated gate (list_of old) (list_of new) → is_marked before.visited pair half ≡ false
-      → ((p : ℕ) (h : Half) → is_marked after.visited p h ≡ (is_marked before.visited p h || ((pair == p) && is_half half h)))
-      → pair < pair_count (config_of old) → pair % lanes_of old ≡ index_of old → Covers range gate old new before after
-  covers_visit range gate old new before after pair half same keeps v gated new_one marks below own = record {
-    same = same;
-    keeps = keeps;
-    visits = v.visit ∷ [];
-    list_is = v.list_is ∙ ap (λ (rows : List Row). entries (hand_of old) ++ rows) (sym (nothing_more (rows_of (config_of old) v.visit)));
-    passed = (v.passed, tt);
-    gated = gated;
-    marked = λ p h.
-        ap (λ (n : ℕ). one_if (is_marked before.visited p h) + n) (times_one p h v.visit pair half v.pair_is v.half_is)
-        ∙ joined (is_marked before.visited p h) ((pair == p) && is_half half h) (unmarked p h)
-        ∙ ap (λ (b : Bool). one_if b) (sym (marks p h));
-    own = λ p h. subst (λ (n : ℕ). n ≤ one_if (is_own (config_of old) (index_of old) (lanes_of old) p)) (sym (times_one p h v.visit pair half v.pair_is v.half_is))
-        (one_of ((pair == p) && is_half half h) (is_own (config_of old) (index_of old) (lanes_of old) p) (owned p h));
-    counted = v.counted;
-  }
-    where
-      unmarked : (p : ℕ) (h : Half) → ((pair == p) && is_half half h) ≡ true → is_marked before.visited p h ≡ false
-      unmarked p h q =
-          subst (λ (n : ℕ). is_marked before.visited n h ≡ false) (eqb-true pair p (first_true (pair == p) (is_half half h) q))
-          (subst (λ (x : Half). is_marked before.visited pair x ≡ false) (same_half half h (second_true (pair == p) (is_half half h) q)) new_one)
+  -- Both halves of the next own pair were visited as well.
+  module _ (range : Option (ℕ × ℕ)) (gate : ℕ → Type 0) (upto : ℕ) (a b c d : LaneHand I O gi go gm) (x y z w : Totals) (so_far : Covers range gate upto a b x y)
+      (same1 : IsSameHandOf b c) (keeps1 : KeepsList (config_in b) (list_in b) (list_in c)) (gated1 : GainsGated gate (list_in b) (list_in c))
+      (one : VisitsOnce (config_in b) range upto Rtp (hand_in b) (hand_in c) y z)
+      (same2 : IsSameHandOf c d) (keeps2 : KeepsList (config_in c) (list_in c) (list_in d)) (gated2 : GainsGated gate (list_in c) (list_in d))
+      (two : VisitsOnce (config_in c) range upto Rtcp (hand_in c) (hand_in d) z w)
+      (below : upto < pair_count (config_in a)) (own : upto % lanes_in a ≡ index_in a) (some : 0 < lanes_in a) where
+    vs : List Visit
+    vs = so_far.visits ++ one.visit ∷ two.visit ∷ []
 
-      owned : (p : ℕ) (h : Half) → ((pair == p) && is_half half h) ≡ true → is_own (config_of old) (index_of old) (lanes_of old) p ≡ true
-      owned p h q =
-          subst (λ (n : ℕ). is_own (config_of old) (index_of old) (lanes_of old) n ≡ true) (eqb-true pair p (first_true (pair == p) (is_half half h) q))
-          (own_by pair (pair_count (config_of old)) (lanes_of old) (index_of old) below own)
+    same_b : IsSameHandOf a c
+    same_b = same_both a b c so_far.same same1
 
-  -- one after the other
-  pub covers_both : (range : Option (ℕ × ℕ)) (gate : ℕ → Type 0) (a b c : Lane I O gi go gm) (x y z : Progress) → Covers range gate a b x y → Covers range gate b c y z → Covers range gate a c x z
-  covers_both range gate a b c x y z first second = record {
-    same = same_both a b c first.same second.same;
-    keeps = keeps_more (config_of a) (config_of b) (all_rows (config_of b) second.visits) (hand_of a) (hand_of b) (hand_of c) second.list_is first.same.config_is first.keeps second.keeps;
-    visits = first.visits ++ second.visits;
-    list_is = second.list_is
-        ∙ ap (λ (rows : List Row). rows ++ all_rows (config_of b) second.visits) first.list_is
-        ∙ ap (λ (config : Config). (entries (hand_of a) ++ all_rows (config_of a) first.visits) ++ all_rows config second.visits) first.same.config_is
-        ∙ append_assoc (entries (hand_of a)) (all_rows (config_of a) first.visits) (all_rows (config_of a) second.visits)
-        ∙ ap (λ (rows : List Row). entries (hand_of a) ++ rows) (sym (rows_append (config_of a) first.visits second.visits));
-    passed = passed_append range first.visits second.visits first.passed second.passed;
-    gated = gains_both gate (list_of a) (list_of b) (list_of c) first.gated second.gated;
-    marked = λ pair half.
-        (let e = times_append pair half first.visits second.visits in
-        let p = first.marked pair half in
-        let q = second.marked pair half in
-        omega (arith, e, p, q));
-    own = λ pair half. subst (λ (n : ℕ). n ≤ one_if (is_own (config_of a) (index_of a) (lanes_of a) pair)) (sym (times_append pair half first.visits second.visits))
-        (both_or (times pair half first.visits) (times pair half second.visits) (one_if (is_own (config_of a) (index_of a) (lanes_of a) pair)) (is_marked x.visited pair half)
-        (is_marked y.visited pair half) (is_marked z.visited pair half) (first.marked pair half) (second.marked pair half) (first.own pair half)
-        (subst (λ (n : ℕ). times pair half second.visits ≤ n) (same_own pair) (second.own pair half)));
-    counted = λ earlier t.
-        subst (λ (vs : List Visit). AreTotals vs z.totals) (append_assoc earlier first.visits second.visits)
-        (second.counted (earlier ++ first.visits) (first.counted earlier t));
-  }
-    where
-      same_own : (pair : ℕ) → one_if (is_own (config_of b) (index_of b) (lanes_of b) pair) ≡ one_if (is_own (config_of a) (index_of a) (lanes_of a) pair)
-      same_own pair =
-          ap (λ (config : Config). one_if (is_own config (index_of b) (lanes_of b) pair)) first.same.config_is
-          ∙ ap (λ (index : ℕ). one_if (is_own (config_of a) index (lanes_of b) pair)) first.same.index_is
-          ∙ ap (λ (lanes : ℕ). one_if (is_own (config_of a) (index_of a) lanes pair)) first.same.lanes_is
+    config_c : config_in c ≡ config_in a
+    config_c = same_b.config_is
 
-  -- the same lane and the same progress
-  pub covers_is : (range : Option (ℕ × ℕ)) (gate : ℕ → Type 0) (old mid new : Lane I O gi go gm) (before after progress : Progress) → new ≡ mid → progress ≡ after
-      → Covers range gate old mid before after → Covers range gate old new before progress
-  covers_is range gate old mid new before after progress lane_is progress_is c =
-      subst (λ (lane : Lane I O gi go gm). Covers range gate old lane before progress) (sym lane_is)
-      (subst (λ (p : Progress). Covers range gate old mid before p) (sym progress_is) c)
+    rows_b : entries (hand_in c) ≡ entries (hand_in b) ++ rows_of (config_in a) one.visit
+    rows_b = one.list_is ∙ ap (λ (config : Config). entries (hand_in b) ++ rows_of config one.visit) so_far.same.config_is
 
-  -- what is marked stays so
-  pub stays_marked : (range : Option (ℕ × ℕ)) (gate : ℕ → Type 0) (old new : Lane I O gi go gm) (before after : Progress) (pair : ℕ) (half : Half) → Covers range gate old new before after
-      → is_marked before.visited pair half ≡ true → is_marked after.visited pair half ≡ true
-  stays_marked range gate old new before after pair half c = still (is_marked before.visited pair half) (is_marked after.visited pair half) (times pair half c.visits) (c.marked pair half)
+    rows_c : entries (hand_in d) ≡ entries (hand_in c) ++ rows_of (config_in a) two.visit
+    rows_c = two.list_is ∙ ap (λ (config : Config). entries (hand_in c) ++ rows_of config two.visit) config_c
 
-  -- both halves of the next own pair are marked as well
-  pub next_marked : (range : Option (ℕ × ℕ)) (gate : ℕ → Type 0) (a b c : Lane I O gi go gm) (x y z : Progress) (index lanes upto : ℕ) → Covers range gate a b x y → Covers range gate b c y z
-      → is_marked y.visited upto Rtp ≡ true → is_marked z.visited upto Rtcp ≡ true → upto % lanes ≡ index
-      → ((pair : ℕ) (half : Half) → pair % lanes ≡ index → pair < upto → is_marked x.visited pair half ≡ true)
-      → (pair : ℕ) (half : Half) → pair % lanes ≡ index → pair < upto + lanes → is_marked z.visited pair half ≡ true
-  next_marked range gate a b c x y z index lanes upto first second rtp rtcp own below pair half same before =
-      elim (next_own lanes upto pair (own ∙ sym same) before) [
-        | inl h ↦ stays_marked range gate b c y z pair half second (stays_marked range gate a b x y pair half first (below pair half same h))
-        | inr h ↦ subst (λ (n : ℕ). is_marked z.visited n half ≡ true) (sym h) (both half)
-      ]
-    where
-      both : (at : Half) → is_marked z.visited upto at ≡ true
-      both Rtp = stays_marked range gate b c y z upto Rtp second rtp
-      both Rtcp = rtcp
+    both_rows : all_rows (config_in a) (one.visit ∷ two.visit ∷ []) ≡ rows_of (config_in a) one.visit ++ rows_of (config_in a) two.visit
+    both_rows = ap (λ (rows : List Row). rows_of (config_in a) one.visit ++ rows) (nothing_more (rows_of (config_in a) two.visit))
 
-  -- all own halves were visited, from none on
-  pub sweeps_all : (range : Option (ℕ × ℕ)) (gate : ℕ → Type 0) (old new : Lane I O gi go gm) (before after : Progress) → Covers range gate old new before after
-      → ((pair : ℕ) (half : Half) → is_marked before.visited pair half ≡ false) → AreTotals [] before.totals
-      → ((pair : ℕ) (half : Half) → pair % lanes_of old ≡ index_of old → pair < pair_count (config_of old) → is_marked after.visited pair half ≡ true)
-      → Sweeps (config_of old) (index_of old) (lanes_of old) range (hand_of old) (hand_of new) after.totals
-  sweeps_all range gate old new before after c none nothing all = record {
+    times_both : (pair : ℕ) (half : Half) → times pair half (one.visit ∷ two.visit ∷ []) ≡ one_if (upto == pair)
+    times_both pair half =
+        times_append pair half (one.visit ∷ []) (two.visit ∷ [])
+        ∙ ap (λ (n : ℕ). n + times pair half (two.visit ∷ [])) (times_one pair half one.visit upto Rtp one.pair_is one.half_is)
+        ∙ ap (λ (n : ℕ). one_if ((upto == pair) && is_half Rtp half) + n) (times_one pair half two.visit upto Rtcp two.pair_is two.half_is)
+        ∙ one_half (upto == pair) half
+
+    pub covers_next : Covers range gate (upto + lanes_in a) a d x w
+    unfolding vs
+    covers_next = record {
+      same = same_both a c d same_b same2;
+      keeps = keeps_more (config_in a) (config_in c) (rows_of (config_in a) two.visit) (hand_in a) (hand_in c) (hand_in d) rows_c config_c
+          (keeps_more (config_in a) (config_in b) (rows_of (config_in a) one.visit) (hand_in a) (hand_in b) (hand_in c) rows_b so_far.same.config_is so_far.keeps keeps1) keeps2;
+      visits = vs;
+      list_is = rows_c
+          ∙ ap (λ (rows : List Row). rows ++ rows_of (config_in a) two.visit) (rows_b ∙ ap (λ (rows : List Row). rows ++ rows_of (config_in a) one.visit) so_far.list_is)
+          ∙ append_assoc (entries (hand_in a) ++ all_rows (config_in a) so_far.visits) (rows_of (config_in a) one.visit) (rows_of (config_in a) two.visit)
+          ∙ append_assoc (entries (hand_in a)) (all_rows (config_in a) so_far.visits) (rows_of (config_in a) one.visit ++ rows_of (config_in a) two.visit)
+          ∙ ap (λ (rows : List Row). entries (hand_in a) ++ (all_rows (config_in a) so_far.visits ++ rows)) (sym both_rows)
+          ∙ ap (λ (rows : List Row). entries (hand_in a) ++ rows) (sym (rows_append (config_in a) so_far.visits (one.visit ∷ two.visit ∷ [])));
+      passed = passed_append range so_far.visits (one.visit ∷ two.visit ∷ []) so_far.passed (one.passed, (two.passed, tt));
+      gated = gains_both gate (list_in a) (list_in c) (list_in d) (gains_both gate (list_in a) (list_in b) (list_in c) so_far.gated gated1) gated2;
+      own_once = λ pair half.
+          times_append pair half so_far.visits (one.visit ∷ two.visit ∷ [])
+          ∙ ap (λ (n : ℕ). n + times pair half (one.visit ∷ two.visit ∷ [])) (so_far.own_once pair half)
+          ∙ ap (λ (n : ℕ). one_if (nat_lt pair upto && is_own (config_in a) (index_in a) (lanes_in a) pair) + n) (times_both pair half)
+          ∙ next_below (pair_count (config_in a)) (lanes_in a) (index_in a) upto below own some pair;
+      counted = λ earlier t.
+          subst (λ (us : List Visit). AreTotals us w) (append_assoc (earlier ++ so_far.visits) (one.visit ∷ []) (two.visit ∷ []) ∙ append_assoc earlier so_far.visits (one.visit ∷ two.visit ∷ []))
+          (two.counted ((earlier ++ so_far.visits) ++ one.visit ∷ []) (one.counted (earlier ++ so_far.visits) (so_far.counted earlier t)));
+    }
+
+  -- all own halves were visited
+  pub covers_all : (range : Option (ℕ × ℕ)) (gate : ℕ → Type 0) (upto : ℕ) (old new : LaneHand I O gi go gm) (before after : Totals) → Covers range gate upto old new before after
+      → pair_count (config_in old) ≤ upto → AreTotals [] before → Sweeps (config_in old) (index_in old) (lanes_in old) range (hand_in old) (hand_in new) after
+  covers_all range gate upto old new before after c end nothing = record {
     visits = c.visits;
     list_is = c.list_is;
     passed = c.passed;
-    own_once = λ pair half. exactly (times pair half c.visits) (is_marked before.visited pair half) (is_marked after.visited pair half)
-        (is_own (config_of old) (index_of old) (lanes_of old) pair) (none pair half) (c.marked pair half) (c.own pair half)
-        (λ q. (let o = own_is pair (pair_count (config_of old)) (lanes_of old) (index_of old) q in all pair half o.1 o.0));
+    own_once = λ pair half. c.own_once pair half ∙ all_below (pair_count (config_in old)) (lanes_in old) (index_in old) upto pair end;
     totals_are = c.counted [] nothing;
   }

@@ -8,8 +8,6 @@ pub mod Gates
 pub mod Visiting
 pub mod Counting
 pub mod Loops
-pub mod Marks
-pub mod Strides
 pub mod Counts
 pub mod Between
 pub mod Receipts

@@ -11,6 +11,7 @@ use Rattle.relay_core.specs.Made.{Made}
 use Rattle.relay_core.specs.Entries.{Entry}
 use Rattle.relay_core.specs.Turning.{made_by}
 use Rattle.media_lane.specs.declared.receipt.Receipt.{Receipt}
+use Rattle.media_lane.specs.declared.lane.LaneHand.{LaneHand}
 use Rattle.media_lane.specs.declared.lane.Lane.{Lane}
 use Rattle.media_lane.specs.Rooms.{front_in, sent_in}
 
@@ -23,22 +24,47 @@ abbrev pub pair_of : Receipt → ℕ
 pair_of r = r.pair
 
 module _ {I O : Type 0} {gi : _} {go : _} {gm : _} where
-  abbrev pub hand_of : Lane I O gi go gm → Hand (Relay I O) (Part I O) Made (Unit {0}) gm
-  hand_of lane = lane.hand
+  -- Of a lane's hand: the hand of the table, and its list as entries of the relay.
 
-  -- the list of its hand, as entries of the relay
-  abbrev pub list_of : Lane I O gi go gm → List Entry
-  list_of lane = made_by lane.hand
+  abbrev pub hand_in : LaneHand I O gi go gm → Hand (Relay I O) (Part I O) Made (Unit {0}) gm
+  hand_in lane = lane.hand
 
-  abbrev pub config_of : Lane I O gi go gm → Config
-  config_of lane = lane.config
+  abbrev pub list_in : LaneHand I O gi go gm → List Entry
+  list_in lane = made_by lane.hand
+
+  abbrev pub config_in : LaneHand I O gi go gm → Config
+  config_in lane = lane.config
 
   -- the lane's number, and how many lanes there are
+  abbrev pub index_in : LaneHand I O gi go gm → ℕ
+  index_in lane = lane.index
+
+  abbrev pub lanes_in : LaneHand I O gi go gm → ℕ
+  lanes_in lane = lane.lanes
+
+  -- the hand of the same lane of the same table
+  pub record IsSameHandOf (old new : LaneHand I O gi go gm) : Type 0 where
+    pub hand : IsSameHand (hand_in old) (hand_in new)
+    pub config_is : config_in new ≡ config_in old
+    pub index_is : index_in new ≡ index_in old
+    pub lanes_is : lanes_in new ≡ lanes_in old
+
+  -- The same of a lane, which has rooms of its own.
+
+  abbrev pub hand_of : Lane I O gi go gm → Hand (Relay I O) (Part I O) Made (Unit {0}) gm
+  hand_of lane = hand_in lane.own
+
+  abbrev pub list_of : Lane I O gi go gm → List Entry
+  list_of lane = list_in lane.own
+
+  abbrev pub config_of : Lane I O gi go gm → Config
+  config_of lane = config_in lane.own
+
   abbrev pub index_of : Lane I O gi go gm → ℕ
-  index_of lane = lane.index
+  index_of lane = index_in lane.own
 
   abbrev pub lanes_of : Lane I O gi go gm → ℕ
-  lanes_of lane = lane.lanes
+  lanes_of lane = lanes_in lane.own
 
   -- the bytes that its last relay sent
   abbrev pub sent_of : Lane I O gi go gm → List ℕ
@@ -49,8 +75,5 @@ module _ {I O : Type 0} {gi : _} {go : _} {gm : _} where
   room_of lane = front_in lane.rooms
 
   -- the same lane of the same table
-  pub record IsSameLane (old new : Lane I O gi go gm) : Type 0 where
-    pub hand : IsSameHand (hand_of old) (hand_of new)
-    pub config_is : config_of new ≡ config_of old
-    pub index_is : index_of new ≡ index_of old
-    pub lanes_is : lanes_of new ≡ lanes_of old
+  abbrev pub IsSameLane : (old new : Lane I O gi go gm) → Type 0
+  IsSameLane old new = IsSameHandOf old.own new.own

@@ -9,8 +9,6 @@ pub mod Visits
 pub mod Gated
 pub mod Sweeping
 pub mod Looping
-pub mod Visited
 pub mod Covering
-pub mod Columns
 pub mod Totals
 pub mod Steps

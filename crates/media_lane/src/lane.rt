@@ -7,9 +7,9 @@ use relay_core::{Happening, Part, Relay};
 use relay_outside::{Config, InEnd, OutEnd};
 use turn_table::{Hand, Machine};
 
-/// What a thread relays media with: a hand of the table, and room for a datagram that is taken and for one that is sent.
+/// The hand of a lane: what a lane relays media with, but for the rooms that its packets stand in, which many lanes of a thread share.
 #[derive(Drop)]
-pub struct Lane<I: InEnd, O: OutEnd>
+pub struct LaneHand<I: InEnd, O: OutEnd>
 where
     Relay<I, O>: Machine<State = Part<I, O>, Event = Happening, Outcome = ()>,
 {
@@ -20,11 +20,51 @@ where
     pub(crate) index: u32,
     /// How many lanes there are.
     pub(crate) lanes: u32,
-    /// Room for a datagram that is taken, and for the packet of the last relay, as it was sent.
-    pub(crate) rooms: Rooms,
     ghost idle: { HasNoTurn hand },
     ghost begins: { HasLaneStarts config (starts hand) } by { Prim.hlevel starts_props },
     ghost one_of: { index < lanes },
+}
+
+impl<I: InEnd, O: OutEnd> LaneHand<I, O> {
+    ghost use Rattle.media_lane.specs.Lanes.{hand_in, config_in, index_in, lanes_in};
+
+    /// That of the lane with this number, of this many lanes: a hand that holds no turn. Its table began with as many places as the parts
+    /// of the configuration, each of its kind.
+    pub fn new(hand: Hand<Relay<I, O>>, index: u32, lanes: u32, config: &Config) -> LaneHand<I, O>
+        requires one_of { index < lanes }
+        requires idle { HasNoTurn hand }
+        requires begins { HasLaneStarts config.now (starts hand) }
+        ensures hand { hand_in result ≡ hand }
+        ensures config { config_in result ≡ config.now }
+        ensures number { (index_in result ≡ index) × (lanes_in result ≡ lanes) }
+    {
+        LaneHand {
+            hand,
+            config: *config,
+            index,
+            lanes,
+        }
+    }
+
+    /// The hand, which holds no turn.
+    pub fn into_hand(self) -> Hand<Relay<I, O>>
+        ensures hand { result ≡ hand_in self }
+        ensures idle { HasNoTurn result }
+    {
+        let LaneHand { hand, .. } = self;
+        hand
+    }
+}
+
+/// A lane with rooms of its own: a hand of the table, and room for a datagram that is taken and for one that is sent.
+#[derive(Drop)]
+pub struct Lane<I: InEnd, O: OutEnd>
+where
+    Relay<I, O>: Machine<State = Part<I, O>, Event = Happening, Outcome = ()>,
+{
+    pub(crate) own: LaneHand<I, O>,
+    /// Room for a datagram that is taken, and for the packet of the last relay, as it was sent.
+    pub(crate) rooms: Rooms,
 }
 
 impl<I: InEnd, O: OutEnd> Lane<I, O> {
@@ -43,10 +83,7 @@ impl<I: InEnd, O: OutEnd> Lane<I, O> {
         ensures nothing_sent { sent_of result ≡ [] }
     {
         Lane {
-            hand,
-            config: *config,
-            index,
-            lanes,
+            own: LaneHand::new(hand, index, lanes, config),
             rooms: Rooms::new(),
         }
     }
@@ -63,7 +100,7 @@ impl<I: InEnd, O: OutEnd> Lane<I, O> {
         ensures hand { result ≡ hand_of self }
         ensures idle { HasNoTurn result }
     {
-        let Lane { hand, .. } = self;
-        hand
+        let Lane { own, .. } = self;
+        own.into_hand()
     }
 }

@@ -4,15 +4,14 @@
 //! memory: each makes one compare-exchange, and is busy exactly where another hand has the turn of that very place.
 //! `receive` and `relay` do the same by a hand that may wait, and try the place's mark until it is free.
 //!
-//! Module `receipt` has what a take gave, `answers` what the calls return, `lane` the lane, `rooms` where its packets stand, `receiving`
-//! and `relaying` its two steps, `sweeping` a round over its pairs, which may wait and relays each datagram where it was taken, `hinted`
-//! its part that goes by the clock's hints, `order` when that visits what, and how long it waits, `visited` the halves that it was at, `looping` sweep
-//! after sweep until the lane is told to end, `puts` the way to put each kind of turn, `laws` what callers know.
+//! Module `receipt` has what a take gave, `answers` what the calls return, `lane` the lane and its hand, `rooms` where its packets stand, which many lanes
+//! of one thread share, `receiving` and `relaying` its two steps, `sweeping` a round over its pairs, which may wait for turns and relays each datagram where
+//! it was taken, `looping` sweep after sweep until the lane is told to end, `puts` the way to put each kind of turn, `laws` what callers know.
 //!
 //! `specs/Starts.antt` says what the places of a lane's table begin as, `specs/Lanes.antt` what contracts see in a lane, `specs/Rooms.antt` in its rooms,
 //! `specs/Receipts.antt` what a receipt of a hand's list is, `specs/Busy.antt` what a busy call does, `specs/Taking.antt` and
 //! `specs/Relaying.antt` what a take and a relay add to the list of its hand, `specs/Visits.antt` and `specs/Sweeping.antt` what a
-//! sweep adds, `specs/Visited.antt` and `specs/Covering.antt` how far it has come, `specs/Looping.antt` what sweep after sweep adds,
+//! sweep adds, `specs/Covering.antt` how far it has come, `specs/Looping.antt` what sweep after sweep adds,
 //! `specs/Gated.antt` at whose cells a gate was passed.
 //!
 //! Where no lane has a thread of its own, the main hand relays media between two turns of the board, by a lane of all pairs:
@@ -22,28 +21,26 @@
 #![tactic(auto)]
 
 mod answers;
-mod columns;
-mod hinted;
 mod lane;
 mod laws;
 mod looping;
 mod main_receiving;
 mod main_relaying;
 mod main_sweep;
-mod order;
 mod puts;
 mod receipt;
 mod receiving;
 mod relaying;
 mod rooms;
 mod sweeping;
-mod visited;
 
 pub use answers::{Received, Relayed, Totals};
-pub use lane::Lane;
+pub use lane::{Lane, LaneHand};
 pub use laws::parts_begin_lanes;
 pub use looping::lane_loop;
 pub use main_receiving::receive_between;
 pub use main_relaying::relay_between;
 pub use main_sweep::sweep_between;
 pub use receipt::Receipt;
+pub use rooms::Rooms;
+pub use sweeping::{Media, count_pairs};

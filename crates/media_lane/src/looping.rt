@@ -8,7 +8,6 @@ ghost use Rattle.media_lane.specs.Looping.{AddsTotals, MakesSweeps};
 
 use crate::answers::Totals;
 use crate::lane::Lane;
-use crate::order::Order;
 use relay_core::Relay;
 use relay_outside::{Clock, Gate, InEnd, OutEnd};
 use std::sync::Wait;
@@ -44,13 +43,12 @@ pub fn lane_loop<W: Wait, I: InEnd, O: OutEnd, G: Gate, C: Clock>(
     ensures gated { GainsGated (G.passed gate.now) (list_of lane.old) (list_of lane.new) }
 {
     let mut totals = Totals::none();
-    let mut order = Order::new();
     for _ in rt.forever() {
         if halt.load(Ordering::SeqCst) {
             break;
         }
-        totals.add(lane.sweep_in(rt, turns, gate, clock, &mut order));
+        totals.add(lane.sweep(rt, turns, gate, clock));
     }
-    totals.add(lane.sweep_in(rt, turns, gate, clock, &mut order));
+    totals.add(lane.sweep(rt, turns, gate, clock));
     totals
 }

@@ -13,13 +13,13 @@ ghost use Rattle.relay_core.specs.Steps.{Relates};
 ghost use Rattle.media_lane.specs.declared.answers.Received.{Received};
 ghost use Rattle.media_lane.specs.Starts.{IsPair};
 ghost use Rattle.media_lane.specs.Taking.{box_take_made, Tells, IsShort, HasReceipt, Receives, TakesAtLast};
-ghost use Rattle.media_lane.specs.Lanes.{hand_of, list_of, config_of, sent_of, room_of, IsSameLane};
+ghost use Rattle.media_lane.specs.Lanes.{hand_in, list_in, config_in, IsSameHandOf, hand_of, list_of, config_of, sent_of, IsSameLane};
 ghost use Rattle.media_lane.specs.Rooms.{front_in, sent_in};
 ghost use Rattle.media_lane.specs.Receipts.{IsReceiptOf, KeepsList};
 ghost use Rattle.media_lane.specs.Visits.{packet_by};
 
 use crate::answers::Received;
-use crate::lane::Lane;
+use crate::lane::{Lane, LaneHand};
 use crate::puts::put_take;
 use crate::receipt::Receipt;
 use crate::rooms::Rooms;
@@ -133,6 +133,36 @@ pub(crate) fn packet_in(half: Half, given: BoxTake, buf: &TakeBuffer) -> Option<
     }
 }
 
+impl<I: InEnd, O: OutEnd> LaneHand<I, O> {
+    /// Takes one datagram of a half at the box of a pair, under one turn of that box, into the free room. It tries again until
+    /// it has the turn.
+    pub(crate) fn take<W: Wait>(
+        &mut self,
+        rt: &W,
+        turns: &Turns<Relay<I, O>>,
+        pair: u32,
+        half: Half,
+        rooms: &mut Rooms,
+    ) -> NumberedTake
+        requires table { IsHandOf turns.now (hand_in self.old) }
+        requires pair { pair < pair_count (config_in self.old) }
+        ensures same { IsSameHandOf self.old self.new }
+        ensures sent { sent_in rooms.new ≡ sent_in rooms.old }
+        ensures short { IsShort (taken_of result.given (front_in rooms.new)) }
+        ensures entry { entries (hand_in self.new) ≡ entries (hand_in self.old)
+            ++ entry (box_of (config_in self.old) pair) result.number (box_take_made half result.given (front_in rooms.new)) tt ∷ [] }
+        ensures taken { (answer : Received) → Tells answer pair result.number half (taken_of result.given (front_in rooms.new))
+            → TakesAtLast I.told I.faults O.told O.faults (config_in self.old) pair half answer (hand_in self.old) (hand_in self.new) }
+        ensures receipt { (p : cells.Receipt) → packet_by result.number half (taken_of result.given (front_in rooms.new)) ≡ Some p
+            → IsReceiptOf (config_in self.old) (list_in self.new) pair p }
+        ensures list { KeepsList (config_in self.old) (list_in self.old) (list_in self.new) }
+    {
+        let at_box = self.config.max_sessions as usize + 1 + pair as usize;
+        let turn = turns.turn(rt, &mut self.hand, at_box);
+        take_in_turn(turns, &mut self.hand, turn, half, rooms)
+    }
+}
+
 impl<I: InEnd, O: OutEnd> Lane<I, O> {
     /// Takes one datagram of a half at the box of a pair, under one turn of that box. It never waits and takes no memory.
     ///
@@ -145,39 +175,14 @@ impl<I: InEnd, O: OutEnd> Lane<I, O> {
         ensures receipt { HasReceipt (config_of self.old) (list_of self.new) result }
         ensures list { KeepsList (config_of self.old) (list_of self.old) (list_of self.new) }
     {
-        let place = self.config.max_sessions as usize + 1 + pair as usize;
-        let turn = match turns.try_turn(&mut self.hand, place) {
+        let Lane { own, rooms } = self;
+        let place = own.config.max_sessions as usize + 1 + pair as usize;
+        let turn = match turns.try_turn(&mut own.hand, place) {
             Ok(turn) => turn,
             Err(busy) => return Received::Busy { front: busy.front },
         };
-        let take = take_in_turn(turns, &mut self.hand, turn, half, &mut self.rooms);
-        received(pair, take.number, half, take.given, self.rooms.front())
-    }
-
-    /// Takes one datagram of a half at the box of a pair, under one turn of that box, into the lane's room. It tries again until
-    /// it has the turn.
-    pub(crate) fn take<W: Wait>(
-        &mut self,
-        rt: &W,
-        turns: &Turns<Relay<I, O>>,
-        pair: u32,
-        half: Half,
-    ) -> NumberedTake
-        requires table { IsHandOf turns.now (hand_of self.old) }
-        requires pair { pair < pair_count (config_of self.old) }
-        ensures same { IsSameLane self.old self.new × (sent_of self.new ≡ sent_of self.old) }
-        ensures short { IsShort (taken_of result.given (room_of self.new)) }
-        ensures entry { entries (hand_of self.new) ≡ entries (hand_of self.old)
-            ++ entry (box_of (config_of self.old) pair) result.number (box_take_made half result.given (room_of self.new)) tt ∷ [] }
-        ensures taken { (answer : Received) → Tells answer pair result.number half (taken_of result.given (room_of self.new))
-            → TakesAtLast I.told I.faults O.told O.faults (config_of self.old) pair half answer (hand_of self.old) (hand_of self.new) }
-        ensures receipt { (p : cells.Receipt) → packet_by result.number half (taken_of result.given (room_of self.new)) ≡ Some p
-            → IsReceiptOf (config_of self.old) (list_of self.new) pair p }
-        ensures list { KeepsList (config_of self.old) (list_of self.old) (list_of self.new) }
-    {
-        let at_box = self.config.max_sessions as usize + 1 + pair as usize;
-        let turn = turns.turn(rt, &mut self.hand, at_box);
-        take_in_turn(turns, &mut self.hand, turn, half, &mut self.rooms)
+        let take = take_in_turn(turns, &mut own.hand, turn, half, rooms);
+        received(pair, take.number, half, take.given, rooms.front())
     }
 
     /// Takes one datagram of a half at the box of a pair, under one turn of that box. It takes no memory, and may wait: it tries
@@ -196,7 +201,7 @@ impl<I: InEnd, O: OutEnd> Lane<I, O> {
         ensures receipt { HasReceipt (config_of self.old) (list_of self.new) result }
         ensures list { KeepsList (config_of self.old) (list_of self.old) (list_of self.new) }
     {
-        let taken = self.take(rt, turns, pair, half);
+        let taken = self.own.take(rt, turns, pair, half, &mut self.rooms);
         received(pair, taken.number, half, taken.given, self.rooms.front())
     }
 }

@@ -7,13 +7,13 @@ ghost use Rattle.call_cell.specs.Standing.{receipt_of};
 ghost use Rattle.relay_core.specs.declared.part.Part.{Part};
 ghost use Rattle.relay_core.specs.Standing.{IsCellPart};
 ghost use Rattle.media_lane.specs.Relaying.{relay_by, RelaysPart, RelaysBy, RelaysAtLast, bytes_left, bytes_sent};
-ghost use Rattle.media_lane.specs.Lanes.{packet_of, pair_of, hand_of, list_of, config_of, sent_of, room_of, IsSameLane};
+ghost use Rattle.media_lane.specs.Lanes.{packet_of, pair_of, hand_in, list_in, config_in, IsSameHandOf, hand_of, list_of, config_of, sent_of, IsSameLane};
 ghost use Rattle.media_lane.specs.Rooms.{front_in, last_in, sent_in};
 ghost use Rattle.media_lane.specs.Receipts.{IsReceiptOf, KeepsList};
 ghost use Rattle.media_lane.specs.Gated.{GainsGated};
 
 use crate::answers::Relayed;
-use crate::lane::Lane;
+use crate::lane::{Lane, LaneHand};
 use crate::puts::{Arrived, put_relay};
 use crate::receipt::Receipt;
 use crate::rooms::Rooms;
@@ -64,6 +64,34 @@ pub(crate) fn bytes_left(outcome: Outcome, packet: &PacketBuffer) -> usize
     }
 }
 
+impl<I: InEnd, O: OutEnd> LaneHand<I, O> {
+    /// Relays the packet in the free room, which this take gave, in the cell of its leg, under one turn of that cell, where its bytes
+    /// stand. It tries again until it has the turn.
+    pub(crate) fn relay_taken<W: Wait, G: Gate>(
+        &mut self,
+        rt: &W,
+        turns: &Turns<Relay<I, O>>,
+        gate: &G,
+        take: u64,
+        packet: &Incoming,
+        now: u64,
+        rooms: &mut Rooms,
+    ) -> Outcome
+        requires table { IsHandOf turns.now (hand_in self.old) }
+        requires receipt { (pair : ℕ) × IsReceiptOf (config_in self.old) (list_in self.old) pair (receipt_of take packet.now (front_in rooms.old)) }
+        requires short { packet.now.len ≤ 2000 }
+        ensures same { IsSameHandOf self.old self.new }
+        ensures relayed { RelaysAtLast I.told I.faults O.told O.faults (receipt_of take packet.now (front_in rooms.old)) now result (sent_in rooms.new) (hand_in self.old) (hand_in self.new) }
+        ensures list { KeepsList (config_in self.old) (list_in self.old) (list_in self.new) }
+        ensures gated { GainsGated (G.passed gate.now) (list_in self.old) (list_in self.new) }
+    {
+        let cell = packet.holder.cell;
+        let turn = turns.turn(rt, &mut self.hand, cell as usize);
+        gate.inside(cell);
+        relay_in_turn::<I, O, Brand>(turns, &mut self.hand, turn, take, packet, rooms, now)
+    }
+}
+
 impl<I: InEnd, O: OutEnd> Lane<I, O> {
     /// Relays the packet of a receipt in the cell of its leg, handed the moment `now` in milliseconds, under one turn of that
     /// cell. It never waits and takes no memory. The receipt is one of this lane's list.
@@ -83,8 +111,9 @@ impl<I: InEnd, O: OutEnd> Lane<I, O> {
         ensures list { KeepsList (config_of self.old) (list_of self.old) (list_of self.new) }
         ensures gated { GainsGated (G.passed gate.now) (list_of self.old) (list_of self.new) }
     {
+        let Lane { own, rooms } = self;
         let cell = receipt.packet.holder.cell;
-        let turn = match turns.try_turn(&mut self.hand, cell as usize) {
+        let turn = match turns.try_turn(&mut own.hand, cell as usize) {
             Ok(turn) => turn,
             Err(busy) => {
                 return Relayed::Busy {
@@ -94,49 +123,16 @@ impl<I: InEnd, O: OutEnd> Lane<I, O> {
             }
         };
         gate.inside(cell);
-        self.rooms.put(receipt.bytes());
+        rooms.put(receipt.bytes());
         Relayed::Done(relay_in_turn::<I, O, Brand>(
             turns,
-            &mut self.hand,
+            &mut own.hand,
             turn,
             receipt.take,
             &receipt.packet,
-            &mut self.rooms,
+            rooms,
             now,
         ))
-    }
-
-    /// Relays the packet in the lane's room, which this take gave, in the cell of its leg, under one turn of that cell, where its bytes
-    /// stand. It tries again until it has the turn.
-    pub(crate) fn relay_taken<W: Wait, G: Gate>(
-        &mut self,
-        rt: &W,
-        turns: &Turns<Relay<I, O>>,
-        gate: &G,
-        take: u64,
-        packet: &Incoming,
-        now: u64,
-    ) -> Outcome
-        requires table { IsHandOf turns.now (hand_of self.old) }
-        requires receipt { (pair : ℕ) × IsReceiptOf (config_of self.old) (list_of self.old) pair (receipt_of take packet.now (room_of self.old)) }
-        requires short { packet.now.len ≤ 2000 }
-        ensures same { IsSameLane self.old self.new }
-        ensures relayed { RelaysAtLast I.told I.faults O.told O.faults (receipt_of take packet.now (room_of self.old)) now result (sent_of self.new) (hand_of self.old) (hand_of self.new) }
-        ensures list { KeepsList (config_of self.old) (list_of self.old) (list_of self.new) }
-        ensures gated { GainsGated (G.passed gate.now) (list_of self.old) (list_of self.new) }
-    {
-        let cell = packet.holder.cell;
-        let turn = turns.turn(rt, &mut self.hand, cell as usize);
-        gate.inside(cell);
-        relay_in_turn::<I, O, Brand>(
-            turns,
-            &mut self.hand,
-            turn,
-            take,
-            packet,
-            &mut self.rooms,
-            now,
-        )
     }
 
     /// Relays the packet of a receipt in the cell of its leg, handed the moment `now` in milliseconds, under one turn of that
@@ -158,6 +154,14 @@ impl<I: InEnd, O: OutEnd> Lane<I, O> {
         ensures gated { GainsGated (G.passed gate.now) (list_of self.old) (list_of self.new) }
     {
         self.rooms.put(receipt.bytes());
-        self.relay_taken(rt, turns, gate, receipt.take, &receipt.packet, now)
+        self.own.relay_taken(
+            rt,
+            turns,
+            gate,
+            receipt.take,
+            &receipt.packet,
+            now,
+            &mut self.rooms,
+        )
     }
 }

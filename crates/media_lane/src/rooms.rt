@@ -12,7 +12,7 @@ use rtp_packet::Half;
 /// Two rooms for packets. In one stands what the last relay sent, at the front; the other one is free: a datagram is taken into it,
 /// and relayed where it stands. With each relay they change parts, so that no byte of a packet moves between its take and its send.
 #[derive(Drop)]
-pub(crate) struct Rooms {
+pub struct Rooms {
     rooms: [PacketBuffer; 2],
     /// The number of the free one.
     free: usize,
@@ -41,7 +41,7 @@ impl Rooms {
     ghost use Rattle.media_lane.specs.Relaying.{RelaysPart, bytes_sent};
 
     /// Two rooms, before the first relay.
-    pub(crate) fn new() -> Rooms
+    pub fn new() -> Rooms
         ensures { sent_in result ≡ [] }
     {
         Rooms {

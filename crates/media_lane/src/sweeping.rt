@@ -1,38 +1,48 @@
-//! A lane visits its pairs, and waits where another hand has a turn.
-ghost use Rattle.std.specs.Prelude.{◌≡◌, ◌<◌, ◌%◌, ◌↔◌, ℕ, true, false, IsTrue, List, [], ◌∷◌, ◌++◌};
-ghost use Rattle.rtp_packet.specs.declared.head.Half.{Half};
+//! A lane visits its pairs, one after the other, and waits where another hand has a turn.
+ghost use Rattle.std.specs.Prelude.{◌≡◌, ◌<◌, ◌≤◌, []};
+ghost use Rattle.port_pool.specs.Ports as ports;
 ghost use Rattle.port_pool.specs.Ports.{pair_count};
 ghost use Rattle.turn_table.specs.Hands.{IsHandOf};
-ghost use Rattle.media_lane.specs.Lanes.{hand_of, list_of, config_of, index_of, lanes_of, IsSameLane};
+ghost use Rattle.media_lane.specs.Lanes.{hand_in, list_in, config_in, index_in, lanes_in, IsSameHandOf, hand_of, list_of, config_of, index_of, lanes_of, IsSameLane};
 ghost use Rattle.media_lane.specs.Receipts.{KeepsList};
 ghost use Rattle.media_lane.specs.Gated.{GainsGated};
-ghost use Rattle.media_lane.specs.Visits.{Visit, AreTotals, CountsRelay};
-ghost use Rattle.media_lane.specs.Visited.{is_marked};
-ghost use Rattle.media_lane.specs.Covering.{Covers};
-ghost use Rattle.media_lane.specs.Columns.{IsStride, IsInColumn};
+ghost use Rattle.media_lane.specs.Visits.{AreTotals, CountsRelay};
 ghost use Rattle.media_lane.specs.Sweeping.{VisitsOnce, Sweeps};
 
 use crate::answers::Totals;
-use crate::columns::stride_of;
-use crate::hinted::count_pairs;
-use crate::lane::Lane;
-use crate::order::Order;
+use crate::lane::{Lane, LaneHand};
 use crate::receiving::packet_in;
-use crate::visited::Visited;
+use crate::rooms::Rooms;
 use call_cell::Outcome;
 use relay_core::Relay;
-use relay_outside::{Clock, Gate, InEnd, OutEnd};
+use relay_outside::{Clock, Config, Gate, InEnd, OutEnd};
 use rtp_packet::Half;
 use std::sync::Wait;
 use turn_table::Turns;
 
-/// How far a sweep has come.
+/// What each relay of a packet is handed.
 #[derive(Drop)]
-pub(crate) struct Progress {
-    /// The halves that it has visited.
-    pub(crate) visited: Visited,
-    /// What came of the datagrams that it took there.
-    pub(crate) totals: Totals,
+pub struct Media<'c, 'g, C, G> {
+    /// It gives the relay's moment.
+    pub clock: &'c C,
+    /// It is passed at the relay's cell.
+    pub gate: &'g G,
+}
+
+/// The first even port of the range.
+fn first_port(config: &Config) -> u32
+    ensures { result ≡ ports.first_port config.now }
+{
+    u32::from(config.port_min) + u32::from(config.port_min) % 2
+}
+
+/// How many port pairs there are: even ports of the range whose next port is in it too.
+#[tactic(auto, unfolding(port_pool::specs::Ports::pair_count))]
+pub fn count_pairs(config: &Config) -> u32
+    ensures count { result ≡ pair_count config.now }
+    ensures within { result ≤ 32768 }
+{
+    (u32::from(config.port_max) + 1).saturating_sub(first_port(config)) / 2
 }
 
 impl Totals {
@@ -61,115 +71,72 @@ impl Totals {
     }
 }
 
-impl<I: InEnd, O: OutEnd> Lane<I, O> {
+impl<I: InEnd, O: OutEnd> LaneHand<I, O> {
     /// Takes once of a half at the box of a pair, and relays what it gave.
-    fn visit<W: Wait, G: Gate, C: Clock>(
+    fn visit<W: Wait, C: Clock, G: Gate>(
         &mut self,
         rt: &W,
         turns: &Turns<Relay<I, O>>,
-        gate: &G,
-        clock: &C,
+        media: &Media<'_, '_, C, G>,
         pair: u32,
         half: Half,
+        rooms: &mut Rooms,
         totals: &mut Totals,
     )
-        requires table { IsHandOf turns.now (hand_of self.old) }
-        requires pair { pair < pair_count (config_of self.old) }
-        ensures same { IsSameLane self.old self.new }
-        ensures visited { VisitsOnce (config_of self.old) (C.range clock.now) pair half (hand_of self.old) (hand_of self.new) totals.old totals.new }
-        ensures list { KeepsList (config_of self.old) (list_of self.old) (list_of self.new) }
-        ensures gated { GainsGated (G.passed gate.now) (list_of self.old) (list_of self.new) }
+        requires table { IsHandOf turns.now (hand_in self.old) }
+        requires pair { pair < pair_count (config_in self.old) }
+        ensures same { IsSameHandOf self.old self.new }
+        ensures visited { VisitsOnce (config_in self.old) (C.range media.now.clock.now) pair half (hand_in self.old) (hand_in self.new) totals.old totals.new }
+        ensures list { KeepsList (config_in self.old) (list_in self.old) (list_in self.new) }
+        ensures gated { GainsGated (G.passed media.now.gate.now) (list_in self.old) (list_in self.new) }
     {
-        let take = self.take(rt, turns, pair, half);
-        if let Some(packet) = packet_in(half, take.given, self.rooms.front()) {
-            let outcome = self.relay_taken(rt, turns, gate, take.number, &packet, clock.now());
+        let take = self.take(rt, turns, pair, half, rooms);
+        if let Some(packet) = packet_in(half, take.given, rooms.front()) {
+            let now = media.clock.now();
+            let outcome = self.relay_taken(rt, turns, media.gate, take.number, &packet, now, rooms);
             totals.count(outcome);
         }
     }
 
-    /// Visits a half of an own pair, if the sweep hasn't visited it before. Returns whether it did.
-    pub(crate) fn visit_once<W: Wait, G: Gate, C: Clock>(
+    /// Takes once of each half of each of the lane's own pairs, whose numbers are the lane's modulo the number of lanes, and
+    /// relays each datagram, handed a moment of the clock, before the next take. Packets stand in these rooms. It may wait, where another
+    /// hand has a turn.
+    pub fn sweep<W: Wait, C: Clock, G: Gate>(
         &mut self,
         rt: &W,
         turns: &Turns<Relay<I, O>>,
-        gate: &G,
-        clock: &C,
-        pair: u32,
-        half: Half,
-        progress: &mut Progress,
-    ) -> bool
-        requires table { IsHandOf turns.now (hand_of self.old) }
-        requires pair { pair < pair_count (config_of self.old) }
-        requires own { pair % lanes_of self.old ≡ index_of self.old }
-        requires held { pair < 32768 }
-        ensures covered { Covers (C.range clock.now) (G.passed gate.now) self.old self.new progress.old progress.new }
-        ensures marked { is_marked progress.new.visited pair half ≡ true }
-        ensures first { IsTrue result ↔ (is_marked progress.old.visited pair half ≡ false) }
-    {
-        if progress.visited.has(pair, half) {
-            return false;
-        }
-        self.visit(rt, turns, gate, clock, pair, half, &mut progress.totals);
-        progress.visited.mark(pair, half);
-        true
-    }
-
-    /// Visits each half that the sweep hasn't visited yet of the lane's own pairs in one column of the table: of the first pair, and of
-    /// each that is a stride further.
-    fn visit_column<W: Wait, G: Gate, C: Clock>(
-        &mut self,
-        rt: &W,
-        turns: &Turns<Relay<I, O>>,
-        gate: &G,
-        clock: &C,
-        first: u64,
-        stride: u64,
-        progress: &mut Progress,
-    )
-        requires table { IsHandOf turns.now (hand_of self.old) }
-        requires own { first % lanes_of self.old ≡ index_of self.old }
-        requires apart { IsStride (lanes_of self.old) stride }
-        requires begins { first < stride }
-        ensures covered { Covers (C.range clock.now) (G.passed gate.now) self.old self.new progress.old progress.new }
-        ensures column { (pair : ℕ) (half : Half) → IsInColumn first stride pair → pair < pair_count (config_of self.old) → is_marked progress.new.visited pair half ≡ true }
+        media: &Media<'_, '_, C, G>,
+        rooms: &mut Rooms,
+    ) -> Totals
+        requires { IsHandOf turns.now (hand_in self.old) }
+        ensures same { IsSameHandOf self.old self.new }
+        ensures swept { Sweeps (config_in self.old) (index_in self.old) (lanes_in self.old) (C.range media.now.clock.now) (hand_in self.old) (hand_in self.new) result }
+        ensures list { KeepsList (config_in self.old) (list_in self.old) (list_in self.new) }
+        ensures gated { GainsGated (G.passed media.now.gate.now) (list_in self.old) (list_in self.new) }
     {
         let pairs = u64::from(count_pairs(&self.config));
-        let mut pair = first;
+        let mut totals = Totals::none();
+        let mut pair = u64::from(self.index);
         while pair < pairs {
-            self.visit_once(rt, turns, gate, clock, pair as u32, Half::Rtp, progress);
-            self.visit_once(rt, turns, gate, clock, pair as u32, Half::Rtcp, progress);
-            pair += stride;
+            self.visit(rt, turns, media, pair as u32, Half::Rtp, rooms, &mut totals);
+            self.visit(
+                rt,
+                turns,
+                media,
+                pair as u32,
+                Half::Rtcp,
+                rooms,
+                &mut totals,
+            );
+            pair += u64::from(self.lanes);
         }
+        totals
     }
+}
 
-    /// Visits each half of the lane's own pairs that the sweep hasn't visited yet, column by column of the table.
-    fn visit_rest<W: Wait, G: Gate, C: Clock>(
-        &mut self,
-        rt: &W,
-        turns: &Turns<Relay<I, O>>,
-        gate: &G,
-        clock: &C,
-        progress: &mut Progress,
-    )
-        requires { IsHandOf turns.now (hand_of self.old) }
-        ensures covered { Covers (C.range clock.now) (G.passed gate.now) self.old self.new progress.old progress.new }
-        ensures all { (pair : ℕ) (half : Half) → pair % lanes_of self.old ≡ index_of self.old → pair < pair_count (config_of self.old) → is_marked progress.new.visited pair half ≡ true }
-    {
-        let lanes = u64::from(self.lanes);
-        let stride = stride_of(self.lanes);
-        let mut first = u64::from(self.index);
-        while first < stride {
-            self.visit_column(rt, turns, gate, clock, first, stride, progress);
-            first += lanes;
-        }
-    }
-
+impl<I: InEnd, O: OutEnd> Lane<I, O> {
     /// Takes once of each half of each of the lane's own pairs, whose numbers are the lane's modulo the number of lanes, and
-    /// relays each datagram, handed a moment of the clock, before the next take. It may wait, where another hand has a turn, and for
-    /// the clock's hints, 200 milliseconds at most.
-    ///
-    /// The halves at whose ports the clock hints come first, in the order of its hints, and then all others, in the order in which
-    /// their places lie in the table's memory; some of these before, where the hints pause.
+    /// relays each datagram, handed a moment of the clock, before the next take. It may wait, where another hand has a turn.
     pub fn sweep<W: Wait, G: Gate, C: Clock>(
         &mut self,
         rt: &W,
@@ -183,31 +150,7 @@ impl<I: InEnd, O: OutEnd> Lane<I, O> {
         ensures list { KeepsList (config_of self.old) (list_of self.old) (list_of self.new) }
         ensures gated { GainsGated (G.passed gate.now) (list_of self.old) (list_of self.new) }
     {
-        self.sweep_in(rt, turns, gate, clock, &mut Order::new())
-    }
-
-    /// Does what `sweep` does, and keeps for the next sweep what order this one had.
-    pub(crate) fn sweep_in<W: Wait, G: Gate, C: Clock>(
-        &mut self,
-        rt: &W,
-        turns: &Turns<Relay<I, O>>,
-        gate: &G,
-        clock: &C,
-        order: &mut Order,
-    ) -> Totals
-        requires { IsHandOf turns.now (hand_of self.old) }
-        ensures same { IsSameLane self.old self.new }
-        ensures swept { Sweeps (config_of self.old) (index_of self.old) (lanes_of self.old) (C.range clock.now) (hand_of self.old) (hand_of self.new) result }
-        ensures list { KeepsList (config_of self.old) (list_of self.old) (list_of self.new) }
-        ensures gated { GainsGated (G.passed gate.now) (list_of self.old) (list_of self.new) }
-    {
-        order.begin(clock.now());
-        let mut progress = Progress {
-            visited: Visited::none(),
-            totals: Totals::none(),
-        };
-        self.visit_hinted(rt, turns, gate, clock, order, &mut progress);
-        self.visit_rest(rt, turns, gate, clock, &mut progress);
-        progress.totals
+        let media = Media { clock, gate };
+        self.own.sweep(rt, turns, &media, &mut self.rooms)
     }
 }

@@ -4,7 +4,7 @@ ghost use Rattle.media_lane.specs.Starts.{HasCells, HasLaneStarts};
 
 use call_board::Board;
 use call_cell::{Cell, Outcome, Refused};
-use media_lane::{Lane, Received, Relayed, Totals};
+use media_lane::{Lane, LaneHand, Media, Received, Relayed, Rooms, Totals};
 use port_pool::{Holder, PairBox, Side};
 use relay_core::{Part, Relay};
 use relay_outside::{
@@ -16,12 +16,12 @@ use std::alloc::Global;
 use std::test::Fail;
 use turn_table::{Hand, Turns};
 
-// One call and one pair: place 0 is the board, place 1 the call's cell, place 2 the pair's box.
+// One call and two pairs: place 0 is the board, place 1 the call's cell, places 2 and 3 the pairs' boxes.
 const CONFIG: Config = Config {
     interface: Ip::V4([192, 0, 2, 1]),
     interface6: None,
     port_min: 30_000,
-    port_max: 30_001,
+    port_max: 30_003,
     timeout_ms: 60_000,
     offer_timeout_ms: 120_000,
     max_sessions: 1,
@@ -58,18 +58,19 @@ fn in_end(alloc: Global, count: usize) -> Result<SteadyIn, Fail> {
     Ok(receiving)
 }
 
-// A box that is held by the leg, whose two ports give this many datagrams.
-fn held_box(alloc: Global, rtp: usize, rtcp: usize) -> Result<PairBox<SteadyIn>, Fail>
+// The box of a pair, held by the leg, whose two ports give this many datagrams.
+fn held_box(alloc: Global, pair: u32, rtp: usize, rtcp: usize) -> Result<PairBox<SteadyIn>, Fail>
     ensures { IfOk result (λ held. HasCells 1 held) }
 {
     let rtp = in_end(alloc, rtp)?;
     let rtcp = in_end(alloc, rtcp)?;
     let mut held = PairBox::empty(1, AT);
-    held.put_in(HOLDER, rtp, rtcp);
+    held.put_in(Holder { pair, ..HOLDER }, rtp, rtcp);
     Ok(held)
 }
 
-// A table whose box gives this many datagrams at its two ports, and whose cell has no call.
+// A table whose first box gives this many datagrams at its two ports, whose second one gives one at that for RTCP, and whose cell has
+// no call.
 fn begin(
     alloc: Global,
     rtp: usize,
@@ -85,8 +86,9 @@ fn begin(
 {
     let board = Part::Board(Board::new(alloc, &CONFIG)?);
     let cell = Part::Cell(Cell::empty(alloc, &CONFIG));
-    let held = Part::Pair(held_box(alloc, rtp, rtcp)?);
-    let states = Vec::from_array(alloc, [board, cell, held])?;
+    let first = Part::Pair(held_box(alloc, 0, rtp, rtcp)?);
+    let second = Part::Pair(held_box(alloc, 1, 0, 1)?);
+    let states = Vec::from_array(alloc, [board, cell, first, second])?;
     Ok(Turns::start(alloc, states)?)
 }
 
@@ -99,7 +101,6 @@ fn front_of(received: &Received) -> Option<u64> {
 }
 
 mod beside;
-mod hints;
 
 use beside::{receive_beside, relay_beside};
 
@@ -229,35 +230,61 @@ fn a_hand_that_may_wait_receives_and_relays(rt: HostRuntime) -> Result<(), Fail>
     Ok(())
 }
 
+// What comes of this many datagrams for a cell that has no call.
+fn refused(count: u64) -> Totals {
+    Totals {
+        taken: count,
+        sent: 0,
+        refused: count,
+        lost: 0,
+    }
+}
+
 #[test]
 #[tactic(auto, unfolding(port_pool::specs::Ports::pair_count))]
 fn a_sweep_takes_once_of_each_half(rt: HostRuntime) -> Result<(), Fail> {
-    let (turns, mut main) = begin(rt.alloc(), 2, 0)?;
+    let (turns, mut main) = begin(rt.alloc(), 2, 1)?;
     let other = turns.split_hand(&mut main);
     let mut lane = Lane::new(main, 0, 2, &CONFIG);
     let mut beside = Lane::new(other, 1, 2, &CONFIG);
     let clock = HandClock::new(5);
-    let none = beside.sweep(&rt, &turns, &OpenGate::new(), &clock);
-    let first = lane.sweep(&rt, &turns, &OpenGate::new(), &clock);
-    let second = lane.sweep(&rt, &turns, &OpenGate::new(), &clock);
-    let third = lane.sweep(&rt, &turns, &OpenGate::new(), &clock);
+    let gate = OpenGate::new();
+    let foreign = beside.sweep(&rt, &turns, &gate, &clock);
+    let first = lane.sweep(&rt, &turns, &gate, &clock);
+    let second = lane.sweep(&rt, &turns, &gate, &clock);
+    let third = lane.sweep(&rt, &turns, &gate, &clock);
     let mut main = lane.into_hand();
     turns.join_hand(&mut main, beside.into_hand());
     drop(turns.close(main));
-    let nothing = Totals {
-        taken: 0,
-        sent: 0,
-        refused: 0,
-        lost: 0,
+    assert!(rt; foreign == refused(1), "the other lane's pair has one");
+    assert!(rt; first == refused(2), "one datagram of each half");
+    assert!(rt; second == refused(1), "the half that had two");
+    assert!(rt; third == refused(0), "nothing is left");
+    Ok(())
+}
+
+#[test]
+#[tactic(auto, unfolding(port_pool::specs::Ports::pair_count))]
+fn lanes_that_share_rooms_take_from_their_own_pairs(rt: HostRuntime) -> Result<(), Fail> {
+    let (turns, mut main) = begin(rt.alloc(), 2, 1)?;
+    let other = turns.split_hand(&mut main);
+    let mut lane = LaneHand::new(main, 0, 2, &CONFIG);
+    let mut beside = LaneHand::new(other, 1, 2, &CONFIG);
+    let mut rooms = Rooms::new();
+    let media = Media {
+        clock: &HandClock::new(5),
+        gate: &OpenGate::new(),
     };
-    let one = Totals {
-        taken: 1,
-        sent: 0,
-        refused: 1,
-        lost: 0,
-    };
-    assert!(rt; none == nothing, "the one pair is the other lane's");
-    assert!(rt; first == one && second == one, "one datagram a sweep");
-    assert!(rt; third == nothing, "nothing is left");
+    let first = lane.sweep(&rt, &turns, &media, &mut rooms);
+    let foreign = beside.sweep(&rt, &turns, &media, &mut rooms);
+    let second = lane.sweep(&rt, &turns, &media, &mut rooms);
+    let nothing = beside.sweep(&rt, &turns, &media, &mut rooms);
+    let mut main = lane.into_hand();
+    turns.join_hand(&mut main, beside.into_hand());
+    drop(turns.close(main));
+    assert!(rt; first == refused(2), "one datagram of each half");
+    assert!(rt; foreign == refused(1), "the other lane's pair has one");
+    assert!(rt; second == refused(1), "the half that had two");
+    assert!(rt; nothing == refused(0), "nothing is left");
     Ok(())
 }

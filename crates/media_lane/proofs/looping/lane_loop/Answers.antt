@@ -20,27 +20,27 @@ loop-preserved g c =
     let so_far = c.loop.invariant in
     record {
       same = search rules;
-      swept = (loop_on (config_of lane) _ (index_of lane) _ (lanes_of lane) _ (g.C.Clock.range c.args.clock.now) (hand_of lane) (hand_of c.loop.lane) (hand_of c.sweep_in.new.self)
-          c.sweep_in.result so_far.same.config_is so_far.same.index_is so_far.same.lanes_is c.sweep_in.ensures.swept c.loop.totals c.add.new.self so_far.swept c.add.ensures).0;
-      list = loop_keeps (config_of lane) _ (index_of lane) _ (lanes_of lane) _ (g.C.Clock.range c.args.clock.now) (hand_of lane) (hand_of c.loop.lane) (hand_of c.sweep_in.new.self)
-          c.sweep_in.result so_far.same.config_is so_far.same.index_is so_far.same.lanes_is c.sweep_in.ensures.swept so_far.list c.sweep_in.ensures.list;
-      gated = gains_both (g.G.Gate.passed c.args.gate.now) (list_of lane) (list_of c.loop.lane) (list_of c.sweep_in.new.self) so_far.gated c.sweep_in.ensures.gated;
+      swept = (loop_on (config_of lane) _ (index_of lane) _ (lanes_of lane) _ (g.C.Clock.range c.args.clock.now) (hand_of lane) (hand_of c.loop.lane) (hand_of c.sweep.new.self)
+          c.sweep.result so_far.same.config_is so_far.same.index_is so_far.same.lanes_is c.sweep.ensures.swept c.loop.totals c.add.new.self so_far.swept c.add.ensures).0;
+      list = loop_keeps (config_of lane) _ (index_of lane) _ (lanes_of lane) _ (g.C.Clock.range c.args.clock.now) (hand_of lane) (hand_of c.loop.lane) (hand_of c.sweep.new.self)
+          c.sweep.result so_far.same.config_is so_far.same.index_is so_far.same.lanes_is c.sweep.ensures.swept so_far.list c.sweep.ensures.list;
+      gated = gains_both (g.G.Gate.passed c.args.gate.now) (list_of lane) (list_of c.loop.lane) (list_of c.sweep.new.self) so_far.gated c.sweep.ensures.gated;
     }
 
 pub returns-clause-swept : goal.returns-clause-swept
 returns-clause-swept g c =
     let lane = c.args.lane.now in
     let so_far = c.loop.invariant in
-    loop_on (config_of lane) _ (index_of lane) _ (lanes_of lane) _ (g.C.Clock.range c.args.clock.now) (hand_of lane) (hand_of c.loop.lane) (hand_of c.sweep_in-2.new.self)
-    c.sweep_in-2.result so_far.same.config_is so_far.same.index_is so_far.same.lanes_is c.sweep_in-2.ensures.swept c.loop.totals c.add-2.new.self so_far.swept c.add-2.ensures
+    loop_on (config_of lane) _ (index_of lane) _ (lanes_of lane) _ (g.C.Clock.range c.args.clock.now) (hand_of lane) (hand_of c.loop.lane) (hand_of c.sweep-2.new.self)
+    c.sweep-2.result so_far.same.config_is so_far.same.index_is so_far.same.lanes_is c.sweep-2.ensures.swept c.loop.totals c.add-2.new.self so_far.swept c.add-2.ensures
 
 pub returns-clause-list : goal.returns-clause-list
 returns-clause-list g c =
     let lane = c.args.lane.now in
     let so_far = c.loop.invariant in
-    loop_keeps (config_of lane) _ (index_of lane) _ (lanes_of lane) _ (g.C.Clock.range c.args.clock.now) (hand_of lane) (hand_of c.loop.lane) (hand_of c.sweep_in-2.new.self)
-    c.sweep_in-2.result so_far.same.config_is so_far.same.index_is so_far.same.lanes_is c.sweep_in-2.ensures.swept so_far.list c.sweep_in-2.ensures.list
+    loop_keeps (config_of lane) _ (index_of lane) _ (lanes_of lane) _ (g.C.Clock.range c.args.clock.now) (hand_of lane) (hand_of c.loop.lane) (hand_of c.sweep-2.new.self)
+    c.sweep-2.result so_far.same.config_is so_far.same.index_is so_far.same.lanes_is c.sweep-2.ensures.swept so_far.list c.sweep-2.ensures.list
 
 pub returns-clause-gated : goal.returns-clause-gated
 returns-clause-gated g c =
-    gains_both (g.G.Gate.passed c.args.gate.now) (list_of c.args.lane.now) (list_of c.loop.lane) (list_of c.sweep_in-2.new.self) c.loop.invariant.gated c.sweep_in-2.ensures.gated
+    gains_both (g.G.Gate.passed c.args.gate.now) (list_of c.args.lane.now) (list_of c.loop.lane) (list_of c.sweep-2.new.self) c.loop.invariant.gated c.sweep-2.ensures.gated
