@@ -115,7 +115,7 @@ module _ (config : Config) where
       (subst (λ (ws : List Owed). In (owed_by f) ws) t.turn.owes (maps owed_by (list_of t.nested) i))
 
   -- the entries of a turn: the nested ones, and the board's own
-  turn_parts : (before : List Row) (e : BoardEntry) (rows : List Row) → (t : IsBoardTurn config before e rows) → (f : Entry) → In f (list_of rows)
+  pub turn_parts : (before : List Row) (e : BoardEntry) (rows : List Row) → (t : IsBoardTurn config before e rows) → (f : Entry) → In f (list_of rows)
       → In f (list_of t.nested) ⊎ (f ≡ entry_of t.last)
   turn_parts before e rows t f i =
       by_part (in_append (list_of t.nested) (entry_of t.last ∷ [])
@@ -226,7 +226,7 @@ data Stands (main beside nested : List Entry) (b e : Entry) : Type 0 where
   of_stop : In e nested → Stands main beside nested b e
   is_stop : e ≡ b → Stands main beside nested b e
 
-low_or : (a b : ℕ) → (a < b) ⊎ (b ≤ a)
+pub low_or : (a b : ℕ) → (a < b) ⊎ (b ≤ a)
 low_or a b = grind arith
 
 module _ (config : Config) (threads : ℕ) (range : Option (ℕ × ℕ)) (some : 0 < threads) (rounds : List Round) (h : List BoardEntry) (main beside stop : List Row)

@@ -1,8 +1,10 @@
 mod Between
 mod Counts
 mod Departures
+mod Each
 mod Ends
 mod Gates
+mod Joined
 mod LoadRuns
 mod Loaded
 mod Loops
@@ -11,6 +13,9 @@ mod Orders
 mod Rounds
 pub mod Runs
 mod Sends
+mod ServeRuns
+mod Making
 mod Shut
+mod Swept
 mod Tied
 pub mod Wholes

@@ -1,28 +1,28 @@
--- What all threads of media made, one after the other.
-use Rattle.std.proofs.Common.{◌≡◌, ◌∙◌, refl, sym, ap, subst, ℕ, suc, ◌+◌, ◌<◌, inl, inr, false, List, [], ◌∷◌, ◌++◌, Option, Some, All, length, map, reverse, append-nil, append_assoc, arith}
-use Rattle.std.specs.Prelude.{slice_index_or}
-use Rattle.std.proofs.lemmas.Bool.{cases_lt}
-use Rattle.std.proofs.lemmas.List.{length-map, map-append, reverse-append, get_or_append_left, get_or_push}
+-- What the lanes of all threads of media made, one after the other.
+use Rattle.std.proofs.Common.{◌≡◌, ◌∙◌, refl, sym, ap, subst, ℕ, suc, ◌+◌, ◌<◌, inl, inr, List, [], ◌∷◌, ◌++◌, Option, Some, All, length, length-append, reverse, append-nil, append_assoc, arith}
+use Rattle.std.specs.Prelude.{slice_index_or, count_by, ◌==◌}
+use Rattle.std.specs.List.{AllZip}
+use Rattle.std.proofs.lemmas.List.{length-map, map-append, reverse-append}
 use Rattle.std.proofs.lemmas.List.Elements.{All-pop, All-nil, All-cons, All-head, All-tail, All-append}
 use Rattle.relay_outside.specs.declared.settings.Config.{Config}
 use Rattle.turn_table.specs.declared.hands.Turns.{Turns}
 use Rattle.turn_table.specs.declared.hands.Hand.{Hand}
 use Rattle.turn_table.specs.declared.machine.Entry as table
 use Rattle.turn_table.specs.Histories as table_lists
-use Rattle.turn_table.specs.Hands.{IsHandOf, IsCut, IsLeft, view, entries, parts}
+use Rattle.turn_table.specs.Hands.{IsLeft}
 use Rattle.relay_core.specs.declared.part.Part.{Part}
 use Rattle.relay_core.specs.declared.machine.Relay.{Relay}
 use Rattle.relay_core.specs.Entries.{Entry}
 use Rattle.relay_core.specs.Beginning.{AreParts}
 use Rattle.relay_core.specs.Handed.{IsHanded}
-use Rattle.relay_core.specs.Joining.{TakesOwnPairs, IsLane, IsSound}
+use Rattle.relay_core.specs.Joining.{TakesOwnPairs, IsLane as IsLaneRows, IsSound}
 use Rattle.relay_core.specs.Legal.{Orderly}
 use Rattle.relay_core.specs.Recorded.{IsRecorded}
 use Rattle.relay_core.specs.Made.{Made, entry_of, list_of}
 use Rattle.relay_core.specs.Turning.{Numbered, IsOfLane, IsReceiving}
 use Rattle.relay_core.proofs.Joins.{joined, row_append}
 use Rattle.media_lane.specs.declared.answers.Totals.{Totals}
-use Rattle.media_lane.specs.Lanes.{hand_of, config_of, index_of, lanes_of, list_of as lane_list}
+use Rattle.media_lane.specs.Lanes.{config_in, index_in, lanes_in, list_in}
 use Rattle.media_lane.specs.Looping.{AddsTotals, AreSweeps, visits_of}
 use Rattle.media_lane.specs.Receipts.{KeepsList}
 use Rattle.media_lane.specs.Visits.{Row, Visit, ArePassed, all_rows}
@@ -31,30 +31,10 @@ use Rattle.media_lane.proofs.Gates.{gated_none, gated_more, gated_both}
 use Rattle.board_turns.specs.Between.{IsBetween}
 use Rattle.media_lane.specs.Totals.{HasTotals}
 use Rattle.media_lane.proofs.Sweeps.{rows_in, visits_totals}
+use Rattle.relay_runs.specs.declared.lanes.OwnLane.{OwnLane}
 use Rattle.relay_runs.specs.declared.threads.MediaThread.{MediaThread}
-use Rattle.relay_runs.specs.Rounds.{AreThreads, all_of}
-use Rattle.relay_runs.specs.Threads.{rows_of, MayJoin, AddsEach, IsFresh, HasWorked, IsDone}
-
--- A fact of each element of a list by its number, from this number on.
-
-module _ {X : Type 0} where
-  abbrev pub AreEach : (ℕ → X → Type 0) → ℕ → List X → Type 0
-  AreEach P n [] = Unit {0}
-  AreEach P n (x ∷ xs) = P n x × AreEach P (n + 1) xs
-
-  below : (x : X) (xs : List X) (i : ℕ) → i < length xs → suc i < length (x ∷ xs)
-  below x xs i lt = omega (arith, lt)
-
-  pub each : (P : ℕ → X → Type 0) (xs : List X) (n : ℕ) → ((i : ℕ) (d : X) → i < length xs → P (n + i) (slice_index_or xs i d)) → AreEach P n xs
-  each P [] n all = tt
-  each P (x ∷ xs) n all = (
-    (let z : n + 0 ≡ n = omega arith in subst (λ (k : ℕ). P k x) z (all 0 x (omega arith))),
-    each P xs (n + 1) (λ i d lt. let z : n + suc i ≡ (n + 1) + i = omega arith in subst (λ (k : ℕ). P k (slice_index_or xs i d)) z (all (suc i) d (below x xs i lt))),
-  )
-
-  -- by numbers from 0 on
-  pub each_from_none : (P : ℕ → X → Type 0) (xs : List X) → ((i : ℕ) (d : X) → i < length xs → P i (slice_index_or xs i d)) → AreEach P 0 xs
-  each_from_none P xs all = each P xs 0 (λ i d lt. let z : i ≡ 0 + i = omega arith in subst (λ (k : ℕ). P k (slice_index_or xs i d)) z (all i d lt))
+use Rattle.relay_runs.specs.Rounds.{IsLane, AreNumbers, AreLanes, all_of}
+use Rattle.relay_runs.specs.Threads.{rows_of, all_lanes, numbers_of, rows_each, AreOfTable, MayJoin, AddsEach, IsFresh, Swept, IsDone, Each}
 
 -- Visits of several sweeps.
 
@@ -70,165 +50,208 @@ all_passed config index lanes range (visits ∷ before) are =
 nothing_received : (config : Config) → IsReceiving config []
 nothing_received config = record { received = λ e x i q. elim i [ ]; once = λ e f x y i j q r p s. elim i [ ] }
 
--- One thread.
+-- From threads to lanes.
 
-module _ {I O : Type 0} {gi : _} {go : _} {gm : _} (config : Config) (turns : Turns (Relay I O) (Part I O) Made (Unit {0})) (threads : ℕ) (range : Option (ℕ × ℕ)) where
-  pub worked_done : (gate : ℕ → Type 0) (i : ℕ) (old new : MediaThread I O gi go gm) → IsFresh config turns threads i old → HasWorked range gate old new → IsDone config turns threads range i new
-  worked_done gate i old new fresh worked = record {
-    of_table = worked.same.hand.0 ∙ fresh.of_table;
-    one_part = worked.same.hand.2 ∙ fresh.one_part;
-    not_main = worked.same.hand.3 ∙ fresh.not_main;
-    sweeps = worked.made.sweeps;
-    some = worked.some;
-    are_sweeps =
-        subst (λ (n : ℕ). AreSweeps config i n range worked.made.sweeps) fresh.threads_are
-        (subst (λ (n : ℕ). AreSweeps config n (lanes_of old.lane) range worked.made.sweeps) fresh.index_is
-        (subst (λ (k : Config). AreSweeps k (index_of old.lane) (lanes_of old.lane) range worked.made.sweeps) fresh.config_is worked.made.are_sweeps));
-    rows_are =
-        worked.made.list_is
-        ∙ ap (λ (rows : List Row). rows ++ all_rows (config_of old.lane) (visits_of worked.made.sweeps)) fresh.nothing
-        ∙ ap (λ (k : Config). all_rows k (visits_of worked.made.sweeps)) fresh.config_is;
-    totals_are = worked.made.totals_are;
-    list =
-        subst (λ (k : Config). KeepsList k [] (lane_list new.lane)) fresh.config_is
-        (subst (λ (rows : List Row). KeepsList (config_of old.lane) (list_of rows) (lane_list new.lane)) fresh.nothing worked.list);
+module _ {X Y : Type 0} (R : X → Y → Type 0) where
+  zip_append : (ws xs : List X) (ys zs : List Y) → AllZip R ws ys → AllZip R xs zs → AllZip R (ws ++ xs) (ys ++ zs)
+  zip_append [] xs [] zs first second = second
+  zip_append [] xs (y ∷ ys) zs first second = absurd first
+  zip_append (w ∷ ws) xs [] zs first second = absurd first
+  zip_append (w ∷ ws) xs (y ∷ ys) zs first second = (first.0, zip_append ws xs ys zs first.1 second)
+
+zip_each : {X : Type 0} (R : X → X → Type 0) (xs ys : List X) → length ys ≡ length xs → ((i : ℕ) (d : X) → i < length xs → R (slice_index_or xs i d) (slice_index_or ys i d)) → AllZip R xs ys
+zip_each {X} R [] [] many at = tt
+zip_each {X} R [] (y ∷ ys) many at = absurd (omega (arith, many))
+zip_each {X} R (x ∷ xs) [] many at = absurd (omega (arith, many))
+zip_each {X} R (x ∷ xs) (y ∷ ys) many at = (at 0 x (omega arith), zip_each R xs ys (omega (arith, many)) (λ i d lt. at (suc i) d (omega (arith, lt))))
+
+module _ {I O : Type 0} {gi : _} {go : _} {gm : _} where
+  -- a fact of each lane of each thread
+  abbrev pub AllOwn : (OwnLane I O gi go gm → Type 0) → List (MediaThread I O gi go gm) → Type 0
+  AllOwn P threads = All (λ (thread : MediaThread I O gi go gm). All P thread.lanes.items) threads
+
+  pub all_flat : (P : OwnLane I O gi go gm → Type 0) (xs : List (MediaThread I O gi go gm)) → AllOwn P xs → All P (all_lanes xs)
+  all_flat P [] all = All-nil P
+  all_flat P (x ∷ xs) all =
+      All-append P x.lanes.items (all_lanes xs) (All-head (λ (thread : MediaThread I O gi go gm). All P thread.lanes.items) x xs all)
+      (all_flat P xs (All-tail (λ (thread : MediaThread I O gi go gm). All P thread.lanes.items) x xs all))
+
+  -- a relation of each lane of each thread is one of each of all lanes
+  zip_lanes : (R : OwnLane I O gi go gm → OwnLane I O gi go gm → Type 0) (xs ys : List (MediaThread I O gi go gm)) → AllZip (λ (x y : MediaThread I O gi go gm). Each R x.lanes.items y.lanes.items) xs ys → AllZip R (all_lanes xs) (all_lanes ys)
+  zip_lanes R [] [] each = tt
+  zip_lanes R [] (y ∷ ys) each = absurd each
+  zip_lanes R (x ∷ xs) [] each = absurd each
+  zip_lanes R (x ∷ xs) (y ∷ ys) each =
+      zip_append R x.lanes.items (all_lanes xs) y.lanes.items (all_lanes ys) (zip_each R x.lanes.items y.lanes.items each.0.as_many each.0.at) (zip_lanes R xs ys each.1)
+
+  numbers_same : (range : Option (ℕ × ℕ)) (gate : ℕ → Type 0) (xs ys : List (OwnLane I O gi go gm)) → AllZip (Swept 1 range gate) xs ys → numbers_of ys ≡ numbers_of xs
+  numbers_same range gate [] [] swept = refl
+  numbers_same range gate [] (y ∷ ys) swept = absurd swept
+  numbers_same range gate (x ∷ xs) [] swept = absurd swept
+  numbers_same range gate (x ∷ xs) (y ∷ ys) swept =
+      ap (λ (n : ℕ). n ∷ numbers_of ys) swept.0.same.index_is ∙ ap (λ (ns : List ℕ). index_in x.lane ∷ ns) (numbers_same range gate xs ys swept.1)
+
+  pub own_of_table : (turns : Turns (Relay I O) (Part I O) Made (Unit {0})) (config : Config) (lanes : ℕ) (xs : List (MediaThread I O gi go gm)) → AllOwn (λ (own : OwnLane I O gi go gm). IsFresh config turns lanes own) xs
+      → All (λ (thread : MediaThread I O gi go gm). AreOfTable turns thread.lanes.items) xs
+  own_of_table turns config lanes xs fresh i d lt j e le = (fresh i d lt j e le).of_table
+
+-- One lane.
+
+module _ {I O : Type 0} {gi : _} {go : _} {gm : _} (config : Config) (turns : Turns (Relay I O) (Part I O) Made (Unit {0})) (lanes : ℕ) (range : Option (ℕ × ℕ)) (gate : ℕ → Type 0) where
+  abbrev pub IsOneDone : OwnLane I O gi go gm → Type 0
+  IsOneDone own = IsDone config turns lanes range gate own
+
+  lane_done : (old new : OwnLane I O gi go gm) → IsFresh config turns lanes old → Swept 1 range gate old new → IsOneDone new
+  lane_done old new fresh swept = record {
+    of_table = swept.same.hand.0 ∙ fresh.of_table;
+    one_part = swept.same.hand.2 ∙ fresh.one_part;
+    not_main = swept.same.hand.3 ∙ fresh.not_main;
+    is_lane = record {
+      sweeps = swept.sweeps;
+      some = (let some = swept.enough in omega (arith, some));
+      are_sweeps =
+          subst (λ (n : ℕ). AreSweeps config (index_in new.lane) n range swept.sweeps) fresh.lanes_are
+          (subst (λ (n : ℕ). AreSweeps config n (lanes_in old.lane) range swept.sweeps) (sym swept.same.index_is)
+          (subst (λ (k : Config). AreSweeps k (index_in old.lane) (lanes_in old.lane) range swept.sweeps) fresh.config_is swept.are_sweeps));
+      rows_are =
+          swept.list_is
+          ∙ ap (λ (rows : List Row). rows ++ all_rows (config_in old.lane) (visits_of swept.sweeps)) fresh.nothing
+          ∙ ap (λ (k : Config). all_rows k (visits_of swept.sweeps)) fresh.config_is;
+    };
+    totals_are = swept.totals_are [] fresh.no_totals;
+    keeps =
+        subst (λ (k : Config). KeepsList k [] (list_in new.lane)) fresh.config_is
+        (subst (λ (rows : List Row). KeepsList (config_in old.lane) (list_of rows) (list_in new.lane)) fresh.nothing swept.keeps);
+    gated = gated_more gate (list_in old.lane) (list_in new.lane) (gated_none gate (list_in old.lane) (ap (λ (rows : List Row). list_of rows) fresh.nothing)) swept.gated;
   }
 
-  done_of_lane : (i : ℕ) (x : MediaThread I O gi go gm) → IsDone config turns threads range i x → (row : Row) → table_lists.In row (rows_of x) → IsOfLane row.event.event
-  done_of_lane i x done row is_in =
-      rows_in config (visits_of done.sweeps) row (subst (λ (rows : List Row). table_lists.In row rows) done.rows_are is_in)
+  done_of_lane : (x : OwnLane I O gi go gm) → IsOneDone x → (row : Row) → table_lists.In row (rows_of x) → IsOfLane row.event.event
+  done_of_lane x done row is_in =
+      rows_in config (visits_of done.is_lane.sweeps) row (subst (λ (rows : List Row). table_lists.In row rows) done.is_lane.rows_are is_in)
 
-  done_lane : (i : ℕ) (x : MediaThread I O gi go gm) → IsDone config turns threads range i x → IsLane config (rows_of x)
-  done_lane i x done = record {
-    of_lane = done_of_lane i x done;
-    receiving = λ own. done.list.receiving own (nothing_received config);
+  done_lane : (x : OwnLane I O gi go gm) → IsOneDone x → IsLaneRows config (rows_of x)
+  done_lane x done = record {
+    of_lane = done_of_lane x done;
+    receiving = λ own. done.keeps.receiving own (nothing_received config);
   }
 
-  done_totals : (i : ℕ) (x : MediaThread I O gi go gm) → IsDone config turns threads range i x → (l : List Entry) (was is : Totals) → AddsTotals was x.totals is → HasTotals l was
+  done_totals : (x : OwnLane I O gi go gm) → IsOneDone x → (l : List Entry) (was is : Totals) → AddsTotals was x.totals is → HasTotals l was
       → HasTotals (l ++ list_of (rows_of x)) is
-  done_totals i x done l was is adds has =
-      subst (λ (rows : List Row). HasTotals (l ++ list_of rows) is) (sym done.rows_are)
-      (visits_totals config range l (visits_of done.sweeps) (all_passed config i threads range done.sweeps done.are_sweeps) was x.totals is done.totals_are adds has)
+  done_totals x done l was is adds has =
+      subst (λ (rows : List Row). HasTotals (l ++ list_of rows) is) (sym done.is_lane.rows_are)
+      (visits_totals config range l (visits_of done.is_lane.sweeps) (all_passed config (index_in x.lane) lanes range done.is_lane.sweeps done.is_lane.are_sweeps) was x.totals is
+      done.totals_are adds has)
 
   -- All of them.
 
-  abbrev pub AreDone : ℕ → List (MediaThread I O gi go gm) → Type 0
-  AreDone n xs = AreEach (λ (i : ℕ) (x : MediaThread I O gi go gm). IsDone config turns threads range i x) n xs
+  abbrev pub AreDone : List (OwnLane I O gi go gm) → Type 0
+  AreDone xs = All IsOneDone xs
 
-  pub all_threads : (n : ℕ) (xs : List (MediaThread I O gi go gm)) → AreDone n xs → AreThreads config n threads range (map (λ (x : MediaThread I O gi go gm). rows_of x) xs)
-  all_threads n [] done = tt
-  all_threads n (x ∷ xs) done = (
-    record { sweeps = done.0.sweeps; some = done.0.some; are_sweeps = done.0.are_sweeps; rows_are = done.0.rows_are },
-    all_threads (n + 1) xs done.1,
-  )
+  head_done : (x : OwnLane I O gi go gm) (xs : List (OwnLane I O gi go gm)) → AreDone (x ∷ xs) → IsOneDone x
+  head_done x xs done = All-head IsOneDone x xs done
 
-  pub all_of_lane : (n : ℕ) (xs : List (MediaThread I O gi go gm)) → AreDone n xs → (row : Row)
-      → table_lists.In row (all_of (map (λ (x : MediaThread I O gi go gm). rows_of x) xs)) → IsOfLane row.event.event
-  all_of_lane n [] done row i = elim i [ ]
-  all_of_lane n (x ∷ xs) done row i =
-      elim (row_append (rows_of x) (all_of (map (λ (y : MediaThread I O gi go gm). rows_of y) xs)) i) [
-        | inl j ↦ done_of_lane n x done.0 row j
-        | inr j ↦ all_of_lane (n + 1) xs done.1 row j
+  tail_done : (x : OwnLane I O gi go gm) (xs : List (OwnLane I O gi go gm)) → AreDone (x ∷ xs) → AreDone xs
+  tail_done x xs done = All-tail IsOneDone x xs done
+
+  zip_numbers : (xs : List (OwnLane I O gi go gm)) → AreDone xs → AllZip (λ (index : ℕ) (rows : List Row). IsLane config lanes range index rows) (numbers_of xs) (rows_each xs)
+  zip_numbers [] done = tt
+  zip_numbers (x ∷ xs) done = ((head_done x xs done).is_lane, zip_numbers xs (tail_done x xs done))
+
+  pub all_of_lane : (xs : List (OwnLane I O gi go gm)) → AreDone xs → (row : Row) → table_lists.In row (all_of (rows_each xs)) → IsOfLane row.event.event
+  all_of_lane [] done row i = elim i [ ]
+  all_of_lane (x ∷ xs) done row i =
+      elim (row_append (rows_of x) (all_of (rows_each xs)) i) [
+        | inl j ↦ done_of_lane x (head_done x xs done) row j
+        | inr j ↦ all_of_lane xs (tail_done x xs done) row j
       ]
 
   -- the main hand's rows followed by theirs are sound
-  pub all_sound : (n : ℕ) (xs : List (MediaThread I O gi go gm)) → AreDone n xs → (rows : List Row) → IsSound config rows
-      → IsSound config (rows ++ all_of (map (λ (x : MediaThread I O gi go gm). rows_of x) xs))
-  all_sound n [] done rows sound = subst (λ (all : List Row). IsSound config all) (sym (append-nil rows)) sound
-  all_sound n (x ∷ xs) done rows sound =
-      subst (λ (all : List Row). IsSound config all) (append_assoc rows (rows_of x) (all_of (map (λ (y : MediaThread I O gi go gm). rows_of y) xs)))
-      (all_sound (n + 1) xs done.1 (rows ++ rows_of x) (joined config rows (rows_of x) sound (done_lane n x done.0)))
+  pub all_sound : (xs : List (OwnLane I O gi go gm)) → AreDone xs → (rows : List Row) → IsSound config rows → IsSound config (rows ++ all_of (rows_each xs))
+  all_sound [] done rows sound = subst (λ (all : List Row). IsSound config all) (sym (append-nil rows)) sound
+  all_sound (x ∷ xs) done rows sound =
+      subst (λ (all : List Row). IsSound config all) (append_assoc rows (rows_of x) (all_of (rows_each xs)))
+      (all_sound xs (tail_done x xs done) (rows ++ rows_of x) (joined config rows (rows_of x) sound (done_lane x (head_done x xs done))))
 
   -- and their counts are those of all
-  pub all_totals : (n : ℕ) (xs : List (MediaThread I O gi go gm)) → AreDone n xs → (rows : List Row) (was is : Totals) → AddsEach xs was is → HasTotals (list_of rows) was
-      → HasTotals (list_of (rows ++ all_of (map (λ (x : MediaThread I O gi go gm). rows_of x) xs))) is
-  all_totals n [] done rows was is adds has =
+  pub all_totals : (xs : List (OwnLane I O gi go gm)) → AreDone xs → (rows : List Row) (was is : Totals) → AddsEach xs was is → HasTotals (list_of rows) was
+      → HasTotals (list_of (rows ++ all_of (rows_each xs))) is
+  all_totals [] done rows was is adds has =
       subst (λ (all : List Row). HasTotals (list_of all) is) (sym (append-nil rows)) (subst (λ (t : Totals). HasTotals (list_of rows) t) (sym adds) has)
-  all_totals n (x ∷ xs) done rows was is adds has =
-      subst (λ (all : List Row). HasTotals (list_of all) is) (append_assoc rows (rows_of x) (all_of (map (λ (y : MediaThread I O gi go gm). rows_of y) xs)))
-      (all_totals (n + 1) xs done.1 (rows ++ rows_of x) adds.0 is adds.2
-      (subst (λ (l : List Entry). HasTotals l adds.0) (sym (map-append entry_of rows (rows_of x))) (done_totals n x done.0 (list_of rows) was adds.0 adds.1 has)))
+  all_totals (x ∷ xs) done rows was is adds has =
+      subst (λ (all : List Row). HasTotals (list_of all) is) (append_assoc rows (rows_of x) (all_of (rows_each xs)))
+      (all_totals xs (tail_done x xs done) (rows ++ rows_of x) adds.0 is adds.2
+      (subst (λ (l : List Entry). HasTotals l adds.0) (sym (map-append entry_of rows (rows_of x))) (done_totals x (head_done x xs done) (list_of rows) was adds.0 adds.1 has)))
 
-module _ {I O : Type 0} {gi : _} {go : _} {gm : _} (gate : ℕ → Type 0) where
-  each_gated : (n : ℕ) (xs : List (MediaThread I O gi go gm)) → AreEach (λ (i : ℕ) (x : MediaThread I O gi go gm). AreGated gate (lane_list x.lane)) n xs
-      → AreGated gate (list_of (all_of (map (λ (x : MediaThread I O gi go gm). rows_of x) xs)))
-  each_gated n [] each = gated_none gate [] refl
-  each_gated n (x ∷ xs) each =
-      let more = all_of (map (λ (y : MediaThread I O gi go gm). rows_of y) xs) in
-      subst (λ (l : List Entry). AreGated gate l) (sym (map-append entry_of (rows_of x) more))
-      (gated_both gate (list_of (rows_of x)) (list_of more) each.0 (each_gated (n + 1) xs each.1))
+  -- and the gate was passed at the cell of each relay
+  pub all_gated : (xs : List (OwnLane I O gi go gm)) → AreDone xs → AreGated gate (list_of (all_of (rows_each xs)))
+  all_gated [] done = gated_none gate [] refl
+  all_gated (x ∷ xs) done =
+      subst (λ (l : List Entry). AreGated gate l) (sym (map-append entry_of (rows_of x) (all_of (rows_each xs))))
+      (gated_both gate (list_of (rows_of x)) (list_of (all_of (rows_each xs))) (head_done x xs done).gated (all_gated xs (tail_done x xs done)))
 
--- Each thread that was made and did its work is done.
+-- Each lane that was made and did its work is done: xs are the threads before their work, and ys after it.
 
-module _ {I O : Type 0} {gi : _} {go : _} {gm : _} (config config' : Config) (turns turns' : Turns (Relay I O) (Part I O) Made (Unit {0})) (threads : ℕ) (range : Option (ℕ × ℕ))
-    (gate : ℕ → Type 0) (xs ys : List (MediaThread I O gi go gm)) (config_is : config' ≡ config) (turns_are : turns' ≡ turns) (long : length ys ≡ length xs) (many : length xs ≡ threads)
-    (fresh : (i : ℕ) (d : MediaThread I O gi go gm) → i < threads → IsFresh config' turns' threads i (slice_index_or xs i d))
-    (worked : (i : ℕ) (d : MediaThread I O gi go gm) → i < length xs → HasWorked range gate (slice_index_or xs i d) (slice_index_or ys i d)) where
-  pub done_at : (i : ℕ) (d : MediaThread I O gi go gm) → i < length ys → IsDone config turns threads range i (slice_index_or ys i d)
-  done_at i d lt =
-      worked_done config turns threads range gate i (slice_index_or xs i d) (slice_index_or ys i d)
-      (subst (λ (k : Config). IsFresh k turns threads i (slice_index_or xs i d)) config_is
-      (subst (λ (t : Turns (Relay I O) (Part I O) Made (Unit {0})). IsFresh config' t threads i (slice_index_or xs i d)) turns_are (fresh i d (omega (arith, lt, long, many)))))
-      (worked i d (omega (arith, lt, long)))
+module _ {I O : Type 0} {gi : _} {go : _} {gm : _} (config : Config) (turns : Turns (Relay I O) (Part I O) Made (Unit {0})) (lanes : ℕ) (range : Option (ℕ × ℕ))
+    (gate : ℕ → Type 0) (xs ys : List (MediaThread I O gi go gm)) (long : length ys ≡ length xs)
+    (fresh : All (λ (thread : MediaThread I O gi go gm). All (λ (own : OwnLane I O gi go gm). IsFresh config turns lanes own) thread.lanes.items) xs)
+    (worked : (i : ℕ) (d : MediaThread I O gi go gm) → i < length xs → Each (Swept 1 range gate) (slice_index_or xs i d).lanes.items (slice_index_or ys i d).lanes.items) where
+  swept : AllZip (Swept 1 range gate) (all_lanes xs) (all_lanes ys)
+  swept = zip_lanes (Swept 1 range gate) xs ys (zip_each (λ (x y : MediaThread I O gi go gm). Each (Swept 1 range gate) x.lanes.items y.lanes.items) xs ys long worked)
 
-  pub are_done : AreDone config turns threads range 0 ys
-  are_done = each_from_none (λ (i : ℕ) (x : MediaThread I O gi go gm). IsDone config turns threads range i x) ys done_at
+  own_done : AllOwn (IsOneDone config turns lanes range gate) ys
+  own_done i d lt j e le =
+      let each = worked i d (omega (arith, lt, long)) in
+      let many = each.as_many in
+      lane_done config turns lanes range gate (slice_index_or (slice_index_or xs i d).lanes.items j e) (slice_index_or (slice_index_or ys i d).lanes.items j e)
+      (fresh i d (omega (arith, lt, long)) j e (omega (arith, le, many))) (each.at j e (omega (arith, le, many)))
 
-  gated_at : (i : ℕ) (d : MediaThread I O gi go gm) → i < length ys → AreGated gate (lane_list (slice_index_or ys i d).lane)
-  gated_at i d lt =
-      gated_more gate (lane_list (slice_index_or xs i d).lane) (lane_list (slice_index_or ys i d).lane)
-      (gated_none gate (lane_list (slice_index_or xs i d).lane) (ap (λ (rows : List Row). list_of rows) (fresh i d (omega (arith, lt, long, many))).nothing))
-      (worked i d (omega (arith, lt, long))).gated
+  are_done : AreDone config turns lanes range gate (all_lanes ys)
+  are_done = all_flat (IsOneDone config turns lanes range gate) ys own_done
 
-  -- the gate was passed at the cell of each relay
-  pub all_gated : AreGated gate (list_of (all_of (map (λ (x : MediaThread I O gi go gm). rows_of x) ys)))
-  all_gated = each_gated gate 0 ys (each_from_none (λ (i : ℕ) (x : MediaThread I O gi go gm). AreGated gate (lane_list x.lane)) ys gated_at)
+  may_join : AllOwn (λ (own : OwnLane I O gi go gm). MayJoin turns own) ys
+  may_join i d lt j e le =
+      let x = own_done i d lt j e le in
+      record { of_table = x.of_table; one_part = x.one_part; not_main = x.not_main }
 
-  pub as_many : length (map (λ (x : MediaThread I O gi go gm). rows_of x) ys) ≡ threads
-  as_many = length-map ys (λ (x : MediaThread I O gi go gm). rows_of x) ∙ long ∙ many
+  as_many : length (all_lanes ys) ≡ length (all_lanes xs)
+  as_many =
+      sym (length-map (all_lanes ys) (λ (own : OwnLane I O gi go gm). index_in own.lane))
+      ∙ ap (λ (ns : List ℕ). length ns) (numbers_same range gate (all_lanes xs) (all_lanes ys) swept)
+      ∙ length-map (all_lanes xs) (λ (own : OwnLane I O gi go gm). index_in own.lane)
 
-  pub may_join : (like : Turns (Relay I O) (Part I O) Made (Unit {0})) → turns ≡ like → All (λ (x : MediaThread I O gi go gm). MayJoin like x) ys
-  may_join like same i d lt =
-      let x = done_at i d lt in
-      record {
-        of_table = subst (λ (t : Turns (Relay I O) (Part I O) Made (Unit {0})). IsHandOf t (hand_of (slice_index_or ys i d).lane)) same x.of_table;
-        one_part = x.one_part;
-        not_main = x.not_main;
-      }
-
--- the hands of threads that did nothing yet are of the table
-pub are_hands : {I O : Type 0} {gi : _} {go : _} {gm : _} (config : Config) (turns like : Turns (Relay I O) (Part I O) Made (Unit {0})) (threads : ℕ) (xs : List (MediaThread I O gi go gm))
-    → turns ≡ like → length xs ≡ threads → ((i : ℕ) (d : MediaThread I O gi go gm) → i < threads → IsFresh config turns threads i (slice_index_or xs i d))
-    → (i : ℕ) (d : MediaThread I O gi go gm) → i < length xs → IsHandOf like (hand_of (slice_index_or xs i d).lane)
-are_hands {I} {O} {gi} {go} {gm} config turns like threads xs same many fresh i d lt =
-    subst (λ (t : Turns (Relay I O) (Part I O) Made (Unit {0})). IsHandOf t (hand_of (slice_index_or xs i d).lane)) same (fresh i d (omega (arith, lt, many))).of_table
-
--- The threads are made, one after the other.
-
--- a fact of each element, and of one more
-pub each_push : {X : Type 0} (P : ℕ → X → Type 0) (xs : List X) (x : X) (n : ℕ) → length xs ≡ n → ((i : ℕ) (d : X) → i < n → P i (slice_index_or xs i d)) → P n x
-    → (i : ℕ) (d : X) → i < n + 1 → P i (slice_index_or (xs ++ x ∷ []) i d)
-each_push {X} P xs x n long all one i d lt =
-    elim (cases_lt i n) [
-      | inl h ↦ subst (λ (y : X). P i y) (sym (get_or_append_left xs (x ∷ []) d i (omega (arith, h, long)))) (all i d h)
-      | inr h ↦
-          (let last : n ≡ i = omega (arith, h, lt) in
-          subst (λ (y : X). P i y) (sym (get_or_push xs x d i (omega (arith, last, long)))) (subst (λ (k : ℕ). P k x) last one))
-    ]
-
-module _ {I O : Type 0} {gi : _} {go : _} {gm : _} (config : Config) (turns : Turns (Relay I O) (Part I O) Made (Unit {0})) where
-  -- a lane of a part of the main hand
-  pub cut_fresh : (threads i : ℕ) (hand part : Hand (Relay I O) (Part I O) Made (Unit {0}) gm) (x : MediaThread I O gi go gm) → IsHandOf turns hand → IsCut hand part → hand_of x.lane ≡ part
-      → config_of x.lane ≡ config → index_of x.lane ≡ i → lanes_of x.lane ≡ threads → IsFresh config turns threads i x
-  cut_fresh threads i hand part x of_table cut hand_is config_is index_is threads_are = record {
-    of_table = subst (λ (h : Hand (Relay I O) (Part I O) Made (Unit {0}) gm). IsHandOf turns h) (sym hand_is) (cut.0 ∙ of_table);
-    one_part = subst (λ (h : Hand (Relay I O) (Part I O) Made (Unit {0}) gm). parts h ≡ 1) (sym hand_is) cut.3;
-    not_main = subst (λ (h : Hand (Relay I O) (Part I O) Made (Unit {0}) gm). (view h).main ≡ false) (sym hand_is) cut.4;
-    nothing = subst (λ (h : Hand (Relay I O) (Part I O) Made (Unit {0}) gm). entries h ≡ []) (sym hand_is) cut.2;
-    config_is = config_is;
-    index_is = index_is;
-    threads_are = threads_are;
+  all_made : AreNumbers lanes (numbers_of (all_lanes xs)) → AreLanes config lanes range (rows_each (all_lanes ys))
+  all_made once = record {
+    numbers = numbers_of (all_lanes ys);
+    each_once = λ i.
+        ap (λ (ns : List ℕ). count_by (λ (j : ℕ). j == i) ns) (numbers_same range gate (all_lanes xs) (all_lanes ys) swept) ∙ once i;
+    are_lanes = zip_numbers config turns lanes range gate (all_lanes ys) are_done;
   }
+
+-- What is known of the lanes of these threads after their work, where xs are the threads before it.
+pub record HaveWorked {I O : Type 0} {gi : _} {go : _} {gm : _} (config : Config) (turns : Turns (Relay I O) (Part I O) Made (Unit {0})) (lanes : ℕ) (range : Option (ℕ × ℕ)) (gate : ℕ → Type 0)
+    (xs ys : List (MediaThread I O gi go gm)) : Type 0 where
+  pub done : AreDone config turns lanes range gate (all_lanes ys)
+  pub made : AreLanes config lanes range (rows_each (all_lanes ys))
+  pub many : length (all_lanes ys) ≡ length (all_lanes xs)
+  pub join : AllOwn (λ (own : OwnLane I O gi go gm). MayJoin turns own) ys
+
+-- by what was known of them before it, under other names of configuration, table and number
+pub have_worked : {I O : Type 0} {gi : _} {go : _} {gm : _} (config config' : Config) (turns turns' : Turns (Relay I O) (Part I O) Made (Unit {0})) (lanes lanes' : ℕ) (range : Option (ℕ × ℕ))
+    (gate : ℕ → Type 0) (xs ys : List (MediaThread I O gi go gm)) → config' ≡ config → turns' ≡ turns → lanes' ≡ lanes → length ys ≡ length xs
+    → AllOwn (λ (own : OwnLane I O gi go gm). IsFresh config' turns' lanes' own) xs → AreNumbers lanes' (numbers_of (all_lanes xs))
+    → ((i : ℕ) (d : MediaThread I O gi go gm) → i < length xs → Each (Swept 1 range gate) (slice_index_or xs i d).lanes.items (slice_index_or ys i d).lanes.items)
+    → HaveWorked config turns lanes range gate xs ys
+have_worked {I} {O} {gi} {go} {gm} config config' turns turns' lanes lanes' range gate xs ys config_is turns_are lanes_are long before once worked =
+    let fresh : AllOwn (λ (own : OwnLane I O gi go gm). IsFresh config turns lanes own) xs =
+    subst (λ (n : ℕ). AllOwn (λ (own : OwnLane I O gi go gm). IsFresh config turns n own) xs) lanes_are
+    (subst (λ (t : Turns (Relay I O) (Part I O) Made (Unit {0})). AllOwn (λ (own : OwnLane I O gi go gm). IsFresh config t lanes' own) xs) turns_are
+    (subst (λ (k : Config). AllOwn (λ (own : OwnLane I O gi go gm). IsFresh k turns' lanes' own) xs) config_is before)) in
+    record {
+      done = are_done config turns lanes range gate xs ys long fresh worked;
+      made = all_made config turns lanes range gate xs ys long fresh worked (subst (λ (n : ℕ). AreNumbers n (numbers_of (all_lanes xs))) lanes_are once);
+      many = as_many config turns lanes range gate xs ys long fresh worked;
+      join = may_join config turns lanes range gate xs ys long fresh worked;
+    }
 
 -- the main hand stays what it is when a part of it is split
 pub left_between : {M I O T : Type 0} {g : _} (config : Config) (turns : Turns M (Part I O) Made T) (old new : Hand M (Part I O) Made T g) → IsLeft old new
@@ -260,23 +283,53 @@ pub all_reversed : {X : Type 0} (P : X → Type 0) (xs zs : List X) → zs ≡ r
 all_reversed {X} P xs zs is all = subst (λ (ys : List X). All P ys) (sym is) (all_reverse P xs all)
 
 module _ {I O : Type 0} {gi : _} {go : _} {gm : _} where
-  -- the rows of these threads
-  abbrev pub rest : List (MediaThread I O gi go gm) → List Row
-  rest zs = all_of (map (λ (y : MediaThread I O gi go gm). rows_of y) zs)
+  rows_both : (xs ys : List (OwnLane I O gi go gm)) → all_of (rows_each (xs ++ ys)) ≡ all_of (rows_each xs) ++ all_of (rows_each ys)
+  rows_both [] ys = refl
+  rows_both (x ∷ xs) ys = ap (λ (rows : List Row). rows_of x ++ rows) (rows_both xs ys) ∙ sym (append_assoc (rows_of x) (all_of (rows_each xs)) (all_of (rows_each ys)))
 
-module _ {I O : Type 0} {gi : _} {go : _} {gm : _} (xs ys : List (MediaThread I O gi go gm)) (x : MediaThread I O gi go gm) (is : xs ≡ ys ++ x ∷ []) where
+  adds_both : (xs ys : List (OwnLane I O gi go gm)) (a b c : Totals) → AddsEach xs a b → AddsEach ys b c → AddsEach (xs ++ ys) a c
+  adds_both [] ys a b c first second = subst (λ (t : Totals). AddsEach ys t c) first second
+  adds_both (x ∷ xs) ys a b c first second = (first.0, first.1, adds_both xs ys first.0 b c first.2 second)
+
+-- A lane is popped.
+module _ {I O : Type 0} {gi : _} {go : _} {gm : _} (xs ys : List (OwnLane I O gi go gm)) (x : OwnLane I O gi go gm) (is : xs ≡ ys ++ x ∷ []) where
   -- what is known of all is known of those that are left, and of this one
-  pub all_left : (P : MediaThread I O gi go gm → Type 0) → All P xs → All P ys × P x
+  pub all_left : (P : OwnLane I O gi go gm → Type 0) → All P xs → All P ys × P x
   all_left P all = All-pop P xs ys (Some x) is all
 
-  pub next_list : (before after all : List Row) → after ≡ before ++ rows_of x → before ++ rest (reverse xs) ≡ all → after ++ rest (reverse ys) ≡ all
+  pub next_list : (before after all : List Row) → after ≡ before ++ rows_of x → before ++ all_of (rows_each (reverse xs)) ≡ all → after ++ all_of (rows_each (reverse ys)) ≡ all
   next_list before after all gains so_far =
-      ap (λ (rows : List Row). rows ++ rest (reverse ys)) gains
-      ∙ append_assoc before (rows_of x) (rest (reverse ys))
-      ∙ ap (λ (zs : List (MediaThread I O gi go gm)). before ++ rest zs) (sym (next_reversed xs ys x is))
+      ap (λ (rows : List Row). rows ++ all_of (rows_each (reverse ys))) gains
+      ∙ append_assoc before (rows_of x) (all_of (rows_each (reverse ys)))
+      ∙ ap (λ (zs : List (OwnLane I O gi go gm)). before ++ all_of (rows_each zs)) (sym (next_reversed xs ys x is))
       ∙ so_far
 
   pub next_totals : (was now : Totals) (R : Totals → Type 0) → AddsTotals was x.totals now → ((t : Totals) → AddsEach (reverse xs) was t → R t)
       → (t : Totals) → AddsEach (reverse ys) now t → R t
   next_totals was now R adds so_far t more =
-      so_far t (subst (λ (zs : List (MediaThread I O gi go gm)). AddsEach zs was t) (sym (next_reversed xs ys x is)) (now, adds, more))
+      so_far t (subst (λ (zs : List (OwnLane I O gi go gm)). AddsEach zs was t) (sym (next_reversed xs ys x is)) (now, adds, more))
+
+-- A thread is popped: all its lanes are.
+module _ {I O : Type 0} {gi : _} {go : _} {gm : _} (xs ys : List (MediaThread I O gi go gm)) (x : MediaThread I O gi go gm) (is : xs ≡ ys ++ x ∷ []) where
+  pub threads_left : (P : MediaThread I O gi go gm → Type 0) → All P xs → All P ys × P x
+  threads_left P all = All-pop P xs ys (Some x) is all
+
+  pub next_rows : (before after all : List Row) → after ≡ before ++ all_of (rows_each x.lanes.items) → before ++ all_of (rows_each (all_lanes (reverse xs))) ≡ all
+      → after ++ all_of (rows_each (all_lanes (reverse ys))) ≡ all
+  next_rows before after all gains so_far =
+      ap (λ (rows : List Row). rows ++ all_of (rows_each (all_lanes (reverse ys)))) gains
+      ∙ append_assoc before (all_of (rows_each x.lanes.items)) (all_of (rows_each (all_lanes (reverse ys))))
+      ∙ ap (λ (rows : List Row). before ++ rows) (sym (rows_both x.lanes.items (all_lanes (reverse ys))))
+      ∙ ap (λ (zs : List (MediaThread I O gi go gm)). before ++ all_of (rows_each (all_lanes zs))) (sym (next_reversed xs ys x is))
+      ∙ so_far
+
+  pub next_adds : (was now : Totals) (R : Totals → Type 0) → AddsEach x.lanes.items was now → ((t : Totals) → AddsEach (all_lanes (reverse xs)) was t → R t)
+      → (t : Totals) → AddsEach (all_lanes (reverse ys)) now t → R t
+  next_adds was now R adds so_far t more =
+      so_far t
+      (subst (λ (zs : List (MediaThread I O gi go gm)). AddsEach (all_lanes zs) was t) (sym (next_reversed xs ys x is))
+      (adds_both x.lanes.items (all_lanes (reverse ys)) was now t adds more))
+
+  pub next_length : length (all_lanes (reverse xs)) ≡ length x.lanes.items + length (all_lanes (reverse ys))
+  next_length =
+      ap (λ (zs : List (MediaThread I O gi go gm)). length (all_lanes zs)) (next_reversed xs ys x is) ∙ length-append x.lanes.items (all_lanes (reverse ys))

@@ -1,5 +1,6 @@
 -- The nested entries of a run stand at each place in the order of their numbers.
-use Rattle.std.proofs.Common.{◌≡◌, ◌∙◌, refl, sym, ap, subst, ℕ, zero, suc, ◌+◌, ◌<◌, ◌⊎◌, inl, inr, true, false, List, [], ◌∷◌, ◌++◌, Option, None, Some, arith}
+use Rattle.std.proofs.Common.{◌≡◌, ◌∙◌, refl, sym, ap, subst, ℕ, zero, suc, ◌<◌, ◌⊎◌, inl, inr, true, false, List, [], ◌∷◌, ◌++◌, Option, None, Some, arith}
+use Rattle.std.specs.List.{AllZip}
 use Rattle.std.proofs.lemmas.List.{map-append}
 use Rattle.relay_outside.specs.declared.settings.Config.{Config}
 use Rattle.turn_table.specs.Histories as table_lists
@@ -20,7 +21,7 @@ use Rattle.media_lane.specs.Looping.{visits_of}
 use Rattle.media_lane.specs.Visits.{Row}
 use Rattle.media_lane.proofs.Sweeps.{rows_in}
 use Rattle.relay_runs.specs.Loads.{IsLoadWhole}
-use Rattle.relay_runs.specs.Rounds.{Round, with_heard, tick_of, history_after, entry_due, IsBoardTurn, MakesEntry, SweepsAlone, AreRounds, AreThreads, all_of, IsWhole}
+use Rattle.relay_runs.specs.Rounds.{Round, with_heard, tick_of, history_after, entry_due, IsBoardTurn, MakesEntry, HasSwept, SweepsAlone, AreRounds, lane_count, IsLane, AreLanes, all_of, IsWhole}
 
 before_across : {A : Type 0} {x y : A} (xs ys : List A) → In x xs → In y ys → Before x y (xs ++ ys)
 before_across [] ys i j = elim i [ ]
@@ -89,15 +90,28 @@ sweep_of_lane config zero range rows swept row i =
     rows_in config swept.visits row (subst (λ (xs : List Row). table_lists.In row xs) swept.rows_are i)
 sweep_of_lane config (suc more) range rows none row i = elim (subst (λ (xs : List Row). table_lists.In row xs) none i) [ ]
 
--- and those of threads
-pub threads_of_lane : (config : Config) (index threads : ℕ) (range : Option (ℕ × ℕ)) (beside : List (List Row)) → AreThreads config index threads range beside
-    → AreOfLane (all_of beside)
-threads_of_lane config index threads range [] are row i = elim i [ ]
-threads_of_lane config index threads range (rows ∷ more) are row i =
+pub swept_of_lane : (config : Config) (index lanes : ℕ) (range : Option (ℕ × ℕ)) (rows : List Row) → HasSwept config index lanes range rows → AreOfLane rows
+swept_of_lane config index lanes range rows swept row i =
+    rows_in config swept.visits row (subst (λ (xs : List Row). table_lists.In row xs) swept.rows_are i)
+
+-- both are
+pub both_of_lane : (xs ys : List Row) → AreOfLane xs → AreOfLane ys → AreOfLane (xs ++ ys)
+both_of_lane xs ys first second row i = elim (row_append xs ys i) [ inl j ↦ first row j | inr j ↦ second row j ]
+
+-- and those of all lanes
+each_of_lane : (config : Config) (lanes : ℕ) (range : Option (ℕ × ℕ)) (numbers : List ℕ) (beside : List (List Row))
+    → AllZip (λ (index : ℕ) (rows : List Row). IsLane config lanes range index rows) numbers beside → AreOfLane (all_of beside)
+each_of_lane config lanes range [] [] are row i = elim i [ ]
+each_of_lane config lanes range [] (rows ∷ more) are row i = absurd are
+each_of_lane config lanes range (n ∷ ns) [] are row i = absurd are
+each_of_lane config lanes range (n ∷ ns) (rows ∷ more) are row i =
     elim (row_append rows (all_of more) i) [
       | inl j ↦ rows_in config (visits_of are.0.sweeps) row (subst (λ (xs : List Row). table_lists.In row xs) are.0.rows_are j)
-      | inr j ↦ threads_of_lane config (index + 1) threads range more are.1 row j
+      | inr j ↦ each_of_lane config lanes range ns more are.1 row j
     ]
+
+pub lanes_of_lane : (config : Config) (lanes : ℕ) (range : Option (ℕ × ℕ)) (beside : List (List Row)) → AreLanes config lanes range beside → AreOfLane (all_of beside)
+lanes_of_lane config lanes range beside are = each_of_lane config lanes range are.numbers beside are.are_lanes
 
 -- A turn of the board.
 
@@ -154,9 +168,9 @@ module _ (config : Config) where
     pub whole_in_order : (rounds : List Round) (totals : Totals) → (whole : IsWhole config threads range rounds totals) → InOrder (list_of whole.rows)
     whole_in_order rounds totals whole =
         subst (λ (xs : List Row). InOrder (list_of xs)) (sym whole.rows_are)
-        (lanes_in_order ((whole.in_rounds ++ whole.last_sweep) ++ whole.stop) (all_of whole.beside) (threads_of_lane config 0 threads range whole.beside whole.are_threads)
-        (turn_in_order (whole.in_rounds ++ whole.last_sweep) _ whole.stop whole.is_stop
-        (lanes_in_order whole.in_rounds whole.last_sweep (sweep_of_lane config threads range whole.last_sweep whole.is_sweep)
+        (turn_in_order ((whole.in_rounds ++ all_of whole.beside) ++ whole.last_sweep) _ whole.stop whole.is_stop
+        (lanes_in_order (whole.in_rounds ++ all_of whole.beside) whole.last_sweep (swept_of_lane config 0 1 range whole.last_sweep whole.is_sweep)
+        (lanes_in_order whole.in_rounds (all_of whole.beside) (lanes_of_lane config (lane_count config threads) range whole.beside whole.are_lanes)
         (rounds_in_order rounds whole.in_rounds whole.are_rounds))))
 
     -- and a whole load
@@ -164,5 +178,5 @@ module _ (config : Config) where
     load_in_order rounds totals whole =
         subst (λ (xs : List Row). InOrder (list_of xs)) (sym whole.rows_are)
         (turn_in_order (whole.in_rounds ++ all_of whole.beside) _ whole.stop whole.is_stop
-        (lanes_in_order whole.in_rounds (all_of whole.beside) (threads_of_lane config 0 threads range whole.beside whole.are_threads)
+        (lanes_in_order whole.in_rounds (all_of whole.beside) (lanes_of_lane config threads range whole.beside whole.are_lanes)
         (rounds_in_order rounds whole.in_rounds whole.are_rounds)))

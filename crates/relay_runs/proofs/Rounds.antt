@@ -1,37 +1,27 @@
 -- How the rows of a run grow: by a control turn, by a sweep, and by the stop.
 use Rattle.std.specs.Prelude.{is_some, unwrap_or}
 use Rattle.std.specs.Option.{option_map}
-use Rattle.std.proofs.Common.{◌≡◌, ◌∙◌, ap, refl, subst, sym, ℕ, zero, suc, ◌<◌, List, [], ◌∷◌, ◌++◌, length, append_assoc, append-nil, Bool, true, false, cond, Option, None, Some, map, arith}
+use Rattle.std.proofs.Common.{◌≡◌, ◌∙◌, ap, refl, subst, sym, ℕ, zero, suc, ◌<◌, List, [], ◌∷◌, ◌++◌, append_assoc, append-nil, Bool, true, false, cond, Option, None, Some, arith}
 use Rattle.relay_outside.specs.declared.settings.Config.{Config}
 use Rattle.turn_table.specs.declared.hands.Turns.{Turns}
 use Rattle.turn_table.specs.declared.hands.Hand.{Hand}
-use Rattle.turn_table.specs.Histories as table_lists
 use Rattle.turn_table.specs.Hands.{entries}
 use Rattle.call_board.specs.Acts.{Call, BoardEntry}
 use Rattle.relay_core.specs.declared.part.Part.{Part}
-use Rattle.relay_core.specs.Entries.{Entry}
-use Rattle.relay_core.specs.Legal.{Legal}
-use Rattle.relay_core.specs.Safe.{Safe}
-use Rattle.relay_core.specs.Made.{Made, list_of, told}
-use Rattle.relay_core.specs.Timed.{AreTimed}
-use Rattle.relay_core.specs.Told.{OutsAreTold}
-use Rattle.relay_core.specs.Turning.{IsOfLane, made_by}
-use Rattle.relay_core.proofs.Recording.{lane_no_boards}
+use Rattle.relay_core.specs.Made.{Made, list_of}
+use Rattle.relay_core.specs.Turning.{made_by}
 use Rattle.media_lane.specs.declared.answers.Totals.{Totals}
 use Rattle.media_lane.specs.Sweeping.{Sweeps}
 use Rattle.media_lane.specs.Visits.{Row}
-use Rattle.board_turns.specs.Between.{board_of, IsBetween, MakesTurn}
-use Rattle.board_turns.specs.Stopping.{stop_entry}
+use Rattle.board_turns.specs.Between.{board_of, IsBetween}
 use Rattle.board_turns.specs.Ticking.{tick_entry}
 use Rattle.board_turns.proofs.Grown.{makes_history}
 use Rattle.board_turns.specs.Controls.{Hearing, entry_at, moment_at}
 use Rattle.ng_server.specs.declared.taking.ControlTurn.{ControlTurn}
 use Rattle.ng_server.specs.Taking.{Follows}
 use Rattle.media_lane.specs.Totals.{HasTotals}
-use Rattle.media_lane.proofs.Between.{lanes_board}
-use Rattle.media_lane.proofs.Counts.{turn_totals, told_totals}
-use Rattle.ng_server.proofs.Tellings.{told_board}
-use Rattle.relay_runs.specs.Rounds.{Round, status_after, entry_due, with_entry, with_heard, tick_of, history_after, with_ticks, latest, earliest, or_else, counted_from, is_tick_due, IsBoardTurn, HasHeard, MakesEntry, AreRounds, AreThreads, all_of, IsWhole}
+use Rattle.media_lane.proofs.Counts.{turn_totals}
+use Rattle.relay_runs.specs.Rounds.{Round, status_after, entry_due, with_entry, with_heard, tick_of, history_after, with_ticks, latest, earliest, or_else, counted_from, is_tick_due, HasHeard, MakesEntry, AreRounds}
 use Rattle.relay_runs.specs.Turned.{AddsSweep, DidTick}
 
 -- what a control turn added to the rows, or a tick
@@ -162,64 +152,3 @@ module _ {M I O : Type 0} {g : _} where
       subst (λ (h : Hand M (Part I O) Made (Unit {0}) g). HasTotals (made_by h) totals) (sym follows.1) counts
   follows_totals config turns old new now answer (Some x) totals before follows counts =
       turn_totals config old new (entry_at config (board_of (made_by old)) (moment_at (board_of (made_by old)) now) x) totals before.orderly follows.1 counts
-
-  -- The last sweep, the stop, the join of the threads' hands, and the close of the table: first is the hand after the rounds, swept that after
-  -- the sweep, last that after the stop, all that after the join.
-  module _ (config : Config) (threads : ℕ) (range : Option (ℕ × ℕ)) (rounds : List Round) (totals : Totals) (turns : Turns M (Part I O) Made (Unit {0}))
-      (first swept last all : Hand M (Part I O) Made (Unit {0}) g) (beside : List (List Row))
-      (are : AreRounds config threads range rounds (entries first)) (history_is : board_of (made_by first) ≡ history_after config rounds)
-      (same : board_of (made_by swept) ≡ board_of (made_by first)) (s : AddsSweep config threads range (entries first) (entries swept))
-      (before : IsBetween config turns swept) (after : IsBetween config turns last)
-      (makes : MakesTurn config swept last (stop_entry (board_of (made_by swept))))
-      (as_many : length beside ≡ threads) (are_threads : AreThreads config 0 threads range beside)
-      (of_lanes : (row : Row) → table_lists.In row (all_of beside) → IsOfLane row.event.event) (joined_is : entries all ≡ entries last ++ all_of beside)
-      (counts : HasTotals (made_by all) totals)
-      (closed : (l : List Entry) × (map told l ≡ made_by all) × Legal config l × Safe config l × OutsAreTold (entries all) l) (timed : AreTimed (entries all)) where
-    history : board_of (made_by swept) ≡ history_after config rounds
-    history = same ∙ history_is
-
-    abbrev stop : List Row
-    stop = makes.rows ++ makes.row ∷ []
-
-    main_rows : entries last ≡ (entries first ++ s.rows) ++ stop
-    main_rows = makes.list_is ∙ append_assoc (entries swept) makes.rows (makes.row ∷ []) ∙ ap (λ (xs : List Row). xs ++ stop) s.are
-
-    rows_are : entries all ≡ ((entries first ++ s.rows) ++ stop) ++ all_of beside
-    rows_are = joined_is ∙ ap (λ (xs : List Row). xs ++ all_of beside) main_rows
-
-    stopped : IsBoardTurn config (entries first ++ s.rows) (stop_entry (history_after config rounds)) stop
-    stopped =
-        subst (λ (h : List BoardEntry). IsBoardTurn config (entries first ++ s.rows) (stop_entry h) stop) history
-        (subst (λ (xs : List Row). IsBoardTurn config xs (stop_entry (board_of (made_by swept))) stop) s.are
-        (record { nested = makes.rows; last = makes.row; rows_are = refl; turn = makes.turn; is = makes.is }))
-
-    pub whole_run : (whole : IsWhole config threads range rounds totals) × (whole.rows ≡ entries all) × OutsAreTold whole.rows whole.list
-    whole_run = (
-      record {
-        in_rounds = entries first;
-        last_sweep = s.rows;
-        stop = stop;
-        beside = beside;
-        are_rounds = are;
-        is_sweep = s.alone;
-        is_stop = stopped;
-        as_many = as_many;
-        are_threads = are_threads;
-        rows = entries all;
-        rows_are = rows_are;
-        timed = timed;
-        list = closed.0;
-        told_is = closed.1;
-        legal = closed.2;
-        safe = closed.3;
-        board_is =
-            sym (told_board closed.0) ∙ ap board_of closed.1
-            ∙ ap (λ (xs : List Row). board_of (list_of xs)) joined_is
-            ∙ lanes_board (entries last) (all_of beside) (λ row i. lane_no_boards row.event.event (of_lanes row i))
-            ∙ makes_history config turns swept last (stop_entry (board_of (made_by swept))) before after makes
-            ∙ ap (λ (h : List BoardEntry). stop_entry h ∷ h) history;
-        totals_are = told_totals closed.0 totals (subst (λ (l : List Entry). HasTotals l totals) (sym closed.1) counts);
-      },
-      refl,
-      closed.4,
-    )

@@ -62,16 +62,8 @@ pub sweep_tied : (config : Config) (threads : ℕ) (range : Option (ℕ × ℕ))
 sweep_tied config threads range before now rows after sweep tied =
     lanes_tied config before now rows sweep.rows after (sweep_of_lane config threads range sweep.rows sweep.alone) sweep.are tied
 
--- the whole run: its rounds, the last sweep, the stop, and the rows of threads
-pub run_tied : (config : Config) (threads : ℕ) (range : Option (ℕ × ℕ)) (t0 t1 t2 : Option (List PortCall)) (first swept last beside all : List Row)
-    → Gained t0 t1 (AreTied config first) → AddsSweep config threads range first swept → Ties config t1 t2 swept last → AreOfLane beside → all ≡ last ++ beside
-    → Gained t0 t2 (AreTied config all)
-run_tied config threads range t0 t1 t2 first swept last beside all tied sweep stop lanes joined =
-    lanes_tied config t0 t2 last beside all lanes joined
-    (more_tied config t0 t1 t2 swept last (sweep_tied config threads range t0 t1 first swept sweep tied) stop)
-
--- a whole load: its control turns, the rows of threads, and the stop
-pub load_tied : (config : Config) (t0 t1 t2 : Option (List PortCall)) (first beside joined last : List Row) → Gained t0 t1 (AreTied config first) → AreOfLane beside
+-- a whole run: its control turns, rows of lanes, and the stop
+pub whole_tied : (config : Config) (t0 t1 t2 : Option (List PortCall)) (first beside joined last : List Row) → Gained t0 t1 (AreTied config first) → AreOfLane beside
     → joined ≡ first ++ beside → Ties config t1 t2 joined last → Gained t0 t2 (AreTied config last)
-load_tied config t0 t1 t2 first beside joined last tied lanes is stop =
+whole_tied config t0 t1 t2 first beside joined last tied lanes is stop =
     more_tied config t0 t1 t2 joined last (lanes_tied config t0 t1 first beside joined lanes is tied) stop

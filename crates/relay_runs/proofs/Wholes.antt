@@ -1,5 +1,5 @@
 -- The end of a run: the stop of all calls, and the close of the table.
-use Rattle.std.proofs.Common.{◌≡◌, refl, sym, subst, ℕ, ◌≤◌, ◌<◌, ◌^◌, arith, List, [], ◌∷◌, ◌++◌, Option, Some, None, All, map}
+use Rattle.std.proofs.Common.{◌≡◌, refl, sym, subst, ℕ, ◌≤◌, ◌<◌, ◌^◌, arith, List, [], ◌∷◌, Option, Some, None, All, map}
 use Rattle.relay_outside.specs.declared.ports.PortCall.{PortCall}
 use Rattle.relay_outside.specs.declared.keys.KeyCall.{KeyCall}
 use Rattle.relay_outside.specs.declared.link.LinkCall.{LinkCall}
@@ -14,7 +14,7 @@ use Rattle.relay_core.specs.Entries.{Entry}
 use Rattle.relay_core.specs.Legal.{Legal}
 use Rattle.relay_core.specs.Made.{Made, list_of, told}
 use Rattle.relay_core.specs.Safe.{Safe}
-use Rattle.relay_core.specs.Told.{InOrder, InsAreTold, OutsAreTold}
+use Rattle.relay_core.specs.Told.{InsAreTold, OutsAreTold}
 use Rattle.relay_core.specs.Turning.{made_by}
 use Rattle.media_ports.specs.Given.{IsOfPair}
 use Rattle.media_ports.specs.Held.{TellsHeld}
@@ -24,7 +24,7 @@ use Rattle.media_lane.specs.Visits.{Row, AreTotals}
 use Rattle.media_lane.specs.Gated.{AreGated}
 use Rattle.board_turns.specs.Between.{board_of, IsBetween}
 use Rattle.board_turns.specs.Stopping.{stop_entry}
-use Rattle.board_turns.specs.Ties.{AreTied, Ties}
+use Rattle.board_turns.specs.Ties.{AreTied}
 use Rattle.board_turns.proofs.Firsts.{first_board, none_open}
 use Rattle.media_lane.specs.Totals.{HasTotals}
 use Rattle.ng_server.specs.Servers.{OpensJust}
@@ -32,17 +32,15 @@ use Rattle.relay_runs.specs.declared.status.Status.{Status}
 use Rattle.relay_runs.specs.declared.totals.Counts.{Counts}
 use Rattle.command_line.specs.declared.settings.Settings.{Settings}
 use Rattle.relay_runs.specs.Ends.{HasAllSends, AreEnds, OpensSame}
-use Rattle.relay_runs.specs.Rounds.{Round, history_after, IsWhole}
+use Rattle.relay_runs.specs.Rounds.{Round, history_after}
 use Rattle.relay_runs.specs.Run.{OpensNone, TellsNone}
-use Rattle.relay_runs.specs.Served.{Outside, HaveCauses, AreTold, DidServe}
+use Rattle.relay_runs.specs.Served.{Outside, HaveCauses, AreTold}
 use Rattle.relay_runs.specs.declared.turns.Looped.{Looped}
-use Rattle.relay_runs.specs.Turned.{AddsSweep, DidTurns, MayTurn, CanWork, DidWork, MadeTurns}
+use Rattle.relay_runs.specs.Turned.{DidTurns, MayTurn, CanWork, DidWork, MadeTurns}
 use Rattle.relay_runs.proofs.Departures.{is_sent}
 use Rattle.relay_runs.proofs.Ends.{whole_ends, opens_same}
 use Rattle.relay_runs.proofs.Gates.{told_gated}
 use Rattle.relay_runs.proofs.Loops.{opened_alone}
-use Rattle.relay_runs.proofs.Orders.{AreOfLane, whole_in_order}
-use Rattle.relay_runs.proofs.Tied.{run_tied}
 
 -- the same hand, by another name of its table and its configuration
 pub moved_between : {M I O T : Type 0} {g : _} (config same : Config) (turns like : Turns M (Part I O) Made T) (hand : Hand M (Part I O) Made T g) → config ≡ same → turns ≡ like
@@ -128,39 +126,6 @@ module _ (limit : ℕ) (config : Config) (threads : ℕ) (range : Option (ℕ ×
     all_sent = λ e x w i is sending. is_sent config list history legal safe board_is e x w i is sending;
     opens_same = opens_same config o0 o2 (gained_less o0 o2 (AreTied config rows) (λ calls. All (IsOfPair config) calls) (λ calls these. these.of_pairs) tied) shut shut_again;
   }
-
--- so the turns are those of a whole run
-pub ran_whole : (limit : ℕ) (config : Config) (threads : ℕ) (range : Option (ℕ × ℕ)) (gate : ℕ → Type 0) (l0 l1 : Option (List LinkCall)) (t0 t1 : Option (List ℕ)) (o0 o1 o2 : Option (List PortCall)) (k0 k1 : Option (List KeyCall))
-    (p0 p1 p2 q0 q1 : ℕ) (ended : Status) (counts : Counts) (totals : Totals) (rows swept last beside all : List Row) → p1 ≤ p2 → Gained o1 o2 asked.OpensNone
-    → (turns : DidTurns limit config threads range
-    (record { link = l0; link_now = l1; timer = t0; timer_now = t1; opened = o0; opened_now = o1; drew = k0; drew_now = k1; port_faults = p0; port_faults_now = p1; key_faults = q0; key_faults_now = q1 })
-    ended counts rows)
-    → (whole : IsWhole config threads range turns.rounds totals) × (whole.rows ≡ all) × OutsAreTold whole.rows whole.list → AreGated gate (list_of all) → AddsSweep config threads range rows swept → Ties config o1 o2 swept last
-    → AreOfLane beside → all ≡ last ++ beside → (InOrder (list_of all) → InsAreTold config all) → TellsHeld config o0 [] → TellsHeld config o2 []
-    → DidServe [] limit config threads range gate
-    (record { link = l0; link_now = l1; timer = t0; timer_now = t1; opened = o0; opened_now = o2; drew = k0; drew_now = k1; port_faults = p0; port_faults_now = p2; key_faults = q0; key_faults_now = q1 })
-    ended counts totals
-ran_whole limit config threads range gate l0 l1 t0 t1 o0 o1 o2 k0 k1 p0 p1 p2 q0 q1 ended counts totals rows swept last beside all later closes turns whole gated sweep stop lanes joined ins shut shut_again =
-    let run = whole.0 in
-    let done = ran limit config threads range gate l0 l1 t0 t1 o0 o1 o2 k0 k1 p0 p1 p2 q0 q1 ended counts rows later closes turns run.rows run.list run.told_is run.legal run.safe run.board_is whole.2
-    (subst (λ (xs : List Row). InOrder (list_of xs) → InsAreTold config xs) (sym whole.1) ins (whole_in_order config threads range turns.rounds totals run))
-    (subst (λ (xs : List Row). AreGated gate (list_of xs)) (sym whole.1) gated)
-    (subst (λ (xs : List Row). Gained o0 o2 (AreTied config xs)) (sym whole.1)
-    (run_tied config threads range o0 o1 o2 rows swept last beside all turns.tied sweep stop lanes joined))
-    shut shut_again in
-    record {
-      rounds = turns.rounds;
-      last = turns.last;
-      whole = run;
-      gated = done.gated;
-      counts_are = turns.counts_are;
-      has_ended = turns.has_ended;
-      last_is = turns.last_is;
-      told = done.told;
-      ends = done.ends;
-      all_sent = done.all_sent;
-      opens_same = done.opens_same;
-    }
 
 -- of a port maker that was not called no port is open
 pub opens_none : (settings : Option Settings) → OpensNone settings []

@@ -28,7 +28,7 @@ use Rattle.relay_runs.specs.declared.status.Status.{Status}
 use Rattle.relay_runs.specs.declared.status.Status.TheVariants as status
 use Rattle.relay_runs.specs.declared.totals.Counts.{Counts}
 use Rattle.relay_runs.specs.Ends.{HasAllSends, AreEnds, OpensSame}
-use Rattle.relay_runs.specs.Rounds.{Round, history_after, IsBoardTurn, AreRounds, AreThreads, all_of}
+use Rattle.relay_runs.specs.Rounds.{Round, history_after, IsBoardTurn, AreRounds, AreLanes, all_of}
 use Rattle.relay_runs.specs.Served.{Outside, Gave, counts_in, last_take, HasEnded, AreTold}
 
 -- the line of a load, for this number of calls, and these counts of relays by their outcome
@@ -47,7 +47,7 @@ pub record AreBetween (l : List Entry) (stop : ℕ) : Type 0 where
   pub before_stop : (e f : Entry) (x : Relayed) → In e l → In f l → e.event ≡ Cell (Relay x) → is_nested f.event ≡ true → f.place ≡ e.place
       → f.board ≡ stop → e.number < f.number
 
--- All steps of a load: those of its control turns, then those of each thread, and then those of the stop, each step at the moment that its
+-- All steps of a load: those of its control turns, then those of each lane, and then those of the stop, each step at the moment that its
 -- event makes of the one that it was handed. With what each relay noted, protected and sent added to its outcome they are a list that is
 -- legal, and so safe; the board's entries in it are the history and the stop, these are the counts of its takes and relays, and each relay
 -- stands at its cell between the control turns and the stop
@@ -56,8 +56,7 @@ pub record IsLoadWhole (config : Config) (threads : ℕ) (range : Option (ℕ ×
   pub beside : List (List Row)
   pub stop : List Row
   pub are_rounds : AreRounds config threads range rounds in_rounds
-  pub as_many : length beside ≡ threads
-  pub are_threads : AreThreads config 0 threads range beside
+  pub are_lanes : AreLanes config threads range beside
   pub is_stop : IsBoardTurn config (in_rounds ++ all_of beside) (stop_entry (history_after config rounds)) stop
   -- all of them, in this order
   pub rows : List Row

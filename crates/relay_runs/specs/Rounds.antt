@@ -1,9 +1,12 @@
--- The steps of a run. Those of the main hand, in the order in which they were made: rounds, each a control turn, and the stop. Where no thread
--- relays media, a sweep of media follows each control turn and precedes the stop; else each thread made sweeps meanwhile. At the end of a
+-- The steps of a run. Those of the main hand, in the order in which they were made: rounds, each a control turn, one more sweep of all pairs, and the
+-- stop. Where no thread relays media, a sweep of media follows each control turn too; else each lane made sweeps meanwhile. At the end of a
 -- round stands a tick, about once a second.
-use Rattle.std.specs.Prelude.{◌≡◌, ◌+◌, ◌<◌, ℕ, zero, suc, Bool, true, false, nat_le, List, [], ◌∷◌, ◌++◌, Option, None, Some, is_some, map, filter, length}
+use Rattle.std.specs.Prelude.{◌≡◌, ◌+◌, ◌<◌, ℕ, zero, suc, Bool, true, false, ◌==◌, nat_le, nat_lt, min, count_by, List, [], ◌∷◌, ◌++◌, Option, None, Some, is_some, map, filter, length}
+use Rattle.std.specs.List.{AllZip}
 use Rattle.std.specs.Option.{option_map}
 use Rattle.relay_outside.specs.declared.settings.Config.{Config}
+use Rattle.histories.specs.Words.{In}
+use Rattle.port_pool.specs.Ports.{pair_count}
 use Rattle.call_board.specs.Acts.{Call, BoardEntry}
 use Rattle.relay_core.specs.Entries.{Entry, board_entry}
 use Rattle.relay_core.specs.Legal.{Legal}
@@ -12,7 +15,7 @@ use Rattle.relay_core.specs.Made.{entry_of, list_of, told}
 use Rattle.relay_core.specs.Timed.{AreTimed}
 use Rattle.relay_core.specs.Turning.{IsTurn}
 use Rattle.media_lane.specs.declared.answers.Totals.{Totals}
-use Rattle.media_lane.specs.Visits.{Row, Visit, all_rows}
+use Rattle.media_lane.specs.Visits.{Row, Visit, all_rows, one_if}
 use Rattle.media_lane.specs.Looping.{IsSweep, AreSweeps, visits_of}
 use Rattle.board_turns.specs.Between.{board_of}
 use Rattle.board_turns.specs.Stopping.{stop_entry}
@@ -147,39 +150,55 @@ AreRounds config threads range (r ∷ rounds) rows =
     × SweepsAlone config threads range sweep
     × MakesEntry config ((before ++ turn) ++ sweep) (tick_of (with_heard config (history_after config rounds) r) r) tick
 
--- The rows of one thread of media: those of one sweep or of more, one after the other, of the pairs whose number is the thread's modulo
--- the number of threads
-pub record IsThread (config : Config) (index threads : ℕ) (range : Option (ℕ × ℕ)) (rows : List Row) : Type 0 where
+-- How many lanes relay media where so many threads do: one for each pair, 960 at most
+abbrev pub lane_count : Config → (threads : ℕ) → ℕ
+lane_count config zero = 0
+lane_count config (suc more) = min (pair_count config) 960
+
+-- The rows of one lane of media: those of one sweep or of more, one after the other, of the pairs whose number is the lane's modulo the
+-- number of lanes
+pub record IsLane (config : Config) (lanes : ℕ) (range : Option (ℕ × ℕ)) (index : ℕ) (rows : List Row) : Type 0 where
   pub sweeps : List (List Visit)
   pub some : 0 < length sweeps
-  pub are_sweeps : AreSweeps config index threads range sweeps
+  pub are_sweeps : AreSweeps config index lanes range sweeps
   pub rows_are : rows ≡ all_rows config (visits_of sweeps)
 
--- the rows of each of the threads, from that with this number on
-abbrev pub AreThreads : Config → (index threads : ℕ) → Option (ℕ × ℕ) → List (List Row) → Type 0
-AreThreads config index threads range [] = Unit {0}
-AreThreads config index threads range (rows ∷ more) = IsThread config index threads range rows × AreThreads config (index + 1) threads range more
+-- each number below this one is among them once, and no other is
+abbrev pub AreNumbers : ℕ → List ℕ → Type 0
+AreNumbers lanes numbers = (i : ℕ) → count_by (λ j. j == i) numbers ≡ one_if (nat_lt i lanes)
+
+-- the rows of all lanes, lane by lane, in some order of the lanes
+pub record AreLanes (config : Config) (lanes : ℕ) (range : Option (ℕ × ℕ)) (beside : List (List Row)) : Type 0 where
+  pub numbers : List ℕ
+  pub each_once : AreNumbers lanes numbers
+  pub are_lanes : AllZip (λ (index : ℕ) (rows : List Row). IsLane config lanes range index rows) numbers beside
 
 abbrev pub all_of : List (List Row) → List Row
 all_of [] = []
 all_of (rows ∷ more) = rows ++ all_of more
 
--- All steps of a run: those of its rounds, of one more sweep where no thread relays media, and of the stop, and those of each thread, each step
--- at the moment that its event makes of the one that it was handed. With what each relay noted, protected and sent added to its outcome they
--- are a list that is legal, and so safe; the board's entries in it are the history and the stop, and these are the counts of its takes and relays
+-- each entry of the second list has a greater number than each entry of the first at its place
+abbrev pub StandsAfter : List Entry → List Entry → Type 0
+StandsAfter before after = (e f : Entry) → In e after → In f before → f.place ≡ e.place → f.number < e.number
+
+-- All steps of a run: those of its rounds, those of each lane meanwhile, of one more sweep of all pairs after them, and of the stop, each step
+-- at the moment that its event makes of the one that it was handed. The last sweep stands at each place after all that was done there, and before
+-- what the stop does there. With what each relay noted, protected and sent added to its outcome the steps are a list that is legal, and so safe; the
+-- board's entries in it are the history and the stop, and these are the counts of its takes and relays
 pub record IsWhole (config : Config) (threads : ℕ) (range : Option (ℕ × ℕ)) (rounds : List Round) (totals : Totals) : Type 0 where
   pub in_rounds : List Row
+  pub beside : List (List Row)
   pub last_sweep : List Row
   pub stop : List Row
-  pub beside : List (List Row)
   pub are_rounds : AreRounds config threads range rounds in_rounds
-  pub is_sweep : SweepsAlone config threads range last_sweep
-  pub is_stop : IsBoardTurn config (in_rounds ++ last_sweep) (stop_entry (history_after config rounds)) stop
-  pub as_many : length beside ≡ threads
-  pub are_threads : AreThreads config 0 threads range beside
-  -- all of them, those of the threads after those of the main hand
+  pub are_lanes : AreLanes config (lane_count config threads) range beside
+  pub is_sweep : HasSwept config 0 1 range last_sweep
+  pub is_stop : IsBoardTurn config ((in_rounds ++ all_of beside) ++ last_sweep) (stop_entry (history_after config rounds)) stop
+  pub after_all : StandsAfter (list_of (in_rounds ++ all_of beside)) (list_of last_sweep)
+  pub before_stop : StandsAfter (list_of last_sweep) (list_of stop)
+  -- all of them, in this order
   pub rows : List Row
-  pub rows_are : rows ≡ ((in_rounds ++ last_sweep) ++ stop) ++ all_of beside
+  pub rows_are : rows ≡ ((in_rounds ++ all_of beside) ++ last_sweep) ++ stop
   pub timed : AreTimed rows
   pub list : List Entry
   pub told_is : map told list ≡ list_of rows

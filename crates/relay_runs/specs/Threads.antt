@@ -1,5 +1,6 @@
--- What is known of a thread of media: before its work, of its work, and after it.
-use Rattle.std.specs.Prelude.{◌≡◌, ◌<◌, ◌≤◌, ℕ, false, List, [], ◌∷◌, ◌++◌, Option, length}
+-- What is known of the lanes of all threads of media: before their work, of their work, and after it.
+use Rattle.std.specs.Prelude.{◌≡◌, ◌<◌, ◌≤◌, ℕ, false, List, [], ◌∷◌, ◌++◌, Option, All, length, map, slice_index_or, slice_set, vec_capacity}
+use Rattle.std.specs.List.{flat_map}
 use Rattle.relay_outside.specs.declared.settings.Config.{Config}
 use Rattle.turn_table.specs.declared.hands.Turns.{Turns}
 use Rattle.turn_table.specs.declared.hands.Hand.{Hand}
@@ -11,71 +12,106 @@ use Rattle.relay_core.specs.Entries.{Entry}
 use Rattle.relay_core.specs.Made.{Made}
 use Rattle.relay_core.specs.Turning.{made_by}
 use Rattle.media_lane.specs.declared.answers.Totals.{Totals}
-use Rattle.media_lane.specs.Lanes.{hand_of, config_of, index_of, lanes_of, list_of, IsSameLane}
-use Rattle.media_lane.specs.Looping.{AddsTotals, AreSweeps, visits_of, MakesSweeps}
+use Rattle.media_lane.specs.Lanes.{hand_in, config_in, index_in, lanes_in, list_in, IsSameHandOf}
+use Rattle.media_lane.specs.Looping.{AddsTotals, AreSweeps, visits_of}
 use Rattle.media_lane.specs.Receipts.{KeepsList}
 use Rattle.media_lane.specs.Gated.{AreGated, GainsGated}
 use Rattle.media_lane.specs.Totals.{HasTotals}
 use Rattle.media_lane.specs.Visits.{Row, Visit, all_rows, AreTotals}
+use Rattle.relay_runs.specs.declared.lanes.OwnLane.{OwnLane}
 use Rattle.relay_runs.specs.declared.threads.MediaThread.{MediaThread}
-use Rattle.relay_runs.specs.Rounds.{AreThreads, all_of}
+use Rattle.relay_runs.specs.Rounds.{IsLane, AreLanes, all_of}
 
 module _ {I O : Type 0} {gi : _} {go : _} {gm : _} where
-  abbrev pub rows_of : MediaThread I O gi go gm → List Row
-  rows_of thread = entries (hand_of thread.lane)
+  abbrev pub rows_of : OwnLane I O gi go gm → List Row
+  rows_of own = entries (hand_in own.lane)
+
+  -- the lanes of all threads, thread by thread
+  abbrev pub all_lanes : List (MediaThread I O gi go gm) → List (OwnLane I O gi go gm)
+  all_lanes threads = flat_map (λ (thread : MediaThread I O gi go gm). thread.lanes.items) threads
+
+  -- their numbers
+  abbrev pub numbers_of : List (OwnLane I O gi go gm) → List ℕ
+  numbers_of lanes = map (λ (own : OwnLane I O gi go gm). index_in own.lane) lanes
+
+  -- their rows, lane by lane
+  abbrev pub rows_each : List (OwnLane I O gi go gm) → List (List Row)
+  rows_each lanes = map (λ (own : OwnLane I O gi go gm). rows_of own) lanes
+
+  -- it has no lane yet, and room for so many
+  pub record HasRoom (lanes : ℕ) (thread : MediaThread I O gi go gm) : Type 0 where
+    pub empty : thread.lanes.items ≡ []
+    pub room : lanes ≤ vec_capacity thread.lanes
+
+  -- the thread at this place has this lane more, and nothing else is new
+  pub record AddsLane (at : ℕ) (own : OwnLane I O gi go gm) (old new : List (MediaThread I O gi go gm)) : Type 0 where
+    pub grown : MediaThread I O gi go gm
+    pub new_is : new ≡ slice_set old at grown
+    pub lanes_are : (d : MediaThread I O gi go gm) → grown.lanes.items ≡ (slice_index_or old at d).lanes.items ++ own ∷ []
+    pub room : (d : MediaThread I O gi go gm) → vec_capacity grown.lanes ≡ vec_capacity (slice_index_or old at d).lanes
+
+  -- each has a hand of this table
+  abbrev pub AreOfTable : Turns (Relay I O) (Part I O) Made (Unit {0}) → List (OwnLane I O gi go gm) → Type 0
+  AreOfTable turns lanes = All (λ own. IsHandOf turns (hand_in own.lane)) lanes
 
   -- its hand has one part of the table's, and isn't the main one
-  pub record MayJoin (turns : Turns (Relay I O) (Part I O) Made (Unit {0})) (thread : MediaThread I O gi go gm) : Type 0 where
-    pub of_table : IsHandOf turns (hand_of thread.lane)
-    pub one_part : parts (hand_of thread.lane) ≡ 1
-    pub not_main : (view (hand_of thread.lane)).main ≡ false
+  pub record MayJoin (turns : Turns (Relay I O) (Part I O) Made (Unit {0})) (own : OwnLane I O gi go gm) : Type 0 where
+    pub of_table : IsHandOf turns (hand_in own.lane)
+    pub one_part : parts (hand_in own.lane) ≡ 1
+    pub not_main : (view (hand_in own.lane)).main ≡ false
 
   -- what came of their packets is added, of one after the other
-  abbrev pub AddsEach : List (MediaThread I O gi go gm) → Totals → Totals → Type 0
+  abbrev pub AddsEach : List (OwnLane I O gi go gm) → Totals → Totals → Type 0
   AddsEach [] old new = new ≡ old
-  AddsEach (thread ∷ more) old new = (mid : Totals) × AddsTotals old thread.totals mid × AddsEach more mid new
+  AddsEach (own ∷ more) old new = (mid : Totals) × AddsTotals old own.totals mid × AddsEach more mid new
 
-  -- the thread with this index, of `threads` threads, which has a part of the table's hands and did nothing yet
-  pub record IsFresh (config : Config) (turns : Turns (Relay I O) (Part I O) Made (Unit {0})) (threads index : ℕ) (thread : MediaThread I O gi go gm) : Type 0 where
-    pub of_table : IsHandOf turns (hand_of thread.lane)
-    pub one_part : parts (hand_of thread.lane) ≡ 1
-    pub not_main : (view (hand_of thread.lane)).main ≡ false
-    pub nothing : rows_of thread ≡ []
-    pub config_is : config_of thread.lane ≡ config
-    pub index_is : index_of thread.lane ≡ index
-    pub threads_are : lanes_of thread.lane ≡ threads
+  -- one of so many lanes, which has a part of the table's hands and did nothing yet
+  pub record IsFresh (config : Config) (turns : Turns (Relay I O) (Part I O) Made (Unit {0})) (lanes : ℕ) (own : OwnLane I O gi go gm) : Type 0 where
+    pub of_table : IsHandOf turns (hand_in own.lane)
+    pub one_part : parts (hand_in own.lane) ≡ 1
+    pub not_main : (view (hand_in own.lane)).main ≡ false
+    pub nothing : rows_of own ≡ []
+    pub config_is : config_in own.lane ≡ config
+    pub lanes_are : lanes_in own.lane ≡ lanes
+    pub no_totals : AreTotals [] own.totals
 
-  -- the same thread made one sweep or more, and nothing else, each relay with the gate passed at its cell
-  pub record HasWorked (range : Option (ℕ × ℕ)) (gate : ℕ → Type 0) (old new : MediaThread I O gi go gm) : Type 0 where
-    pub same : IsSameLane old.lane new.lane
-    pub made : MakesSweeps (config_of old.lane) (index_of old.lane) (lanes_of old.lane) range (hand_of old.lane) (hand_of new.lane) new.totals
-    pub some : 0 < length made.sweeps
-    pub list : KeepsList (config_of old.lane) (list_of old.lane) (list_of new.lane)
-    pub gated : GainsGated gate (list_of old.lane) (list_of new.lane)
-
-  -- so all that it did are sweeps of its own pairs
-  pub record IsDone (config : Config) (turns : Turns (Relay I O) (Part I O) Made (Unit {0})) (threads : ℕ) (range : Option (ℕ × ℕ)) (index : ℕ) (thread : MediaThread I O gi go gm) : Type 0 where
-    pub of_table : IsHandOf turns (hand_of thread.lane)
-    pub one_part : parts (hand_of thread.lane) ≡ 1
-    pub not_main : (view (hand_of thread.lane)).main ≡ false
+  -- The same lane made this many sweeps or more, and nothing else, each relay with the gate passed at its cell. What came of their datagrams was
+  -- added to its totals
+  pub record Swept (least : ℕ) (range : Option (ℕ × ℕ)) (gate : ℕ → Type 0) (old new : OwnLane I O gi go gm) : Type 0 where
+    pub same : IsSameHandOf old.lane new.lane
     pub sweeps : List (List Visit)
-    pub some : 0 < length sweeps
-    pub are_sweeps : AreSweeps config index threads range sweeps
-    pub rows_are : rows_of thread ≡ all_rows config (visits_of sweeps)
-    pub totals_are : AreTotals (visits_of sweeps) thread.totals
-    pub list : KeepsList config [] (list_of thread.lane)
+    pub enough : least ≤ length sweeps
+    pub are_sweeps : AreSweeps (config_in old.lane) (index_in old.lane) (lanes_in old.lane) range sweeps
+    pub list_is : rows_of new ≡ rows_of old ++ all_rows (config_in old.lane) (visits_of sweeps)
+    pub totals_are : (before : List Visit) → AreTotals before old.totals → AreTotals (before ++ visits_of sweeps) new.totals
+    pub keeps : KeepsList (config_in old.lane) (list_in old.lane) (list_in new.lane)
+    pub gated : GainsGated gate (list_in old.lane) (list_in new.lane)
+
+  -- so all that a lane did are sweeps of its own pairs
+  pub record IsDone (config : Config) (turns : Turns (Relay I O) (Part I O) Made (Unit {0})) (lanes : ℕ) (range : Option (ℕ × ℕ)) (gate : ℕ → Type 0) (own : OwnLane I O gi go gm) : Type 0 where
+    pub of_table : IsHandOf turns (hand_in own.lane)
+    pub one_part : parts (hand_in own.lane) ≡ 1
+    pub not_main : (view (hand_in own.lane)).main ≡ false
+    pub is_lane : IsLane config lanes range (index_in own.lane) (rows_of own)
+    pub totals_are : AreTotals (visits_of is_lane.sweeps) own.totals
+    pub keeps : KeepsList config [] (list_in own.lane)
+    pub gated : AreGated gate (list_in own.lane)
+
+-- both lists are of one length, and at each place the relation holds of the old and the new element
+pub record Each {X : Type 0} (R : X → X → Type 0) (old new : List X) : Type 0 where
+  pub as_many : length new ≡ length old
+  pub at : (i : ℕ) (d : X) → i < length old → R (slice_index_or old i d) (slice_index_or new i d)
 
 -- at each place of the list its numbers run from 0
 abbrev pub CountsUp : List Entry → Type 0
 CountsUp l = (e : Entry) (n : ℕ) → In e l → n ≤ e.number → (f : Entry) × In f l × (f.place ≡ e.place) × (f.number ≡ n)
 
 module _ {M I O : Type 0} {g : _} where
-  -- Threads of media made these rows, and nothing else was done; before them the main hand's list had all entries of each place
-  pub record RelaysDue (config : Config) (threads : ℕ) (range : Option (ℕ × ℕ)) (gate : ℕ → Type 0) (old new : Hand M (Part I O) Made (Unit {0}) g) (was is : Totals) : Type 0 where
+  -- Lanes of media made these rows, and nothing else was done; before them the main hand's list had all entries of each place
+  pub record RelaysDue (config : Config) (lanes : ℕ) (range : Option (ℕ × ℕ)) (gate : ℕ → Type 0) (old new : Hand M (Part I O) Made (Unit {0}) g) (was is : Totals) : Type 0 where
     pub beside : List (List Row)
     pub list_is : entries new ≡ entries old ++ all_of beside
-    pub as_many : length beside ≡ threads
-    pub are_threads : AreThreads config 0 threads range beside
+    pub are_lanes : AreLanes config lanes range beside
     pub counted : CountsUp (made_by old)
     pub gated : AreGated gate (made_by old) → AreGated gate (made_by new)
     pub totals : HasTotals (made_by old) was → HasTotals (made_by new) is

@@ -1,4 +1,4 @@
-//! What a run is handed: the devices that its control turns ask, and what the relays of its packets are handed.
+//! What a run is handed: the devices that its control turns ask.
 ghost use Rattle.std.specs.Prelude.{◌≤◌};
 
 use relay_outside::{ControlLink, KeySource, PortMaker, Timer};
@@ -14,15 +14,6 @@ pub struct Devices<'l, 'p, 'k, 't, N, P, K, T> {
     pub keys: &'k mut K,
     /// It gives the moment of each turn.
     pub timer: &'t mut T,
-}
-
-/// What each relay of a packet is handed.
-#[derive(Drop)]
-pub struct Media<'c, 'g, C, G> {
-    /// It gives the relay's moment.
-    pub clock: &'c C,
-    /// It is passed at the relay's cell.
-    pub gate: &'g G,
 }
 
 /// What is known of devices by what they tell at one moment and at a later one.

@@ -5,16 +5,19 @@
 
 mod beside;
 mod devices;
+mod lanes;
 mod load_run;
 mod loading;
+mod rota;
 mod serving;
+mod sharing;
 mod status;
 mod threads;
 mod totals;
 mod turns;
-mod until;
 
-pub use devices::{Devices, Media, Tells};
+pub use devices::{Devices, Tells};
 pub use loading::load;
+pub use media_lane::Media;
 pub use serving::serve;
 pub use status::Status;

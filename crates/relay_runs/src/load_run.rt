@@ -1,37 +1,40 @@
 //! The control turns of a load, then its threads of media, and then its end: one after the other, so that each relay stands at its cell after
 //! all that the control turns made there, and before all that the stop makes.
-ghost use Rattle.std.specs.Prelude.{◌≡◌, ◌≤◌, ◌<◌, ◌^◌, [], vec_capacity};
+ghost use Rattle.std.specs.Prelude.{◌≡◌, ◌≤◌, ◌<◌, ◌^◌, [], All, length};
 ghost use Rattle.turn_table.specs.Hands.{parts};
 ghost use Rattle.relay_core.specs.Turning.{made_by};
 ghost use Rattle.media_ports.specs.Held.{TellsHeld};
 ghost use Rattle.board_turns.specs.Between.{IsBetween, board_of};
 ghost use Rattle.relay_runs.specs.Devices.{AreSame};
 ghost use Rattle.relay_runs.specs.Loads.{DidLoadTurns};
-ghost use Rattle.relay_runs.specs.Threads.{RelaysDue};
+ghost use Rattle.relay_runs.specs.Threads.{HasRoom, RelaysDue};
 
 use crate::beside::{ControlWork, run_after};
-use crate::devices::{Devices, Media, Tells};
+use crate::devices::{Devices, Tells};
+use crate::sharing::{join_threads, make_lanes};
 use crate::status::Status;
-use crate::threads::{Due, MediaThread, join_threads, make_threads};
+use crate::threads::MediaThread;
 use crate::turns::{ControlLoop, Looped, Prepared, close_table};
 use command_line::Settings;
+use media_lane::Media;
 use ng_server::Server;
 use relay_core::Relay;
-use relay_outside::{Clock, ControlLink, Gate, InEnd, KeySource, OutEnd, PortMaker, Timer};
+use relay_outside::{
+    Clock, ControlLink, Gate, InEnd, KeySource, LaneShare, OutEnd, PortMaker, Timer,
+};
 use std::alloc::Global;
 use std::sync::Wait;
 use std::thread::Threads;
 use turn_table::{Hand, Turns};
 
-/// Has threads of media relay the datagrams that are due, by hands that are split from the main one and joined to it again, and adds what came of
-/// them. Before the split and after the join the main hand has the whole history of each place.
+/// Has threads of media relay the datagrams that are due, by hands that are split from the main one for their lanes and joined to it again, and adds what
+/// came of them. Before the split and after the join the main hand has the whole history of each place.
 fn relay_due<I, O, C, G, R>(
     rt: &R,
     turns: &Turns<Relay<I, O>>,
     hand: &mut Hand<Relay<I, O>>,
     room: Vec<MediaThread<I, O>>,
     settings: &Settings,
-    due: Due,
     media: &Media<'_, '_, C, G>,
     looped: &mut Looped,
 )
@@ -43,8 +46,8 @@ where
     R: Threads + Wait + Sync,
     requires threads { settings.now.threads ≤ 16 }
     requires some { 0 < settings.now.threads }
-    requires empty { room.items ≡ [] }
-    requires room { settings.now.threads ≤ vec_capacity room }
+    requires as_many { length room.items ≡ settings.now.threads }
+    requires room { All (λ thread. HasRoom settings.now.threads thread) room.items }
     requires all { parts hand.old ≡ 1024 }
     requires between { IsBetween settings.now.config turns.now hand.old }
     ensures between { IsBetween settings.now.config turns.now hand.new }
@@ -54,14 +57,9 @@ where
     ensures same { (looped.new.status ≡ looped.old.status) × (looped.new.counts ≡ looped.old.counts) }
 {
     turns.survey(hand);
-    let mut threads = make_threads(
-        turns,
-        hand,
-        room,
-        settings.threads,
-        &settings.config,
-        Some(due),
-    );
+    let mut threads = room;
+    let share = LaneShare::one_each(settings.threads);
+    make_lanes(turns, hand, &mut threads, share, &settings.config);
     let went_well = looped.status == Status::Ok;
     run_after(rt, turns, media, &mut threads, went_well);
     join_threads(turns, hand, threads, &mut looped.totals);
@@ -76,7 +74,6 @@ pub(crate) fn load_turns<N, P, K, T, C, G, R>(
     settings: &Settings,
     server: Server<P>,
     prepared: Prepared<P::In, P::Out>,
-    due: Due,
     devices: &mut Devices<'_, '_, '_, '_, N, P, K, T>,
     media: &Media<'_, '_, C, G>,
 ) -> Looped
@@ -97,8 +94,8 @@ where
     requires between { IsBetween server.config server.turns prepared.hand }
     requires nothing { made_by prepared.hand ≡ [] }
     requires all { parts prepared.hand ≡ 1024 }
-    requires empty { prepared.room.items ≡ [] }
-    requires room { settings.now.threads ≤ vec_capacity prepared.room }
+    requires as_many { length prepared.room.items ≡ settings.now.threads }
+    requires room { All (λ thread. HasRoom settings.now.threads thread) prepared.room.items }
     requires open { TellsHeld server.config (P.told devices.old.ports.now) [] }
     ensures same { AreSame devices.old devices.new }
     ensures did { DidLoadTurns settings.now.turns server.config settings.now.threads (C.range media.now.clock.now) (G.passed media.now.gate.now)
@@ -128,7 +125,6 @@ where
         &mut hand,
         room,
         settings,
-        due,
         media,
         &mut looped,
     );

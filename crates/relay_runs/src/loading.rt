@@ -1,5 +1,6 @@
 //! The command `load`.
-ghost use Rattle.std.specs.Prelude.{◌≡◌, ◌≤◌, ◌*◌, [], Some, true, IfSome, IsSome, IsTrue, vec_capacity};
+ghost use Rattle.std.specs.Prelude.{◌≡◌, ◌≤◌, ◌*◌, [], Some, true, All, IfSome, IsSome, IsTrue, length};
+ghost use Rattle.relay_runs.specs.Threads.{HasRoom};
 ghost use Rattle.relay_outside.specs.Told.{Rose};
 ghost use Rattle.turn_table.specs.Hands.{parts};
 ghost use Rattle.relay_core.specs.Turning.{made_by};
@@ -10,20 +11,20 @@ ghost use Rattle.load_maker.specs.Moments.{AreZero};
 ghost use Rattle.load_maker.specs.Takes.{HasGivenAll};
 ghost use Rattle.relay_runs.specs.Loads.{RunsLoad, Loads, IsLoaded, load_line};
 
-use crate::devices::{Devices, Media};
+use crate::devices::Devices;
 use crate::load_run::load_turns;
-use crate::serving::{line_room, thread_room};
+use crate::serving::line_room;
+use crate::sharing::{Due, thread_room};
 use crate::status::Status;
-use crate::threads::Due;
 use crate::totals::put_number;
 use crate::turns::{Looped, Prepared};
 use command_line::{LoadSettings, Settings};
 use load_maker::{LoadIn, LoadLink, LoadOut, LoadPorts, LoadTimer};
-use media_lane::Totals;
+use media_lane::{Media, Totals};
 use ng_bencode::Text;
 use ng_server::{Desk, Server};
 use outside_real::ChaChaKeys;
-use relay_outside::{Addr, Gate, HandClock, Ip, LineSink};
+use relay_outside::{Addr, Gate, HandClock, Ip, LaneShare, LineSink};
 use std::alloc::Global;
 use std::sync::Wait;
 use std::thread::Threads;
@@ -93,8 +94,8 @@ where
     requires between { IsBetween server.config server.turns prepared.hand }
     requires nothing { made_by prepared.hand ≡ [] }
     requires all { parts prepared.hand ≡ 1024 }
-    requires empty { prepared.room.items ≡ [] }
-    requires room { settings.now.lanes ≤ vec_capacity prepared.room }
+    requires as_many { length prepared.room.items ≡ settings.now.lanes }
+    requires room { All (λ thread. HasRoom settings.now.lanes thread) prepared.room.items }
     ensures { IfSome result (λ totals. RunsLoad settings.now (G.passed gate.now) totals) }
 {
     let mut link = LoadLink::new(alloc, settings.calls);
@@ -112,17 +113,12 @@ where
         keys: &mut keys,
         timer: &mut timer,
     };
-    let due = Due {
-        pairs: 2 * settings.calls,
-        packets: settings.packets,
-    };
     let looped = load_turns(
         rt,
         alloc,
         &run_settings(settings),
         server,
         prepared,
-        due,
         &mut devices,
         &media,
     );
@@ -208,7 +204,11 @@ where
     let Ok(desk) = Desk::new(alloc) else {
         return Status::OutOfMemory;
     };
-    let Ok(room) = thread_room(alloc, settings.lanes) else {
+    let due = Due {
+        pairs: 2 * settings.calls,
+        packets: settings.packets,
+    };
+    let Ok(room) = thread_room(alloc, LaneShare::one_each(settings.lanes), Some(due)) else {
         return Status::OutOfMemory;
     };
     let Ok((server, hand)) = Server::start(alloc, settings.config) else {

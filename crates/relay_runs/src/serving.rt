@@ -1,21 +1,20 @@
 //! The command `serve`.
-ghost use Rattle.std.specs.Prelude.{◌≡◌, ◌≤◌, ◌<◌, ◌^◌, [], vec_capacity, Some, IfOk};
+ghost use Rattle.std.specs.Prelude.{◌≡◌, ◌≤◌, ◌<◌, ◌^◌, [], Some, IfOk};
 ghost use Rattle.relay_outside.specs.Told.{Rose};
 ghost use Rattle.media_ports.specs.Held.{TellsHeld};
 ghost use Rattle.relay_runs.specs.Devices.{AreSame, AreUnasked};
 ghost use Rattle.relay_runs.specs.Run.{Serves, IsServed};
 
-use crate::devices::{Devices, Media, Tells};
+use crate::devices::{Devices, Tells};
+use crate::sharing::{serve_share, thread_room};
 use crate::status::Status;
-use crate::threads::MediaThread;
 use crate::totals::put_totals;
 use crate::turns::{Prepared, close_table, serve_turns};
 use command_line::Settings;
+use media_lane::Media;
 use ng_bencode::Text;
 use ng_server::{Desk, Server};
-use relay_outside::{
-    Clock, ControlLink, Gate, InEnd, KeySource, LineSink, OutEnd, OutOfMemory, PortMaker, Timer,
-};
+use relay_outside::{Clock, ControlLink, Gate, KeySource, LineSink, OutOfMemory, PortMaker, Timer};
 use std::alloc::Global;
 use std::sync::Wait;
 use std::thread::Threads;
@@ -30,19 +29,6 @@ pub(crate) fn line_room(alloc: Global) -> Result<Text, OutOfMemory>
     let mut line = Text::new(alloc);
     match line.reserve(LINE) {
         Ok(()) => Ok(line),
-        Err(_) => Err(OutOfMemory),
-    }
-}
-
-/// An empty list with capacity for this many threads of media.
-pub(crate) fn thread_room<I: InEnd, O: OutEnd>(
-    alloc: Global,
-    count: u32,
-) -> Result<Vec<MediaThread<I, O>>, OutOfMemory>
-    ensures { IfOk result (λ room. (room.items ≡ []) × (count ≤ vec_capacity room)) }
-{
-    match Vec::with_capacity(alloc, count as usize) {
-        Ok(room) => Ok(room),
         Err(_) => Err(OutOfMemory),
     }
 }
@@ -89,7 +75,8 @@ where
     let Ok(desk) = Desk::new(alloc) else {
         return Status::OutOfMemory;
     };
-    let Ok(room) = thread_room(alloc, settings.threads) else {
+    let share = serve_share(&settings.config, settings.threads);
+    let Ok(room) = thread_room(alloc, share, None) else {
         return Status::OutOfMemory;
     };
     let Ok((server, hand)) = Server::start(alloc, settings.config) else {

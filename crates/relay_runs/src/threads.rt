@@ -1,61 +1,184 @@
-//! The threads of media of a run: each is a lane by a hand that is split from the main one, and is joined to it again at the end.
-ghost use Rattle.std.specs.Prelude.{◌≡◌, ◌+◌, ◌<◌, ◌≤◌, ◌++◌, ℕ, All, [], map, length, vec_capacity, slice_index_or};
-ghost use Rattle.turn_table.specs.Hands.{IsHandOf, HasNoTurn, view, starts, entries, parts};
-ghost use Rattle.media_lane.specs.Lanes.{hand_of};
-ghost use Rattle.board_turns.specs.Between.{IsBetween};
-ghost use Rattle.relay_runs.specs.Rounds.{all_of};
-ghost use Rattle.relay_runs.specs.Threads.{MayJoin, IsFresh, HasWorked, AddsEach, rows_of};
+//! The threads of media of a run: each owns lanes, and sweeps those at whose pairs datagrams stand.
+ghost use Rattle.std.specs.Prelude.{◌≡◌, ◌<◌, ℕ, length, slice_index_or};
+ghost use Rattle.relay_runs.specs.Threads.{AreOfTable, Swept, Each};
 
 use crate::beside::MediaWork;
-use crate::devices::Media;
-use crate::totals::no_totals;
-use crate::until::sweep_until;
-use media_lane::{Lane, Totals};
+use crate::lanes::OwnLane;
+use crate::rota::{Rota, WAIT_MILLIS};
+use media_lane::{Media, Rooms};
 use relay_core::{Happening, Part, Relay};
-use relay_outside::{Clock, Config, Gate, InEnd, OutEnd};
+use relay_outside::{Clock, Gate, InEnd, LaneShare, OutEnd};
 use std::sync::Wait;
-use std::sync::atomic::AtomicBool;
-use turn_table::{Hand, Machine, Turns};
+use std::sync::atomic::{AtomicBool, Ordering};
+use turn_table::{Machine, Turns};
 
-/// A thread of media: its lane, and what came of the packets that it took.
+/// How many hints a thread takes of the clock at once.
+const MOST_HINTS: usize = 64;
+
+/// How long a thread of media relays, before it sweeps each of its lanes once more.
+#[derive(Clone, Copy)]
+pub(crate) enum Until {
+    /// Until the halt word is set.
+    Halted,
+    /// Until its lanes took so many datagrams, or the halt word is set.
+    Taken(u64),
+}
+
+/// A thread of media: its lanes, and the rooms in which their packets stand.
 #[derive(Drop)]
 pub(crate) struct MediaThread<I: InEnd, O: OutEnd>
 where
     Relay<I, O>: Machine<State = Part<I, O>, Event = Happening, Outcome = ()>,
 {
-    pub(crate) lane: Lane<I, O>,
-    pub(crate) totals: Totals,
-    /// How many datagrams come to its pairs, where that is known.
-    pub(crate) due: Option<u64>,
+    pub(crate) lanes: Vec<OwnLane<I, O>>,
+    /// The thread's number, from 0.
+    pub(crate) number: u32,
+    /// Which lanes it has.
+    pub(crate) share: LaneShare,
+    pub(crate) until: Until,
+    pub(crate) rooms: Rooms,
 }
 
-/// The datagrams of a run of which it is known how many come.
-#[derive(Clone, Copy)]
-pub(crate) struct Due {
-    /// To how many pairs they come: those with the least numbers.
-    pub(crate) pairs: u32,
-    /// How many come to each.
-    pub(crate) packets: u32,
-}
-
-impl Due {
-    /// How many of them come to the pairs of the thread with this index, of so many threads.
-    fn of_thread(self, index: u32, count: u32) -> u64
-        requires { index < count }
+impl<I: InEnd, O: OutEnd> MediaThread<I, O> {
+    /// Sweeps the lane at this place, where there is one.
+    fn sweep_at<W: Wait, C: Clock, G: Gate>(
+        &mut self,
+        rt: &W,
+        turns: &Turns<Relay<I, O>>,
+        media: &Media<'_, '_, C, G>,
+        at: usize,
+    )
+        requires { AreOfTable turns.now self.old.lanes.items }
+        ensures each { Each (Swept 0 (C.range media.now.clock.now) (G.passed media.now.gate.now)) self.old.lanes.items self.new.lanes.items }
+        ensures this { (d : _) → at < length self.old.lanes.items → Swept 1 (C.range media.now.clock.now) (G.passed media.now.gate.now) (slice_index_or self.old.lanes.items at d) (slice_index_or self.new.lanes.items at d) }
+        ensures table { AreOfTable turns.now self.new.lanes.items }
     {
-        if index >= self.pairs {
-            return 0;
+        if at < self.lanes.len() {
+            self.lanes[at].sweep(rt, turns, media, &mut self.rooms);
         }
-        let pairs = (self.pairs - 1 - index) / count + 1;
-        u64::from(pairs) * u64::from(self.packets)
+    }
+
+    /// Sweeps each lane once.
+    fn sweep_all<W: Wait, C: Clock, G: Gate>(
+        &mut self,
+        rt: &W,
+        turns: &Turns<Relay<I, O>>,
+        media: &Media<'_, '_, C, G>,
+    )
+        requires { AreOfTable turns.now self.old.lanes.items }
+        ensures each { Each (Swept 1 (C.range media.now.clock.now) (G.passed media.now.gate.now)) self.old.lanes.items self.new.lanes.items }
+        ensures table { AreOfTable turns.now self.new.lanes.items }
+    {
+        for at in 0..self.lanes.len() {
+            self.sweep_at(rt, turns, media, at);
+        }
+    }
+
+    /// Sweeps the lane that has this pair, where it is one of the thread's.
+    fn sweep_pair<W: Wait, C: Clock, G: Gate>(
+        &mut self,
+        rt: &W,
+        turns: &Turns<Relay<I, O>>,
+        media: &Media<'_, '_, C, G>,
+        pair: u32,
+    )
+        requires { AreOfTable turns.now self.old.lanes.items }
+        ensures each { Each (Swept 0 (C.range media.now.clock.now) (G.passed media.now.gate.now)) self.old.lanes.items self.new.lanes.items }
+        ensures table { AreOfTable turns.now self.new.lanes.items }
+    {
+        if let Some(lane) = self.share.lane_of(pair) {
+            if self.share.thread_of(lane) == self.number {
+                self.sweep_at(rt, turns, media, self.share.place_of(lane));
+            }
+        }
+    }
+
+    /// Sweeps so many lanes at which no hint points.
+    fn sweep_next<W: Wait, C: Clock, G: Gate>(
+        &mut self,
+        rt: &W,
+        turns: &Turns<Relay<I, O>>,
+        media: &Media<'_, '_, C, G>,
+        rota: &mut Rota,
+        count: usize,
+    )
+        requires { AreOfTable turns.now self.old.lanes.items }
+        ensures each { Each (Swept 0 (C.range media.now.clock.now) (G.passed media.now.gate.now)) self.old.lanes.items self.new.lanes.items }
+        ensures table { AreOfTable turns.now self.new.lanes.items }
+    {
+        for _ in 0..count {
+            let at = rota.turn(self.lanes.len());
+            self.sweep_at(rt, turns, media, at);
+        }
+    }
+
+    /// Sweeps the lanes at whose pairs the clock hints, and now and then the others, until the halt word is set. A hint is never trusted: it only
+    /// says which lane comes next.
+    fn relay_hinted<W: Wait, C: Clock, G: Gate>(
+        &mut self,
+        rt: &W,
+        turns: &Turns<Relay<I, O>>,
+        media: &Media<'_, '_, C, G>,
+        halt: &AtomicBool,
+    )
+        requires { AreOfTable turns.now self.old.lanes.items }
+        ensures each { Each (Swept 0 (C.range media.now.clock.now) (G.passed media.now.gate.now)) self.old.lanes.items self.new.lanes.items }
+        ensures table { AreOfTable turns.now self.new.lanes.items }
+    {
+        let mut pairs = [0; MOST_HINTS];
+        let mut rota = Rota::from(media.clock.now());
+        for _ in rt.forever() {
+            if halt.load(Ordering::SeqCst) {
+                break;
+            }
+            let hints = media
+                .clock
+                .ready(self.number, WAIT_MILLIS, &mut pairs)
+                .min(MOST_HINTS);
+            for pair in &pairs[..hints] {
+                self.sweep_pair(rt, turns, media, *pair);
+            }
+            let count = rota.count_due(media.clock.now(), hints, self.lanes.len());
+            self.sweep_next(rt, turns, media, &mut rota, count);
+        }
+    }
+
+    /// How many datagrams its lanes took.
+    fn taken(&self) -> u64 {
+        let mut taken: u64 = 0;
+        for own in &self.lanes {
+            taken = taken.saturating_add(own.totals.taken);
+        }
+        taken
+    }
+
+    /// Sweeps all lanes again and again, until they took so many datagrams or the halt word is set. That they ever take so many is not promised.
+    fn relay_due<W: Wait, C: Clock, G: Gate>(
+        &mut self,
+        rt: &W,
+        turns: &Turns<Relay<I, O>>,
+        media: &Media<'_, '_, C, G>,
+        halt: &AtomicBool,
+        due: u64,
+    )
+        requires { AreOfTable turns.now self.old.lanes.items }
+        ensures each { Each (Swept 0 (C.range media.now.clock.now) (G.passed media.now.gate.now)) self.old.lanes.items self.new.lanes.items }
+        ensures table { AreOfTable turns.now self.new.lanes.items }
+    {
+        for _ in rt.forever() {
+            if self.taken() >= due || halt.load(Ordering::SeqCst) {
+                break;
+            }
+            self.sweep_all(rt, turns, media);
+        }
     }
 }
 
 impl<I: InEnd, O: OutEnd, C: Clock, G: Gate> MediaWork<Turns<Relay<I, O>>, Media<'_, '_, C, G>>
     for MediaThread<I, O> {
-    ghost can_work = { λ thread turns. IsHandOf turns (hand_of thread.lane) };
+    ghost can_work = { λ thread turns. AreOfTable turns thread.lanes.items };
 
-    ghost did = { λ turns media old new. HasWorked (C.range media.clock.now) (G.passed media.gate.now) old new };
+    ghost did = { λ turns media old new. Each (Swept 1 (C.range media.clock.now) (G.passed media.gate.now)) old.lanes.items new.lanes.items };
 
     fn work<W: Wait>(
         &mut self,
@@ -64,73 +187,10 @@ impl<I: InEnd, O: OutEnd, C: Clock, G: Gate> MediaWork<Turns<Relay<I, O>>, Media
         media: &Media<'_, '_, C, G>,
         halt: &AtomicBool,
     ) {
-        self.totals = sweep_until(rt, &mut self.lane, turns, media, halt, self.due);
-    }
-}
-
-/// This many threads of media, into an empty list with room for them: each has a part of the main hand, and the pairs whose number is its own
-/// modulo their number. Where it is known how many datagrams come, each knows how many come to its own.
-pub(crate) fn make_threads<I: InEnd, O: OutEnd>(
-    turns: &Turns<Relay<I, O>>,
-    hand: &mut Hand<Relay<I, O>>,
-    room: Vec<MediaThread<I, O>>,
-    count: u32,
-    config: &Config,
-    due: Option<Due>,
-) -> Vec<MediaThread<I, O>>
-    requires empty { room.items ≡ [] }
-    requires room { count ≤ vec_capacity room }
-    requires between { IsBetween config.now turns.now hand.old }
-    requires parts { count < parts hand.old }
-    ensures as_many { length result.items ≡ count }
-    ensures fresh { (i : ℕ) (d : _) → i < count → IsFresh config.now turns.now count i (slice_index_or result.items i d) }
-    ensures parts { parts hand.new + count ≡ parts hand.old }
-    ensures list { entries hand.new ≡ entries hand.old }
-    ensures between { IsBetween config.now turns.now hand.new }
-{
-    let mut threads = room;
-    for index in 0..count {
-        let part = turns.split_hand(hand);
-        let due = match due {
-            Some(due) => Some(due.of_thread(index, count)),
-            None => None,
-        };
-        threads.push_reserved(MediaThread {
-            lane: Lane::new(part, index, count, config),
-            totals: no_totals(),
-            due,
-        });
-    }
-    threads
-}
-
-/// Joins the hands of all threads to the main one, in their order, and adds what came of their packets.
-pub(crate) fn join_threads<I: InEnd, O: OutEnd>(
-    turns: &Turns<Relay<I, O>>,
-    hand: &mut Hand<Relay<I, O>>,
-    threads: Vec<MediaThread<I, O>>,
-    totals: &mut Totals,
-)
-    requires table { IsHandOf turns.now hand.old }
-    requires idle { HasNoTurn hand.old }
-    requires others { All (λ thread. MayJoin turns.now thread) threads.items }
-    ensures table { IsHandOf turns.now hand.new }
-    ensures idle { HasNoTurn hand.new }
-    ensures starts { starts hand.new ≡ starts hand.old }
-    ensures main { (view hand.new).main ≡ (view hand.old).main }
-    ensures parts { parts hand.new ≡ parts hand.old + length threads.items }
-    ensures list { entries hand.new ≡ entries hand.old ++ all_of (map (λ thread. rows_of thread) threads.items) }
-    ensures totals { AddsEach threads.items totals.old totals.new }
-{
-    let mut threads = threads;
-    threads.reverse();
-    while let Some(thread) = threads.pop() {
-        let MediaThread {
-            lane,
-            totals: more,
-            due: _,
-        } = thread;
-        turns.join_hand(hand, lane.into_hand());
-        totals.add(more);
+        match self.until {
+            Until::Halted => self.relay_hinted(rt, turns, media, halt),
+            Until::Taken(due) => self.relay_due(rt, turns, media, halt, due),
+        }
+        self.sweep_all(rt, turns, media);
     }
 }

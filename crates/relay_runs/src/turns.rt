@@ -1,5 +1,5 @@
 //! The control turns of a run, with its ticks, and with its sweeps where no thread relays media, and its end: the stop of all calls and the close of the table.
-ghost use Rattle.std.specs.Prelude.{◌≡◌, ◌≤◌, ◌<◌, ◌^◌, ℕ, List, [], map, Option, None, Some, IfSome, length, unwrap_or, if◌then◌else◌, vec_capacity, slice_index_or};
+ghost use Rattle.std.specs.Prelude.{◌≡◌, ◌≤◌, ◌<◌, ◌^◌, ℕ, List, [], map, Option, None, Some, IfSome, length, unwrap_or, if◌then◌else◌, All};
 ghost use Rattle.relay_outside.specs.Told.{Gained, Rose};
 ghost use Rattle.turn_table.specs.Hands.{IsHandOf, HasNoTurn, IsSameHand, parts, starts, entries};
 ghost use Rattle.relay_core.specs.Entries.{Entry};
@@ -20,17 +20,19 @@ ghost use Rattle.board_turns.specs.Ties.{Ties};
 ghost use Rattle.media_lane.specs.Totals.{HasTotals};
 ghost use Rattle.ng_server.specs.Servers.{OpensJust, history_of};
 ghost use Rattle.relay_runs.specs.Devices.{AreSame};
-ghost use Rattle.relay_runs.specs.Rounds.{status_after, is_second_later};
+ghost use Rattle.relay_runs.specs.Rounds.{status_after, is_second_later, lane_count};
+ghost use Rattle.relay_runs.specs.Threads.{HasRoom};
 ghost use Rattle.relay_runs.specs.Served.{DidServe};
 ghost use Rattle.relay_runs.specs.Turned.{AddsSweep, TicksWhenDue, DidTurns, CanWork, DidWork, IsLoopEnd};
 
 use crate::beside::{ControlWork, run_beside};
-use crate::devices::{Devices, Media, Tells};
+use crate::devices::{Devices, Tells};
+use crate::sharing::{join_threads, make_lanes, serve_share};
 use crate::status::Status;
-use crate::threads::{MediaThread, join_threads, make_threads};
+use crate::threads::MediaThread;
 use crate::totals::{Counts, no_totals};
 use command_line::Settings;
-use media_lane::{Totals, sweep_between};
+use media_lane::{Media, Totals, sweep_between};
 use ng_server::{ControlTurn, Desk, Server};
 use relay_core::{Happening, Part, Relay};
 use relay_outside::{Clock, ControlLink, Gate, InEnd, KeySource, OutEnd, PortMaker, Timer};
@@ -81,7 +83,11 @@ fn find_status(turn: ControlTurn) -> Option<Status>
     }
 }
 
-/// Sweeps once by the main hand of a server with these settings, where no thread relays media.
+/// How long the main hand waits for a hint at most, where no thread relays media, in milliseconds.
+const WAIT_MILLIS: u32 = 200;
+
+/// Sweeps once by the main hand of a server with these settings, where no thread relays media, when the clock hints that a datagram stands somewhere or a
+/// fifth of a second has gone by.
 fn sweep_alone<P: PortMaker, C: Clock, G: Gate, R: Wait>(
     rt: &R,
     settings: &Settings,
@@ -102,6 +108,7 @@ fn sweep_alone<P: PortMaker, C: Clock, G: Gate, R: Wait>(
     if settings.threads > 0 {
         return hand;
     }
+    media.clock.ready(0, WAIT_MILLIS, &mut [0]);
     sweep_between(
         rt,
         server.turns(),
@@ -259,7 +266,7 @@ where
     pub(crate) hand: Hand<Relay<I, O>>,
     /// The memory of a control turn.
     pub(crate) desk: Desk<O>,
-    /// An empty list with room for the threads of media.
+    /// The threads of media, each without a lane and with room for them.
     pub(crate) room: Vec<MediaThread<I, O>>,
 }
 
@@ -280,9 +287,9 @@ where
     drop(server.close(hand));
 }
 
-/// Serves with a server that has taken no turn yet: its control turns, with as many threads of media beside them as the settings say, then the
-/// stop, which ends all calls, and the close of its table. Where no thread relays media, a sweep stands after each control turn and before
-/// the stop.
+/// Serves with a server that has taken no turn yet: its control turns, with as many threads of media beside them as the settings say, then one more
+/// sweep of all pairs by the main hand, which has taken in the hands of all lanes by then, the stop, which ends all calls, and the close of its table. Where no
+/// thread relays media, a sweep stands after each control turn too.
 pub(crate) fn serve_turns<N, P, K, T, C, G, R>(
     rt: &R,
     alloc: Global,
@@ -308,8 +315,8 @@ where
     requires between { IsBetween server.config server.turns prepared.hand }
     requires nothing { made_by prepared.hand ≡ [] }
     requires all { parts prepared.hand ≡ 1024 }
-    requires empty { prepared.room.items ≡ [] }
-    requires room { settings.now.threads ≤ vec_capacity prepared.room }
+    requires as_many { length prepared.room.items ≡ settings.now.threads }
+    requires room { All (λ thread. HasRoom (lane_count settings.now.config settings.now.threads) thread) prepared.room.items }
     requires open { TellsHeld server.config (P.told devices.old.ports.now) [] }
     ensures same { AreSame devices.old devices.new }
     ensures did { DidServe [] settings.now.turns server.config settings.now.threads (C.range media.now.clock.now) (G.passed media.now.gate.now)
@@ -323,16 +330,15 @@ where
     let Prepared {
         mut hand,
         desk,
-        room,
+        room: mut threads,
     } = prepared;
-    let count = settings.threads;
-    let mut threads = make_threads(
+    let share = serve_share(&settings.config, settings.threads);
+    make_lanes(
         server.turns(),
         &mut hand,
-        room,
-        count,
+        &mut threads,
+        share,
         &settings.config,
-        None,
     );
     let mut control = ControlLoop {
         alloc,
@@ -357,15 +363,24 @@ where
         mut desk,
         looped,
     } = control;
-    let Some(hand) = hand else { unreachable!() };
+    let Some(mut hand) = hand else { unreachable!() };
     let Looped {
         status,
         counts,
         mut totals,
     } = looped;
-    let mut hand = sweep_alone(rt, settings, &server, hand, media, &mut totals);
-    server.stop(rt, &mut hand, &mut desk, devices.ports);
     join_threads(server.turns(), &mut hand, threads, &mut totals);
+    server.turns().survey(&mut hand);
+    let mut hand = sweep_between(
+        rt,
+        server.turns(),
+        hand,
+        &settings.config,
+        media.gate,
+        media.clock,
+        &mut totals,
+    );
+    server.stop(rt, &mut hand, &mut desk, devices.ports);
     close_table(server, hand);
     Looped {
         status,

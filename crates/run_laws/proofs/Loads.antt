@@ -6,6 +6,7 @@ use Rattle.std.specs.Option.{option_map}
 use Rattle.std.proofs.lemmas.Bool.Decides.{nat_tests}
 use Rattle.std.proofs.lemmas.List.{length-append, map-append}
 use Rattle.std.proofs.lemmas.List.Folds.{list_all-append}
+use Rattle.std.specs.List.{AllZip}
 use Rattle.relay_outside.specs.declared.address.Addr.{Addr}
 use Rattle.relay_outside.specs.declared.link.LinkCall.{LinkCall}
 use Rattle.relay_outside.specs.declared.link.LinkCall.TheVariants as call
@@ -50,7 +51,7 @@ use Rattle.ng_server.specs.declared.taking.ControlTurn.{ControlTurn}
 use Rattle.command_line.specs.declared.settings.LoadSettings.{LoadSettings}
 use Rattle.relay_runs.specs.declared.status.Status.TheVariants as status
 use Rattle.relay_runs.specs.Loads.{RunsLoad}
-use Rattle.relay_runs.specs.Rounds.{Round, with_heard, tick_of, history_after, entry_due, moments, counted_from, is_second_later, is_tick_due, IsBoardTurn, MakesEntry, SweepsAlone, AreRounds, AreThreads, all_of}
+use Rattle.relay_runs.specs.Rounds.{Round, with_heard, tick_of, history_after, entry_due, moments, counted_from, is_second_later, is_tick_due, IsBoardTurn, MakesEntry, SweepsAlone, AreRounds, IsLane, all_of}
 use Rattle.relay_runs.specs.Served.{AreExchanges, AreCalls, last_take}
 use Rattle.run_laws.specs.Loaded.{HasEndsBy, AreBeforeEnds}
 use Rattle.run_laws.proofs.Bodies.{framed_body}
@@ -209,12 +210,13 @@ sweep_none : (config : Config) (threads : ℕ) (range : Option (ℕ × ℕ)) (ro
 sweep_none config zero range rows swept = visits_none config swept.visits rows swept.rows_are
 sweep_none config (suc more) range rows none = nothing_none rows none
 
-threads_none : (config : Config) (index threads : ℕ) (range : Option (ℕ × ℕ)) (beside : List (List Row)) → AreThreads config index threads range beside
-    → HasNoEnd (all_of beside)
-threads_none config index threads range [] are = nothing_none [] refl
-threads_none config index threads range (rows ∷ more) are =
-    none_both rows (all_of more) (visits_none config (visits_of are.0.sweeps) rows are.0.rows_are)
-    (threads_none config (index + 1) threads range more are.1)
+lanes_none : (config : Config) (lanes : ℕ) (range : Option (ℕ × ℕ)) (numbers : List ℕ) (beside : List (List Row))
+    → AllZip (λ (index : ℕ) (rows : List Row). IsLane config lanes range index rows) numbers beside → HasNoEnd (all_of beside)
+lanes_none config lanes range [] [] are = nothing_none [] refl
+lanes_none config lanes range [] (rows ∷ more) are = absurd are
+lanes_none config lanes range (n ∷ ns) [] are = absurd are
+lanes_none config lanes range (n ∷ ns) (rows ∷ more) are =
+    none_both rows (all_of more) (visits_none config (visits_of are.0.sweeps) rows are.0.rows_are) (lanes_none config lanes range ns more are.1)
 
 -- the entries of a turn: the nested ones, and the board's own
 turn_parts : (config : Config) (before : List Row) (e : BoardEntry) (rows : List Row) → (t : IsBoardTurn config before e rows) → (f : Entry) → In f (list_of rows)
@@ -365,7 +367,7 @@ module _ (settings : LoadSettings) (gate : ℕ → Type 0) (totals : Totals) (ru
       ends_of_stop config settings.lanes (Some (0, 0)) rounds whole.in_rounds (all_of whole.beside) whole.stop _ link.more whole.are_rounds link.exchanges
       (takes_front runs.calls link.more (last_take status.Ok) link.calls_are (tells_generated (2 * settings.calls) true runs.calls runs.heard))
       (zero_front runs.moments (moments rounds) runs.did.last timer runs.at_zero)
-      (threads_none config 0 settings.lanes (Some (0, 0)) whole.beside whole.are_threads) whole.is_stop whole.list
+      (lanes_none config settings.lanes (Some (0, 0)) whole.are_lanes.numbers whole.beside whole.are_lanes.are_lanes) whole.is_stop whole.list
       (whole.told_is ∙ ap (λ (xs : List Row). list_of xs) whole.rows_are)
 
   pub relays_before_ends : AreBeforeEnds runs.did.whole.list

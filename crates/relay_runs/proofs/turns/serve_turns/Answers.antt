@@ -1,71 +1,142 @@
-use Rattle.std.proofs.Common.{◌∙◌, ap, sym, subst, map}
-use Rattle.turn_table.specs.Hands.{entries}
-use Rattle.relay_core.specs.Joining.{IsSound}
+use Rattle.std.proofs.Common.{◌∙◌, ◌++◌, ap, sym, subst, arith, All}
+use Rattle.turn_table.specs.Hands.{IsHandOf, entries}
 use Rattle.relay_core.specs.Made.{list_of}
 use Rattle.relay_core.specs.Turning.{made_by}
+use Rattle.media_lane.specs.declared.answers.Totals.{Totals}
+use Rattle.media_lane.specs.Sweeping.{Sweeps}
+use Rattle.media_lane.specs.Visits.{all_rows}
 use Rattle.media_lane.proofs.Gates.{gated_more}
 use Rattle.board_turns.proofs.Betweens.{between_sound}
-use Rattle.media_lane.specs.Totals.{HasTotals}
-use Rattle.media_lane.proofs.Counts.{turn_totals}
-use Rattle.relay_runs.specs.Rounds.{all_of}
-use Rattle.relay_runs.specs.Threads.{rows_of}
-use Rattle.relay_runs.proofs.Gates.{makes_gated, joined_gated}
-use Rattle.relay_runs.proofs.MediaThreads.{are_done, are_hands, as_many, may_join, all_gated, all_threads, all_of_lane, all_sound, all_totals}
-use Rattle.relay_runs.proofs.Rounds.{whole_run}
-use Rattle.relay_runs.proofs.Wholes.{moved_between, may_begin, made_turns, ran_whole}
+use Rattle.ng_server.specs.Servers.{history_of}
+use Rattle.relay_runs.specs.Rounds.{lane_count, all_of}
+use Rattle.relay_runs.specs.Threads.{HasRoom, IsFresh, MayJoin, all_lanes, rows_each}
+use Rattle.relay_runs.proofs.Gates.{makes_gated}
+use Rattle.relay_runs.proofs.Joined.{has_taken}
+use Rattle.relay_runs.proofs.MediaThreads.{AllOwn, have_worked, own_of_table}
+use Rattle.relay_runs.proofs.ServeRuns.{whole_run, all_of_lanes, swept_rows, ran_whole}
+use Rattle.relay_runs.proofs.Wholes.{moved_between, may_begin, made_turns, opens_again}
 use Rattle.relay_runs.proofs.turns.serve_turns.Goals as goal
 
-pub make_threads-threads-requires-clause-between : goal.make_threads-threads-requires-clause-between
-make_threads-threads-requires-clause-between g c =
+pub make_lanes-requires-clause-room : goal.make_lanes-requires-clause-room
+make_lanes-requires-clause-room g c =
+    subst (λ n. All (λ thread. HasRoom n thread) c.args.prepared.room.items) (sym c.serve_share-share.ensures.lanes) c.requires.room
+
+pub make_lanes-requires-clause-between : goal.make_lanes-requires-clause-between
+make_lanes-requires-clause-between g c =
     moved_between c.args.server.config c.args.settings.now.config c.args.server.turns c.turns.result.now c.args.prepared.hand c.requires.config (sym c.turns.ensures) c.requires.between
 
 pub run_beside-requires-clause-control : goal.run_beside-requires-clause-control
 run_beside-requires-clause-control g c lifetimes within =
-    may_begin c.args.settings.now c.args.server.config c.args.server.turns _ c.make_threads-threads.new.hand c.requires.limit c.requires.config
-    (moved_between c.args.settings.now.config c.args.server.config c.turns.result.now c.args.server.turns c.make_threads-threads.new.hand (sym c.requires.config) c.turns.ensures
-    c.make_threads-threads.ensures.between)
-    (ap (λ rows. list_of rows) c.make_threads-threads.ensures.list ∙ c.requires.nothing) c.requires.open
+    may_begin c.args.settings.now c.args.server.config c.args.server.turns _ c.make_lanes.new.hand c.requires.limit c.requires.config
+    (moved_between c.args.settings.now.config c.args.server.config c.turns.result.now c.args.server.turns c.make_lanes.new.hand (sym c.requires.config) c.turns.ensures c.make_lanes.ensures.between)
+    (ap (λ rows. list_of rows) c.make_lanes.ensures.list ∙ c.requires.nothing) c.requires.open
 
 pub run_beside-requires-clause-threads : goal.run_beside-requires-clause-threads
-run_beside-requires-clause-threads g c lifetimes within i d lt =
-    are_hands c.args.settings.now.config c.turns.result.now c.turns-2.result.now c.args.settings.now.threads c.make_threads-threads.result.items (c.turns.ensures ∙ sym c.turns-2.ensures)
-    c.make_threads-threads.ensures.as_many c.make_threads-threads.ensures.fresh i d lt
+run_beside-requires-clause-threads g c lifetimes within =
+    own_of_table c.turns-2.result.now c.args.settings.now.config c.serve_share-share.result.lanes c.make_lanes.new.threads.items
+    (subst (λ t. AllOwn (λ own. IsFresh c.args.settings.now.config t c.serve_share-share.result.lanes own) c.make_lanes.new.threads.items) (c.turns.ensures ∙ sym c.turns-2.ensures)
+    c.make_lanes.ensures.fresh)
 
 pub join_threads-requires-clause-others : goal.join_threads-requires-clause-others
 join_threads-requires-clause-others g c =
-    may_join c.args.server.config c.args.settings.now.config c.args.server.turns c.turns.result.now c.args.settings.now.threads (g.C.Clock.range c.args.media.now.clock.now) (g.G.Gate.passed c.args.media.now.gate.now) c.make_threads-threads.result.items c.run_beside.new.threads.items (sym c.requires.config) c.turns.ensures c.run_beside.ensures.as_many c.make_threads-threads.ensures.as_many c.make_threads-threads.ensures.fresh c.run_beside.ensures.threads c.turns-3.result.now (sym c.turns-3.ensures)
+    let worked = have_worked c.args.server.config c.args.settings.now.config c.args.server.turns c.turns.result.now (lane_count c.args.server.config c.args.settings.now.threads) c.serve_share-share.result.lanes (g.C.Clock.range c.args.media.now.clock.now) (g.G.Gate.passed c.args.media.now.gate.now)
+    c.make_lanes.new.threads.items c.run_beside.new.threads.items (sym c.requires.config) c.turns.ensures (c.serve_share-share.ensures.lanes ∙ ap (λ k. lane_count k c.args.settings.now.threads) (sym c.requires.config)) c.run_beside.ensures.as_many
+    c.make_lanes.ensures.fresh c.make_lanes.ensures.once c.run_beside.ensures.threads in
+    subst (λ t. AllOwn (λ own. MayJoin t own) c.run_beside.new.threads.items) (sym c.turns-3.ensures) worked.join
+
+pub survey-requires-clause-all : goal.survey-requires-clause-all
+survey-requires-clause-all g c =
+    let worked = have_worked c.args.server.config c.args.settings.now.config c.args.server.turns c.turns.result.now (lane_count c.args.server.config c.args.settings.now.threads) c.serve_share-share.result.lanes (g.C.Clock.range c.args.media.now.clock.now) (g.G.Gate.passed c.args.media.now.gate.now)
+    c.make_lanes.new.threads.items c.run_beside.new.threads.items (sym c.requires.config) c.turns.ensures (c.serve_share-share.ensures.lanes ∙ ap (λ k. lane_count k c.args.settings.now.threads) (sym c.requires.config)) c.run_beside.ensures.as_many
+    c.make_lanes.ensures.fresh c.make_lanes.ensures.once c.run_beside.ensures.threads in
+    let made = made_turns c.args.settings.now c.args.server.config c.args.server.turns (g.C.Clock.range c.args.media.now.clock.now) (g.G.Gate.passed c.args.media.now.gate.now) _ _ _ c.make_lanes.new.hand c.in-Some.hand
+    c.run_beside.new.control.hand c.run_beside.new.control.looped c.in-Some.is c.run_beside.ensures.control.1 in
+    let same = made.same.2 in
+    let all = c.requires.all in
+    let cut = c.make_lanes.ensures.parts in
+    let glued = c.join_threads.ensures.parts in
+    let many = worked.many in
+    omega (arith, same, all, cut, glued, many)
+
+pub sweep_between-hand-requires : goal.sweep_between-hand-requires
+sweep_between-hand-requires g c =
+    let worked = have_worked c.args.server.config c.args.settings.now.config c.args.server.turns c.turns.result.now (lane_count c.args.server.config c.args.settings.now.threads) c.serve_share-share.result.lanes (g.C.Clock.range c.args.media.now.clock.now) (g.G.Gate.passed c.args.media.now.gate.now)
+    c.make_lanes.new.threads.items c.run_beside.new.threads.items (sym c.requires.config) c.turns.ensures (c.serve_share-share.ensures.lanes ∙ ap (λ k. lane_count k c.args.settings.now.threads) (sym c.requires.config)) c.run_beside.ensures.as_many
+    c.make_lanes.ensures.fresh c.make_lanes.ensures.once c.run_beside.ensures.threads in
+    let made = made_turns c.args.settings.now c.args.server.config c.args.server.turns (g.C.Clock.range c.args.media.now.clock.now) (g.G.Gate.passed c.args.media.now.gate.now) _ _ _ c.make_lanes.new.hand c.in-Some.hand
+    c.run_beside.new.control.hand c.run_beside.new.control.looped c.in-Some.is c.run_beside.ensures.control.1 in
+    let taken = has_taken c.args.server.config c.args.server.turns (lane_count c.args.server.config c.args.settings.now.threads) (g.C.Clock.range c.args.media.now.clock.now) (g.G.Gate.passed c.args.media.now.gate.now) c.in-Some.hand
+    c.join_threads.new.hand c.survey.new.hand c.run_beside.new.threads.items c.run_beside.new.control.looped.totals c.join_threads.new.totals made.between worked.done
+    (subst (λ t. IsHandOf t c.join_threads.new.hand) c.turns-3.ensures c.join_threads.ensures.table) c.join_threads.ensures.idle c.join_threads.ensures.starts c.join_threads.ensures.main
+    c.join_threads.ensures.list c.join_threads.ensures.totals c.survey.ensures.same c.survey.ensures.whole in
+    record { between = moved_between c.args.server.config c.args.settings.now.config c.args.server.turns c.turns-5.result.now c.survey.new.hand c.requires.config (sym c.turns-5.ensures) taken.between }
+
+pub stop-requires-clause-between : goal.stop-requires-clause-between
+stop-requires-clause-between g c = moved_between c.args.settings.now.config c.args.server.config c.turns-5.result.now c.args.server.turns c.sweep_between-hand.result (sym c.requires.config) c.turns-5.ensures c.sweep_between-hand.ensures.between
+
+pub stop-requires-clause-open : goal.stop-requires-clause-open
+stop-requires-clause-open g c =
+    let worked = have_worked c.args.server.config c.args.settings.now.config c.args.server.turns c.turns.result.now (lane_count c.args.server.config c.args.settings.now.threads) c.serve_share-share.result.lanes (g.C.Clock.range c.args.media.now.clock.now) (g.G.Gate.passed c.args.media.now.gate.now)
+    c.make_lanes.new.threads.items c.run_beside.new.threads.items (sym c.requires.config) c.turns.ensures (c.serve_share-share.ensures.lanes ∙ ap (λ k. lane_count k c.args.settings.now.threads) (sym c.requires.config)) c.run_beside.ensures.as_many
+    c.make_lanes.ensures.fresh c.make_lanes.ensures.once c.run_beside.ensures.threads in
+    let made = made_turns c.args.settings.now c.args.server.config c.args.server.turns (g.C.Clock.range c.args.media.now.clock.now) (g.G.Gate.passed c.args.media.now.gate.now) _ _ _ c.make_lanes.new.hand c.in-Some.hand
+    c.run_beside.new.control.hand c.run_beside.new.control.looped c.in-Some.is c.run_beside.ensures.control.1 in
+    let taken = has_taken c.args.server.config c.args.server.turns (lane_count c.args.server.config c.args.settings.now.threads) (g.C.Clock.range c.args.media.now.clock.now) (g.G.Gate.passed c.args.media.now.gate.now) c.in-Some.hand
+    c.join_threads.new.hand c.survey.new.hand c.run_beside.new.threads.items c.run_beside.new.control.looped.totals c.join_threads.new.totals made.between worked.done
+    (subst (λ t. IsHandOf t c.join_threads.new.hand) c.turns-3.ensures c.join_threads.ensures.table) c.join_threads.ensures.idle c.join_threads.ensures.starts c.join_threads.ensures.main
+    c.join_threads.ensures.list c.join_threads.ensures.totals c.survey.ensures.same c.survey.ensures.whole in
+    opens_again c.args.server.config (history_of c.in-Some.hand) (history_of c.sweep_between-hand.result) _ (c.sweep_between-hand.ensures.board ∙ taken.history) made.opens
+
+pub close_table-requires-clause-all : goal.close_table-requires-clause-all
+close_table-requires-clause-all g c =
+    let worked = have_worked c.args.server.config c.args.settings.now.config c.args.server.turns c.turns.result.now (lane_count c.args.server.config c.args.settings.now.threads) c.serve_share-share.result.lanes (g.C.Clock.range c.args.media.now.clock.now) (g.G.Gate.passed c.args.media.now.gate.now)
+    c.make_lanes.new.threads.items c.run_beside.new.threads.items (sym c.requires.config) c.turns.ensures (c.serve_share-share.ensures.lanes ∙ ap (λ k. lane_count k c.args.settings.now.threads) (sym c.requires.config)) c.run_beside.ensures.as_many
+    c.make_lanes.ensures.fresh c.make_lanes.ensures.once c.run_beside.ensures.threads in
+    let made = made_turns c.args.settings.now c.args.server.config c.args.server.turns (g.C.Clock.range c.args.media.now.clock.now) (g.G.Gate.passed c.args.media.now.gate.now) _ _ _ c.make_lanes.new.hand c.in-Some.hand
+    c.run_beside.new.control.hand c.run_beside.new.control.looped c.in-Some.is c.run_beside.ensures.control.1 in
+    let same = made.same.2 in
+    let all = c.requires.all in
+    let cut = c.make_lanes.ensures.parts in
+    let glued = c.join_threads.ensures.parts in
+    let many = worked.many in
+    let surveyed = ap (λ v. v.parts) c.survey.ensures.same.1 in
+    let swept = c.sweep_between-hand.ensures.same.2 in
+    let stopped = c.stop.ensures.same.2 in
+    omega (arith, same, all, cut, glued, many, surveyed, swept, stopped)
 
 pub close_table-requires-clause-sound : goal.close_table-requires-clause-sound
-close_table-requires-clause-sound g c =
-    subst (λ rows. IsSound c.args.server.config rows) (sym c.join_threads.ensures.list)
-    (all_sound c.args.server.config c.args.server.turns c.args.settings.now.threads (g.C.Clock.range c.args.media.now.clock.now) 0 c.run_beside.new.threads.items
-    (are_done c.args.server.config c.args.settings.now.config c.args.server.turns c.turns.result.now c.args.settings.now.threads (g.C.Clock.range c.args.media.now.clock.now) (g.G.Gate.passed c.args.media.now.gate.now) c.make_threads-threads.result.items c.run_beside.new.threads.items (sym c.requires.config) c.turns.ensures c.run_beside.ensures.as_many c.make_threads-threads.ensures.as_many c.make_threads-threads.ensures.fresh c.run_beside.ensures.threads)
-    (entries c.stop.new.hand) (between_sound c.args.server.config c.args.server.turns c.stop.new.hand c.stop.ensures.between))
+close_table-requires-clause-sound g c = between_sound c.args.server.config c.args.server.turns c.stop.new.hand c.stop.ensures.between
 
 pub returns-clause-did : goal.returns-clause-did
 returns-clause-did g c =
-    let made = made_turns c.args.settings.now c.args.server.config c.args.server.turns (g.C.Clock.range c.args.media.now.clock.now) (g.G.Gate.passed c.args.media.now.gate.now) _ _ _ c.make_threads-threads.new.hand c.in-Some.hand
+    let worked = have_worked c.args.server.config c.args.settings.now.config c.args.server.turns c.turns.result.now (lane_count c.args.server.config c.args.settings.now.threads) c.serve_share-share.result.lanes (g.C.Clock.range c.args.media.now.clock.now) (g.G.Gate.passed c.args.media.now.gate.now)
+    c.make_lanes.new.threads.items c.run_beside.new.threads.items (sym c.requires.config) c.turns.ensures (c.serve_share-share.ensures.lanes ∙ ap (λ k. lane_count k c.args.settings.now.threads) (sym c.requires.config)) c.run_beside.ensures.as_many
+    c.make_lanes.ensures.fresh c.make_lanes.ensures.once c.run_beside.ensures.threads in
+    let made = made_turns c.args.settings.now c.args.server.config c.args.server.turns (g.C.Clock.range c.args.media.now.clock.now) (g.G.Gate.passed c.args.media.now.gate.now) _ _ _ c.make_lanes.new.hand c.in-Some.hand
     c.run_beside.new.control.hand c.run_beside.new.control.looped c.in-Some.is c.run_beside.ensures.control.1 in
-    let did = made.did in
-    let done = are_done c.args.server.config c.args.settings.now.config c.args.server.turns c.turns.result.now c.args.settings.now.threads (g.C.Clock.range c.args.media.now.clock.now) (g.G.Gate.passed c.args.media.now.gate.now) c.make_threads-threads.result.items c.run_beside.new.threads.items (sym c.requires.config) c.turns.ensures c.run_beside.ensures.as_many c.make_threads-threads.ensures.as_many c.make_threads-threads.ensures.fresh c.run_beside.ensures.threads in
-    ran_whole c.args.settings.now.turns c.args.server.config c.args.settings.now.threads _ (g.G.Gate.passed c.args.media.now.gate.now) _ _ _ _ _ _ _ _ _ _ _ _ _ _ c.run_beside.new.control.looped.status
-    c.run_beside.new.control.looped.counts c.join_threads.new.totals (entries c.in-Some.hand) (entries c.sweep_alone-hand.result) (entries c.stop.new.hand)
-    (all_of (map (λ thread. rows_of thread) c.run_beside.new.threads.items)) (entries c.join_threads.new.hand) c.stop.ensures.later c.stop.ensures.closes did
-    (whole_run c.args.server.config c.args.settings.now.threads (g.C.Clock.range c.args.media.now.clock.now) did.rounds c.join_threads.new.totals c.args.server.turns c.in-Some.hand
-    c.sweep_alone-hand.result c.stop.new.hand c.join_threads.new.hand (map (λ thread. rows_of thread) c.run_beside.new.threads.items) did.are_rounds did.board_is
-    c.sweep_alone-hand.ensures.history c.sweep_alone-hand.ensures.swept c.sweep_alone-hand.ensures.between c.stop.ensures.between c.stop.ensures.makes
-    (as_many c.args.server.config c.args.settings.now.config c.args.server.turns c.turns.result.now c.args.settings.now.threads (g.C.Clock.range c.args.media.now.clock.now) (g.G.Gate.passed c.args.media.now.gate.now) c.make_threads-threads.result.items c.run_beside.new.threads.items (sym c.requires.config) c.turns.ensures c.run_beside.ensures.as_many c.make_threads-threads.ensures.as_many c.make_threads-threads.ensures.fresh c.run_beside.ensures.threads)
-    (all_threads c.args.server.config c.args.server.turns c.args.settings.now.threads (g.C.Clock.range c.args.media.now.clock.now) 0 c.run_beside.new.threads.items done) (all_of_lane c.args.server.config c.args.server.turns c.args.settings.now.threads (g.C.Clock.range c.args.media.now.clock.now) 0 c.run_beside.new.threads.items done) c.join_threads.ensures.list
-    (subst (λ rows. HasTotals (list_of rows) c.join_threads.new.totals) (sym c.join_threads.ensures.list)
-    (all_totals c.args.server.config c.args.server.turns c.args.settings.now.threads (g.C.Clock.range c.args.media.now.clock.now) 0 c.run_beside.new.threads.items done (entries c.stop.new.hand) c.sweep_alone-hand.new.totals c.join_threads.new.totals c.join_threads.ensures.totals
-    (turn_totals c.args.server.config c.sweep_alone-hand.result c.stop.new.hand _ c.sweep_alone-hand.new.totals c.sweep_alone-hand.ensures.between.orderly c.stop.ensures.makes
-    (c.sweep_alone-hand.ensures.totals made.totals))))
-    c.close_table.ensures.legal c.close_table.ensures.timed)
-    (joined_gated (g.G.Gate.passed c.args.media.now.gate.now) c.args.server.config c.stop.new.hand c.join_threads.new.hand (map (λ thread. rows_of thread) c.run_beside.new.threads.items)
-    c.join_threads.ensures.list
-    (makes_gated (g.G.Gate.passed c.args.media.now.gate.now) c.args.server.config c.sweep_alone-hand.result c.stop.new.hand _ c.sweep_alone-hand.ensures.between.orderly c.stop.ensures.makes
-    (gated_more (g.G.Gate.passed c.args.media.now.gate.now) (made_by c.in-Some.hand) (made_by c.sweep_alone-hand.result) made.gated c.sweep_alone-hand.ensures.gated))
-    (all_gated c.args.server.config c.args.settings.now.config c.args.server.turns c.turns.result.now c.args.settings.now.threads (g.C.Clock.range c.args.media.now.clock.now) (g.G.Gate.passed c.args.media.now.gate.now) c.make_threads-threads.result.items c.run_beside.new.threads.items (sym c.requires.config) c.turns.ensures c.run_beside.ensures.as_many c.make_threads-threads.ensures.as_many c.make_threads-threads.ensures.fresh c.run_beside.ensures.threads))
-    c.sweep_alone-hand.ensures.swept c.stop.ensures.ties
-    (all_of_lane c.args.server.config c.args.server.turns c.args.settings.now.threads (g.C.Clock.range c.args.media.now.clock.now) 0 c.run_beside.new.threads.items done)
-    c.join_threads.ensures.list c.close_table.ensures.ins c.requires.open c.stop.ensures.shut
+    let taken = has_taken c.args.server.config c.args.server.turns (lane_count c.args.server.config c.args.settings.now.threads) (g.C.Clock.range c.args.media.now.clock.now) (g.G.Gate.passed c.args.media.now.gate.now) c.in-Some.hand
+    c.join_threads.new.hand c.survey.new.hand c.run_beside.new.threads.items c.run_beside.new.control.looped.totals c.join_threads.new.totals made.between worked.done
+    (subst (λ t. IsHandOf t c.join_threads.new.hand) c.turns-3.ensures c.join_threads.ensures.table) c.join_threads.ensures.idle c.join_threads.ensures.starts c.join_threads.ensures.main
+    c.join_threads.ensures.list c.join_threads.ensures.totals c.survey.ensures.same c.survey.ensures.whole in
+    let between = moved_between c.args.settings.now.config c.args.server.config c.turns-5.result.now c.args.server.turns c.sweep_between-hand.result (sym c.requires.config) c.turns-5.ensures c.sweep_between-hand.ensures.between in
+    let swept = subst (λ k. (t : Totals) × Sweeps k 0 1 (g.C.Clock.range c.args.media.now.clock.now) c.survey.new.hand c.sweep_between-hand.result t) (sym c.requires.config) c.sweep_between-hand.ensures.swept in
+    ran_whole c.args.settings.now.turns c.args.server.config c.args.settings.now.threads (g.C.Clock.range c.args.media.now.clock.now) (g.G.Gate.passed c.args.media.now.gate.now) _ _ _ _ _ _ _ _ _ _ _ _ _ _
+    c.run_beside.new.control.looped.status c.run_beside.new.control.looped.counts c.sweep_between-hand.new.totals (entries c.in-Some.hand)
+    (all_of (rows_each (all_lanes c.run_beside.new.threads.items)) ++ all_rows c.args.server.config swept.1.visits) (entries c.sweep_between-hand.result) (entries c.stop.new.hand) c.stop.ensures.later
+    c.stop.ensures.closes made.did
+    (whole_run c.args.server.config c.args.settings.now.threads (g.C.Clock.range c.args.media.now.clock.now) made.did.rounds c.sweep_between-hand.new.totals swept.0 c.args.server.turns
+    c.in-Some.hand c.survey.new.hand c.sweep_between-hand.result c.stop.new.hand (rows_each (all_lanes c.run_beside.new.threads.items)) made.did.are_rounds made.did.board_is worked.made taken.list_is
+    taken.counted taken.history swept.1 c.sweep_between-hand.ensures.board between c.stop.ensures.between c.stop.ensures.makes
+    (c.sweep_between-hand.ensures.totals (taken.totals made.totals)) c.close_table.ensures.legal c.close_table.ensures.timed)
+    (makes_gated (g.G.Gate.passed c.args.media.now.gate.now) c.args.server.config c.sweep_between-hand.result c.stop.new.hand _ between.orderly c.stop.ensures.makes
+    (gated_more (g.G.Gate.passed c.args.media.now.gate.now) (made_by c.survey.new.hand) (made_by c.sweep_between-hand.result) (taken.gated made.gated) c.sweep_between-hand.ensures.gated))
+    c.stop.ensures.ties
+    (all_of_lanes c.args.server.config c.args.settings.now.threads (g.C.Clock.range c.args.media.now.clock.now) made.did.rounds c.sweep_between-hand.new.totals swept.0 c.args.server.turns
+    c.in-Some.hand c.survey.new.hand c.sweep_between-hand.result c.stop.new.hand (rows_each (all_lanes c.run_beside.new.threads.items)) made.did.are_rounds made.did.board_is worked.made taken.list_is
+    taken.counted taken.history swept.1 c.sweep_between-hand.ensures.board between c.stop.ensures.between c.stop.ensures.makes
+    (c.sweep_between-hand.ensures.totals (taken.totals made.totals)) c.close_table.ensures.legal c.close_table.ensures.timed)
+    (swept_rows c.args.server.config c.args.settings.now.threads (g.C.Clock.range c.args.media.now.clock.now) made.did.rounds c.sweep_between-hand.new.totals swept.0 c.args.server.turns
+    c.in-Some.hand c.survey.new.hand c.sweep_between-hand.result c.stop.new.hand (rows_each (all_lanes c.run_beside.new.threads.items)) made.did.are_rounds made.did.board_is worked.made taken.list_is
+    taken.counted taken.history swept.1 c.sweep_between-hand.ensures.board between c.stop.ensures.between c.stop.ensures.makes
+    (c.sweep_between-hand.ensures.totals (taken.totals made.totals)) c.close_table.ensures.legal c.close_table.ensures.timed)
+    c.close_table.ensures.ins c.requires.open c.stop.ensures.shut

@@ -1,0 +1,125 @@
+-- The main hand after it took in the hands of all lanes and surveyed the table.
+use Rattle.std.proofs.Common.{◌≡◌, ◌∙◌, sym, ap, subst, ℕ, List, ◌++◌, Option}
+use Rattle.relay_outside.specs.declared.settings.Config.{Config}
+use Rattle.turn_table.specs.declared.hands.Turns.{Turns}
+use Rattle.turn_table.specs.declared.hands.Hand.{Hand}
+use Rattle.turn_table.specs.declared.view.View.{View}
+use Rattle.turn_table.specs.Histories.{phase_at}
+use Rattle.turn_table.specs.Hands.{IsHandOf, HasNoTurn, IsUnchanged, KnowsAll, view, starts, entries}
+use Rattle.relay_core.specs.declared.part.Part.{Part}
+use Rattle.relay_core.specs.declared.machine.Relay.{Relay}
+use Rattle.relay_core.specs.Beginning.{AreParts}
+use Rattle.relay_core.specs.Handed.{IsHanded}
+use Rattle.relay_core.specs.Joining.{TakesOwnPairs, IsSound}
+use Rattle.relay_core.specs.Legal.{Orderly}
+use Rattle.relay_core.specs.Made.{Made, list_of}
+use Rattle.relay_core.specs.Recorded.{IsRecorded}
+use Rattle.relay_core.specs.Turning.{Numbered, IsReceiving, made_by}
+use Rattle.relay_core.proofs.Recording.{lane_no_boards}
+use Rattle.media_lane.specs.declared.answers.Totals.{Totals}
+use Rattle.media_lane.specs.Gated.{AreGated}
+use Rattle.media_lane.specs.Totals.{HasTotals}
+use Rattle.media_lane.specs.Visits.{Row}
+use Rattle.media_lane.proofs.Between.{lanes_board}
+use Rattle.board_turns.specs.Between.{board_of, IsBetween}
+use Rattle.board_turns.proofs.Betweens.{between_sound}
+use Rattle.relay_runs.specs.declared.threads.MediaThread.{MediaThread}
+use Rattle.relay_runs.specs.Rounds.{all_of}
+use Rattle.relay_runs.specs.Threads.{all_lanes, rows_each, AddsEach, CountsUp}
+use Rattle.relay_runs.proofs.Between.{known_numbered, known_counted}
+use Rattle.relay_runs.proofs.Gates.{joined_gated}
+use Rattle.relay_runs.proofs.MediaThreads.{AreDone, all_gated, all_of_lane, all_sound, all_totals}
+use Rattle.relay_runs.proofs.Orders.{AreOfLane}
+
+-- A hand after a survey.
+
+module _ {M I O T : Type 0} {g : _} (config : Config) (turns : Turns M (Part I O) Made T) (old new : Hand M (Part I O) Made T g) (same : IsUnchanged old new) where
+  pub surveyed_between : IsBetween config turns old → IsBetween config turns new
+  surveyed_between b = record {
+    of_table = same.0 ∙ b.of_table;
+    main = ap (λ (v : View (Part I O) Made T). v.main) same.1 ∙ b.main;
+    idle = λ k. ap (λ (v : View (Part I O) Made T). phase_at v.turns k) same.1 ∙ b.idle k;
+    parts = subst (λ (v : View (Part I O) Made T). AreParts config v.starts) (sym same.1) b.parts;
+    numbered = subst (λ (v : View (Part I O) Made T). Numbered (list_of v.entries)) (sym same.1) b.numbered;
+    orderly = subst (λ (v : View (Part I O) Made T). Orderly config (list_of v.entries)) (sym same.1) b.orderly;
+    handed = subst (λ (v : View (Part I O) Made T). IsHanded v.entries) (sym same.1) b.handed;
+    recorded = subst (λ (v : View (Part I O) Made T). IsRecorded v.entries) (sym same.1) b.recorded;
+    receiving = subst (λ (v : View (Part I O) Made T). TakesOwnPairs config (list_of v.entries) → IsReceiving config (list_of v.entries)) (sym same.1) b.receiving;
+  }
+
+-- The main hand after it took in hands of threads, by what it then knows of its list.
+module _ {M I O T : Type 0} {g : _} (config : Config) (turns : Turns M (Part I O) Made T) (old new : Hand M (Part I O) Made T g) where
+  pub joined_between : IsBetween config turns old → IsHandOf turns new → (view new).main ≡ (view old).main → HasNoTurn new → starts new ≡ starts old
+      → IsSound config (entries new) → Numbered (made_by new) → IsBetween config turns new
+  joined_between b of_table main idle same sound numbered = record {
+    of_table = of_table;
+    main = main ∙ b.main;
+    idle = idle;
+    parts = subst (λ (l : List (Part I O)). AreParts config l) (sym same) b.parts;
+    numbered = numbered;
+    orderly = sound.orderly numbered;
+    handed = sound.handed numbered;
+    recorded = sound.recorded numbered;
+    receiving = λ own. sound.receiving numbered own;
+  }
+
+-- What is known of the main hand with the rows of all lanes: of old it is when they are done, and of new after it took in their hands and a survey.
+pub record HasTaken {M I O : Type 0} {g : _} (config : Config) (turns : Turns M (Part I O) Made (Unit {0})) (gate : ℕ → Type 0) (old new : Hand M (Part I O) Made (Unit {0}) g)
+    (beside : List (List Row)) (was is : Totals) : Type 0 where
+  pub list_is : entries new ≡ entries old ++ all_of beside
+  pub counted : CountsUp (made_by new)
+  pub between : IsBetween config turns new
+  pub history : board_of (made_by new) ≡ board_of (made_by old)
+  pub gated : AreGated gate (made_by old) → AreGated gate (made_by new)
+  pub totals : HasTotals (made_by old) was → HasTotals (made_by new) is
+
+-- h0 is the main hand when the lanes are done, h1 after it took in theirs, and h2 after the survey; ys are their threads.
+module _ {I O : Type 0} {gi : _} {go : _} {gm : _} (config : Config) (turns : Turns (Relay I O) (Part I O) Made (Unit {0})) (lanes : ℕ) (range : Option (ℕ × ℕ))
+    (gate : ℕ → Type 0) (h0 h1 h2 : Hand (Relay I O) (Part I O) Made (Unit {0}) gm) (ys : List (MediaThread I O gi go gm)) (was is : Totals)
+    (between : IsBetween config turns h0) (done : AreDone config turns lanes range gate (all_lanes ys))
+    (of_table : IsHandOf turns h1) (idle : HasNoTurn h1) (starts_are : starts h1 ≡ starts h0) (main_is : (view h1).main ≡ (view h0).main)
+    (joined_is : entries h1 ≡ entries h0 ++ all_of (rows_each (all_lanes ys))) (adds : AddsEach (all_lanes ys) was is)
+    (surveyed : IsUnchanged h1 h2) (knows : KnowsAll h2) where
+  abbrev beside : List (List Row)
+  beside = rows_each (all_lanes ys)
+
+  lane_rows_are : AreOfLane (all_of beside)
+  lane_rows_are = all_of_lane config turns lanes range gate (all_lanes ys) done
+
+  taken_list : entries h2 ≡ entries h0 ++ all_of beside
+  taken_list = ap (λ (v : View (Part I O) Made (Unit {0})). v.entries) surveyed.1 ∙ joined_is
+
+  numbered : Numbered (made_by h1)
+  numbered = subst (λ (v : View (Part I O) Made (Unit {0})). Numbered (list_of v.entries)) surveyed.1 (known_numbered (view h2) knows)
+
+  taken_counted : CountsUp (made_by h2)
+  taken_counted = known_counted (view h2) knows
+
+  taken_between : IsBetween config turns h2
+  taken_between =
+      surveyed_between config turns h1 h2 surveyed
+      (joined_between config turns h0 h1 between of_table main_is idle starts_are
+      (subst (λ (rows : List Row). IsSound config rows) (sym joined_is)
+      (all_sound config turns lanes range gate (all_lanes ys) done (entries h0) (between_sound config turns h0 between)))
+      numbered)
+
+  taken_history : board_of (made_by h2) ≡ board_of (made_by h0)
+  taken_history =
+      ap (λ (rows : List Row). board_of (list_of rows)) taken_list ∙ lanes_board (entries h0) (all_of beside) (λ row i. lane_no_boards row.event.event (lane_rows_are row i))
+
+  taken_gated : AreGated gate (made_by h0) → AreGated gate (made_by h2)
+  taken_gated before = joined_gated gate config h0 h2 beside taken_list before (all_gated config turns lanes range gate (all_lanes ys) done)
+
+  taken_totals : HasTotals (made_by h0) was → HasTotals (made_by h2) is
+  taken_totals before =
+      subst (λ (rows : List Row). HasTotals (list_of rows) is) (sym taken_list) (all_totals config turns lanes range gate (all_lanes ys) done (entries h0) was is adds before)
+
+  pub has_taken : HasTaken config turns gate h0 h2 (rows_each (all_lanes ys)) was is
+  has_taken = record {
+    list_is = taken_list;
+    counted = taken_counted;
+    between = taken_between;
+    history = taken_history;
+    gated = taken_gated;
+    totals = taken_totals;
+  }

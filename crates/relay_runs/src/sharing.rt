@@ -1,0 +1,176 @@
+//! The main hand shares out hands of the table to the lanes of all threads of media, and takes them in again.
+ghost use Rattle.std.specs.Prelude.{◌≡◌, ◌+◌, ◌<◌, ◌++◌, All, IfOk, length, vec_capacity, slice_index_or};
+ghost use Rattle.turn_table.specs.Hands.{IsHandOf, HasNoTurn, view, starts, entries, parts};
+ghost use Rattle.board_turns.specs.Between.{IsBetween};
+ghost use Rattle.relay_runs.specs.Rounds.{AreNumbers, all_of, lane_count};
+ghost use Rattle.relay_runs.specs.Threads.{MayJoin, IsFresh, AddsEach, AddsLane, HasRoom, all_lanes, numbers_of, rows_each};
+
+use crate::lanes::OwnLane;
+use crate::threads::{MediaThread, Until};
+use crate::totals::no_totals;
+use media_lane::{LaneHand, Rooms, Totals, count_pairs};
+use relay_core::Relay;
+use relay_outside::{Config, InEnd, LaneShare, OutEnd, OutOfMemory};
+use std::alloc::Global;
+use turn_table::{Hand, Turns};
+
+/// The datagrams of a run of which it is known how many come.
+#[derive(Clone, Copy)]
+pub(crate) struct Due {
+    /// To how many pairs they come: those with the least numbers.
+    pub(crate) pairs: u32,
+    /// How many come to each.
+    pub(crate) packets: u32,
+}
+
+impl Due {
+    /// How many of them come to the pairs of the lane with this index, of so many lanes.
+    fn of_lane(self, index: u32, lanes: u32) -> u64
+        requires { index < lanes }
+    {
+        if index >= self.pairs {
+            return 0;
+        }
+        let pairs = (self.pairs - 1 - index) / lanes + 1;
+        u64::from(pairs) * u64::from(self.packets)
+    }
+}
+
+/// Which lanes each of so many threads of `serve` has; none, where the main hand relays media.
+pub(crate) fn serve_share(config: &Config, threads: u32) -> LaneShare
+    ensures threads { result.threads ≡ threads }
+    ensures lanes { result.lanes ≡ lane_count config.now threads }
+{
+    if threads == 0 {
+        return LaneShare::one_each(0);
+    }
+    LaneShare::of_pairs(threads, count_pairs(config))
+}
+
+/// The threads of this share, each without a lane and with room for them. Where it is known how many datagrams come, each has one lane, and knows how
+/// many come to that.
+pub(crate) fn thread_room<I: InEnd, O: OutEnd>(
+    alloc: Global,
+    share: LaneShare,
+    due: Option<Due>,
+) -> Result<Vec<MediaThread<I, O>>, OutOfMemory>
+    ensures as_many { IfOk result (λ room. length room.items ≡ share.threads) }
+    ensures room { IfOk result (λ room. All (λ thread. HasRoom share.lanes thread) room.items) }
+{
+    let Ok(mut threads) = Vec::with_capacity(alloc, share.threads as usize) else {
+        return Err(OutOfMemory);
+    };
+    for number in 0..share.threads {
+        let Ok(lanes) = Vec::with_capacity(alloc, share.lanes as usize) else {
+            return Err(OutOfMemory);
+        };
+        let until = match due {
+            Some(due) => Until::Taken(due.of_lane(number, share.threads)),
+            None => Until::Halted,
+        };
+        threads.push_reserved(MediaThread {
+            lanes,
+            number,
+            share,
+            until,
+            rooms: Rooms::new(),
+        });
+    }
+    Ok(threads)
+}
+
+/// Adds a lane to the thread at this place, which has room for it.
+fn add_lane<I: InEnd, O: OutEnd>(
+    threads: &mut Vec<MediaThread<I, O>>,
+    at: usize,
+    own: OwnLane<I, O>,
+)
+    requires at { at < length threads.old.items }
+    requires room { (d : _) → length (slice_index_or threads.old.items at d).lanes.items < vec_capacity (slice_index_or threads.old.items at d).lanes }
+    ensures { AddsLane at own threads.old.items threads.new.items }
+{
+    threads[at].lanes.push_reserved(own);
+}
+
+/// Makes all lanes of these threads: each has a part of the main hand, and is of the thread that the share says.
+pub(crate) fn make_lanes<I: InEnd, O: OutEnd>(
+    turns: &Turns<Relay<I, O>>,
+    hand: &mut Hand<Relay<I, O>>,
+    threads: &mut Vec<MediaThread<I, O>>,
+    share: LaneShare,
+    config: &Config,
+)
+    requires some { 0 < share.lanes → 0 < length threads.old.items }
+    requires room { All (λ thread. HasRoom share.lanes thread) threads.old.items }
+    requires between { IsBetween config.now turns.now hand.old }
+    requires parts { share.lanes < parts hand.old }
+    ensures as_many { length threads.new.items ≡ length threads.old.items }
+    ensures fresh { All (λ thread. All (λ own. IsFresh config.now turns.now share.lanes own) thread.lanes.items) threads.new.items }
+    ensures once { AreNumbers share.lanes (numbers_of (all_lanes threads.new.items)) }
+    ensures parts { parts hand.new + length (all_lanes threads.new.items) ≡ parts hand.old }
+    ensures list { entries hand.new ≡ entries hand.old }
+    ensures between { IsBetween config.now turns.now hand.new }
+{
+    for index in 0..share.lanes {
+        let part = turns.split_hand(hand);
+        let own = OwnLane {
+            lane: LaneHand::new(part, index, share.lanes, config),
+            totals: no_totals(),
+        };
+        let at = (share.thread_of(index) as usize).min(threads.len() - 1);
+        add_lane(threads, at, own);
+    }
+}
+
+/// Joins the hands of these lanes to the main one, in their order, and adds what came of their packets.
+fn join_lanes<I: InEnd, O: OutEnd>(
+    turns: &Turns<Relay<I, O>>,
+    hand: &mut Hand<Relay<I, O>>,
+    lanes: Vec<OwnLane<I, O>>,
+    totals: &mut Totals,
+)
+    requires table { IsHandOf turns.now hand.old }
+    requires idle { HasNoTurn hand.old }
+    requires others { All (λ own. MayJoin turns.now own) lanes.items }
+    ensures table { IsHandOf turns.now hand.new }
+    ensures idle { HasNoTurn hand.new }
+    ensures starts { starts hand.new ≡ starts hand.old }
+    ensures main { (view hand.new).main ≡ (view hand.old).main }
+    ensures parts { parts hand.new ≡ parts hand.old + length lanes.items }
+    ensures list { entries hand.new ≡ entries hand.old ++ all_of (rows_each lanes.items) }
+    ensures totals { AddsEach lanes.items totals.old totals.new }
+{
+    let mut lanes = lanes;
+    lanes.reverse();
+    while let Some(own) = lanes.pop() {
+        let OwnLane { lane, totals: more } = own;
+        turns.join_hand(hand, lane.into_hand());
+        totals.add(more);
+    }
+}
+
+/// The same of all lanes of these threads.
+pub(crate) fn join_threads<I: InEnd, O: OutEnd>(
+    turns: &Turns<Relay<I, O>>,
+    hand: &mut Hand<Relay<I, O>>,
+    threads: Vec<MediaThread<I, O>>,
+    totals: &mut Totals,
+)
+    requires table { IsHandOf turns.now hand.old }
+    requires idle { HasNoTurn hand.old }
+    requires others { All (λ thread. All (λ own. MayJoin turns.now own) thread.lanes.items) threads.items }
+    ensures table { IsHandOf turns.now hand.new }
+    ensures idle { HasNoTurn hand.new }
+    ensures starts { starts hand.new ≡ starts hand.old }
+    ensures main { (view hand.new).main ≡ (view hand.old).main }
+    ensures parts { parts hand.new ≡ parts hand.old + length (all_lanes threads.items) }
+    ensures list { entries hand.new ≡ entries hand.old ++ all_of (rows_each (all_lanes threads.items)) }
+    ensures totals { AddsEach (all_lanes threads.items) totals.old totals.new }
+{
+    let mut threads = threads;
+    threads.reverse();
+    while let Some(thread) = threads.pop() {
+        let MediaThread { lanes, .. } = thread;
+        join_lanes(turns, hand, lanes, totals);
+    }
+}
