@@ -4,8 +4,9 @@
 //! known by another's associated types, as a hand is by its port maker's ends. Here all of them are plain types.
 ghost use Rattle.std.specs.Prelude.{◌≡◌, ◌<◌, ℕ, All, length, slice_index_or};
 
+use crate::halt::{HaltWord, Over};
+use std::marker::Brand;
 use std::sync::Wait;
-use std::sync::atomic::{AtomicBool, Ordering};
 use std::thread::{self, Threads};
 
 /// The control loop over a server `V`, which asks the devices `D`.
@@ -26,22 +27,28 @@ pub(crate) trait MediaWork<S, X> {
 
     ghost did: { S → X → Self → Self → Type 0 };
 
-    /// Relays media until the halt word is set.
-    fn work<W: Wait>(&mut self, rt: &W, turns: &S, media: &X, halt: &AtomicBool)
+    /// It goes on until the control turns are over.
+    ghost goes_on: { Self → Type 0 };
+
+    /// Relays media, until the halt word is set at the latest.
+    fn work<W: Wait, F: Over>(&mut self, rt: &W, turns: &S, media: &X, halt: &HaltWord<F>)
         requires { can_work self.old turns.now }
-        ensures { did turns.now media.now self.old self.new };
+        ensures did { did turns.now media.now self.old self.new }
+        ensures over { goes_on self.old → ∥ F.holds ∥₁ };
 }
 
-/// Runs all threads of media, each until the halt word is set, in a thread of its own.
-fn media_threads<R, S, X, L>(rt: &R, turns: &S, media: &X, halt: &AtomicBool, threads: &mut [L])
+/// Runs all threads of media, each in a thread of its own.
+fn media_threads<R, S, X, L, F>(rt: &R, turns: &S, media: &X, halt: &HaltWord<F>, threads: &mut [L])
 where
     R: Threads + Wait + Sync,
     S: Sync,
     X: Sync,
     L: MediaWork<S, X> + Send,
+    F: Over + Send + Sync,
     requires some { 0 < length threads.old }
     requires ready { All (λ thread. L.can_work thread turns.now) threads.old }
-    ensures { (i : ℕ) (d : _) → i < length threads.old → L.did turns.now media.now (slice_index_or threads.old i d) (slice_index_or threads.new i d) }
+    ensures did { (i : ℕ) (d : _) → i < length threads.old → L.did turns.now media.now (slice_index_or threads.old i d) (slice_index_or threads.new i d) }
+    ensures over { (i : ℕ) (d : _) → i < length threads.old → L.goes_on (slice_index_or threads.old i d) → ∥ F.holds ∥₁ }
 {
     let count = threads.len();
     thread::for_each_mut(
@@ -70,13 +77,59 @@ where
     ensures as_many { length threads.new.items ≡ length threads.old.items }
     ensures threads { (i : ℕ) (d : _) → i < length threads.old.items → L.did turns.now media.now (slice_index_or threads.old.items i d) (slice_index_or threads.new.items i d) }
 {
-    let halt = AtomicBool::new(!went_well);
+    let halt: HaltWord<Brand> = HaltWord::new();
+    if !went_well {
+        halt.set(rt);
+    }
     media_threads(rt, turns, media, &halt, threads.as_mut_slice());
 }
 
 /// Makes all control turns in this thread, and then sets the halt word; until it is set media is relayed in as many others as there are threads of media.
 /// Where no thread can be started, the control turns are made first, and each thread of media does its work after them: the library
-/// runs the first of two closures last then, and so the control loop is the second. Without a thread of media the control turns are made alone.
+/// runs the first of two closures last then, and so the control loop is the second.
+fn run_halted<R, V, S, X, D, M, L, F>(
+    rt: &R,
+    server: &V,
+    turns: &S,
+    media: &X,
+    devices: &mut D,
+    control: &mut M,
+    threads: &mut [L],
+)
+where
+    R: Threads + Wait + Sync,
+    S: Sync,
+    X: Sync,
+    M: ControlWork<V, X, D>,
+    L: MediaWork<S, X> + Send,
+    F: Over + Send + Sync,
+    requires some { 0 < length threads.old }
+    requires control { M.can_work control.old server.now devices.old }
+    requires threads { All (λ thread. L.can_work thread turns.now) threads.old }
+    requires over { (new : M) (devices_now : D) → M.did server.now media.now control.old devices.old new devices_now → ∥ F.holds ∥₁ }
+    ensures control { M.did server.now media.now control.old devices.old control.new devices.new }
+    ensures threads { (i : ℕ) (d : _) → i < length threads.old → L.did turns.now media.now (slice_index_or threads.old i d) (slice_index_or threads.new i d) }
+{
+    let word: HaltWord<F> = HaltWord::new();
+    let halt = &word;
+    thread::join_mut(
+        rt,
+        &mut ||
+            requires { (0 < length threads.now) × All (λ thread. L.can_work thread turns.now) threads.now }
+            ensures { (i : ℕ) (d : _) → i < length threads.entry.now → L.did turns.entry.now media.entry.now (slice_index_or threads.entry.now i d) (slice_index_or threads.exit.now i d) }
+        { media_threads(rt, turns, media, halt, threads) },
+        &mut ||
+            requires { M.can_work control.now server.now devices.now × ((new : M) (devices_now : D) → M.did server.now media.now control.now devices.now new devices_now → ∥ F.holds ∥₁) }
+            ensures { M.did server.entry.now media.entry.now control.entry.now devices.entry.now control.exit.now devices.exit.now }
+        {
+            control.work(rt, server, media, devices);
+            halt.set(rt);
+        },
+    );
+}
+
+/// Makes all control turns, with as many threads of media beside them as there are, each until they are over. Without a thread of media the control turns are
+/// made alone.
 pub(crate) fn run_beside<R, V, S, X, D, M, L>(
     rt: &R,
     server: &V,
@@ -102,21 +155,13 @@ where
         control.work(rt, server, media, devices);
         return;
     }
-    let threads = threads.as_mut_slice();
-    let word = AtomicBool::new(false);
-    let halt = &word;
-    thread::join_mut(
+    run_halted::<R, V, S, X, D, M, L, Brand>(
         rt,
-        &mut ||
-            requires { (0 < length threads.now) × All (λ thread. L.can_work thread turns.now) threads.now }
-            ensures { (i : ℕ) (d : _) → i < length threads.entry.now → L.did turns.entry.now media.entry.now (slice_index_or threads.entry.now i d) (slice_index_or threads.exit.now i d) }
-        { media_threads(rt, turns, media, halt, threads) },
-        &mut ||
-            requires { M.can_work control.now server.now devices.now }
-            ensures { M.did server.entry.now media.entry.now control.entry.now devices.entry.now control.exit.now devices.exit.now }
-        {
-            control.work(rt, server, media, devices);
-            halt.store(true, Ordering::SeqCst);
-        },
+        server,
+        turns,
+        media,
+        devices,
+        control,
+        threads.as_mut_slice(),
     );
 }

@@ -5,6 +5,7 @@
 
 mod beside;
 mod devices;
+mod halt;
 mod lanes;
 mod load_run;
 mod loading;

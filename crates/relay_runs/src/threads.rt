@@ -1,15 +1,16 @@
 //! The threads of media of a run: each owns lanes, and sweeps those at whose pairs datagrams stand.
 ghost use Rattle.std.specs.Prelude.{◌≡◌, ◌<◌, ℕ, length, slice_index_or};
+ghost use Rattle.relay_runs.specs.declared.threads.Until.TheVariants as Until;
 ghost use Rattle.relay_runs.specs.Threads.{AreOfTable, Swept, Each};
 
 use crate::beside::MediaWork;
+use crate::halt::{HaltWord, Over};
 use crate::lanes::OwnLane;
 use crate::rota::{Rota, WAIT_MILLIS};
 use media_lane::{Media, Rooms};
 use relay_core::{Happening, Part, Relay};
 use relay_outside::{Clock, Gate, InEnd, LaneShare, OutEnd};
 use std::sync::Wait;
-use std::sync::atomic::{AtomicBool, Ordering};
 use turn_table::{Machine, Turns};
 
 /// How many hints a thread takes of the clock at once.
@@ -114,21 +115,22 @@ impl<I: InEnd, O: OutEnd> MediaThread<I, O> {
 
     /// Sweeps the lanes at whose pairs the clock hints, and now and then the others, until the halt word is set. A hint is never trusted: it only
     /// says which lane comes next.
-    fn relay_hinted<W: Wait, C: Clock, G: Gate>(
+    fn relay_hinted<W: Wait, C: Clock, G: Gate, F: Over>(
         &mut self,
         rt: &W,
         turns: &Turns<Relay<I, O>>,
         media: &Media<'_, '_, C, G>,
-        halt: &AtomicBool,
+        halt: &HaltWord<F>,
     )
         requires { AreOfTable turns.now self.old.lanes.items }
         ensures each { Each (Swept 0 (C.range media.now.clock.now) (G.passed media.now.gate.now)) self.old.lanes.items self.new.lanes.items }
         ensures table { AreOfTable turns.now self.new.lanes.items }
+        ensures over { ∥ F.holds ∥₁ }
     {
         let mut pairs = [0; MOST_HINTS];
         let mut rota = Rota::from(media.clock.now());
         for _ in rt.forever() {
-            if halt.load(Ordering::SeqCst) {
+            if halt.is_set() {
                 break;
             }
             let hints = media
@@ -153,12 +155,12 @@ impl<I: InEnd, O: OutEnd> MediaThread<I, O> {
     }
 
     /// Sweeps all lanes again and again, until they took so many datagrams or the halt word is set. That they ever take so many is not promised.
-    fn relay_due<W: Wait, C: Clock, G: Gate>(
+    fn relay_due<W: Wait, C: Clock, G: Gate, F: Over>(
         &mut self,
         rt: &W,
         turns: &Turns<Relay<I, O>>,
         media: &Media<'_, '_, C, G>,
-        halt: &AtomicBool,
+        halt: &HaltWord<F>,
         due: u64,
     )
         requires { AreOfTable turns.now self.old.lanes.items }
@@ -166,7 +168,7 @@ impl<I: InEnd, O: OutEnd> MediaThread<I, O> {
         ensures table { AreOfTable turns.now self.new.lanes.items }
     {
         for _ in rt.forever() {
-            if self.taken() >= due || halt.load(Ordering::SeqCst) {
+            if self.taken() >= due || halt.is_set() {
                 break;
             }
             self.sweep_all(rt, turns, media);
@@ -178,14 +180,16 @@ impl<I: InEnd, O: OutEnd, C: Clock, G: Gate> MediaWork<Turns<Relay<I, O>>, Media
     for MediaThread<I, O> {
     ghost can_work = { λ thread turns. AreOfTable turns thread.lanes.items };
 
+    ghost goes_on = { λ thread. thread.until ≡ Until.Halted };
+
     ghost did = { λ turns media old new. Each (Swept 1 (C.range media.clock.now) (G.passed media.gate.now)) old.lanes.items new.lanes.items };
 
-    fn work<W: Wait>(
+    fn work<W: Wait, F: Over>(
         &mut self,
         rt: &W,
         turns: &Turns<Relay<I, O>>,
         media: &Media<'_, '_, C, G>,
-        halt: &AtomicBool,
+        halt: &HaltWord<F>,
     ) {
         match self.until {
             Until::Halted => self.relay_hinted(rt, turns, media, halt),

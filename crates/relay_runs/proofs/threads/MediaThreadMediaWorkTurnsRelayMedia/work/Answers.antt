@@ -4,8 +4,8 @@ use Rattle.relay_runs.proofs.Swept.{each_swept}
 use Rattle.relay_runs.proofs.threads.MediaThreadMediaWorkTurnsRelayMedia.work.Goals as goal
 use Rattle.relay_runs.proofs.threads.MediaThreadMediaWorkTurnsRelayMedia.work.Goals.{in-Halted, in-Taken}
 
-pub returns : goal.returns
-returns g c =
+pub returns-clause-did : goal.returns-clause-did
+returns-clause-did g c =
     elim c.match-self.branch [
       | in-Halted w ↦ each_swept (g.C.Clock.range c.args.media.now.clock.now) (g.G.Gate.passed c.args.media.now.gate.now) 0 1 _ _ _ w.relay_hinted.ensures.each
           (subst (λ thread. Each (Swept 1 (g.C.Clock.range c.args.media.now.clock.now) (g.G.Gate.passed c.args.media.now.gate.now)) thread.lanes.items c.sweep_all.new.self.lanes.items) w.self-is c.sweep_all.ensures.each)
