@@ -14,7 +14,7 @@ usage: bench/media.sh MODE [NUMBER]...
   neighbours [SECONDS [WINDOW]]
                                the same with 2 and 4 threads, with calls side by side, and with each 17th of 272; 3 seconds, 64
   soak [MINUTES [CALLS]]       one program alone, ours, a line each minute; 10 minutes, 200 calls
-  all                          all but neighbours and soak: some seven minutes
+  all                          all but neighbours and soak: some ten minutes
 
 paced and flood have calls of plain RTP, and calls whose answerer speaks SRTP. Each program is started afresh for each measurement: ours,
 peer, ours, peer. What the words of a line mean is told at the top of bench/media.c. Variables, with what they are where they are not set:
@@ -23,7 +23,7 @@ peer, ours, peer. What the words of a line mean is told at the top of bench/medi
   PEER        the peer (/usr/bin/rtpengine, of Debian's rtpengine-daemon); where it isn't there, ours is measured alone
   PROGRAMS    which are measured, in this order (ours peer); relay is the bare relay, for plain calls
   KINDS       of calls (plain secure)
-  ROUNDS      how often each program is measured (2)
+  ROUNDS      how often each program is measured (3)
   THREADS     --num-threads of both programs (4)
   SENDERS     threads of the load generator in a flood (2, or 1 where there are fewer than 4 processors)
   PRIORITY    of the programs and the generator, for nice (0)
@@ -35,7 +35,7 @@ END
 
 top=$(cd "$(dirname "$0")/.." && pwd)
 ours=${RTPENGINE:-$top/crates/rtpengine/out/rtpengine} peer=${PEER:-/usr/bin/rtpengine}
-programs=${PROGRAMS:-ours peer} kinds=${KINDS:-plain secure} rounds=${ROUNDS:-2} threads=${THREADS:-4} priority=${PRIORITY:-0}
+programs=${PROGRAMS:-ours peer} kinds=${KINDS:-plain secure} rounds=${ROUNDS:-3} threads=${THREADS:-4} priority=${PRIORITY:-0}
 senders=${SENDERS:-$(($(nproc) < 4 ? 1 : 2))}
 control=22260 first=10000 last=19999 # below the ports that the system gives to clients
 
@@ -143,8 +143,8 @@ lanes() {
     done
 }
 
-# A range of as many pairs as 16 * 17 calls have. Where each 17th of these has packets, their pairs have the same numbers modulo 4 as those of
-# the first 16, so that in both cases each thread has as many of them.
+# A range of as many pairs as 16 * 17 calls have, each a lane of its own. The lanes are handed to the threads in twos, a call's pairs at a time, and 17 is 1
+# modulo 2 and 4: so each thread has as many of the calls where each 17th has packets as where the first 16 have.
 neighbours() {
     local count last=$((first + 4 * 16 * 17 - 1)) words=(flood seconds="${1:-3}" window="${2:-64}" threads="$senders")
     for _ in $(seq "$rounds"); do
@@ -166,17 +166,25 @@ soak() {
     stop
 }
 
-# The mean of each figure over the rounds, and the ratio of the programs'.
+# The median of each figure over the rounds, and the ratio of the programs'.
 table() {
     awk -F '\t' '
-    function mean(name, program, figure) { return rounds[name, program] ? sum[name, program, figure] / rounds[name, program] : 0 }
+    function median(name, program, figure,    n, i, k, x, sorted) {
+        n = rounds[name, program]
+        for (i = 1; i <= n; i++) {
+            x = value[name, program, figure, i] + 0
+            for (k = i; k > 1 && sorted[k - 1] > x; k--) sorted[k] = sorted[k - 1]
+            sorted[k] = x
+        }
+        return n ? (sorted[int((n + 1) / 2)] + sorted[int(n / 2) + 1]) / 2 : 0
+    }
     function shown(name, program, figure,    x) {
         if (!rounds[name, program]) return "-"
-        x = mean(name, program, figure)
+        x = median(name, program, figure)
         return sprintf(x >= 1000 ? "%.0f" : x >= 10 ? "%.1f" : "%.3f", x)
     }
     function row(name, figure, text,    a, b) {
-        a = mean(name, "ours", figure); b = mean(name, "peer", figure)
+        a = median(name, "ours", figure); b = median(name, "peer", figure)
         printf "%-18s %-30s %10s %10s %10s", name, text, shown(name, "ours", figure), shown(name, "peer", figure), (a > 0 && b > 0) ? sprintf("%.2f", a / b) : "-"
         printf relay ? " %10s\n" : "\n", shown(name, "relay", figure)
     }
@@ -185,7 +193,7 @@ table() {
         rounds[$1, $2]++
         if ($1 !~ /^lanes/ && $2 == "relay") relay = 1
         words = split($3, word, " ")
-        for (i = 1; i <= words; i++) { split(word[i], pair, "="); sum[$1, $2, pair[1]] += pair[2] }
+        for (i = 1; i <= words; i++) { split(word[i], pair, "="); value[$1, $2, pair[1], rounds[$1, $2]] = pair[2] }
     }
     END {
         if (count) printf relay ? "\n%-18s %-30s %10s %10s %10s %10s\n" : "\n%-18s %-30s %10s %10s %10s\n", "", "", "ours", "peer", "ours/peer", "relay"
@@ -203,9 +211,9 @@ table() {
         if (lane_count) printf "\n%-18s %10s %10s %10s %10s %10s %10s %10s\n", "lanes", "packets/s", "to relay", "us/packet", "own %", "lost", "p50, us", "p99, us"
         for (k = 1; k <= lane_count; k++) {
             name = lanes[k]; p = name ~ /relay/ ? "relay" : "ours"
-            to_relay = rounds["lanes relay", "relay"] ? sprintf("%.2f", mean(name, p, "rate") / mean("lanes relay", "relay", "rate")) : "-"
-            printf "%-18s %10.0f %10s %10.2f %10.0f %10.1f %10.0f %10.0f\n", p == "relay" ? p : substr(name, 7), mean(name, p, "rate"), to_relay,
-                mean(name, p, "us"), mean(name, p, "own"), mean(name, p, "lost"), mean(name, p, "p50"), mean(name, p, "p99")
+            to_relay = rounds["lanes relay", "relay"] ? sprintf("%.2f", median(name, p, "rate") / median("lanes relay", "relay", "rate")) : "-"
+            printf "%-18s %10.0f %10s %10.2f %10.0f %10.1f %10.0f %10.0f\n", p == "relay" ? p : substr(name, 7), median(name, p, "rate"), to_relay,
+                median(name, p, "us"), median(name, p, "own"), median(name, p, "lost"), median(name, p, "p50"), median(name, p, "p99")
         }
     }' "$room/lines"
 }
