@@ -46,6 +46,13 @@ impl<I: InEnd, O: OutEnd> LaneHand<I, O> {
         }
     }
 
+    /// The lane's number, from 0.
+    pub fn index(&self) -> u32
+        ensures { result ≡ index_in self.now }
+    {
+        self.index
+    }
+
     /// The hand, which holds no turn.
     pub fn into_hand(self) -> Hand<Relay<I, O>>
         ensures hand { result ≡ hand_in self }

@@ -74,6 +74,8 @@ impl<'a, R: rt::Clock> Clock for SystemClock<'a, R> {
     /// At most 64 pairs; the control socket, and the pipe's end, which wakes each thread, have the number `u32::MAX`. Where the system
     /// can't tell of all the thread's sockets, this returns 0 before the time is up, after 2 ms at most.
     fn ready(&self, thread: u32, millis: u32, pairs: &mut [u32]) -> usize {
-        self.readiness.wait(self.clock, thread, millis, pairs)
+        let count = self.readiness.wait(self.clock, thread, millis, pairs);
+        self.readiness.note_moment(thread, self.now());
+        count
     }
 }

@@ -3,23 +3,25 @@ ghost use Rattle.std.specs.Prelude.{◌≡◌, IfOk};
 use crate::address::{addr_of, socket_addr};
 use crate::errors::passes_by_itself;
 use crate::faults::Faults;
-use crate::readiness::Readiness;
+use crate::readiness::{Hints, Readiness};
 use relay_outside::{Addr, Failed, InCall, InEnd, OutCall, OutEnd, PortCall, PortMaker};
 use std::io;
 use std::net::{Net, UdpSocket};
 
 /// The receiving end of a UDP port. It tells the address that it was opened for, and nothing of its calls.
 ///
-/// A take never waits. An error of the system that passes by itself (`passes_by_itself`) counts as nothing, and any other is a fault, of
-/// this port alone.
+/// A take never waits. `None` says that nothing stands here, or that the system did not tell of anything since the last take: where it
+/// tells of all sockets of a thread (`Readiness`), it is asked where it told, and once a second besides. An error of the system that
+/// passes by itself (`passes_by_itself`) counts as nothing, and any other is a fault, of this port alone.
 #[derive(Drop)]
-pub struct UdpIn {
+pub struct UdpIn<'a> {
     at: Addr,
     socket: UdpSocket,
+    hints: Hints<'a>,
     faults: Faults,
 }
 
-impl InEnd for UdpIn {
+impl<'a> InEnd for UdpIn<'a> {
     ghost use Rattle.std.specs.Prelude.{None};
 
     ghost told = { λ end. record { at = end.at; calls = None } };
@@ -27,6 +29,9 @@ impl InEnd for UdpIn {
     ghost faults = { λ end. end.faults };
 
     fn take(&mut self, buf: &mut [u8]) -> Result<Option<(Addr, usize)>, Failed> {
+        if !self.hints.are_due() {
+            return Ok(None);
+        }
         match self.socket.recv_from(buf) {
             Ok((len, from)) => Ok(Some((addr_of(from), len))),
             Err(error) if passes_by_itself(&error) => Ok(None),
@@ -85,7 +90,7 @@ impl<'a, R: Net> UdpMaker<'a, R> {
 }
 
 /// The two ends of a socket that is bound here, never waits, and is watched.
-fn open<R: Net>(net: &R, readiness: &Readiness, at: Addr) -> io::Result<(UdpIn, UdpOut)>
+fn open<'a, R: Net>(net: &R, readiness: &'a Readiness, at: Addr) -> io::Result<(UdpIn<'a>, UdpOut)>
     ensures at { IfOk result (λ ends. (ends.0.at ≡ at) × (ends.1.at ≡ at)) }
     ensures faults { IfOk result (λ ends. (ends.0.faults ≡ 0) × (ends.1.faults ≡ 0)) }
 {
@@ -96,17 +101,18 @@ fn open<R: Net>(net: &R, readiness: &Readiness, at: Addr) -> io::Result<(UdpIn, 
         socket: socket.try_clone()?,
         faults: Faults::new(),
     };
-    readiness.watch(&socket, at.port);
+    let hints = readiness.watch(&socket, at.port);
     let receiving = UdpIn {
         at,
         socket,
+        hints,
         faults: Faults::new(),
     };
     Ok((receiving, sending))
 }
 
 impl<'a, R: Net> PortMaker for UdpMaker<'a, R> {
-    type In = UdpIn;
+    type In = UdpIn<'a>;
 
     type Out = UdpOut;
 
@@ -116,7 +122,7 @@ impl<'a, R: Net> PortMaker for UdpMaker<'a, R> {
 
     ghost faults = { λ maker. maker.faults };
 
-    fn open(&mut self, at: Addr) -> Result<(UdpIn, UdpOut), Failed> {
+    fn open(&mut self, at: Addr) -> Result<(UdpIn<'a>, UdpOut), Failed> {
         match open(self.net, self.readiness, at) {
             Ok(ends) => Ok(ends),
             Err(_) => Err(self.faults.count()),
@@ -124,7 +130,7 @@ impl<'a, R: Net> PortMaker for UdpMaker<'a, R> {
     }
 
     /// The system closes the port, and watches it no more, where both ends are dropped, which is done here.
-    fn close(&mut self, _at: Addr, receiving: UdpIn, sending: UdpOut) {
+    fn close(&mut self, _at: Addr, receiving: UdpIn<'a>, sending: UdpOut) {
         drop(receiving);
         drop(sending);
     }

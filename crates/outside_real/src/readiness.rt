@@ -7,7 +7,7 @@ use relay_outside::LaneShare;
 use std::alloc::Global;
 use std::net::UdpSocket;
 use std::os::fd::AsRawFd;
-use std::sync::atomic::{AtomicBool, Ordering};
+use std::sync::atomic::{AtomicBool, AtomicU32, Ordering};
 use std::time::Duration;
 use std::{rt, thread};
 
@@ -17,16 +17,26 @@ const BLIND_MILLIS: u32 = 2;
 /// How many sockets one wait tells at most.
 const EVENTS: usize = 64;
 
-/// The number that no pair has: that of the control socket, and of the pipe whose end stops the program.
+/// The number that no pair has, which stands for the control socket and for the pipe whose end stops the program.
 const NO_PAIR: u32 = u32::MAX;
 
+/// Under which the control socket is watched: the number of no media socket.
+const CONTROL: u64 = 1 << 32;
+
+/// Under which the pipe is watched.
+const PIPE: u64 = 1 << 33;
+
 /// A set of sockets of which the system tells those that are readable, as long as they are (epoll,
-/// level-triggered). Each has a number, which may be that of others too. The set's descriptor is closed where it is
+/// level-triggered). A media socket's number is its port's distance from the first one. The set's descriptor is closed where it is
 /// dropped.
 struct EventSet {
     descriptor: i32,
-    /// Whether each socket that was to be in the set is in it.
+    /// Whether the system tells of each socket that was to be in the set, and the pipe hasn't ended.
     complete: AtomicBool,
+    /// By the sockets' numbers, whether the system told since the last take that a datagram stands there.
+    hinted: Vec<AtomicBool>,
+    /// The second of the last wait that ended, counted from any moment.
+    second: AtomicU32,
 }
 
 impl Drop for EventSet {
@@ -34,14 +44,20 @@ impl Drop for EventSet {
         let EventSet {
             descriptor,
             complete: _,
+            hinted: _,
+            second: _,
         } = self;
         libc::close(descriptor);
     }
 }
 
 impl EventSet {
-    /// An empty set; `None` where the system refuses it.
-    fn new() -> Option<EventSet> {
+    /// An empty set, with room for the hints of so many ports; `None` where the system refuses it or there is no memory.
+    fn new(alloc: Global, ports: usize) -> Option<EventSet> {
+        let mut hinted = Vec::with_capacity(alloc, ports).ok()?;
+        for _ in 0..ports {
+            hinted.push(AtomicBool::new(false)).ok()?;
+        }
         let descriptor = epoll_create1(EPOLL_CLOEXEC);
         if descriptor < 0 {
             return None;
@@ -49,28 +65,40 @@ impl EventSet {
         Some(EventSet {
             descriptor,
             complete: AtomicBool::new(true),
+            hinted,
+            second: AtomicU32::new(0),
         })
     }
 
     /// Adds a socket or another descriptor under this number, with the events to watch for besides its end and its
     /// errors. If the system refuses it, the set isn't complete from then on.
-    fn add(&self, descriptor: i32, events: u32, number: u32) {
-        let added = os::epoll_ctl(
-            self.descriptor,
-            EPOLL_CTL_ADD,
-            descriptor,
-            events,
-            u64::from(number),
-        );
+    fn add(&self, descriptor: i32, events: u32, number: u64) {
+        let added = os::epoll_ctl(self.descriptor, EPOLL_CTL_ADD, descriptor, events, number);
         if added < 0 {
             self.complete.store(false, Ordering::SeqCst);
         }
     }
 
-    /// Waits until a socket is readable, for at most this many milliseconds, and writes the numbers of those that are to
+    /// Notes what the system told of the socket or the pipe with this number, and returns the pair that it belongs to. Once the pipe
+    /// has ended, nothing is left to hints.
+    fn note(&self, number: u64) -> u32 {
+        if number == PIPE {
+            self.complete.store(false, Ordering::SeqCst);
+        }
+        let Ok(port) = usize::try_from(number) else {
+            return NO_PAIR;
+        };
+        let Some(hinted) = self.hinted.get(port) else {
+            return NO_PAIR;
+        };
+        hinted.store(true, Ordering::SeqCst);
+        u32::try_from(port / 2).unwrap_or(NO_PAIR)
+    }
+
+    /// Waits until a socket is readable, for at most this many milliseconds, and writes the pairs of those that are to
     /// the front of the buffer: how many they are. In a set that isn't complete the wait is a rest, and they are none.
-    fn wait(&self, clock: &impl rt::Clock, millis: u32, numbers: &mut [u32]) -> usize
-        ensures within { result ≤ length numbers.new }
+    fn wait(&self, clock: &impl rt::Clock, millis: u32, pairs: &mut [u32]) -> usize
+        ensures within { result ≤ length pairs.new }
         ensures most { result ≤ 64 }
     {
         if !self.complete.load(Ordering::SeqCst) {
@@ -79,15 +107,53 @@ impl EventSet {
         }
         let timeout = i32::try_from(millis).unwrap_or(i32::MAX);
         let mut events = [EpollEvent { events: 0, data: 0 }; EVENTS];
-        let room = numbers.len().min(EVENTS);
+        let room = pairs.len().min(EVENTS);
         let count = os::epoll_wait(self.descriptor, &mut events[..room], timeout);
         if count == 0 && os::errno() != 0 {
             rest(clock, millis);
         }
-        for (number, event) in numbers.iter_mut().zip(&events[..count]) {
-            *number = u32::try_from(event.data).unwrap_or(NO_PAIR);
+        for (pair, event) in pairs.iter_mut().zip(&events[..count]) {
+            *pair = self.note(event.data);
         }
         count
+    }
+
+    /// Notes the second in which a wait ended.
+    fn note_second(&self, second: u32) {
+        if self.second.load(Ordering::SeqCst) != second {
+            self.second.store(second, Ordering::SeqCst);
+        }
+    }
+}
+
+/// Whether the system is to be asked for a datagram of a socket: where it told of one there since it was asked last, where it wasn't
+/// asked in the second of its thread's last wait, or where it can't tell.
+#[derive(Drop)]
+pub(crate) struct Hints<'a> {
+    /// The set in which the socket is watched; none where nothing is left to hints.
+    set: Option<&'a EventSet>,
+    /// The socket's number there.
+    port: usize,
+    /// In which second it was asked last.
+    asked: Option<u32>,
+}
+
+impl<'a> Hints<'a> {
+    /// Whether the system is to be asked now.
+    pub(crate) fn are_due(&mut self) -> bool {
+        let Some(set) = self.set else {
+            return true;
+        };
+        let second = Some(set.second.load(Ordering::SeqCst));
+        let is_hinted = match set.hinted.get(self.port) {
+            Some(hinted) => hinted.load(Ordering::SeqCst) && hinted.swap(false, Ordering::SeqCst),
+            None => true,
+        };
+        if is_hinted || self.asked != second || !set.complete.load(Ordering::SeqCst) {
+            self.asked = second;
+            return true;
+        }
+        false
     }
 }
 
@@ -97,8 +163,8 @@ fn rest(clock: &impl rt::Clock, millis: u32) {
     thread::sleep(clock, Duration::from_millis(u64::from(millis)));
 }
 
-/// At which pairs of ports sockets are readable, thread by thread, as the system tells it. It is a hint: nothing rests on
-/// it but how long a thread sleeps, and which of its lanes it sweeps first.
+/// At which ports sockets are readable, thread by thread, as the system tells it. It is a hint, on which rests how long a thread
+/// sleeps, which of its lanes it sweeps, and whether a take asks the system: it does so at least once a second.
 ///
 /// Maker, clock and link share it by reference. Nothing of it fails: where the system refuses a set or a socket, each of
 /// that thread's waits returns 0, within 2 ms. So the thread knows by the clock that the time was not up, and looks at all
@@ -117,13 +183,14 @@ impl Readiness {
     /// has all pairs. The first port is the even one of the range's first pair: pair n, from 0, has the ports
     /// `first_port + 2 * n` and the next, and its sockets stand in the set of the thread that has its lane.
     pub fn new(alloc: Global, share: LaneShare, first_port: u16, stop: StopPipe) -> Readiness {
+        let ports = usize::from(u16::MAX - first_port) + 1;
         let mut sets = Vec::new(alloc);
         for _ in 0..share.threads.max(1) {
-            let Some(set) = EventSet::new() else {
+            let Some(set) = EventSet::new(alloc, ports) else {
                 break;
             };
             if let Some(pipe) = stop.descriptor() {
-                set.add(pipe, 0, NO_PAIR);
+                set.add(pipe, 0, PIPE);
             }
             if sets.push(set).is_err() {
                 break;
@@ -148,27 +215,33 @@ impl Readiness {
         u32::from(port.saturating_sub(self.first_port) / 2)
     }
 
-    /// Watches a media socket at this port under its pair's number, in the set of the thread that has the pair's lane; of
-    /// the first thread where there is no lane.
-    pub(crate) fn watch(&self, socket: &UdpSocket, port: u16) {
-        let pair = self.pair_of(port);
-        let lane = self.share.lane_of(pair).unwrap_or(0);
-        if let Some(set) = self.set_of(self.share.thread_of(lane)) {
-            set.add(socket.as_raw_fd(), EPOLLIN, pair);
+    /// Watches a media socket at this port, in the set of the thread that has the lane of its pair; of the first thread where there is no
+    /// lane. Where no thread relays media, a sweep asks at all ports, and no hint says at which.
+    pub(crate) fn watch(&self, socket: &UdpSocket, port: u16) -> Hints<'_> {
+        let lane = self.share.lane_of(self.pair_of(port)).unwrap_or(0);
+        let port = usize::from(port.saturating_sub(self.first_port));
+        let set = self.set_of(self.share.thread_of(lane));
+        if let Some(set) = set {
+            set.add(socket.as_raw_fd(), EPOLLIN, port as u64);
+        }
+        Hints {
+            set: if self.share.threads == 0 { None } else { set },
+            port,
+            asked: None,
         }
     }
 
     /// Watches the control socket in the set of thread 0, under the number that no pair has.
     pub(crate) fn watch_control(&self, socket: &UdpSocket) {
         if let Some(set) = self.set_of(0) {
-            set.add(socket.as_raw_fd(), EPOLLIN, NO_PAIR);
+            set.add(socket.as_raw_fd(), EPOLLIN, CONTROL);
         }
     }
 
     /// Waits until a socket of the thread's pairs is readable, for at most this many milliseconds, and writes the numbers of
     /// these pairs to the front of the buffer, 64 at most: how many they are. A pair stands there twice where both its
     /// sockets are readable. The greatest number, which no pair has, stands there for the control socket, and for the pipe's
-    /// end, which ends each thread's waits from then on.
+    /// end, after which a wait is a rest.
     ///
     /// 0 says that the time is up, or, where it isn't, that a signal came or that the system can't tell. Where it can't tell of
     /// each socket, or the thread has no set, a wait always returns 0, and lasts 2 ms at most.
@@ -188,6 +261,13 @@ impl Readiness {
                 rest(clock, millis);
                 0
             }
+        }
+    }
+
+    /// Notes the moment, in milliseconds, at which a wait of a thread ended.
+    pub(crate) fn note_moment(&self, thread: u32, now: u64) {
+        if let Some(set) = self.set_of(thread) {
+            set.note_second((now / 1_000 % (1 << 32)) as u32);
         }
     }
 }

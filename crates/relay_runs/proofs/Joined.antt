@@ -1,5 +1,6 @@
 -- The main hand after it took in the hands of all lanes and surveyed the table.
-use Rattle.std.proofs.Common.{◌≡◌, ◌∙◌, sym, ap, subst, ℕ, List, ◌++◌, Option}
+use Rattle.std.proofs.Common.{◌≡◌, ◌∙◌, sym, ap, subst, ℕ, List, ◌++◌, Option, length}
+use Rattle.std.proofs.lemmas.List.Sorted.{All-permutation, length_permutation}
 use Rattle.relay_outside.specs.declared.settings.Config.{Config}
 use Rattle.turn_table.specs.declared.hands.Turns.{Turns}
 use Rattle.turn_table.specs.declared.hands.Hand.{Hand}
@@ -24,11 +25,11 @@ use Rattle.media_lane.proofs.Between.{lanes_board}
 use Rattle.board_turns.specs.Between.{board_of, IsBetween}
 use Rattle.board_turns.proofs.Betweens.{between_sound}
 use Rattle.relay_runs.specs.declared.threads.MediaThread.{MediaThread}
-use Rattle.relay_runs.specs.Rounds.{all_of}
-use Rattle.relay_runs.specs.Threads.{all_lanes, rows_each, AddsEach, CountsUp}
+use Rattle.relay_runs.specs.Rounds.{AreLanes, all_of}
+use Rattle.relay_runs.specs.Threads.{all_lanes, rows_each, CountsUp, JoinsInOrder}
 use Rattle.relay_runs.proofs.Between.{known_numbered, known_counted}
 use Rattle.relay_runs.proofs.Gates.{joined_gated}
-use Rattle.relay_runs.proofs.MediaThreads.{AreDone, all_gated, all_of_lane, all_sound, all_totals}
+use Rattle.relay_runs.proofs.MediaThreads.{AreDone, IsOneDone, all_gated, all_made, all_of_lane, all_sound, all_totals}
 use Rattle.relay_runs.proofs.Orders.{AreOfLane}
 
 -- A hand after a survey.
@@ -64,8 +65,9 @@ module _ {M I O T : Type 0} {g : _} (config : Config) (turns : Turns M (Part I O
   }
 
 -- What is known of the main hand with the rows of all lanes: of old it is when they are done, and of new after it took in their hands and a survey.
-pub record HasTaken {M I O : Type 0} {g : _} (config : Config) (turns : Turns M (Part I O) Made (Unit {0})) (gate : ℕ → Type 0) (old new : Hand M (Part I O) Made (Unit {0}) g)
-    (beside : List (List Row)) (was is : Totals) : Type 0 where
+pub record HasTaken {M I O : Type 0} {g : _} (config : Config) (turns : Turns M (Part I O) Made (Unit {0})) (lanes : ℕ) (range : Option (ℕ × ℕ)) (gate : ℕ → Type 0)
+    (old new : Hand M (Part I O) Made (Unit {0}) g) (beside : List (List Row)) (was is : Totals) : Type 0 where
+  pub made : AreLanes config lanes range beside
   pub list_is : entries new ≡ entries old ++ all_of beside
   pub counted : CountsUp (made_by new)
   pub between : IsBetween config turns new
@@ -78,16 +80,19 @@ module _ {I O : Type 0} {gi : _} {go : _} {gm : _} (config : Config) (turns : Tu
     (gate : ℕ → Type 0) (h0 h1 h2 : Hand (Relay I O) (Part I O) Made (Unit {0}) gm) (ys : List (MediaThread I O gi go gm)) (was is : Totals)
     (between : IsBetween config turns h0) (done : AreDone config turns lanes range gate (all_lanes ys))
     (of_table : IsHandOf turns h1) (idle : HasNoTurn h1) (starts_are : starts h1 ≡ starts h0) (main_is : (view h1).main ≡ (view h0).main)
-    (joined_is : entries h1 ≡ entries h0 ++ all_of (rows_each (all_lanes ys))) (adds : AddsEach (all_lanes ys) was is)
+    (long : length (all_lanes ys) ≡ lanes) (joins : JoinsInOrder ys h0 h1 was is)
     (surveyed : IsUnchanged h1 h2) (knows : KnowsAll h2) where
   abbrev beside : List (List Row)
-  beside = rows_each (all_lanes ys)
+  beside = rows_each joins.lanes
+
+  done_in_order : AreDone config turns lanes range gate joins.lanes
+  done_in_order = All-permutation (IsOneDone config turns lanes range gate) (all_lanes ys) joins.lanes joins.are done
 
   lane_rows_are : AreOfLane (all_of beside)
-  lane_rows_are = all_of_lane config turns lanes range gate (all_lanes ys) done
+  lane_rows_are = all_of_lane config turns lanes range gate joins.lanes done_in_order
 
   taken_list : entries h2 ≡ entries h0 ++ all_of beside
-  taken_list = ap (λ (v : View (Part I O) Made (Unit {0})). v.entries) surveyed.1 ∙ joined_is
+  taken_list = ap (λ (v : View (Part I O) Made (Unit {0})). v.entries) surveyed.1 ∙ joins.list_is
 
   numbered : Numbered (made_by h1)
   numbered = subst (λ (v : View (Part I O) Made (Unit {0})). Numbered (list_of v.entries)) surveyed.1 (known_numbered (view h2) knows)
@@ -99,8 +104,8 @@ module _ {I O : Type 0} {gi : _} {go : _} {gm : _} (config : Config) (turns : Tu
   taken_between =
       surveyed_between config turns h1 h2 surveyed
       (joined_between config turns h0 h1 between of_table main_is idle starts_are
-      (subst (λ (rows : List Row). IsSound config rows) (sym joined_is)
-      (all_sound config turns lanes range gate (all_lanes ys) done (entries h0) (between_sound config turns h0 between)))
+      (subst (λ (rows : List Row). IsSound config rows) (sym joins.list_is)
+      (all_sound config turns lanes range gate joins.lanes done_in_order (entries h0) (between_sound config turns h0 between)))
       numbered)
 
   taken_history : board_of (made_by h2) ≡ board_of (made_by h0)
@@ -108,14 +113,15 @@ module _ {I O : Type 0} {gi : _} {go : _} {gm : _} (config : Config) (turns : Tu
       ap (λ (rows : List Row). board_of (list_of rows)) taken_list ∙ lanes_board (entries h0) (all_of beside) (λ row i. lane_no_boards row.event.event (lane_rows_are row i))
 
   taken_gated : AreGated gate (made_by h0) → AreGated gate (made_by h2)
-  taken_gated before = joined_gated gate config h0 h2 beside taken_list before (all_gated config turns lanes range gate (all_lanes ys) done)
+  taken_gated before = joined_gated gate config h0 h2 beside taken_list before (all_gated config turns lanes range gate joins.lanes done_in_order)
 
   taken_totals : HasTotals (made_by h0) was → HasTotals (made_by h2) is
   taken_totals before =
-      subst (λ (rows : List Row). HasTotals (list_of rows) is) (sym taken_list) (all_totals config turns lanes range gate (all_lanes ys) done (entries h0) was is adds before)
+      subst (λ (rows : List Row). HasTotals (list_of rows) is) (sym taken_list) (all_totals config turns lanes range gate joins.lanes done_in_order (entries h0) was is joins.adds before)
 
-  pub has_taken : HasTaken config turns gate h0 h2 (rows_each (all_lanes ys)) was is
+  pub has_taken : HasTaken config turns lanes range gate h0 h2 (rows_each joins.lanes) was is
   has_taken = record {
+    made = all_made config turns lanes range gate joins.lanes done_in_order joins.in_order (length_permutation (all_lanes ys) joins.lanes joins.are ∙ long);
     list_is = taken_list;
     counted = taken_counted;
     between = taken_between;

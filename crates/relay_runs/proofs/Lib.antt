@@ -5,6 +5,7 @@ mod Each
 mod Ends
 mod Gates
 mod Joined
+pub mod LaneOrder
 mod LoadRuns
 mod Loaded
 mod Loops

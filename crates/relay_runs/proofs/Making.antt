@@ -18,8 +18,7 @@ use Rattle.media_lane.specs.Lanes.{hand_in, config_in, index_in, lanes_in}
 use Rattle.media_lane.specs.Visits.{AreTotals, one_if}
 use Rattle.relay_runs.specs.declared.lanes.OwnLane.{OwnLane}
 use Rattle.relay_runs.specs.declared.threads.MediaThread.{MediaThread}
-use Rattle.relay_runs.specs.Rounds.{AreNumbers}
-use Rattle.relay_runs.specs.Threads.{HasRoom, AddsLane, all_lanes, numbers_of, IsFresh}
+use Rattle.relay_runs.specs.Threads.{AreNumbers, HasRoom, AddsLane, all_lanes, numbers_of, IsFresh}
 
 -- A fact of each element of a list, of which one is another.
 module _ {X : Type 0} (P : X → Type 0) (xs : List X) (at : ℕ) (y : X) where

@@ -2,7 +2,7 @@
 use Rattle.std.proofs.Common.{◌≡◌, ◌∙◌, refl, sym, ap, subst, ℕ, suc, ◌+◌, ◌<◌, inl, inr, List, [], ◌∷◌, ◌++◌, Option, Some, All, length, length-append, reverse, append-nil, append_assoc, arith}
 use Rattle.std.specs.Prelude.{slice_index_or, count_by, ◌==◌}
 use Rattle.std.specs.List.{AllZip}
-use Rattle.std.proofs.lemmas.List.{length-map, map-append, reverse-append}
+use Rattle.std.proofs.lemmas.List.{get_or-map, length-map, map-append, reverse-append}
 use Rattle.std.proofs.lemmas.List.Elements.{All-pop, All-nil, All-cons, All-head, All-tail, All-append}
 use Rattle.relay_outside.specs.declared.settings.Config.{Config}
 use Rattle.turn_table.specs.declared.hands.Turns.{Turns}
@@ -33,8 +33,8 @@ use Rattle.media_lane.specs.Totals.{HasTotals}
 use Rattle.media_lane.proofs.Sweeps.{rows_in, visits_totals}
 use Rattle.relay_runs.specs.declared.lanes.OwnLane.{OwnLane}
 use Rattle.relay_runs.specs.declared.threads.MediaThread.{MediaThread}
-use Rattle.relay_runs.specs.Rounds.{IsLane, AreNumbers, AreLanes, all_of}
-use Rattle.relay_runs.specs.Threads.{rows_of, all_lanes, numbers_of, rows_each, AreOfTable, MayJoin, AddsEach, IsFresh, Swept, IsDone, Each}
+use Rattle.relay_runs.specs.Rounds.{IsLane, AreLanes, all_of}
+use Rattle.relay_runs.specs.Threads.{AreNumbers, AreInOrder, rows_of, all_lanes, numbers_of, rows_each, AreOfTable, MayJoin, AddsEach, IsFresh, Swept, IsDone, Each}
 
 -- Visits of several sweeps.
 
@@ -153,9 +153,24 @@ module _ {I O : Type 0} {gi : _} {go : _} {gm : _} (config : Config) (turns : Tu
   tail_done : (x : OwnLane I O gi go gm) (xs : List (OwnLane I O gi go gm)) → AreDone (x ∷ xs) → AreDone xs
   tail_done x xs done = All-tail IsOneDone x xs done
 
-  zip_numbers : (xs : List (OwnLane I O gi go gm)) → AreDone xs → AllZip (λ (index : ℕ) (rows : List Row). IsLane config lanes range index rows) (numbers_of xs) (rows_each xs)
-  zip_numbers [] done = tt
-  zip_numbers (x ∷ xs) done = ((head_done x xs done).is_lane, zip_numbers xs (tail_done x xs done))
+  -- where each stands at its number's place, their rows are those of all lanes, in order
+  pub all_made : (xs : List (OwnLane I O gi go gm)) → AreDone xs → AreInOrder xs → length xs ≡ lanes → AreLanes config lanes range (rows_each xs)
+  all_made xs done in_order long = record {
+    as_many = length-map xs (λ (own : OwnLane I O gi go gm). rows_of own) ∙ long;
+    are_lanes = λ i d lt. made_at i d (omega (arith, lt, long));
+  }
+    where
+      made_at : (i : ℕ) (d : List Row) → i < length xs → IsLane config lanes range i (slice_index_or (rows_each xs) i d)
+      made_at i d lt = made_by_lane i d lt (first_of xs i lt)
+
+      made_by_lane : (i : ℕ) (d : List Row) → i < length xs → OwnLane I O gi go gm → IsLane config lanes range i (slice_index_or (rows_each xs) i d)
+      made_by_lane i d lt e =
+          subst (λ (rows : List Row). IsLane config lanes range i rows) (sym (get_or-map (λ (own : OwnLane I O gi go gm). rows_of own) xs i e d lt))
+          (subst (λ (n : ℕ). IsLane config lanes range n (rows_of (slice_index_or xs i e))) (in_order i e lt) (done i e lt).is_lane)
+
+      first_of : (zs : List (OwnLane I O gi go gm)) (i : ℕ) → i < length zs → OwnLane I O gi go gm
+      first_of [] i lt = absurd (omega (arith, lt))
+      first_of (z ∷ zs) i lt = z
 
   pub all_of_lane : (xs : List (OwnLane I O gi go gm)) → AreDone xs → (row : Row) → table_lists.In row (all_of (rows_each xs)) → IsOfLane row.event.event
   all_of_lane [] done row i = elim i [ ]
@@ -208,9 +223,9 @@ module _ {I O : Type 0} {gi : _} {go : _} {gm : _} (config : Config) (turns : Tu
   are_done : AreDone config turns lanes range gate (all_lanes ys)
   are_done = all_flat (IsOneDone config turns lanes range gate) ys own_done
 
-  may_join : AllOwn (λ (own : OwnLane I O gi go gm). MayJoin turns own) ys
-  may_join i d lt j e le =
-      let x = own_done i d lt j e le in
+  may_join : All (λ (own : OwnLane I O gi go gm). MayJoin turns own) (all_lanes ys)
+  may_join i d lt =
+      let x = are_done i d lt in
       record { of_table = x.of_table; one_part = x.one_part; not_main = x.not_main }
 
   as_many : length (all_lanes ys) ≡ length (all_lanes xs)
@@ -219,37 +234,37 @@ module _ {I O : Type 0} {gi : _} {go : _} {gm : _} (config : Config) (turns : Tu
       ∙ ap (λ (ns : List ℕ). length ns) (numbers_same range gate (all_lanes xs) (all_lanes ys) swept)
       ∙ length-map (all_lanes xs) (λ (own : OwnLane I O gi go gm). index_in own.lane)
 
-  all_made : AreNumbers lanes (numbers_of (all_lanes xs)) → AreLanes config lanes range (rows_each (all_lanes ys))
-  all_made once = record {
-    numbers = numbers_of (all_lanes ys);
-    each_once = λ i.
-        ap (λ (ns : List ℕ). count_by (λ (j : ℕ). j == i) ns) (numbers_same range gate (all_lanes xs) (all_lanes ys) swept) ∙ once i;
-    are_lanes = zip_numbers config turns lanes range gate (all_lanes ys) are_done;
-  }
+  each_once : AreNumbers lanes (numbers_of (all_lanes xs)) → AreNumbers lanes (numbers_of (all_lanes ys))
+  each_once once i = ap (λ (ns : List ℕ). count_by (λ (j : ℕ). j == i) ns) (numbers_same range gate (all_lanes xs) (all_lanes ys) swept) ∙ once i
 
 -- What is known of the lanes of these threads after their work, where xs are the threads before it.
 pub record HaveWorked {I O : Type 0} {gi : _} {go : _} {gm : _} (config : Config) (turns : Turns (Relay I O) (Part I O) Made (Unit {0})) (lanes : ℕ) (range : Option (ℕ × ℕ)) (gate : ℕ → Type 0)
     (xs ys : List (MediaThread I O gi go gm)) : Type 0 where
   pub done : AreDone config turns lanes range gate (all_lanes ys)
-  pub made : AreLanes config lanes range (rows_each (all_lanes ys))
+  pub once : AreNumbers (length (all_lanes ys)) (numbers_of (all_lanes ys))
+  pub long : length (all_lanes ys) ≡ lanes
   pub many : length (all_lanes ys) ≡ length (all_lanes xs)
-  pub join : AllOwn (λ (own : OwnLane I O gi go gm). MayJoin turns own) ys
+  pub join : All (λ (own : OwnLane I O gi go gm). MayJoin turns own) (all_lanes ys)
 
 -- by what was known of them before it, under other names of configuration, table and number
 pub have_worked : {I O : Type 0} {gi : _} {go : _} {gm : _} (config config' : Config) (turns turns' : Turns (Relay I O) (Part I O) Made (Unit {0})) (lanes lanes' : ℕ) (range : Option (ℕ × ℕ))
     (gate : ℕ → Type 0) (xs ys : List (MediaThread I O gi go gm)) → config' ≡ config → turns' ≡ turns → lanes' ≡ lanes → length ys ≡ length xs
-    → AllOwn (λ (own : OwnLane I O gi go gm). IsFresh config' turns' lanes' own) xs → AreNumbers lanes' (numbers_of (all_lanes xs))
+    → AllOwn (λ (own : OwnLane I O gi go gm). IsFresh config' turns' lanes' own) xs → AreNumbers lanes' (numbers_of (all_lanes xs)) → length (all_lanes xs) ≡ lanes'
     → ((i : ℕ) (d : MediaThread I O gi go gm) → i < length xs → Each (Swept 1 range gate) (slice_index_or xs i d).lanes.items (slice_index_or ys i d).lanes.items)
     → HaveWorked config turns lanes range gate xs ys
-have_worked {I} {O} {gi} {go} {gm} config config' turns turns' lanes lanes' range gate xs ys config_is turns_are lanes_are long before once worked =
+have_worked {I} {O} {gi} {go} {gm} config config' turns turns' lanes lanes' range gate xs ys config_is turns_are lanes_are long before once count worked =
     let fresh : AllOwn (λ (own : OwnLane I O gi go gm). IsFresh config turns lanes own) xs =
     subst (λ (n : ℕ). AllOwn (λ (own : OwnLane I O gi go gm). IsFresh config turns n own) xs) lanes_are
     (subst (λ (t : Turns (Relay I O) (Part I O) Made (Unit {0})). AllOwn (λ (own : OwnLane I O gi go gm). IsFresh config t lanes' own) xs) turns_are
     (subst (λ (k : Config). AllOwn (λ (own : OwnLane I O gi go gm). IsFresh k turns' lanes' own) xs) config_is before)) in
+    let many : length (all_lanes ys) ≡ length (all_lanes xs) = as_many config turns lanes range gate xs ys long fresh worked in
+    let all : length (all_lanes ys) ≡ lanes = many ∙ count ∙ lanes_are in
     record {
       done = are_done config turns lanes range gate xs ys long fresh worked;
-      made = all_made config turns lanes range gate xs ys long fresh worked (subst (λ (n : ℕ). AreNumbers n (numbers_of (all_lanes xs))) lanes_are once);
-      many = as_many config turns lanes range gate xs ys long fresh worked;
+      once = subst (λ (n : ℕ). AreNumbers n (numbers_of (all_lanes ys))) (sym all)
+          (each_once config turns lanes range gate xs ys long fresh worked (subst (λ (n : ℕ). AreNumbers n (numbers_of (all_lanes xs))) lanes_are once));
+      long = all;
+      many = many;
       join = may_join config turns lanes range gate xs ys long fresh worked;
     }
 

@@ -99,19 +99,18 @@ pub both_of_lane : (xs ys : List Row) → AreOfLane xs → AreOfLane ys → AreO
 both_of_lane xs ys first second row i = elim (row_append xs ys i) [ inl j ↦ first row j | inr j ↦ second row j ]
 
 -- and those of all lanes
-each_of_lane : (config : Config) (lanes : ℕ) (range : Option (ℕ × ℕ)) (numbers : List ℕ) (beside : List (List Row))
-    → AllZip (λ (index : ℕ) (rows : List Row). IsLane config lanes range index rows) numbers beside → AreOfLane (all_of beside)
-each_of_lane config lanes range [] [] are row i = elim i [ ]
-each_of_lane config lanes range [] (rows ∷ more) are row i = absurd are
-each_of_lane config lanes range (n ∷ ns) [] are row i = absurd are
-each_of_lane config lanes range (n ∷ ns) (rows ∷ more) are row i =
+each_of_lane : (config : Config) (lanes : ℕ) (range : Option (ℕ × ℕ)) (beside : List (List Row))
+    → ((i : ℕ) (d : List Row) → i < length beside → (index : ℕ) × IsLane config lanes range index (slice_index_or beside i d)) → AreOfLane (all_of beside)
+each_of_lane config lanes range [] are row i = elim i [ ]
+each_of_lane config lanes range (rows ∷ more) are row i =
+    let first = are 0 rows (omega arith) in
     elim (row_append rows (all_of more) i) [
-      | inl j ↦ rows_in config (visits_of are.0.sweeps) row (subst (λ (xs : List Row). table_lists.In row xs) are.0.rows_are j)
-      | inr j ↦ each_of_lane config lanes range ns more are.1 row j
+      | inl j ↦ rows_in config (visits_of first.1.sweeps) row (subst (λ (xs : List Row). table_lists.In row xs) first.1.rows_are j)
+      | inr j ↦ each_of_lane config lanes range more (λ k d lt. are (suc k) d (omega (arith, lt))) row j
     ]
 
 pub lanes_of_lane : (config : Config) (lanes : ℕ) (range : Option (ℕ × ℕ)) (beside : List (List Row)) → AreLanes config lanes range beside → AreOfLane (all_of beside)
-lanes_of_lane config lanes range beside are = each_of_lane config lanes range are.numbers beside are.are_lanes
+lanes_of_lane config lanes range beside are = each_of_lane config lanes range beside (λ i d lt. (i, are.are_lanes i d (let many = are.as_many in omega (arith, lt, many))))
 
 -- A turn of the board.
 

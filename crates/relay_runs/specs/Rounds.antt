@@ -1,8 +1,7 @@
 -- The steps of a run. Those of the main hand, in the order in which they were made: rounds, each a control turn, one more sweep of all pairs, and the
 -- stop. Where no thread relays media, a sweep of media follows each control turn too; else each lane made sweeps meanwhile. At the end of a
 -- round stands a tick, about once a second.
-use Rattle.std.specs.Prelude.{◌≡◌, ◌+◌, ◌<◌, ℕ, zero, suc, Bool, true, false, ◌==◌, nat_le, nat_lt, min, count_by, List, [], ◌∷◌, ◌++◌, Option, None, Some, is_some, map, filter, length}
-use Rattle.std.specs.List.{AllZip}
+use Rattle.std.specs.Prelude.{◌≡◌, ◌+◌, ◌<◌, ℕ, zero, suc, Bool, true, false, ◌==◌, nat_le, min, List, [], ◌∷◌, ◌++◌, Option, None, Some, is_some, map, filter, length, slice_index_or}
 use Rattle.std.specs.Option.{option_map}
 use Rattle.relay_outside.specs.declared.settings.Config.{Config}
 use Rattle.histories.specs.Words.{In}
@@ -15,7 +14,7 @@ use Rattle.relay_core.specs.Made.{entry_of, list_of, told}
 use Rattle.relay_core.specs.Timed.{AreTimed}
 use Rattle.relay_core.specs.Turning.{IsTurn}
 use Rattle.media_lane.specs.declared.answers.Totals.{Totals}
-use Rattle.media_lane.specs.Visits.{Row, Visit, all_rows, one_if}
+use Rattle.media_lane.specs.Visits.{Row, Visit, all_rows}
 use Rattle.media_lane.specs.Looping.{IsSweep, AreSweeps, visits_of}
 use Rattle.board_turns.specs.Between.{board_of}
 use Rattle.board_turns.specs.Stopping.{stop_entry}
@@ -163,15 +162,10 @@ pub record IsLane (config : Config) (lanes : ℕ) (range : Option (ℕ × ℕ)) 
   pub are_sweeps : AreSweeps config index lanes range sweeps
   pub rows_are : rows ≡ all_rows config (visits_of sweeps)
 
--- each number below this one is among them once, and no other is
-abbrev pub AreNumbers : ℕ → List ℕ → Type 0
-AreNumbers lanes numbers = (i : ℕ) → count_by (λ j. j == i) numbers ≡ one_if (nat_lt i lanes)
-
--- the rows of all lanes, lane by lane, in some order of the lanes
+-- the rows of all lanes, lane by lane, in the order of their numbers
 pub record AreLanes (config : Config) (lanes : ℕ) (range : Option (ℕ × ℕ)) (beside : List (List Row)) : Type 0 where
-  pub numbers : List ℕ
-  pub each_once : AreNumbers lanes numbers
-  pub are_lanes : AllZip (λ (index : ℕ) (rows : List Row). IsLane config lanes range index rows) numbers beside
+  pub as_many : length beside ≡ lanes
+  pub are_lanes : (i : ℕ) (d : List Row) → i < lanes → IsLane config lanes range i (slice_index_or beside i d)
 
 abbrev pub all_of : List (List Row) → List Row
 all_of [] = []

@@ -1,6 +1,7 @@
 -- What is known of the lanes of all threads of media: before their work, of their work, and after it.
-use Rattle.std.specs.Prelude.{◌≡◌, ◌<◌, ◌≤◌, ℕ, false, List, [], ◌∷◌, ◌++◌, Option, All, length, map, slice_index_or, slice_set, vec_capacity}
+use Rattle.std.specs.Prelude.{◌≡◌, ◌+◌, ◌<◌, ◌≤◌, ◌==◌, nat_lt, count_by, ℕ, false, List, [], ◌∷◌, ◌++◌, Option, All, length, map, slice_index_or, slice_set, vec_capacity}
 use Rattle.std.specs.List.{flat_map}
+use Rattle.std.specs.List.Sorted.{IsPermutation}
 use Rattle.relay_outside.specs.declared.settings.Config.{Config}
 use Rattle.turn_table.specs.declared.hands.Turns.{Turns}
 use Rattle.turn_table.specs.declared.hands.Hand.{Hand}
@@ -17,10 +18,14 @@ use Rattle.media_lane.specs.Looping.{AddsTotals, AreSweeps, visits_of}
 use Rattle.media_lane.specs.Receipts.{KeepsList}
 use Rattle.media_lane.specs.Gated.{AreGated, GainsGated}
 use Rattle.media_lane.specs.Totals.{HasTotals}
-use Rattle.media_lane.specs.Visits.{Row, Visit, all_rows, AreTotals}
+use Rattle.media_lane.specs.Visits.{Row, Visit, all_rows, AreTotals, one_if}
 use Rattle.relay_runs.specs.declared.lanes.OwnLane.{OwnLane}
 use Rattle.relay_runs.specs.declared.threads.MediaThread.{MediaThread}
 use Rattle.relay_runs.specs.Rounds.{IsLane, AreLanes, all_of}
+
+-- each number below this one is among them once, and no other is
+abbrev pub AreNumbers : ℕ → List ℕ → Type 0
+AreNumbers lanes numbers = (i : ℕ) → count_by (λ j. j == i) numbers ≡ one_if (nat_lt i lanes)
 
 module _ {I O : Type 0} {gi : _} {go : _} {gm : _} where
   abbrev pub rows_of : OwnLane I O gi go gm → List Row
@@ -37,6 +42,14 @@ module _ {I O : Type 0} {gi : _} {go : _} {gm : _} where
   -- their rows, lane by lane
   abbrev pub rows_each : List (OwnLane I O gi go gm) → List (List Row)
   rows_each lanes = map (λ (own : OwnLane I O gi go gm). rows_of own) lanes
+
+  -- the number of each is its place in the list
+  abbrev pub AreInOrder : List (OwnLane I O gi go gm) → Type 0
+  AreInOrder lanes = (i : ℕ) (d : OwnLane I O gi go gm) → i < length lanes → index_in (slice_index_or lanes i d).lane ≡ i
+
+  -- an empty list has room for so many lanes
+  abbrev pub HasLaneRoom : ℕ → Vec (OwnLane I O gi go gm) → Type 0
+  HasLaneRoom lanes room = (room.items ≡ []) × (lanes ≤ vec_capacity room)
 
   -- it has no lane yet, and room for so many
   pub record HasRoom (lanes : ℕ) (thread : MediaThread I O gi go gm) : Type 0 where
@@ -64,6 +77,14 @@ module _ {I O : Type 0} {gi : _} {go : _} {gm : _} where
   abbrev pub AddsEach : List (OwnLane I O gi go gm) → Totals → Totals → Type 0
   AddsEach [] old new = new ≡ old
   AddsEach (own ∷ more) old new = (mid : Totals) × AddsTotals old own.totals mid × AddsEach more mid new
+
+  -- The main hand took in the hands of all lanes of these threads, in the order of the lanes' numbers, and what came of their packets was added
+  pub record JoinsInOrder (threads : List (MediaThread I O gi go gm)) (old new : Hand (Relay I O) (Part I O) Made (Unit {0}) gm) (was is : Totals) : Type 0 where
+    pub lanes : List (OwnLane I O gi go gm)
+    pub are : IsPermutation (all_lanes threads) lanes
+    pub in_order : AreInOrder lanes
+    pub list_is : entries new ≡ entries old ++ all_of (rows_each lanes)
+    pub adds : AddsEach lanes was is
 
   -- one of so many lanes, which has a part of the table's hands and did nothing yet
   pub record IsFresh (config : Config) (turns : Turns (Relay I O) (Part I O) Made (Unit {0})) (lanes : ℕ) (own : OwnLane I O gi go gm) : Type 0 where

@@ -7,10 +7,11 @@ ghost use Rattle.media_ports.specs.Held.{TellsHeld};
 ghost use Rattle.board_turns.specs.Between.{IsBetween, board_of};
 ghost use Rattle.relay_runs.specs.Devices.{AreSame};
 ghost use Rattle.relay_runs.specs.Loads.{DidLoadTurns};
-ghost use Rattle.relay_runs.specs.Threads.{HasRoom, RelaysDue};
+ghost use Rattle.relay_runs.specs.Threads.{HasLaneRoom, HasRoom, RelaysDue};
 
 use crate::beside::{ControlWork, run_after};
 use crate::devices::{Devices, Tells};
+use crate::lanes::OwnLane;
 use crate::sharing::{join_threads, make_lanes};
 use crate::status::Status;
 use crate::threads::MediaThread;
@@ -34,6 +35,7 @@ fn relay_due<I, O, C, G, R>(
     turns: &Turns<Relay<I, O>>,
     hand: &mut Hand<Relay<I, O>>,
     room: Vec<MediaThread<I, O>>,
+    lanes: Vec<OwnLane<I, O>>,
     settings: &Settings,
     media: &Media<'_, '_, C, G>,
     looped: &mut Looped,
@@ -48,6 +50,7 @@ where
     requires some { 0 < settings.now.threads }
     requires as_many { length room.items ≡ settings.now.threads }
     requires room { All (λ thread. HasRoom settings.now.threads thread) room.items }
+    requires lanes { HasLaneRoom settings.now.threads lanes }
     requires all { parts hand.old ≡ 1024 }
     requires between { IsBetween settings.now.config turns.now hand.old }
     ensures between { IsBetween settings.now.config turns.now hand.new }
@@ -62,7 +65,7 @@ where
     make_lanes(turns, hand, &mut threads, share, &settings.config);
     let went_well = looped.status == Status::Ok;
     run_after(rt, turns, media, &mut threads, went_well);
-    join_threads(turns, hand, threads, &mut looped.totals);
+    join_threads(turns, hand, threads, lanes, &mut looped.totals);
     turns.survey(hand);
 }
 
@@ -96,13 +99,19 @@ where
     requires all { parts prepared.hand ≡ 1024 }
     requires as_many { length prepared.room.items ≡ settings.now.threads }
     requires room { All (λ thread. HasRoom settings.now.threads thread) prepared.room.items }
+    requires lanes { HasLaneRoom settings.now.threads prepared.lanes }
     requires open { TellsHeld server.config (P.told devices.old.ports.now) [] }
     ensures same { AreSame devices.old devices.new }
     ensures did { DidLoadTurns settings.now.turns server.config settings.now.threads (C.range media.now.clock.now) (G.passed media.now.gate.now)
         (⟦<Devices<'static, 'static, 'static, 'static, N, P, K, T> as Tells>⟧.outside devices.old devices.new)
         result.status result.counts result.totals }
 {
-    let Prepared { hand, desk, room } = prepared;
+    let Prepared {
+        hand,
+        desk,
+        room,
+        lanes,
+    } = prepared;
     let mut control = ControlLoop {
         alloc,
         settings: *settings,
@@ -124,6 +133,7 @@ where
         server.turns(),
         &mut hand,
         room,
+        lanes,
         settings,
         media,
         &mut looped,

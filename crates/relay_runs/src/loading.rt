@@ -1,6 +1,6 @@
 //! The command `load`.
 ghost use Rattle.std.specs.Prelude.{◌≡◌, ◌≤◌, ◌*◌, [], Some, true, All, IfSome, IsSome, IsTrue, length};
-ghost use Rattle.relay_runs.specs.Threads.{HasRoom};
+ghost use Rattle.relay_runs.specs.Threads.{HasLaneRoom, HasRoom};
 ghost use Rattle.relay_outside.specs.Told.{Rose};
 ghost use Rattle.turn_table.specs.Hands.{parts};
 ghost use Rattle.relay_core.specs.Turning.{made_by};
@@ -14,7 +14,7 @@ ghost use Rattle.relay_runs.specs.Loads.{RunsLoad, Loads, IsLoaded, load_line};
 use crate::devices::Devices;
 use crate::load_run::load_turns;
 use crate::serving::line_room;
-use crate::sharing::{Due, thread_room};
+use crate::sharing::{Due, lane_room, thread_room};
 use crate::status::Status;
 use crate::totals::put_number;
 use crate::turns::{Looped, Prepared};
@@ -96,6 +96,7 @@ where
     requires all { parts prepared.hand ≡ 1024 }
     requires as_many { length prepared.room.items ≡ settings.now.lanes }
     requires room { All (λ thread. HasRoom settings.now.lanes thread) prepared.room.items }
+    requires lanes { HasLaneRoom settings.now.lanes prepared.lanes }
     ensures { IfSome result (λ totals. RunsLoad settings.now (G.passed gate.now) totals) }
 {
     let mut link = LoadLink::new(alloc, settings.calls);
@@ -208,13 +209,22 @@ where
         pairs: 2 * settings.calls,
         packets: settings.packets,
     };
-    let Ok(room) = thread_room(alloc, LaneShare::one_each(settings.lanes), Some(due)) else {
+    let share = LaneShare::one_each(settings.lanes);
+    let Ok(room) = thread_room(alloc, share, Some(due)) else {
+        return Status::OutOfMemory;
+    };
+    let Ok(lanes) = lane_room(alloc, share) else {
         return Status::OutOfMemory;
     };
     let Ok((server, hand)) = Server::start(alloc, settings.config) else {
         return Status::OutOfMemory;
     };
-    let prepared = Prepared { hand, desk, room };
+    let prepared = Prepared {
+        hand,
+        desk,
+        room,
+        lanes,
+    };
     let Some(totals) = run_load(rt, alloc, settings, server, prepared, gate) else {
         return Status::OutOfMemory;
     };

@@ -6,7 +6,7 @@ ghost use Rattle.relay_runs.specs.Devices.{AreSame, AreUnasked};
 ghost use Rattle.relay_runs.specs.Run.{Serves, IsServed};
 
 use crate::devices::{Devices, Tells};
-use crate::sharing::{serve_share, thread_room};
+use crate::sharing::{lane_room, serve_share, thread_room};
 use crate::status::Status;
 use crate::totals::put_totals;
 use crate::turns::{Prepared, close_table, serve_turns};
@@ -79,6 +79,9 @@ where
     let Ok(room) = thread_room(alloc, share, None) else {
         return Status::OutOfMemory;
     };
+    let Ok(lanes) = lane_room(alloc, share) else {
+        return Status::OutOfMemory;
+    };
     let Ok((server, hand)) = Server::start(alloc, settings.config) else {
         return Status::OutOfMemory;
     };
@@ -86,7 +89,12 @@ where
         close_table(server, hand);
         return Status::ControlFault;
     };
-    let prepared = Prepared { hand, desk, room };
+    let prepared = Prepared {
+        hand,
+        desk,
+        room,
+        lanes,
+    };
     let looped = serve_turns(rt, alloc, settings, server, prepared, devices, media);
     put_totals(&mut line, looped.counts, looped.totals);
     match out.write(line.as_slice()) {

@@ -1,9 +1,10 @@
 //! The main hand shares out hands of the table to the lanes of all threads of media, and takes them in again.
-ghost use Rattle.std.specs.Prelude.{◌≡◌, ◌+◌, ◌<◌, ◌++◌, All, IfOk, length, vec_capacity, slice_index_or};
+ghost use Rattle.std.specs.Prelude.{◌≡◌, ◌+◌, ◌<◌, ◌≤◌, ◌++◌, [], All, IfOk, length, vec_capacity, slice_index_or};
+ghost use Rattle.std.specs.List.Sorted.{IsPermutation};
 ghost use Rattle.turn_table.specs.Hands.{IsHandOf, HasNoTurn, view, starts, entries, parts};
 ghost use Rattle.board_turns.specs.Between.{IsBetween};
-ghost use Rattle.relay_runs.specs.Rounds.{AreNumbers, all_of, lane_count};
-ghost use Rattle.relay_runs.specs.Threads.{MayJoin, IsFresh, AddsEach, AddsLane, HasRoom, all_lanes, numbers_of, rows_each};
+ghost use Rattle.relay_runs.specs.Rounds.{all_of, lane_count};
+ghost use Rattle.relay_runs.specs.Threads.{AreNumbers, AreInOrder, MayJoin, IsFresh, AddsEach, AddsLane, HasLaneRoom, HasRoom, JoinsInOrder, all_lanes, numbers_of, rows_each};
 
 use crate::lanes::OwnLane;
 use crate::threads::{MediaThread, Until};
@@ -79,6 +80,16 @@ pub(crate) fn thread_room<I: InEnd, O: OutEnd>(
     Ok(threads)
 }
 
+/// An empty list with room for all lanes of this share.
+pub(crate) fn lane_room<I: InEnd, O: OutEnd>(
+    alloc: Global,
+    share: LaneShare,
+) -> Result<Vec<OwnLane<I, O>>, OutOfMemory>
+    ensures { IfOk result (λ room. HasLaneRoom share.lanes room) }
+{
+    Vec::with_capacity(alloc, share.lanes as usize).map_err(|_| OutOfMemory)
+}
+
 /// Adds a lane to the thread at this place, which has room for it.
 fn add_lane<I: InEnd, O: OutEnd>(
     threads: &mut Vec<MediaThread<I, O>>,
@@ -107,6 +118,7 @@ pub(crate) fn make_lanes<I: InEnd, O: OutEnd>(
     ensures as_many { length threads.new.items ≡ length threads.old.items }
     ensures fresh { All (λ thread. All (λ own. IsFresh config.now turns.now share.lanes own) thread.lanes.items) threads.new.items }
     ensures once { AreNumbers share.lanes (numbers_of (all_lanes threads.new.items)) }
+    ensures count { length (all_lanes threads.new.items) ≡ share.lanes }
     ensures parts { parts hand.new + length (all_lanes threads.new.items) ≡ parts hand.old }
     ensures list { entries hand.new ≡ entries hand.old }
     ensures between { IsBetween config.now turns.now hand.new }
@@ -149,28 +161,57 @@ fn join_lanes<I: InEnd, O: OutEnd>(
     }
 }
 
-/// The same of all lanes of these threads.
+/// All lanes of these threads, in a list that is empty and has room for them.
+fn gather_lanes<I: InEnd, O: OutEnd>(
+    threads: Vec<MediaThread<I, O>>,
+    room: Vec<OwnLane<I, O>>,
+) -> Vec<OwnLane<I, O>>
+    requires room { HasLaneRoom (length (all_lanes threads.items)) room }
+    ensures { result.items ≡ all_lanes threads.items }
+{
+    let mut threads = threads;
+    let mut lanes = room;
+    threads.reverse();
+    while let Some(thread) = threads.pop() {
+        let MediaThread { lanes: mut own, .. } = thread;
+        let Ok(()) = lanes.append(&mut own) else {
+            unreachable!()
+        };
+    }
+    lanes
+}
+
+/// These lanes, whose numbers are those below their count, in the order of the numbers.
+fn put_in_order<I: InEnd, O: OutEnd>(lanes: &mut Vec<OwnLane<I, O>>)
+    requires once { AreNumbers (length lanes.old.items) (numbers_of lanes.old.items) }
+    ensures are { IsPermutation lanes.old.items lanes.new.items }
+    ensures in_order { AreInOrder lanes.new.items }
+{
+    lanes.sort_unstable_by_key(|own| own.lane.index());
+}
+
+/// Joins the hands of all lanes of these threads to the main one, in the order of the lanes' numbers, and adds what came of their packets. The list is
+/// empty and has room for all lanes.
 pub(crate) fn join_threads<I: InEnd, O: OutEnd>(
     turns: &Turns<Relay<I, O>>,
     hand: &mut Hand<Relay<I, O>>,
     threads: Vec<MediaThread<I, O>>,
+    room: Vec<OwnLane<I, O>>,
     totals: &mut Totals,
 )
     requires table { IsHandOf turns.now hand.old }
     requires idle { HasNoTurn hand.old }
-    requires others { All (λ thread. All (λ own. MayJoin turns.now own) thread.lanes.items) threads.items }
+    requires others { All (λ own. MayJoin turns.now own) (all_lanes threads.items) }
+    requires once { AreNumbers (length (all_lanes threads.items)) (numbers_of (all_lanes threads.items)) }
+    requires room { HasLaneRoom (length (all_lanes threads.items)) room }
     ensures table { IsHandOf turns.now hand.new }
     ensures idle { HasNoTurn hand.new }
     ensures starts { starts hand.new ≡ starts hand.old }
     ensures main { (view hand.new).main ≡ (view hand.old).main }
     ensures parts { parts hand.new ≡ parts hand.old + length (all_lanes threads.items) }
-    ensures list { entries hand.new ≡ entries hand.old ++ all_of (rows_each (all_lanes threads.items)) }
-    ensures totals { AddsEach (all_lanes threads.items) totals.old totals.new }
+    ensures joins { JoinsInOrder threads.items hand.old hand.new totals.old totals.new }
 {
-    let mut threads = threads;
-    threads.reverse();
-    while let Some(thread) = threads.pop() {
-        let MediaThread { lanes, .. } = thread;
-        join_lanes(turns, hand, lanes, totals);
-    }
+    let mut lanes = gather_lanes(threads, room);
+    put_in_order(&mut lanes);
+    join_lanes(turns, hand, lanes, totals);
 }

@@ -21,12 +21,13 @@ ghost use Rattle.media_lane.specs.Totals.{HasTotals};
 ghost use Rattle.ng_server.specs.Servers.{OpensJust, history_of};
 ghost use Rattle.relay_runs.specs.Devices.{AreSame};
 ghost use Rattle.relay_runs.specs.Rounds.{status_after, is_second_later, lane_count};
-ghost use Rattle.relay_runs.specs.Threads.{HasRoom};
+ghost use Rattle.relay_runs.specs.Threads.{HasLaneRoom, HasRoom};
 ghost use Rattle.relay_runs.specs.Served.{DidServe};
 ghost use Rattle.relay_runs.specs.Turned.{AddsSweep, TicksWhenDue, DidTurns, CanWork, DidWork, IsLoopEnd};
 
 use crate::beside::{ControlWork, run_beside};
 use crate::devices::{Devices, Tells};
+use crate::lanes::OwnLane;
 use crate::sharing::{join_threads, make_lanes, serve_share};
 use crate::status::Status;
 use crate::threads::MediaThread;
@@ -268,6 +269,8 @@ where
     pub(crate) desk: Desk<O>,
     /// The threads of media, each without a lane and with room for them.
     pub(crate) room: Vec<MediaThread<I, O>>,
+    /// An empty list with room for the lanes of all threads.
+    pub(crate) lanes: Vec<OwnLane<I, O>>,
 }
 
 /// Closes the table of a server by a hand that has all parts, and lets go what its places hold.
@@ -317,6 +320,7 @@ where
     requires all { parts prepared.hand ≡ 1024 }
     requires as_many { length prepared.room.items ≡ settings.now.threads }
     requires room { All (λ thread. HasRoom (lane_count settings.now.config settings.now.threads) thread) prepared.room.items }
+    requires lanes { HasLaneRoom (lane_count settings.now.config settings.now.threads) prepared.lanes }
     requires open { TellsHeld server.config (P.told devices.old.ports.now) [] }
     ensures same { AreSame devices.old devices.new }
     ensures did { DidServe [] settings.now.turns server.config settings.now.threads (C.range media.now.clock.now) (G.passed media.now.gate.now)
@@ -331,6 +335,7 @@ where
         mut hand,
         desk,
         room: mut threads,
+        lanes,
     } = prepared;
     let share = serve_share(&settings.config, settings.threads);
     make_lanes(
@@ -369,7 +374,7 @@ where
         counts,
         mut totals,
     } = looped;
-    join_threads(server.turns(), &mut hand, threads, &mut totals);
+    join_threads(server.turns(), &mut hand, threads, lanes, &mut totals);
     server.turns().survey(&mut hand);
     let mut hand = sweep_between(
         rt,

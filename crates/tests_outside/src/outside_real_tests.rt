@@ -86,8 +86,8 @@ fn an_address_in_use_can_not_be_bound(rt: HostRuntime) {
 fn movable<T: Send>(_end: &T) {}
 
 /// The ends of a port that is opened.
-fn open<R: Net>(rt: &impl Abort, maker: &mut UdpMaker<R>, at: Addr) -> (UdpIn, UdpOut)
-    ensures { ((⟦<UdpIn as InEnd>⟧.told result.0).at ≡ at) × ((⟦<UdpOut as OutEnd>⟧.told result.1).at ≡ at) }
+fn open<'a, R: Net>(rt: &impl Abort, maker: &mut UdpMaker<'a, R>, at: Addr) -> (UdpIn<'a>, UdpOut)
+    ensures { ((⟦<UdpIn<'static> as InEnd>⟧.told result.0).at ≡ at) × ((⟦<UdpOut as OutEnd>⟧.told result.1).at ≡ at) }
 {
     let Ok(ends) = maker.open(at) else {
         panic!(rt; "not opened");
@@ -98,14 +98,14 @@ fn open<R: Net>(rt: &impl Abort, maker: &mut UdpMaker<R>, at: Addr) -> (UdpIn, U
 
 /// Whether a take gives this.
 fn takes(end: &mut UdpIn, buf: &mut [u8; 4], wanted: Option<(Addr, usize)>) -> bool
-    ensures { (⟦<UdpIn as InEnd>⟧.told end.new).at ≡ (⟦<UdpIn as InEnd>⟧.told end.old).at }
+    ensures { (⟦<UdpIn<'static> as InEnd>⟧.told end.new).at ≡ (⟦<UdpIn<'static> as InEnd>⟧.told end.old).at }
 {
     end.take(buf) == Ok(wanted)
 }
 
 #[test]
 fn a_packet_goes_from_port_to_port(rt: HostRuntime) {
-    let readiness = hints(rt.alloc());
+    let readiness = hints_of(rt.alloc(), 0, StopPipe::none());
     let mut maker = UdpMaker::new(&rt, &readiness);
     let (one, two) = (local(80), local(81));
     let (mut one_in, mut one_out) = open(&rt, &mut maker, one);
@@ -128,6 +128,22 @@ fn a_packet_goes_from_port_to_port(rt: HostRuntime) {
     );
     maker.close(one, one_in, one_out);
     maker.close(two, two_in, two_out);
+}
+
+#[test]
+fn a_take_asks_where_the_system_told_of_a_datagram(rt: HostRuntime) {
+    let readiness = hints(rt.alloc());
+    let clock = SystemClock::new(&rt, &readiness);
+    let mut maker = UdpMaker::new(&rt, &readiness);
+    let at = at_port(98, PORT + 1);
+    let (mut receiving, mut sending) = open(&rt, &mut maker, at);
+    let mut buf = [0; 4];
+    assert!(rt; takes(&mut receiving, &mut buf, None), "it asks at first");
+    assert!(rt; sending.send(at, b"one").is_ok());
+    assert!(rt; takes(&mut receiving, &mut buf, None), "not told yet");
+    assert!(rt; is_ready(&clock, 0, LONG, 0));
+    assert!(rt; takes(&mut receiving, &mut buf, Some((at, 3))));
+    maker.close(at, receiving, sending);
 }
 
 #[test]

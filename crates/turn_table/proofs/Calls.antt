@@ -36,50 +36,50 @@ either_way true h = ((λ _. h), λ e. absurd cc)
 either_way false h = ((λ e. absurd cc), λ _. h)
 
 module _ {S E O : Type 0} (relates : S → E → O → S → Type 0) (reserved : E → Type 0) where
-  pub after_mark : (k spot r : ℕ) (v : View S E O) → IsAt v k spot → (m m' : Sat S E O) → Path (Sat S E O) m (v, []) → marked relates reserved (step 0 (16 * spot) 0 1 none) m r m'
+  pub after_mark : (k spot r : ℕ) (v : View S E O) → IsAt v k spot → (m m' : Sat S E O) → Path (Sat S E O) m (v, []) → marked relates reserved (step 0 (4 * spot) 0 1 none) m r m'
       → (r ≡ 0 → (x : S) × Path (Sat S E O) m' (phased k (Marked x) (tried k 0 v), (spot, Some x) ∷ [])) × (r ≢ 0 → (r ≡ 1) × Path (Sat S E O) m' (tried k 1 v, []) × WasTaken relates reserved k v)
-  after_mark k spot r v lies m m' e t = let h = either_way (eqb r 0) (subst (λ z. marked relates reserved (step 0 (16 * spot) 0 1 none) z r m') e t k (lies.0, ap (λ i. 16 * i) lies.1)) in
+  after_mark k spot r v lies m m' e t = let h = either_way (eqb r 0) (subst (λ z. marked relates reserved (step 0 (4 * spot) 0 1 none) z r m') e t k (lies.0, ap (λ i. 4 * i) lies.1)) in
       ((λ q. let w = h.0 (eq-eqb r 0 q) in (w.0, w.1 ∙ ap (λ i. (phased k (Marked w.0) (tried k 0 v), (i, Some w.0) ∷ [])) (sym lies.1))), λ q. h.1 (ne_eqb r 0 q))
 
   given_before : (k n : ℕ) (x : S) (v : View S E O) → Given relates reserved k (phased k (Marked x) (tried k 0 v)) n x → Given relates reserved k v n x
   given_before k n x v g = record { history = g.history; long = g.long; start = g.start; starts = g.starts; leaves = g.leaves; named = g.named; own = g.own; above = g.above; main = g.main; whole = g.whole }
 
   -- the seat has the mark, and has read the count
-  pub after_count : (k spot n : ℕ) (x : S) (v : View S E O) → IsAt v k spot → (m m' : Sat S E O) → Path (Sat S E O) m (phased k (Marked x) (tried k 0 v), (spot, Some x) ∷ []) → counted relates reserved (step 0 (16 * spot + 1) 0 0 none) m n m'
+  pub after_count : (k spot n : ℕ) (x : S) (v : View S E O) → IsAt v k spot → (m m' : Sat S E O) → Path (Sat S E O) m (phased k (Marked x) (tried k 0 v), (spot, Some x) ∷ []) → counted relates reserved (step 0 (4 * spot + 1) 0 0 none) m n m'
       → Path (Sat S E O) m' (phased k (Out n x) (noted k n (phased k (Marked x) (tried k 0 v))), (spot, Some x) ∷ []) × (seen_at v.seen k ≤ n) × (n ≤ 2 ^ 56) × Given relates reserved k v n x
   after_count k spot n x v lies m m' e t =
-      let h = subst (λ z. counted relates reserved (step 0 (16 * spot + 1) 0 0 none) z n m') e t k (lies.0, ap (λ i. 16 * i + 1) lies.1) in
+      let h = subst (λ z. counted relates reserved (step 0 (4 * spot + 1) 0 0 none) z n m') e t k (lies.0, ap (λ i. 4 * i + 1) lies.1) in
       let p = phase_here v.turns k (Marked x) in
       (h.0 ∙ ap (λ q. (phased k (with_count n q) (noted k n (phased k (Marked x) (tried k 0 v))), (spot, Some x) ∷ [])) p, h.1, h.2, given_before k n x v (h.3 x p))
 
 module _ {S E O : Type 0} where
-  pub after_look : (k spot n : ℕ) (v : View S E O) → IsAt v k spot → (m m' : Sat S E O) → Path (Sat S E O) m (v, []) → looked (step 0 (16 * spot + 1) 0 0 none) m n m' → Path (Sat S E O) m' (noted k n v, []) × (seen_at v.seen k ≤ n) × (n ≤ 2 ^ 56)
-  after_look k spot n v lies m m' e t = subst (λ z. looked (step 0 (16 * spot + 1) 0 0 none) z n m') e t k (lies.0, ap (λ i. 16 * i + 1) lies.1)
+  pub after_look : (k spot n : ℕ) (v : View S E O) → IsAt v k spot → (m m' : Sat S E O) → Path (Sat S E O) m (v, []) → looked (step 0 (4 * spot + 1) 0 0 none) m n m' → Path (Sat S E O) m' (noted k n v, []) × (seen_at v.seen k ≤ n) × (n ≤ 2 ^ 56)
+  after_look k spot n v lies m m' e t = subst (λ z. looked (step 0 (4 * spot + 1) 0 0 none) z n m') e t k (lies.0, ap (λ i. 4 * i + 1) lies.1)
 
-  pub after_return : (k spot : ℕ) (v : View S E O) → IsAt v k spot → (c : List (ℕ × Option S)) (m m' : Sat S E O) → Path (Sat S E O) m (v, c) → returned (step 0 (16 * spot) 0 0 none) m 0 m' → Path (Sat S E O) m' (phased k Nothing v, rest c)
-  after_return k spot v lies c m m' e t = subst (λ z. returned (step 0 (16 * spot) 0 0 none) z 0 m') e t k (lies.0, ap (λ i. 16 * i) lies.1)
+  pub after_return : (k spot : ℕ) (v : View S E O) → IsAt v k spot → (c : List (ℕ × Option S)) (m m' : Sat S E O) → Path (Sat S E O) m (v, c) → returned (step 0 (4 * spot) 0 0 none) m 0 m' → Path (Sat S E O) m' (phased k Nothing v, rest c)
+  after_return k spot v lies c m m' e t = subst (λ z. returned (step 0 (4 * spot) 0 0 none) z 0 m') e t k (lies.0, ap (λ i. 4 * i) lies.1)
 
-  pub after_empty : (k spot n : ℕ) (x : S) (v : View S E O) → IsAt v k spot → (c : List (ℕ × Option S)) (r : ℕ) (m m' : Sat S E O) → Path (Sat S E O) m (phased k (Out n x) v, c) → emptied (step 0 (16 * spot) 0 0 none) m r m' → Path (Sat S E O) m' (phased k (Held n x) (phased k (Out n x) v), rest c)
-  after_empty k spot n x v lies c r m m' e t = subst (λ z. emptied (step 0 (16 * spot) 0 0 none) z r m') e t k (lies.0, ap (λ i. 16 * i) lies.1) ∙ ap (λ q. (phased k (emptied_phase q) (phased k (Out n x) v), rest c)) (phase_here v.turns k (Out n x))
+  pub after_empty : (k spot n : ℕ) (x : S) (v : View S E O) → IsAt v k spot → (c : List (ℕ × Option S)) (r : ℕ) (m m' : Sat S E O) → Path (Sat S E O) m (phased k (Out n x) v, c) → emptied (step 0 (4 * spot) 0 0 none) m r m' → Path (Sat S E O) m' (phased k (Held n x) (phased k (Out n x) v), rest c)
+  after_empty k spot n x v lies c r m m' e t = subst (λ z. emptied (step 0 (4 * spot) 0 0 none) z r m') e t k (lies.0, ap (λ i. 4 * i) lies.1) ∙ ap (λ q. (phased k (emptied_phase q) (phased k (Out n x) v), rest c)) (phase_here v.turns k (Out n x))
 
-  pub after_reach : (k spot n : ℕ) (x : S) (v : View S E O) → IsAt v k spot → (r : ℕ) (m m' : Sat S E O) → Path (Sat S E O) m (v, []) → phase_at v.turns k ≡ Held n x → reached (step 0 (16 * spot) 0 0 none) m r m'
+  pub after_reach : (k spot n : ℕ) (x : S) (v : View S E O) → IsAt v k spot → (r : ℕ) (m m' : Sat S E O) → Path (Sat S E O) m (v, []) → phase_at v.turns k ≡ Held n x → reached (step 0 (4 * spot) 0 0 none) m r m'
       → Path (Sat S E O) m' (phased k (Out n x) v, (spot, None) ∷ []) × (n < 2 ^ 56)
-  after_reach k spot n x v lies r m m' e p t = let h = subst (λ z. reached (step 0 (16 * spot) 0 0 none) z r m') e t k (lies.0, ap (λ i. 16 * i) lies.1) in
+  after_reach k spot n x v lies r m m' e p t = let h = subst (λ z. reached (step 0 (4 * spot) 0 0 none) z r m') e t k (lies.0, ap (λ i. 4 * i) lies.1) in
       (h.0 ∙ (ap (λ i. (phased k (reached_phase (phase_at v.turns k)) v, (i, None) ∷ [])) (sym lies.1) ∙ ap (λ q. (phased k (reached_phase q) v, (spot, None) ∷ [])) p), h.1 n x p)
 
   -- the slot that is out with the seat has z in it
   pub swapped : (spot : ℕ) (x y z : Option S) (v : View S E O) (m : Sat S E O) → Path (Sat S E O) m (v, (spot, x) ∷ []) → z ≡ y → Path (Sat S E O) (m.0, (spot, z) ∷ rest m.1) (v, (spot, y) ∷ [])
   swapped spot x y z v m e is = ap (λ u. (m.0, (spot, u) ∷ rest m.1)) is ∙ ap (λ n. (n.0, (spot, y) ∷ rest n.1)) e
 
-  pub after_finish : (k spot n l : ℕ) (x y : S) (event : E) (outcome : O) (v : View S E O) → IsAt v k spot → (m m' : Sat S E O) → Path (Sat S E O) m (phased k (Out n x) v, (spot, Some y) ∷ []) → finished event outcome (step 0 (16 * spot + 1) l 0 none) m l m'
+  pub after_finish : (k spot n l : ℕ) (x y : S) (event : E) (outcome : O) (v : View S E O) → IsAt v k spot → (m m' : Sat S E O) → Path (Sat S E O) m (phased k (Out n x) v, (spot, Some y) ∷ []) → finished event outcome (step 0 (4 * spot + 1) l 0 none) m l m'
       → Path (Sat S E O) m' (phased k (Counted y) (noted k l (gained (entry k n event outcome) (phased k (Out n x) v))), []) × (seen_at v.seen k ≤ n)
   after_finish k spot n l x y event outcome v lies m m' e t =
-      let h = subst (λ z. finished event outcome (step 0 (16 * spot + 1) l 0 none) z l m') e t k (lies.0, ap (λ i. 16 * i + 1) lies.1) in
+      let h = subst (λ z. finished event outcome (step 0 (4 * spot + 1) l 0 none) z l m') e t k (lies.0, ap (λ i. 4 * i + 1) lies.1) in
       let p : number_of (phase_at ((k, Out n x) ∷ v.turns) k) ≡ n = ap number_of (phase_here v.turns k (Out n x)) in
       (h.0 ∙ ap (λ q. (phased k (Counted y) (noted k l (gained (entry k q event outcome) (phased k (Out n x) v))), [])) p, let s = h.1 in omega arith)
 
-  pub after_free : (k spot : ℕ) (v : View S E O) → IsAt v k spot → (m m' : Sat S E O) → Path (Sat S E O) m (v, []) → freed (step 0 (16 * spot) 0 0 none) m 0 m' → Path (Sat S E O) m' (phased k Nothing v, [])
-  after_free k spot v lies m m' e t = subst (λ z. freed (step 0 (16 * spot) 0 0 none) z 0 m') e t k (lies.0, ap (λ i. 16 * i) lies.1)
+  pub after_free : (k spot : ℕ) (v : View S E O) → IsAt v k spot → (m m' : Sat S E O) → Path (Sat S E O) m (v, []) → freed (step 0 (4 * spot) 0 0 none) m 0 m' → Path (Sat S E O) m' (phased k Nothing v, [])
+  after_free k spot v lies m m' e t = subst (λ z. freed (step 0 (4 * spot) 0 0 none) z 0 m') e t k (lies.0, ap (λ i. 4 * i) lies.1)
 
 -- the two turns and what was seen, after the whole of a call
 module _ {S E O : Type 0} where

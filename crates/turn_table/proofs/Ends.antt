@@ -106,13 +106,13 @@ module _ {S E O : Type 0} (relates : S → E → O → S → Type 0) (reserved :
     named : Named k log'
     named i f there = ⊎_elim (λ old. ok.named i f old) (λ (new : (i ≡ length (r.log k)) × (e ≡ f)). (sym (ap (λ (z : Entry E O). z.place) new.1), sym (ap (λ (z : Entry E O). z.number) new.1) ∙ (out.1 ∙ sym new.0))) (get_snoc (r.log k) e i f there)
 
-    kept : Rule record { words = set s.words (16 * spot + 1) m; homes = set s.homes spot (some (Some y)); views = set s.views id w }
+    kept : Rule record { words = set s.words (4 * spot + 1) m; homes = set s.homes spot (some (Some y)); views = set s.views id w }
     kept = let wide = r.wide in
-        moved relates reserved starts s r k a start spot is id v w at log' cell' (set s.words (16 * spot + 1) m) (set s.homes spot (some (Some y))) (length-set s.words (16 * spot + 1) m) (length-set s.homes spot (some (Some y)))
+        moved relates reserved starts s r k a start spot is id v w at log' cell' (set s.words (4 * spot + 1) m) (set s.homes spot (some (Some y))) (length-set s.words (4 * spot + 1) m) (length-set s.homes spot (some (Some y)))
         (λ j ne. let f = far_count s.words spot m j ne in (f.0, f.1, set_else s.homes spot j (some (Some y)) ne))
         record {
-          mark = get_or-set_other s.words (16 * spot + 1) (16 * spot) m 0 (λ q. omega arith) ∙ (let q = ok.mark in let z = mine.0 in omega arith);
-          count = get_or-set_same s.words (16 * spot + 1) m 0 (omega arith) ∙ (next ∙ sym longer);
+          mark = get_or-set_other s.words (4 * spot + 1) (4 * spot) m 0 (λ q. omega arith) ∙ (let q = ok.mark in let z = mine.0 in omega arith);
+          count = get_or-set_same s.words (4 * spot + 1) m 0 (omega arith) ∙ (next ∙ sym longer);
           low = let l = longer in omega arith;
           named = named;
           free = λ z. absurd (omega arith);
@@ -129,7 +129,7 @@ module _ {S E O : Type 0} (relates : S → E → O → S → Type 0) (reserved :
           once = once;
         }
 
-    told : (j : ℕ) → IsCount v j (16 * spot + 1) → Path (Sat S E O) (w, []) (phased j (Counted y) (noted j m (gained (entry j (number_of (phase_at v.turns j)) event outcome) v)), []) × (seen_at v.seen j ≤ number_of (phase_at v.turns j))
+    told : (j : ℕ) → IsCount v j (4 * spot + 1) → Path (Sat S E O) (w, []) (phased j (Counted y) (noted j m (gained (entry j (number_of (phase_at v.turns j)) event outcome) v)), []) × (seen_at v.seen j ≤ number_of (phase_at v.turns j))
     told j q = let n' : n ≡ number_of (phase_at v.turns k) = sym (ap number_of phase) in
         subst (λ i. Path (Sat S E O) (w, []) (phased i (Counted y) (noted i m (gained (entry i (number_of (phase_at v.turns i)) event outcome) v)), []) × (seen_at v.seen i ≤ number_of (phase_at v.turns i))) (count_of v k j spot lies q).0
         (ap (λ z. (phased k (Counted y) (noted k m (gained (entry k z event outcome) v)), [])) n', let h = (r.seat id v at).seen k in let c = out.1 in omega arith)
@@ -137,7 +137,7 @@ module _ {S E O : Type 0} (relates : S → E → O → S → Type 0) (reserved :
   -- kind 7
   pub ends : (slots id k spot : ℕ) (v : View S E O) → IsAt v k spot → 0 < v.parts → (n m : ℕ) → m ≡ suc n → (x y : S) → phase_at v.turns k ≡ Out n x → n < 2 ^ 56
       → (event : E) (outcome : O) → relates x event outcome y → (reserved event → v.main ≡ true)
-      → Allows Rule slots id (v, (spot, Some y) ∷ []) (16 * spot + 1) (λ _. m) (λ _. finished event outcome (step slots (16 * spot + 1) m 0 none) (v, (spot, Some y) ∷ []) m)
+      → Allows Rule slots id (v, (spot, Some y) ∷ []) (4 * spot + 1) (λ _. m) (λ _. finished event outcome (step slots (4 * spot + 1) m 0 none) (v, (spot, Some y) ∷ []) m)
   ends slots id k spot v lies live n m next x y phase low event outcome related right s r deep at small =
       let b = begun relates reserved starts s r id k spot v at live lies in (
         phased k (Counted y) (noted k m (gained (entry k n event outcome) v)),

@@ -37,10 +37,10 @@ not_held cell id p (inr m) e held is = m.0 is
 abbrev pub IsAt : {S E O : Type 0} → View S E O → ℕ → ℕ → Type 0
 IsAt v k spot = (k < length v.starts) × (spot ≡ spot_in v k)
 
-double : (k j : ℕ) → 16 * k ≡ 16 * j → k ≡ j
+double : (k j : ℕ) → 4 * k ≡ 4 * j → k ≡ j
 double k j e = omega arith
 
-double_more : (k j : ℕ) → 16 * k + 1 ≡ 16 * j + 1 → k ≡ j
+double_more : (k j : ℕ) → 4 * k + 1 ≡ 4 * j + 1 → k ≡ j
 double_more k j e = omega arith
 
 -- the one place whose mark, or whose count, the word is
@@ -48,18 +48,18 @@ same_place : {S E O : Type 0} (v : View S E O) (k j spot : ℕ) → IsAt v k spo
 same_place v k j spot at at' = let h = rows_hold (length v.starts) in let low = at.0 in let low' = at'.0 in
     one_spot (rows_of (length v.starts)) k j (omega arith) (omega arith) (sym at.1 ∙ at'.1)
 
-mark_of : {S E O : Type 0} (v : View S E O) (k j spot : ℕ) → IsAt v k spot → IsMark v j (16 * spot) → (k ≡ j) × (spot ≡ spot_in v j)
+mark_of : {S E O : Type 0} (v : View S E O) (k j spot : ℕ) → IsAt v k spot → IsMark v j (4 * spot) → (k ≡ j) × (spot ≡ spot_in v j)
 mark_of v k j spot at is = let q = double spot (spot_in v j) is.1 in (same_place v k j spot at (is.0, q), q)
 
-pub count_of : {S E O : Type 0} (v : View S E O) (k j spot : ℕ) → IsAt v k spot → IsCount v j (16 * spot + 1) → (k ≡ j) × (spot ≡ spot_in v j)
+pub count_of : {S E O : Type 0} (v : View S E O) (k j spot : ℕ) → IsAt v k spot → IsCount v j (4 * spot + 1) → (k ≡ j) × (spot ≡ spot_in v j)
 count_of v k j spot at is = let q = double_more spot (spot_in v j) is.1 in (same_place v k j spot at (is.0, q), q)
 
 -- the other spots' words after a write of one of this spot's
-far_mark : (ws : List ℕ) (k n : ℕ) → (j : ℕ) → j ≢ k → (get_or (set ws (16 * k) n) (16 * j) 0 ≡ get_or ws (16 * j) 0) × (get_or (set ws (16 * k) n) (16 * j + 1) 0 ≡ get_or ws (16 * j + 1) 0)
-far_mark ws k n j ne = (get_or-set_other ws (16 * k) (16 * j) n 0 (λ e. ne (omega arith)), get_or-set_other ws (16 * k) (16 * j + 1) n 0 (λ e. omega arith))
+far_mark : (ws : List ℕ) (k n : ℕ) → (j : ℕ) → j ≢ k → (get_or (set ws (4 * k) n) (4 * j) 0 ≡ get_or ws (4 * j) 0) × (get_or (set ws (4 * k) n) (4 * j + 1) 0 ≡ get_or ws (4 * j + 1) 0)
+far_mark ws k n j ne = (get_or-set_other ws (4 * k) (4 * j) n 0 (λ e. ne (omega arith)), get_or-set_other ws (4 * k) (4 * j + 1) n 0 (λ e. omega arith))
 
-pub far_count : (ws : List ℕ) (k n : ℕ) → (j : ℕ) → j ≢ k → (get_or (set ws (16 * k + 1) n) (16 * j) 0 ≡ get_or ws (16 * j) 0) × (get_or (set ws (16 * k + 1) n) (16 * j + 1) 0 ≡ get_or ws (16 * j + 1) 0)
-far_count ws k n j ne = (get_or-set_other ws (16 * k + 1) (16 * j) n 0 (λ e. omega arith), get_or-set_other ws (16 * k + 1) (16 * j + 1) n 0 (λ e. ne (omega arith)))
+pub far_count : (ws : List ℕ) (k n : ℕ) → (j : ℕ) → j ≢ k → (get_or (set ws (4 * k + 1) n) (4 * j) 0 ≡ get_or ws (4 * j) 0) × (get_or (set ws (4 * k + 1) n) (4 * j + 1) 0 ≡ get_or ws (4 * j + 1) 0)
+far_count ws k n j ne = (get_or-set_other ws (4 * k + 1) (4 * j) n 0 (λ e. omega arith), get_or-set_other ws (4 * k + 1) (4 * j + 1) n 0 (λ e. ne (omega arith)))
 
 module _ {S E O : Type 0} (relates : S → E → O → S → Type 0) (reserved : E → Type 0) (starts : List S) where
   abbrev St : Type 0
@@ -95,13 +95,13 @@ module _ {S E O : Type 0} (relates : S → E → O → S → Type 0) (reserved :
   module _ (id k spot : ℕ) (v : View S E O) (lies : IsAt v k spot) (live : 0 < v.parts) (none_yet : phase_at v.turns k ≡ Nothing)
       (s : St) (r : Rule s) (at : get_elem? s.views id ≡ some v) (a : S) (start : slice_get starts k ≡ Some a) (is : spot ≡ spot_of rows k) (long : spot < length s.homes) where
     abbrev Found : Bool → Type 0
-    Found b = (w : View S E O) × (act : Act (Option S)) × Valid s.homes [] act × Rule (stepped s (16 * spot) (either b 1 (get_or s.words (16 * spot) 0)) id [] w act)
-        × ((j : ℕ) → IsMark v j (16 * spot) → MatchBool b ((x : S) × Path (Sat S E O) (w, carried_after [] act) (phased j (Marked x) (tried j 0 v), (spot_in v j, Some x) ∷ [])) ((get_or s.words (16 * spot) 0 ≡ 1) × Path (Sat S E O) (w, carried_after [] act) (tried j 1 v, []) × WasTaken relates reserved j v))
+    Found b = (w : View S E O) × (act : Act (Option S)) × Valid s.homes [] act × Rule (stepped s (4 * spot) (either b 1 (get_or s.words (4 * spot) 0)) id [] w act)
+        × ((j : ℕ) → IsMark v j (4 * spot) → MatchBool b ((x : S) × Path (Sat S E O) (w, carried_after [] act) (phased j (Marked x) (tried j 0 v), (spot_in v j, Some x) ∷ [])) ((get_or s.words (4 * spot) 0 ≡ 1) × Path (Sat S E O) (w, carried_after [] act) (tried j 1 v, []) × WasTaken relates reserved j v))
 
     ok : PlaceOk relates s.words s.homes (r.log k) (r.cells k) k spot a
     ok = there_ok s r k spot a start is
 
-    won : get_or s.words (16 * spot) 0 ≡ 0 → Found true
+    won : get_or s.words (4 * spot) 0 ≡ 0 → Found true
     won zero_there =
         let empty : (r.cells k).0 ≡ 0 = let m = ok.mark in omega arith in
         let h = subst (Stands relates s.homes spot (r.log k) a) (ok.free empty) ok.stands in
@@ -110,11 +110,11 @@ module _ {S E O : Type 0} (relates : S → E → O → S → Type 0) (reserved :
           phased k (Marked x) (tried k 0 v),
           takes spot (Some x),
           h.1,
-          rephased relates reserved starts s r k a start spot is id v at live v.seen ((k, 0) ∷ v.tries) ((k, Marked x) ∷ v.turns) (suc id, Marked x) (set s.words (16 * spot) 1) (set s.homes spot none) (length-set s.words (16 * spot) 1) (length-set s.homes spot none)
+          rephased relates reserved starts s r k a start spot is id v at live v.seen ((k, 0) ∷ v.tries) ((k, Marked x) ∷ v.turns) (suc id, Marked x) (set s.words (4 * spot) 1) (set s.homes spot none) (length-set s.words (4 * spot) 1) (length-set s.homes spot none)
               (λ j ne. let f = far_mark s.words spot 1 j ne in (f.0, f.1, set_else s.homes spot j none ne))
               record {
-                mark = get_or-set_same s.words (16 * spot) 1 0 (omega arith) ∙ (omega arith);
-                count = get_or-set_other s.words (16 * spot) (16 * spot + 1) 1 0 (λ e. omega arith) ∙ ok.count;
+                mark = get_or-set_same s.words (4 * spot) 1 0 (omega arith) ∙ (omega arith);
+                count = get_or-set_other s.words (4 * spot) (4 * spot + 1) 1 0 (λ e. omega arith) ∙ ok.count;
                 low = ok.low;
                 named = ok.named;
                 free = λ e. absurd (omega arith);
@@ -125,17 +125,17 @@ module _ {S E O : Type 0} (relates : S → E → O → S → Type 0) (reserved :
           λ j e. let q = mark_of v k j spot lies e in (x, λ i. (phased (q.0 i) (Marked x) (tried (q.0 i) 0 v), (q.1 i, Some x) ∷ [])),
         )
 
-    lost : get_or s.words (16 * spot) 0 ≢ 0 → Found false
+    lost : get_or s.words (4 * spot) 0 ≢ 0 → Found false
     lost there =
         let m = ok.mark in let some_one : 0 < (r.cells k).0 = omega arith in
         let o = r.owned k some_one in
         let theirs = r.seat o.0 o.1 o.3 in
         let their_phase : (r.cells k).1 ≡ phase_at o.1.turns k = ⊎_elim (λ t. t.1) (λ t. absurd (t.0 o.2)) (theirs.turns k) in
-        let one : get_or s.words (16 * spot) 0 ≡ 1 = omega arith in (
+        let one : get_or s.words (4 * spot) 0 ≡ 1 = omega arith in (
           tried k 1 v,
           keeps,
           tt,
-          subst (λ ws. Rule record { words = ws; homes = s.homes; views = set s.views id (tried k 1 v) }) (sym (set-get_or s.words (16 * spot) 0))
+          subst (λ ws. Rule record { words = ws; homes = s.homes; views = set s.views id (tried k 1 v) }) (sym (set-get_or s.words (4 * spot) 0))
               (reviewed relates reserved starts s r id v at live v.seen ((k, 1) ∷ v.tries) (r.seat id v at).seen),
           λ j e. (
             one,
@@ -143,7 +143,7 @@ module _ {S E O : Type 0} (relates : S → E → O → S → Type 0) (reserved :
             subst (λ i. WasTaken relates reserved i v) (mark_of v k j spot lies e).0 record {
               state = s;
               kept = subst (λ z. Kept relates reserved z s) (sym ((r.seat id v at).same live)) r;
-              mark = ap (λ i. get_or s.words (16 * i) 0) (sym lies.1) ∙ one;
+              mark = ap (λ i. get_or s.words (4 * i) 0) (sym lies.1) ∙ one;
               seat = id;
               mine = at;
               other = o.0;
@@ -155,29 +155,29 @@ module _ {S E O : Type 0} (relates : S → E → O → S → Type 0) (reserved :
           ),
         )
 
-    found : Found (eqb (get_or s.words (16 * spot) 0) 0)
-    found = dite (ℕ_discrete (get_or s.words (16 * spot) 0) 0)
-        (λ e. subst Found (sym (eq-eqb (get_or s.words (16 * spot) 0) 0 e)) (won e))
-        (λ ne. subst Found (sym (ne_eqb (get_or s.words (16 * spot) 0) 0 ne)) (lost ne))
+    found : Found (eqb (get_or s.words (4 * spot) 0) 0)
+    found = dite (ℕ_discrete (get_or s.words (4 * spot) 0) 0)
+        (λ e. subst Found (sym (eq-eqb (get_or s.words (4 * spot) 0) 0 e)) (won e))
+        (λ ne. subst Found (sym (ne_eqb (get_or s.words (4 * spot) 0) 0 ne)) (lost ne))
 
   pub marks : (slots id k spot : ℕ) (v : View S E O) → IsAt v k spot → 0 < v.parts → phase_at v.turns k ≡ Nothing
-      → Allows Rule slots id (v, []) (16 * spot) (λ n. either (eqb n 0) 1 n) (marked relates reserved (step slots (16 * spot) 0 1 none) (v, []))
+      → Allows Rule slots id (v, []) (4 * spot) (λ n. either (eqb n 0) 1 n) (marked relates reserved (step slots (4 * spot) 0 1 none) (v, []))
   marks slots id k spot v lies live none_yet s r deep at small = let b = begun s r id k spot v at live lies in found id k spot v lies live none_yet s r at b.0 b.1 b.2 b.3
 
   -- kind 4, by a hand that lost
   pub looks : (slots id k spot : ℕ) (v : View S E O) → IsAt v k spot → 0 < v.parts
-      → Allows Rule slots id (v, []) (16 * spot + 1) (λ n. n) (looked (step slots (16 * spot + 1) 0 0 none) (v, []))
+      → Allows Rule slots id (v, []) (4 * spot + 1) (λ n. n) (looked (step slots (4 * spot + 1) 0 0 none) (v, []))
   looks slots id k spot v lies live s r deep at small =
       let b = begun s r id k spot v at live lies in
       let ok = there_ok s r k spot b.0 b.1 b.2 in
-      let n : ℕ = get_or s.words (16 * spot + 1) 0 in
+      let n : ℕ = get_or s.words (4 * spot + 1) 0 in
       let count : n ≡ length (r.log k) = ok.count in
       let low = ok.low in
       let seen = (r.seat id v at).seen k in (
         noted k n v,
         keeps,
         tt,
-        subst (λ ws. Rule record { words = ws; homes = s.homes; views = set s.views id (noted k n v) }) (sym (set-get_or s.words (16 * spot + 1) 0))
+        subst (λ ws. Rule record { words = ws; homes = s.homes; views = set s.views id (noted k n v) }) (sym (set-get_or s.words (4 * spot + 1) 0))
             (reviewed relates reserved starts s r id v at live ((k, n) ∷ v.seen) v.tries (noted_low s r id v at k n count)),
         λ j e. subst (λ i. Path (Sat S E O) (noted k n v, []) (noted i n v, []) × (seen_at v.seen i ≤ n) × (n ≤ 2 ^ 56)) (count_of v k j spot lies e).0 (refl, omega arith, omega arith),
       )
@@ -240,11 +240,11 @@ module _ {S E O : Type 0} (relates : S → E → O → S → Type 0) (reserved :
 
   -- kind 4, by the hand that has the mark
   pub counts : (slots id k spot : ℕ) (v : View S E O) (c : List (ℕ × Option S)) → IsAt v k spot → 0 < v.parts → (x : S) → phase_at v.turns k ≡ Marked x
-      → Allows Rule slots id (v, c) (16 * spot + 1) (λ n. n) (counted relates reserved (step slots (16 * spot + 1) 0 0 none) (v, c))
+      → Allows Rule slots id (v, c) (4 * spot + 1) (λ n. n) (counted relates reserved (step slots (4 * spot + 1) 0 0 none) (v, c))
   counts slots id k spot v c lies live x phase s r deep at small =
       let b = begun s r id k spot v at live lies in
       let ok = there_ok s r k spot b.0 b.1 b.2 in
-      let n : ℕ = get_or s.words (16 * spot + 1) 0 in
+      let n : ℕ = get_or s.words (4 * spot + 1) 0 in
       let count : n ≡ length (r.log k) = ok.count in
       let low = ok.low in
       let seen = (r.seat id v at).seen k in
@@ -255,7 +255,7 @@ module _ {S E O : Type 0} (relates : S → E → O → S → Type 0) (reserved :
         w,
         keeps,
         tt,
-        subst (λ ws. Rule record { words = ws; homes = s.homes; views = set s.views id w }) (sym (set-get_or s.words (16 * spot + 1) 0))
+        subst (λ ws. Rule record { words = ws; homes = s.homes; views = set s.views id w }) (sym (set-get_or s.words (4 * spot + 1) 0))
             (rephased relates reserved starts s r k b.0 b.1 spot b.2 id v at live ((k, n) ∷ v.seen) v.tries ((k, Out n x) ∷ v.turns) (suc id, Out n x) s.words s.homes refl refl (λ j ne. (refl, refl, refl))
             record {
               mark = let q = ok.mark in let z = m.0 in omega arith;
@@ -299,13 +299,13 @@ module _ {S E O : Type 0} (relates : S → E → O → S → Type 0) (reserved :
 
   -- kind 6, after which the slot is home and empty
   pub empties : (slots id k spot : ℕ) (v : View S E O) → IsAt v k spot → 0 < v.parts → (n : ℕ) (x : S) → phase_at v.turns k ≡ Out n x → n < 2 ^ 56
-      → Allows Rule slots id (v, (spot, None) ∷ []) (16 * spot) (λ n. n) (emptied (step slots (16 * spot) 0 0 none) (v, (spot, None) ∷ []))
+      → Allows Rule slots id (v, (spot, None) ∷ []) (4 * spot) (λ n. n) (emptied (step slots (4 * spot) 0 0 none) (v, (spot, None) ∷ []))
   empties slots id k spot v lies live n x phase low s r deep at small =
       let w : View S E O = phased k (Held n x) v in (
         w,
         gives,
         tt,
-        subst (λ ws. Rule record { words = ws; homes = set s.homes spot (some None); views = set s.views id w }) (sym (set-get_or s.words (16 * spot) 0))
+        subst (λ ws. Rule record { words = ws; homes = set s.homes spot (some None); views = set s.views id w }) (sym (set-get_or s.words (4 * spot) 0))
             (turned_to slots id k spot v lies live (Out n x) (Held n x) (λ e. absurd cc) (λ e. absurd cc) phase s r deep at (set s.homes spot (some None)) (length-set s.homes spot (some None))
             (λ j ne. set_else s.homes spot j (some None) ne) (λ a h. (set_here s.homes spot (some None) (begun s r id k spot v at live lies).3, h.1, low, h.2))),
         λ j e. subst (λ i. Path (Sat S E O) (w, []) (phased i (emptied_phase (phase_at v.turns i)) v, [])) (mark_of v k j spot lies e).0 (ap (λ p. (phased k (emptied_phase p) v, [])) (sym phase)),
@@ -313,7 +313,7 @@ module _ {S E O : Type 0} (relates : S → E → O → S → Type 0) (reserved :
 
   -- the empty slot is fetched
   pub reaches : (slots id k spot : ℕ) (v : View S E O) → IsAt v k spot → 0 < v.parts → (n : ℕ) (x : S) → phase_at v.turns k ≡ Held n x
-      → Allows Rule slots id (v, []) (16 * spot) (λ n. n) (reached (step slots (16 * spot) 0 0 none) (v, []))
+      → Allows Rule slots id (v, []) (4 * spot) (λ n. n) (reached (step slots (4 * spot) 0 0 none) (v, []))
   reaches slots id k spot v lies live n x phase s r deep at small =
       let w : View S E O = phased k (Out n x) v in
       let b = begun s r id k spot v at live lies in
@@ -323,7 +323,7 @@ module _ {S E O : Type 0} (relates : S → E → O → S → Type 0) (reserved :
         w,
         takes spot None,
         h.0,
-        subst (λ ws. Rule record { words = ws; homes = set s.homes spot none; views = set s.views id w }) (sym (set-get_or s.words (16 * spot) 0))
+        subst (λ ws. Rule record { words = ws; homes = set s.homes spot none; views = set s.views id w }) (sym (set-get_or s.words (4 * spot) 0))
             (turned_to slots id k spot v lies live (Held n x) (Out n x) (λ e. absurd cc) (λ e. absurd cc) phase s r deep at (set s.homes spot none) (length-set s.homes spot none)
             (λ j ne. set_else s.homes spot j none ne) (λ a h'. (set_here s.homes spot none b.3, h'.1, h'.3))),
         λ j e. let lies' = mark_of v k j spot lies e in
@@ -336,17 +336,17 @@ module _ {S E O : Type 0} (relates : S → E → O → S → Type 0) (reserved :
       → (s : St) (r : Rule s) → length s.homes ≡ slots → get_elem? s.views id ≡ some v → (homes' : Homes S) → length homes' ≡ length s.homes
       → ((i : ℕ) → i ≢ spot → get_elem? homes' i ≡ get_elem? s.homes i)
       → ((a : S) → Stands relates s.homes spot (r.log k) a p → Stands relates homes' spot (r.log k) a Nothing)
-      → Rule record { words = set s.words (16 * spot) 0; homes = homes'; views = set s.views id (phased k Nothing v) }
+      → Rule record { words = set s.words (4 * spot) 0; homes = homes'; views = set s.views id (phased k Nothing v) }
   released slots id k spot v lies live p some_p phase s r deep at homes' as_deep same stands =
       let b = begun s r id k spot v at live lies in
       let ok = there_ok s r k spot b.0 b.1 b.2 in
       let wide = r.wide in
       let m = mine_is (r.cells k) id (phase_at v.turns k) p ((r.seat id v at).turns k) phase some_p in
-      rephased relates reserved starts s r k b.0 b.1 spot b.2 id v at live v.seen v.tries ((k, Nothing) ∷ v.turns) (0, Nothing) (set s.words (16 * spot) 0) homes' (length-set s.words (16 * spot) 0) as_deep
+      rephased relates reserved starts s r k b.0 b.1 spot b.2 id v at live v.seen v.tries ((k, Nothing) ∷ v.turns) (0, Nothing) (set s.words (4 * spot) 0) homes' (length-set s.words (4 * spot) 0) as_deep
       (λ j ne. let f = far_mark s.words spot 0 j ne in (f.0, f.1, same j ne))
       record {
-        mark = get_or-set_same s.words (16 * spot) 0 0 (let low = b.3 in omega arith) ∙ (omega arith);
-        count = get_or-set_other s.words (16 * spot) (16 * spot + 1) 0 0 (λ e. omega arith) ∙ ok.count;
+        mark = get_or-set_same s.words (4 * spot) 0 0 (let low = b.3 in omega arith) ∙ (omega arith);
+        count = get_or-set_other s.words (4 * spot) (4 * spot + 1) 0 0 (λ e. omega arith) ∙ ok.count;
         low = ok.low;
         named = ok.named;
         free = λ _. refl;
@@ -356,7 +356,7 @@ module _ {S E O : Type 0} (relates : S → E → O → S → Type 0) (reserved :
       (inr m.0) (inl refl) (r.seat id v at).seen (inr ((λ e. omega arith), phase_here v.turns k Nothing)) (λ j ne. phase_else v.turns k Nothing j ne)
 
   pub frees : (slots id k spot : ℕ) (v : View S E O) → IsAt v k spot → 0 < v.parts → (y : S) → phase_at v.turns k ≡ Counted y
-      → Allows Rule slots id (v, []) (16 * spot) (λ _. 0) (λ _. freed (step slots (16 * spot) 0 0 none) (v, []) 0)
+      → Allows Rule slots id (v, []) (4 * spot) (λ _. 0) (λ _. freed (step slots (4 * spot) 0 0 none) (v, []) 0)
   frees slots id k spot v lies live y phase s r deep at small = (
     phased k Nothing v,
     keeps,
@@ -366,7 +366,7 @@ module _ {S E O : Type 0} (relates : S → E → O → S → Type 0) (reserved :
   )
 
   pub returns : (slots id k spot : ℕ) (v : View S E O) → IsAt v k spot → 0 < v.parts → (n : ℕ) (x : S) → phase_at v.turns k ≡ Out n x
-      → Allows Rule slots id (v, (spot, Some x) ∷ []) (16 * spot) (λ _. 0) (λ _. returned (step slots (16 * spot) 0 0 none) (v, (spot, Some x) ∷ []) 0)
+      → Allows Rule slots id (v, (spot, Some x) ∷ []) (4 * spot) (λ _. 0) (λ _. returned (step slots (4 * spot) 0 0 none) (v, (spot, Some x) ∷ []) 0)
   returns slots id k spot v lies live n x phase s r deep at small = (
     phased k Nothing v,
     gives,

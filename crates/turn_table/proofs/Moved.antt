@@ -27,7 +27,7 @@ Grows {A = A} xs ys = (length xs ≤ length ys) × ((i : ℕ) (x : A) → slice_
 
 -- other spots' words and slots are as they were
 abbrev pub Apart : {S : Type 0} → ℕ → List ℕ → List ℕ → Homes S → Homes S → Type 0
-Apart spot words words' homes homes' = (i : ℕ) → i ≢ spot → (get_or words' (16 * i) 0 ≡ get_or words (16 * i) 0) × (get_or words' (16 * i + 1) 0 ≡ get_or words (16 * i + 1) 0) × (get_elem? homes' i ≡ get_elem? homes i)
+Apart spot words words' homes homes' = (i : ℕ) → i ≢ spot → (get_or words' (4 * i) 0 ≡ get_or words (4 * i) 0) × (get_or words' (4 * i + 1) 0 ≡ get_or words (4 * i + 1) 0) × (get_elem? homes' i ≡ get_elem? homes i)
 
 pub not_mine : (c id other : ℕ) → other ≢ id → (c ≡ 0) ⊎ (c ≡ suc id) → c ≢ suc other
 not_mine c id other ne (inl z) e = absurd (omega arith)
@@ -43,7 +43,7 @@ module _ {S E O : Type 0} (relates : S → E → O → S → Type 0) where
 
   -- a place that the step does not touch
   pub stays : (words words' : List ℕ) (homes homes' : Homes S) (log : List (Entry E O)) (cell : ℕ × Phase S) (k spot : ℕ) (a : S)
-      → (get_or words' (16 * spot) 0 ≡ get_or words (16 * spot) 0) × (get_or words' (16 * spot + 1) 0 ≡ get_or words (16 * spot + 1) 0) × (get_elem? homes' spot ≡ get_elem? homes spot)
+      → (get_or words' (4 * spot) 0 ≡ get_or words (4 * spot) 0) × (get_or words' (4 * spot + 1) 0 ≡ get_or words (4 * spot + 1) 0) × (get_elem? homes' spot ≡ get_elem? homes spot)
       → PlaceOk relates words homes log cell k spot a → PlaceOk relates words' homes' log cell k spot a
   stays words words' homes homes' log cell k spot a same ok = record {
     mark = same.0 ∙ ok.mark;
@@ -99,7 +99,7 @@ module _ {S E O : Type 0} (relates : S → E → O → S → Type 0) (reserved :
         (λ i. (sym (put_else r.log k log' j ne) i, sym (put_else r.cells k cell' j ne) i))
         (stays relates s.words words' s.homes homes' (r.log j) (r.cells j) j (spot_of rows j) b (same (spot_of rows j) (λ e. ne (one_spot rows j k (inside_of j b start') (inside_of k a start) (e ∙ is)))) (r.place j b start')))
       where
-        inside_of : (j : ℕ) (b : S) → slice_get starts j ≡ Some b → j < 16 * rows
+        inside_of : (j : ℕ) (b : S) → slice_get starts j ≡ Some b → j < 960 * rows
         inside_of j b at = let w = slice_get_within starts j b at in let h = rows_hold (length starts) in omega arith
 
     -- no step touches a spare slot
@@ -126,7 +126,7 @@ module _ {S E O : Type 0} (relates : S → E → O → S → Type 0) (reserved :
   moved s r k a start spot is id v w at log' cell' words' homes' as_wide as_deep same ok m = record {
     log = put r.log k log';
     cells = put r.cells k cell';
-    wide = as_wide ∙ (r.wide ∙ ap (λ n. 16 * n) (sym as_deep));
+    wide = as_wide ∙ (r.wide ∙ ap (λ n. 4 * n) (sym as_deep));
     long = as_deep ∙ r.long;
     place = there s r k log' cell' words' homes' a start spot is same ok;
     spare = vacant s r k log' cell' words' homes' as_deep (slice_get_within starts k a start) spot is same;

@@ -38,8 +38,8 @@ aside_out (x ∷ xs) zero h = absurd (omega arith)
 aside_out (x ∷ xs) (suc k) h = aside_out xs k (omega arith)
 
 module _ {S E O : Type 0} (relates : S → E → O → S → Type 0) (reserved : E → Type 0) where
-  pub opens : (starts : List S) (ws : List ℕ) (xs : List (Option S)) → length ws ≡ 256 * rows_of (length starts) → ((i : ℕ) → get_or ws i 0 ≡ 0) → length xs ≡ 16 * rows_of (length starts)
-      → ((k : ℕ) → k < 16 * rows_of (length starts) → get_elem? xs (spot_of (rows_of (length starts)) k) ≡ some (get_or (map (λ (x : S). Some x) starts) k None))
+  pub opens : (starts : List S) (ws : List ℕ) (xs : List (Option S)) → length ws ≡ 3840 * rows_of (length starts) → ((i : ℕ) → get_or ws i 0 ≡ 0) → length xs ≡ 960 * rows_of (length starts)
+      → ((k : ℕ) → k < 960 * rows_of (length starts) → get_elem? xs (spot_of (rows_of (length starts)) k) ≡ some (get_or (map (λ (x : S). Some x) starts) k None))
       → Kept relates reserved starts (opening ws xs (first_view {E = E} {O = O} starts))
   opens starts ws xs wide clear deep laid = record {
     log = λ k. [];
@@ -47,8 +47,8 @@ module _ {S E O : Type 0} (relates : S → E → O → S → Type 0) (reserved :
     wide = let l = long in omega arith;
     long = long ∙ deep;
     place = λ k a start. record {
-      mark = clear (16 * spot_of (rows_of (length starts)) k);
-      count = clear (16 * spot_of (rows_of (length starts)) k + 1);
+      mark = clear (4 * spot_of (rows_of (length starts)) k);
+      count = clear (4 * spot_of (rows_of (length starts)) k + 1);
       low = omega arith;
       named = λ i e there. absurd (let n : None ≡ Some e = there in cc);
       free = λ _. refl;

@@ -1,5 +1,5 @@
 -- The rule that holds between any two atomic steps.
--- A place has a spot (Layout), and at the spot i two words and a slot. Word 16 * i is its mark, 0 or 1. Word 16 * i + 1 is its count, the front. The words up to 16 * (i + 1) are spare.
+-- A place has a spot (Layout), and at the spot i two words and a slot. Word 4 * i is its mark, 0 or 1. Word 4 * i + 1 is its count, the front. The words up to 4 * (i + 1) are spare.
 -- A spot that no place has is spare: its slot is empty.
 -- Of each place there is a history, and a cell: 0 where the place is free, or 1 more than the number of the seat that has its turn, with the phase of that turn.
 -- A seat is a hand as the base crate sees it: its number never changes, and its view, what the hand knows, changes in the hand's own steps alone.
@@ -40,8 +40,8 @@ module _ {S E O : Type 0} (relates : S → E → O → S → Type 0) where
 -- a place, with its history, its cell and its spot
 pub record PlaceOk {S E O : Type 0} (relates : S → E → O → S → Type 0) (words : List ℕ) (homes : List (maybe.Option (Option S))) (log : List (Entry E O)) (cell : ℕ × Phase S) (k spot : ℕ) (a : S) : Type 0 where
   -- the mark is 1 exactly where a seat has the place's turn, and the count is the length of the history
-  pub mark : slice_index words (16 * spot) ≡ min cell.0 1
-  pub count : slice_index words (16 * spot + 1) ≡ length log
+  pub mark : slice_index words (4 * spot) ≡ min cell.0 1
+  pub count : slice_index words (4 * spot + 1) ≡ length log
   pub low : length log ≤ 2 ^ 56
   pub named : Named k log
   -- no event is under way at a free place, and one is at a place that a seat has
@@ -65,9 +65,9 @@ pub record SeatOk {S E O : Type 0} (reserved : E → Type 0) (starts : List S) (
 pub record Kept {S E O : Type 0} (relates : S → E → O → S → Type 0) (reserved : E → Type 0) (starts : List S) (s : State (Option S) (View S E O)) : Type 0 where
   pub log : ℕ → List (Entry E O)
   pub cells : ℕ → ℕ × Phase S
-  -- 16 words and a slot for each spot
-  pub wide : length s.words ≡ 16 * length s.homes
-  pub long : length s.homes ≡ 16 * rows_of (length starts)
+  -- 4 words and a slot for each spot
+  pub wide : length s.words ≡ 4 * length s.homes
+  pub long : length s.homes ≡ 960 * rows_of (length starts)
   pub place : (k : ℕ) (a : S) → slice_get starts k ≡ Some a → PlaceOk relates s.words s.homes (log k) (cells k) k (spot_of (rows_of (length starts)) k) a
   -- the slots of the spots beyond the places are home and empty
   pub spare : (k : ℕ) → length starts ≤ k → k < length s.homes → get_elem? s.homes (spot_of (rows_of (length starts)) k) ≡ some (some None)

@@ -54,10 +54,10 @@ module _ {S E O : Type 0} where
 
   -- the word is the mark, or the count, of the place k of the table
   abbrev pub IsMark : View S E O → ℕ → ℕ → Type 0
-  IsMark v k word = (k < length v.starts) × (word ≡ 16 * spot_in v k)
+  IsMark v k word = (k < length v.starts) × (word ≡ 4 * spot_in v k)
 
   abbrev pub IsCount : View S E O → ℕ → ℕ → Type 0
-  IsCount v k word = (k < length v.starts) × (word ≡ 16 * spot_in v k + 1)
+  IsCount v k word = (k < length v.starts) × (word ≡ 4 * spot_in v k + 1)
 
   abbrev pub noted : ℕ → ℕ → View S E O → View S E O
   noted k n v = record v { seen = (k, n) ∷ v.seen }
@@ -86,7 +86,7 @@ module _ {S E O : Type 0} where
 pub record WasTaken {S E O : Type 0} (relates : S → E → O → S → Type 0) (reserved : E → Type 0) (k : ℕ) (v : View S E O) : Type 0 where
   pub state : State (Option S) (View S E O)
   pub kept : Kept relates reserved v.starts state
-  pub mark : slice_index state.words (16 * spot_in v k) ≡ 1
+  pub mark : slice_index state.words (4 * spot_in v k) ≡ 1
   pub seat : ℕ
   pub mine : get_elem? state.views seat ≡ some v
   pub other : ℕ

@@ -1,6 +1,7 @@
 //! A state in a box, so that a turn moves one word whatever the state's size, and the slot that the box lies in.
 //!
-//! Each has spare bytes, so that at any address no two states, and no two slots' boxes, share a cache line of 64 bytes.
+//! A state has spare bytes, so that at any address no two states share a cache line of 64 bytes. The slots of two rows of a column share one
+//! (`layout`).
 ghost use Rattle.std.specs.Prelude.{◌≡◌, ℕ, ◌*◌, ◌^◌, ◌<◌, ◌≤◌, [], ◌++◌, map, length, slice_index_or, slice_set, slice_get, IfOk, Some, None, Option, vec_len, vec_capacity};
 ghost use Rattle.std.specs.Option.{option_to_list};
 ghost use Rattle.std.specs.Slots.{slots_items, slots_len, IsFull};
@@ -61,11 +62,11 @@ impl<S> Cased<S> {
     }
 }
 
-/// A slot of the table, 64 bytes long, that contracts see as what lies in it: a value or none.
+/// A slot of the table, 24 bytes long and 32 in the table, that contracts see as what lies in it: a value or none.
 #[derive(Drop)]
 pub struct Slot<S> {
     cased: Option<Cased<S>>,
-    spare: [u64; 7],
+    spare: [u64; 2],
 }
 
 impl<S> Model for Slot<S> {
@@ -85,7 +86,7 @@ impl<S> Slot<S> {
             Some(value) => Some(Cased::new(alloc, value)?),
             None => None,
         };
-        let spare = [0; 7];
+        let spare = [0; 2];
         Ok(Slot { cased, spare })
     }
 
@@ -139,11 +140,11 @@ pub(crate) fn case_all<S: Drop>(
     mut aside: Vec<Option<S>>,
     rows: usize,
 ) -> Result<Vec<Slot<S>>, AllocError>
-    requires rows { rows ≤ 2 ^ 55 }
-    ensures length { IfOk result (λ v. length v.items ≡ 16 * rows) }
-    ensures cased { IfOk result (λ v. (k : ℕ) → k < 16 * rows → get_elem? v.items (spot_of rows k) ≡ some (slice_index_or aside.items k None)) }
+    requires rows { rows ≤ 2 ^ 50 }
+    ensures length { IfOk result (λ v. length v.items ≡ 960 * rows) }
+    ensures cased { IfOk result (λ v. (k : ℕ) → k < 960 * rows → get_elem? v.items (spot_of rows k) ≡ some (slice_index_or aside.items k None)) }
 {
-    let spots = 16 * rows;
+    let spots = 960 * rows;
     let mut slots = Vec::with_capacity(alloc, spots)?;
     'boxes: for spot in 0..spots {
         let state = taken(&mut aside, layout::place(rows, spot));
@@ -172,9 +173,9 @@ pub(crate) fn uncase_all<S>(
     mut states: Vec<S>,
 ) -> Vec<S>
     requires full { IsFull closed.slots }
-    requires rows { (places ≤ 16 * rows) × (rows ≤ 2 ^ 55) × (slots_len closed.slots ≡ 16 * rows) }
+    requires rows { (places ≤ 960 * rows) × (rows ≤ 2 ^ 50) × (slots_len closed.slots ≡ 960 * rows) }
     requires home { (k : ℕ) → k < places → (x : S) × (get_elem? (slots_items closed.slots) (spot_of rows k) ≡ some (Some x)) }
-    requires spare { (k : ℕ) → places ≤ k → k < 16 * rows → get_elem? (slots_items closed.slots) (spot_of rows k) ≡ some None }
+    requires spare { (k : ℕ) → places ≤ k → k < 960 * rows → get_elem? (slots_items closed.slots) (spot_of rows k) ≡ some None }
     requires empty { states.items ≡ [] }
     requires room { places ≤ vec_capacity states }
     ensures length { vec_len result ≡ places }

@@ -24,11 +24,11 @@ pub struct Turns<M: Machine> {
     pub(crate) room: Room<M::State>,
     /// How many places there are.
     pub(crate) places: usize,
-    /// How many spots each of the 16 columns has.
+    /// How many spots each of the 960 columns has.
     pub(crate) rows: usize,
-    ghost wide: { table.shared.table_id.words ≡ 16 * table.shared.table_id.slots },
-    ghost deep: { table.shared.table_id.slots ≡ 16 * rows },
-    ghost few: { (0 < rows) × (rows ≤ 2 ^ 55) },
+    ghost wide: { table.shared.table_id.words ≡ 4 * table.shared.table_id.slots },
+    ghost deep: { table.shared.table_id.slots ≡ 960 * rows },
+    ghost few: { (0 < rows) × (rows ≤ 2 ^ 50) },
     ghost counts: { (places ≡ length table.shared.key.value.items) × (rows ≡ rows_of places) },
     ghost roomy: { places ≤ room.table.shared.key },
 }
@@ -43,7 +43,7 @@ pub struct Hand<M: Machine> {
     pub(crate) seat: Seat<Slot<M::State>, View<M::State, M::Event, M::Outcome>>,
     ghost empty: { seat.me.1 ≡ [] },
     ghost live: { 0 < seat.me.0.parts },
-    ghost long: { seat.table_id.slots ≡ 16 * rows_of (length seat.me.0.starts) },
+    ghost long: { seat.table_id.slots ≡ 960 * rows_of (length seat.me.0.starts) },
 }
 
 /// The right to change the state of one place, which no other hand has meanwhile. It has to be put back.

@@ -41,7 +41,7 @@ impl<M: Machine> Turns<M> {
         }
         let rows = layout::row_count(places);
         let key = Snapshot::of(&states);
-        let Ok(words) = clear_words(alloc, 256 * rows) else {
+        let Ok(words) = clear_words(alloc, 3840 * rows) else {
             return Err(OutOfMemory);
         };
         let Ok(aside) = set_aside(alloc, &mut states) else {

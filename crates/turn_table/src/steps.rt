@@ -1,7 +1,7 @@
 //! A turn is taken and put back, each in a few atomic steps.
 //!
-//! The mark of a place at the spot `spot` (`layout`) is the word `16 * spot`, and its count the next one. The 14 words up
-//! to the next spot's are spare, so that at any address no two places' words share a cache line of 64 bytes.
+//! The mark of a place at the spot `spot` (`layout`) is the word `4 * spot`, and its count the next one. The two words up
+//! to the next spot's are spare.
 ghost use Rattle.std.specs.Prelude.{◌≡◌, ℕ, ◌+◌, ◌^◌, IfErr, MatchResult};
 
 use crate::hands::{Busy, Hand, Turn, Turns};
@@ -31,19 +31,19 @@ impl<M: Machine> Turns<M> {
         let spot = layout::spot(self.rows, place);
         let table = &self.table.shared;
         let seat = &mut hand.seat;
-        if table.compare_exchange::<Mark<M>>(seat, 16 * spot, 0, 1) != 0 {
-            let front = table.load::<Look>(seat, 16 * spot + 1);
+        if table.compare_exchange::<Mark<M>>(seat, 4 * spot, 0, 1) != 0 {
+            let front = table.load::<Look>(seat, 4 * spot + 1);
             return Err(Busy { front });
         }
-        let front = table.load::<Count<M>>(seat, 16 * spot + 1);
+        let front = table.load::<Count<M>>(seat, 4 * spot + 1);
         if front == LAST {
-            table.store::<Return>(seat, 16 * spot, 0);
+            table.store::<Return>(seat, 4 * spot, 0);
             return Err(Busy { front });
         }
         let Some(state) = seat.slot_mut(table, spot).swap(None) else {
             unreachable!()
         };
-        table.load::<Empty>(seat, 16 * spot);
+        table.load::<Empty>(seat, 4 * spot);
         let taken = Snapshot::of(state.get());
         Ok(Turn {
             state,
@@ -73,11 +73,11 @@ impl<M: Machine> Turns<M> {
         let spot = layout::spot(self.rows, place);
         let table = &self.table.shared;
         let seat = &mut hand.seat;
-        table.load::<Reach>(seat, 16 * spot);
+        table.load::<Reach>(seat, 4 * spot);
         let nothing = seat.slot_mut(table, spot).swap(Some(state));
         let None = nothing else { unreachable!() };
-        table.store::<Finish<M, X>>(seat, 16 * spot + 1, front + 1);
-        table.store::<Free>(seat, 16 * spot, 0);
+        table.store::<Finish<M, X>>(seat, 4 * spot + 1, front + 1);
+        table.store::<Free>(seat, 4 * spot, 0);
         front
     }
 }

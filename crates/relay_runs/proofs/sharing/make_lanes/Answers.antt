@@ -2,8 +2,7 @@ use Rattle.std.proofs.Common.{rules, ◌≡◌, ◌∙◌, ◌+◌, ◌<◌, ap,
 use Rattle.turn_table.specs.Hands.{starts}
 use Rattle.media_lane.specs.Starts.{HasLaneStarts}
 use Rattle.media_lane.proofs.Places.{parts_begin}
-use Rattle.relay_runs.specs.Rounds.{AreNumbers}
-use Rattle.relay_runs.specs.Threads.{IsFresh, all_lanes, numbers_of}
+use Rattle.relay_runs.specs.Threads.{AreNumbers, IsFresh, all_lanes, numbers_of}
 use Rattle.relay_runs.proofs.MediaThreads.{left_between}
 use Rattle.relay_runs.proofs.Making.{once_more, long_more, many_more, fresh_more, few_more, room_more, no_fresh, none_once, none_long, none_few, cut_fresh}
 use Rattle.relay_runs.proofs.sharing.make_lanes.Goals as goal
@@ -60,3 +59,6 @@ pub returns-clause-once : goal.returns-clause-once
 returns-clause-once g c =
     let end : c.loop-index.index ≡ c.args.share.lanes = search rules in
     subst (λ n. AreNumbers n (numbers_of (all_lanes c.loop-index.threads.items))) end c.loop-index.invariant.once
+
+pub returns-clause-count : goal.returns-clause-count
+returns-clause-count g c = (let end : c.loop-index.index ≡ c.args.share.lanes = search rules in c.loop-index.invariant.long ∙ end)

@@ -1,8 +1,7 @@
 use Rattle.std.proofs.Common.{◌≡◌, ◌+◌, ◌≤◌, All, length, vec_capacity}
 use Rattle.turn_table.specs.Hands.{entries, parts}
 use Rattle.board_turns.specs.Between.{IsBetween}
-use Rattle.relay_runs.specs.Rounds.{AreNumbers}
-use Rattle.relay_runs.specs.Threads.{IsFresh, all_lanes, numbers_of}
+use Rattle.relay_runs.specs.Threads.{AreNumbers, IsFresh, all_lanes, numbers_of}
 use Rattle.relay_runs.proofs.sharing.make_lanes.Given as goal
 
 abbrev pub invariant-loop-index : goal.invariant-loop-index

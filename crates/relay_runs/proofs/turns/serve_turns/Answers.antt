@@ -9,7 +9,7 @@ use Rattle.media_lane.proofs.Gates.{gated_more}
 use Rattle.board_turns.proofs.Betweens.{between_sound}
 use Rattle.ng_server.specs.Servers.{history_of}
 use Rattle.relay_runs.specs.Rounds.{lane_count, all_of}
-use Rattle.relay_runs.specs.Threads.{HasRoom, IsFresh, MayJoin, all_lanes, rows_each}
+use Rattle.relay_runs.specs.Threads.{HasLaneRoom, HasRoom, IsFresh, MayJoin, all_lanes, rows_each}
 use Rattle.relay_runs.proofs.Gates.{makes_gated}
 use Rattle.relay_runs.proofs.Joined.{has_taken}
 use Rattle.relay_runs.proofs.MediaThreads.{AllOwn, have_worked, own_of_table}
@@ -41,14 +41,28 @@ pub join_threads-requires-clause-others : goal.join_threads-requires-clause-othe
 join_threads-requires-clause-others g c =
     let worked = have_worked c.args.server.config c.args.settings.now.config c.args.server.turns c.turns.result.now (lane_count c.args.server.config c.args.settings.now.threads) c.serve_share-share.result.lanes (g.C.Clock.range c.args.media.now.clock.now) (g.G.Gate.passed c.args.media.now.gate.now)
     c.make_lanes.new.threads.items c.run_beside.new.threads.items (sym c.requires.config) c.turns.ensures (c.serve_share-share.ensures.lanes ∙ ap (λ k. lane_count k c.args.settings.now.threads) (sym c.requires.config)) c.run_beside.ensures.as_many
-    c.make_lanes.ensures.fresh c.make_lanes.ensures.once c.run_beside.ensures.threads in
-    subst (λ t. AllOwn (λ own. MayJoin t own) c.run_beside.new.threads.items) (sym c.turns-3.ensures) worked.join
+    c.make_lanes.ensures.fresh c.make_lanes.ensures.once c.make_lanes.ensures.count c.run_beside.ensures.threads in
+    subst (λ t. All (λ own. MayJoin t own) (all_lanes c.run_beside.new.threads.items)) (sym c.turns-3.ensures) worked.join
+
+pub join_threads-requires-clause-once : goal.join_threads-requires-clause-once
+join_threads-requires-clause-once g c =
+    let worked = have_worked c.args.server.config c.args.settings.now.config c.args.server.turns c.turns.result.now (lane_count c.args.server.config c.args.settings.now.threads) c.serve_share-share.result.lanes (g.C.Clock.range c.args.media.now.clock.now) (g.G.Gate.passed c.args.media.now.gate.now)
+    c.make_lanes.new.threads.items c.run_beside.new.threads.items (sym c.requires.config) c.turns.ensures (c.serve_share-share.ensures.lanes ∙ ap (λ k. lane_count k c.args.settings.now.threads) (sym c.requires.config)) c.run_beside.ensures.as_many
+    c.make_lanes.ensures.fresh c.make_lanes.ensures.once c.make_lanes.ensures.count c.run_beside.ensures.threads in
+    worked.once
+
+pub join_threads-requires-clause-room : goal.join_threads-requires-clause-room
+join_threads-requires-clause-room g c =
+    let worked = have_worked c.args.server.config c.args.settings.now.config c.args.server.turns c.turns.result.now (lane_count c.args.server.config c.args.settings.now.threads) c.serve_share-share.result.lanes (g.C.Clock.range c.args.media.now.clock.now) (g.G.Gate.passed c.args.media.now.gate.now)
+    c.make_lanes.new.threads.items c.run_beside.new.threads.items (sym c.requires.config) c.turns.ensures (c.serve_share-share.ensures.lanes ∙ ap (λ k. lane_count k c.args.settings.now.threads) (sym c.requires.config)) c.run_beside.ensures.as_many
+    c.make_lanes.ensures.fresh c.make_lanes.ensures.once c.make_lanes.ensures.count c.run_beside.ensures.threads in
+    subst (λ n. HasLaneRoom n c.args.prepared.lanes) (ap (λ k. lane_count k c.args.settings.now.threads) c.requires.config ∙ sym worked.long) c.requires.lanes
 
 pub survey-requires-clause-all : goal.survey-requires-clause-all
 survey-requires-clause-all g c =
     let worked = have_worked c.args.server.config c.args.settings.now.config c.args.server.turns c.turns.result.now (lane_count c.args.server.config c.args.settings.now.threads) c.serve_share-share.result.lanes (g.C.Clock.range c.args.media.now.clock.now) (g.G.Gate.passed c.args.media.now.gate.now)
     c.make_lanes.new.threads.items c.run_beside.new.threads.items (sym c.requires.config) c.turns.ensures (c.serve_share-share.ensures.lanes ∙ ap (λ k. lane_count k c.args.settings.now.threads) (sym c.requires.config)) c.run_beside.ensures.as_many
-    c.make_lanes.ensures.fresh c.make_lanes.ensures.once c.run_beside.ensures.threads in
+    c.make_lanes.ensures.fresh c.make_lanes.ensures.once c.make_lanes.ensures.count c.run_beside.ensures.threads in
     let made = made_turns c.args.settings.now c.args.server.config c.args.server.turns (g.C.Clock.range c.args.media.now.clock.now) (g.G.Gate.passed c.args.media.now.gate.now) _ _ _ c.make_lanes.new.hand c.in-Some.hand
     c.run_beside.new.control.hand c.run_beside.new.control.looped c.in-Some.is c.run_beside.ensures.control.1 in
     let same = made.same.2 in
@@ -62,13 +76,13 @@ pub sweep_between-hand-requires : goal.sweep_between-hand-requires
 sweep_between-hand-requires g c =
     let worked = have_worked c.args.server.config c.args.settings.now.config c.args.server.turns c.turns.result.now (lane_count c.args.server.config c.args.settings.now.threads) c.serve_share-share.result.lanes (g.C.Clock.range c.args.media.now.clock.now) (g.G.Gate.passed c.args.media.now.gate.now)
     c.make_lanes.new.threads.items c.run_beside.new.threads.items (sym c.requires.config) c.turns.ensures (c.serve_share-share.ensures.lanes ∙ ap (λ k. lane_count k c.args.settings.now.threads) (sym c.requires.config)) c.run_beside.ensures.as_many
-    c.make_lanes.ensures.fresh c.make_lanes.ensures.once c.run_beside.ensures.threads in
+    c.make_lanes.ensures.fresh c.make_lanes.ensures.once c.make_lanes.ensures.count c.run_beside.ensures.threads in
     let made = made_turns c.args.settings.now c.args.server.config c.args.server.turns (g.C.Clock.range c.args.media.now.clock.now) (g.G.Gate.passed c.args.media.now.gate.now) _ _ _ c.make_lanes.new.hand c.in-Some.hand
     c.run_beside.new.control.hand c.run_beside.new.control.looped c.in-Some.is c.run_beside.ensures.control.1 in
     let taken = has_taken c.args.server.config c.args.server.turns (lane_count c.args.server.config c.args.settings.now.threads) (g.C.Clock.range c.args.media.now.clock.now) (g.G.Gate.passed c.args.media.now.gate.now) c.in-Some.hand
     c.join_threads.new.hand c.survey.new.hand c.run_beside.new.threads.items c.run_beside.new.control.looped.totals c.join_threads.new.totals made.between worked.done
     (subst (λ t. IsHandOf t c.join_threads.new.hand) c.turns-3.ensures c.join_threads.ensures.table) c.join_threads.ensures.idle c.join_threads.ensures.starts c.join_threads.ensures.main
-    c.join_threads.ensures.list c.join_threads.ensures.totals c.survey.ensures.same c.survey.ensures.whole in
+    worked.long c.join_threads.ensures.joins c.survey.ensures.same c.survey.ensures.whole in
     record { between = moved_between c.args.server.config c.args.settings.now.config c.args.server.turns c.turns-5.result.now c.survey.new.hand c.requires.config (sym c.turns-5.ensures) taken.between }
 
 pub stop-requires-clause-between : goal.stop-requires-clause-between
@@ -78,20 +92,20 @@ pub stop-requires-clause-open : goal.stop-requires-clause-open
 stop-requires-clause-open g c =
     let worked = have_worked c.args.server.config c.args.settings.now.config c.args.server.turns c.turns.result.now (lane_count c.args.server.config c.args.settings.now.threads) c.serve_share-share.result.lanes (g.C.Clock.range c.args.media.now.clock.now) (g.G.Gate.passed c.args.media.now.gate.now)
     c.make_lanes.new.threads.items c.run_beside.new.threads.items (sym c.requires.config) c.turns.ensures (c.serve_share-share.ensures.lanes ∙ ap (λ k. lane_count k c.args.settings.now.threads) (sym c.requires.config)) c.run_beside.ensures.as_many
-    c.make_lanes.ensures.fresh c.make_lanes.ensures.once c.run_beside.ensures.threads in
+    c.make_lanes.ensures.fresh c.make_lanes.ensures.once c.make_lanes.ensures.count c.run_beside.ensures.threads in
     let made = made_turns c.args.settings.now c.args.server.config c.args.server.turns (g.C.Clock.range c.args.media.now.clock.now) (g.G.Gate.passed c.args.media.now.gate.now) _ _ _ c.make_lanes.new.hand c.in-Some.hand
     c.run_beside.new.control.hand c.run_beside.new.control.looped c.in-Some.is c.run_beside.ensures.control.1 in
     let taken = has_taken c.args.server.config c.args.server.turns (lane_count c.args.server.config c.args.settings.now.threads) (g.C.Clock.range c.args.media.now.clock.now) (g.G.Gate.passed c.args.media.now.gate.now) c.in-Some.hand
     c.join_threads.new.hand c.survey.new.hand c.run_beside.new.threads.items c.run_beside.new.control.looped.totals c.join_threads.new.totals made.between worked.done
     (subst (λ t. IsHandOf t c.join_threads.new.hand) c.turns-3.ensures c.join_threads.ensures.table) c.join_threads.ensures.idle c.join_threads.ensures.starts c.join_threads.ensures.main
-    c.join_threads.ensures.list c.join_threads.ensures.totals c.survey.ensures.same c.survey.ensures.whole in
+    worked.long c.join_threads.ensures.joins c.survey.ensures.same c.survey.ensures.whole in
     opens_again c.args.server.config (history_of c.in-Some.hand) (history_of c.sweep_between-hand.result) _ (c.sweep_between-hand.ensures.board ∙ taken.history) made.opens
 
 pub close_table-requires-clause-all : goal.close_table-requires-clause-all
 close_table-requires-clause-all g c =
     let worked = have_worked c.args.server.config c.args.settings.now.config c.args.server.turns c.turns.result.now (lane_count c.args.server.config c.args.settings.now.threads) c.serve_share-share.result.lanes (g.C.Clock.range c.args.media.now.clock.now) (g.G.Gate.passed c.args.media.now.gate.now)
     c.make_lanes.new.threads.items c.run_beside.new.threads.items (sym c.requires.config) c.turns.ensures (c.serve_share-share.ensures.lanes ∙ ap (λ k. lane_count k c.args.settings.now.threads) (sym c.requires.config)) c.run_beside.ensures.as_many
-    c.make_lanes.ensures.fresh c.make_lanes.ensures.once c.run_beside.ensures.threads in
+    c.make_lanes.ensures.fresh c.make_lanes.ensures.once c.make_lanes.ensures.count c.run_beside.ensures.threads in
     let made = made_turns c.args.settings.now c.args.server.config c.args.server.turns (g.C.Clock.range c.args.media.now.clock.now) (g.G.Gate.passed c.args.media.now.gate.now) _ _ _ c.make_lanes.new.hand c.in-Some.hand
     c.run_beside.new.control.hand c.run_beside.new.control.looped c.in-Some.is c.run_beside.ensures.control.1 in
     let same = made.same.2 in
@@ -111,32 +125,32 @@ pub returns-clause-did : goal.returns-clause-did
 returns-clause-did g c =
     let worked = have_worked c.args.server.config c.args.settings.now.config c.args.server.turns c.turns.result.now (lane_count c.args.server.config c.args.settings.now.threads) c.serve_share-share.result.lanes (g.C.Clock.range c.args.media.now.clock.now) (g.G.Gate.passed c.args.media.now.gate.now)
     c.make_lanes.new.threads.items c.run_beside.new.threads.items (sym c.requires.config) c.turns.ensures (c.serve_share-share.ensures.lanes ∙ ap (λ k. lane_count k c.args.settings.now.threads) (sym c.requires.config)) c.run_beside.ensures.as_many
-    c.make_lanes.ensures.fresh c.make_lanes.ensures.once c.run_beside.ensures.threads in
+    c.make_lanes.ensures.fresh c.make_lanes.ensures.once c.make_lanes.ensures.count c.run_beside.ensures.threads in
     let made = made_turns c.args.settings.now c.args.server.config c.args.server.turns (g.C.Clock.range c.args.media.now.clock.now) (g.G.Gate.passed c.args.media.now.gate.now) _ _ _ c.make_lanes.new.hand c.in-Some.hand
     c.run_beside.new.control.hand c.run_beside.new.control.looped c.in-Some.is c.run_beside.ensures.control.1 in
     let taken = has_taken c.args.server.config c.args.server.turns (lane_count c.args.server.config c.args.settings.now.threads) (g.C.Clock.range c.args.media.now.clock.now) (g.G.Gate.passed c.args.media.now.gate.now) c.in-Some.hand
     c.join_threads.new.hand c.survey.new.hand c.run_beside.new.threads.items c.run_beside.new.control.looped.totals c.join_threads.new.totals made.between worked.done
     (subst (λ t. IsHandOf t c.join_threads.new.hand) c.turns-3.ensures c.join_threads.ensures.table) c.join_threads.ensures.idle c.join_threads.ensures.starts c.join_threads.ensures.main
-    c.join_threads.ensures.list c.join_threads.ensures.totals c.survey.ensures.same c.survey.ensures.whole in
+    worked.long c.join_threads.ensures.joins c.survey.ensures.same c.survey.ensures.whole in
     let between = moved_between c.args.settings.now.config c.args.server.config c.turns-5.result.now c.args.server.turns c.sweep_between-hand.result (sym c.requires.config) c.turns-5.ensures c.sweep_between-hand.ensures.between in
     let swept = subst (λ k. (t : Totals) × Sweeps k 0 1 (g.C.Clock.range c.args.media.now.clock.now) c.survey.new.hand c.sweep_between-hand.result t) (sym c.requires.config) c.sweep_between-hand.ensures.swept in
     ran_whole c.args.settings.now.turns c.args.server.config c.args.settings.now.threads (g.C.Clock.range c.args.media.now.clock.now) (g.G.Gate.passed c.args.media.now.gate.now) _ _ _ _ _ _ _ _ _ _ _ _ _ _
     c.run_beside.new.control.looped.status c.run_beside.new.control.looped.counts c.sweep_between-hand.new.totals (entries c.in-Some.hand)
-    (all_of (rows_each (all_lanes c.run_beside.new.threads.items)) ++ all_rows c.args.server.config swept.1.visits) (entries c.sweep_between-hand.result) (entries c.stop.new.hand) c.stop.ensures.later
+    (all_of (rows_each c.join_threads.ensures.joins.lanes) ++ all_rows c.args.server.config swept.1.visits) (entries c.sweep_between-hand.result) (entries c.stop.new.hand) c.stop.ensures.later
     c.stop.ensures.closes made.did
     (whole_run c.args.server.config c.args.settings.now.threads (g.C.Clock.range c.args.media.now.clock.now) made.did.rounds c.sweep_between-hand.new.totals swept.0 c.args.server.turns
-    c.in-Some.hand c.survey.new.hand c.sweep_between-hand.result c.stop.new.hand (rows_each (all_lanes c.run_beside.new.threads.items)) made.did.are_rounds made.did.board_is worked.made taken.list_is
+    c.in-Some.hand c.survey.new.hand c.sweep_between-hand.result c.stop.new.hand (rows_each c.join_threads.ensures.joins.lanes) made.did.are_rounds made.did.board_is taken.made taken.list_is
     taken.counted taken.history swept.1 c.sweep_between-hand.ensures.board between c.stop.ensures.between c.stop.ensures.makes
     (c.sweep_between-hand.ensures.totals (taken.totals made.totals)) c.close_table.ensures.legal c.close_table.ensures.timed)
     (makes_gated (g.G.Gate.passed c.args.media.now.gate.now) c.args.server.config c.sweep_between-hand.result c.stop.new.hand _ between.orderly c.stop.ensures.makes
     (gated_more (g.G.Gate.passed c.args.media.now.gate.now) (made_by c.survey.new.hand) (made_by c.sweep_between-hand.result) (taken.gated made.gated) c.sweep_between-hand.ensures.gated))
     c.stop.ensures.ties
     (all_of_lanes c.args.server.config c.args.settings.now.threads (g.C.Clock.range c.args.media.now.clock.now) made.did.rounds c.sweep_between-hand.new.totals swept.0 c.args.server.turns
-    c.in-Some.hand c.survey.new.hand c.sweep_between-hand.result c.stop.new.hand (rows_each (all_lanes c.run_beside.new.threads.items)) made.did.are_rounds made.did.board_is worked.made taken.list_is
+    c.in-Some.hand c.survey.new.hand c.sweep_between-hand.result c.stop.new.hand (rows_each c.join_threads.ensures.joins.lanes) made.did.are_rounds made.did.board_is taken.made taken.list_is
     taken.counted taken.history swept.1 c.sweep_between-hand.ensures.board between c.stop.ensures.between c.stop.ensures.makes
     (c.sweep_between-hand.ensures.totals (taken.totals made.totals)) c.close_table.ensures.legal c.close_table.ensures.timed)
     (swept_rows c.args.server.config c.args.settings.now.threads (g.C.Clock.range c.args.media.now.clock.now) made.did.rounds c.sweep_between-hand.new.totals swept.0 c.args.server.turns
-    c.in-Some.hand c.survey.new.hand c.sweep_between-hand.result c.stop.new.hand (rows_each (all_lanes c.run_beside.new.threads.items)) made.did.are_rounds made.did.board_is worked.made taken.list_is
+    c.in-Some.hand c.survey.new.hand c.sweep_between-hand.result c.stop.new.hand (rows_each c.join_threads.ensures.joins.lanes) made.did.are_rounds made.did.board_is taken.made taken.list_is
     taken.counted taken.history swept.1 c.sweep_between-hand.ensures.board between c.stop.ensures.between c.stop.ensures.makes
     (c.sweep_between-hand.ensures.totals (taken.totals made.totals)) c.close_table.ensures.legal c.close_table.ensures.timed)
     c.close_table.ensures.ins c.requires.open c.stop.ensures.shut

@@ -17,7 +17,7 @@ pub boxes-preserved : goal.boxes-preserved
 boxes-preserved g c =
     let inv = c.boxes.invariant in let low = c.boxes-test.true in let count = inv.count in
     let rows = c.args.rows in let was = c.args.aside.items in let spot = c.boxes.spot in
-    let inside : spot < 16 * rows = omega arith in
+    let inside : spot < 960 * rows = omega arith in
     let there : c.place.result ≡ place_at rows spot = c.place.ensures in
     let state = c.taken-state.ensures.state ∙ (ap (λ i. get_or c.boxes.aside.items i None) there ∙ left_here rows was spot c.boxes.aside.items inside inv.left) in
     record {
@@ -31,7 +31,7 @@ boxes-preserved g c =
 pub returns-clause-length : goal.returns-clause-length
 returns-clause-length g c =
     let inv = c.boxes.invariant in let high = c.boxes-test.false in let low = inv.low in
-    let all : c.boxes.spot ≡ 16 * c.args.rows = omega arith in sym c.boxes.slots.ok.0 ∙ (inv.count ∙ all)
+    let all : c.boxes.spot ≡ 960 * c.args.rows = omega arith in sym c.boxes.slots.ok.0 ∙ (inv.count ∙ all)
 
 pub returns-clause-cased : goal.returns-clause-cased
 returns-clause-cased g c =

@@ -4,9 +4,9 @@ use Rattle.turn_table.proofs.cased.case_all.Given as goal
 
 abbrev pub invariant-boxes : goal.invariant-boxes
 invariant-boxes g l = record {
-  low : l.spot ≤ 16 * l.rows;
+  low : l.spot ≤ 960 * l.rows;
   count : vec_len l.slots ≡ l.spot;
-  room : vec_capacity l.slots ≡ 16 * l.rows;
+  room : vec_capacity l.slots ≡ 960 * l.rows;
   left : Left l.rows l.initial.aside.items l.spot l.aside.items;
   laid : Laid l.rows l.initial.aside.items l.spot l.slots.items;
 }

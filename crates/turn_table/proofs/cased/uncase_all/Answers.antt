@@ -23,13 +23,13 @@ spot-requires-clause-place g c = let inv = c.takes.invariant in let low = c.take
 pub take-slot-requires : goal.take-slot-requires
 take-slot-requires g c =
     let inv = c.takes.invariant in let low = c.takes-test.true in let end = inv.end in let long = inv.long in let deep = c.requires.rows.2 in let spot = c.spot.ensures.low in
-    let inside : c.takes.place < 16 * c.args.rows = omega arith in
+    let inside : c.takes.place < 960 * c.args.rows = omega arith in
     (omega arith, ap (λ i. get_or (slots_filled c.takes.closed.slots) i false) c.spot.ensures.value ∙ inv.full c.takes.place inside (omega arith))
 
 pub uncase-requires : goal.uncase-requires
 uncase-requires g c = λ x full.
     let inv = c.takes.invariant in let low = c.takes-test.true in let end = inv.end in let deep = c.requires.rows.2 in let place = c.takes.place in
-    let inside : place < 16 * c.args.rows = omega arith in
+    let inside : place < 960 * c.args.rows = omega arith in
     let at = sym (ap (λ xs. get_elem? xs (spot_of c.args.rows place)) inv.same) ∙ (ap (get_elem? (slots_items c.takes.closed.slots)) (sym c.spot.ensures.value) ∙ c.take-slot.ensures.value) in
     let early = room_left c.args.rows c.args.places (slots_items c.args.closed.slots) c.requires.spare place c.take-slot.result x full inside at in
     let count = inv.count in let room = inv.room in let wide = c.requires.room in omega arith
@@ -38,7 +38,7 @@ pub takes-preserved : goal.takes-preserved
 takes-preserved g c =
     let inv = c.takes.invariant in let low = c.takes-test.true in let end = inv.end in let long = inv.long in let deep = c.requires.rows.2 in
     let rows = c.args.rows in let places = c.args.places in let place = c.takes.place in let there = slots_items c.args.closed.slots in
-    let inside : place < 16 * rows = omega arith in
+    let inside : place < 960 * rows = omega arith in
     let at = sym (ap (λ xs. get_elem? xs (spot_of rows place)) inv.same) ∙ (ap (get_elem? (slots_items c.takes.closed.slots)) (sym c.spot.ensures.value) ∙ c.take-slot.ensures.value) in
     let counted = sym c.takes.states.ok.0 ∙ inv.count in
     let others = c.take-slot.ensures.others in

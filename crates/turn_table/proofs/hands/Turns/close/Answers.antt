@@ -30,7 +30,7 @@ uncase_all-requires-clause-spare g c = λ k past low.
     let starts = c.args.self.table.shared.key.value.items in
     let last = c.close_with-closed.ensures.values.2 in let s = last.0 in let r = last.1.0 in
     let rows : rows_of (length starts) ≡ c.args.self.rows = ap rows_of (sym c.args.self.counts.0) ∙ sym c.args.self.counts.1 in
-    let here : k < length s.homes = subst (λ n. k < n) (sym (r.long ∙ ap (λ n. 16 * n) rows)) low in
+    let here : k < length s.homes = subst (λ n. k < n) (sym (r.long ∙ ap (λ n. 960 * n) rows)) low in
     subst (λ n. get_elem? (slots_items c.close_with-closed.result.slots) (spot_of n k) ≡ some None) rows (last.4 (spot_of (rows_of (length starts)) k) None (r.spare k (subst (λ n. n ≤ k) c.args.self.counts.0 past) here))
 
 pub returns-clause-range : goal.returns-clause-range

@@ -15,9 +15,9 @@ new-requires g c =
     let aside : c.in-Ok-set_aside.aside.items ≡ map (λ x. Some x) starts = c.in-Ok-set_aside.ensures.aside ∙ ap (map (λ x. Some x)) (sym is) in
     let slots = c.in-Ok-case_all.slots.items in
     opens g.M.Machine.relates g.M.Machine.reserved starts c.as_slice.result.now slots
-    (ap length words ∙ (c.in-Ok.ensures.length ∙ ap (λ n. 256 * n) rows))
+    (ap length words ∙ (c.in-Ok.ensures.length ∙ ap (λ n. 3840 * n) rows))
     (λ i. ap (λ l. get_or l i 0) words ∙ c.in-Ok.ensures.clear i)
-    (c.in-Ok-case_all.ensures.length ∙ ap (λ n. 16 * n) rows)
+    (c.in-Ok-case_all.ensures.length ∙ ap (λ n. 960 * n) rows)
     (λ k low. subst (λ xs. get_elem? slots (spot_of (rows_of (length starts)) k) ≡ some (get_or xs k None)) aside
     (subst (λ n. get_elem? slots (spot_of n k) ≡ some (get_or c.in-Ok-set_aside.aside.items k None)) rows
-    (c.in-Ok-case_all.ensures.cased k (subst (λ n. k < 16 * n) (sym rows) low))))
+    (c.in-Ok-case_all.ensures.cased k (subst (λ n. k < 960 * n) (sym rows) low))))
