@@ -1,5 +1,5 @@
 -- What a key source's list of draws says.
-use Rattle.std.specs.Prelude.{Option, Some, None, Result, Ok, Err, ℕ, List, filter_map}
+use Rattle.std.specs.Prelude.{Result, Ok, Err, ℕ, List}
 use Rattle.relay_outside.specs.declared.answers.Failed.{Failed}
 use Rattle.relay_outside.specs.declared.keys.KeyCall.{KeyCall}
 use Rattle.relay_outside.specs.declared.keys.KeyCall.TheVariants as call
@@ -8,12 +8,3 @@ use Rattle.relay_outside.specs.declared.keys.KeyCall.TheVariants as call
 abbrev pub drawn_as : Result (List ℕ) Failed → KeyCall
 drawn_as (Ok key) = call.Drawn key
 drawn_as (Err failed) = call.Failed
-
--- the bytes of a draw that did not fail
-abbrev pub key_of : KeyCall → Option (List ℕ)
-key_of (call.Drawn key) = Some key
-key_of call.Failed = None
-
--- the keys that were drawn, in order
-abbrev pub keys : List KeyCall → List (List ℕ)
-keys = filter_map key_of

@@ -1,6 +1,6 @@
 -- What the lists of a port maker and of its ends say: which addresses are open, what was taken and sent at each.
 use Rattle.std.specs.Cmp.Lexicographic.{pointwise}
-use Rattle.std.specs.Prelude.{◌≡◌, nat_eq, ℕ, ◌≤◌, Bool, true, false, ◌&&◌, ◌==◌, if◌then◌else◌, Option, Some, None, Result, Ok, Err, List, [], ◌∷◌, ◌++◌, All, take, filter_map}
+use Rattle.std.specs.Prelude.{◌≡◌, nat_eq, ℕ, ◌≤◌, Bool, true, false, ◌&&◌, ◌==◌, if◌then◌else◌, Option, Some, None, Result, Ok, Err, List, [], ◌∷◌, ◌++◌, All, take}
 use Rattle.relay_outside.specs.declared.address.Addr.{Addr}
 use Rattle.relay_outside.specs.declared.address.Ip.{Ip}
 use Rattle.relay_outside.specs.declared.address.Ip.TheVariants as ip
@@ -8,9 +8,7 @@ use Rattle.relay_outside.specs.declared.answers.Failed.{Failed}
 use Rattle.relay_outside.specs.declared.ports.InGiven.{InGiven}
 use Rattle.relay_outside.specs.declared.ports.InGiven.TheVariants as given
 use Rattle.relay_outside.specs.declared.ports.InCall.{InCall}
-use Rattle.relay_outside.specs.declared.ports.InCall.TheVariants as into
 use Rattle.relay_outside.specs.declared.ports.OutCall.{OutCall}
-use Rattle.relay_outside.specs.declared.ports.OutCall.TheVariants as out
 use Rattle.relay_outside.specs.declared.ports.PortCall.{PortCall}
 use Rattle.relay_outside.specs.declared.ports.PortCall.TheVariants as port
 
@@ -25,25 +23,6 @@ abbrev pub in_given : Result (Option (Addr × ℕ)) Failed → List ℕ → InGi
 in_given (Ok (Some datagram)) buf = given.Datagram datagram.0 (take datagram.1 buf)
 in_given (Ok None) buf = given.Nothing
 in_given (Err failed) buf = given.Failed
-
--- the source and the bytes of a datagram that a call took
-abbrev pub arrival_of : InCall → Option (Addr × List ℕ)
-arrival_of (into.Take room (given.Datagram from bytes)) = Some (from, bytes)
-arrival_of (into.Take room given.Nothing) = None
-arrival_of (into.Take room given.Failed) = None
-
--- the target and the bytes of a send that returned Ok
-abbrev pub departure_of : OutCall → Option (Addr × List ℕ)
-departure_of (out.Send to bytes true) = Some (to, bytes)
-departure_of (out.Send to bytes false) = None
-
--- the datagrams that an in end took, in order
-abbrev pub arrivals : List InCall → List (Addr × List ℕ)
-arrivals = filter_map arrival_of
-
--- the datagrams that an out end sent, in order
-abbrev pub departures : List OutCall → List (Addr × List ℕ)
-departures = filter_map departure_of
 
 -- the call closes no port at this address
 abbrev pub ClosesNot : Addr → PortCall → Type 0
