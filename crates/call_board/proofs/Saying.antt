@@ -1,5 +1,5 @@
 -- A JSON text says one value, or none.
-use Rattle.std.proofs.Common.{◌≡◌, ◌∙◌, sym, ap, ℕ, List, Some, None}
+use Rattle.std.proofs.Common.{◌≡◌, ◌∙◌, sym, ap, ℕ, List}
 use Rattle.ng_bencode.specs.Tree.{Tree}
 use Rattle.ng_json.specs.Twins.{Says, HasNoTwin, twin}
 

@@ -6,11 +6,8 @@ use Rattle.ng_frame.specs.Frame.{frame}
 use Rattle.ng_command.specs.Said.{Said, Offer, Answer, Query}
 use Rattle.ng_reply.specs.declared.code.ErrorCode.{ErrorCode}
 use Rattle.ng_reply.specs.declared.code.ErrorCode.TheVariants.{E8, E13, E14}
-use Rattle.histories.specs.Words.{In, has}
-use Rattle.port_pool.specs.declared.holder.Side.{Side}
-use Rattle.port_pool.specs.declared.signal.LegSignal.{LegSignal}
-use Rattle.port_pool.specs.Signals.{NewKey, signal_at}
-use Rattle.offer_answer.specs.Rounds.{AnswerAsk, Demand, drawn_for}
+use Rattle.histories.specs.Words.{has}
+use Rattle.offer_answer.specs.Rounds.{AnswerAsk, Demand}
 use Rattle.offer_answer.specs.Plan as plan
 use Rattle.call_board.specs.Acts as act
 use Rattle.call_board.specs.Acts.{Call, Act, Given, Control, BoardEvent, Turn, Tick, Stop, BoardEntry}
@@ -142,10 +139,3 @@ FitsBoard config h e = FitsAt config h e.moment e.event
 abbrev pub IsFitting : Config → List BoardEntry → Type 0
 IsFitting config [] = Unit {0}
 IsFitting config (e ∷ h) = FitsBoard config h e × IsFitting config h
-
--- after a fitting history, a signal names for a leg no key but one that an offer of the call drew for that leg
-abbrev pub NamesDrawnKeys : Config → Type 0
-NamesDrawnKeys config =
-    (h : List BoardEntry) (call : ℕ) (ask : AnswerAsk) (section : ℕ) (side : Side) (s : LegSignal) (number : ℕ) →
-    IsFitting config h → signal_at (plan.signal (rounds h call) ask) section side ≡ Some s → s.outbound ≡ Some number →
-    (key : NewKey) × In key (drawn_for (rounds h call)) × (key.number ≡ number) × (key.section ≡ section) × (key.side ≡ side)

@@ -1,4 +1,4 @@
-use Rattle.std.proofs.Common.{◌∙◌, ◌<◌, sym, subst, ℕ, length}
+use Rattle.std.proofs.Common.{◌∙◌, ◌<◌, sym, subst, ℕ}
 use Rattle.std.specs.Option.{IfSome}
 use Rattle.std.proofs.lemmas.Map.Entries.{length-values_of}
 use Rattle.call_board.proofs.Keyed.{same_place}
