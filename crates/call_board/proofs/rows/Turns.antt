@@ -192,7 +192,7 @@ repeated_fits = record {
   length_is = refl;
   reads = λ read. offered_fits.reads refl;
   hears = λ heard. offered_fits.hears refl;
-  gives = (record { no_opens = refl; no_draws = refl; none_failed = refl }, refl);
+  gives = (record { no_opens = refl; no_draws = refl; none_failed = refl }, refl, refl);
   reports = λ runs_out. absurd (let e = runs_out in cc);
   answers = refl;
 }
@@ -206,7 +206,7 @@ unread_repeat_fits = record {
   length_is = refl;
   reads = λ read. absurd (let e : false ≡ true = read in cc);
   hears = λ heard. absurd (let e : false ≡ true = heard in cc);
-  gives = (record { no_opens = refl; no_draws = refl; none_failed = refl }, refl);
+  gives = (record { no_opens = refl; no_draws = refl; none_failed = refl }, refl, refl);
   reports = λ runs_out. absurd (let e = runs_out in cc);
   answers = refl;
 }
