@@ -84,7 +84,7 @@ repeat_fits = record {
   length_is = offer_is_short;
   reads = λ read. offer_is_read;
   hears = λ heard. absurd (let e : false ≡ true = heard in cc);
-  gives = (record { no_opens = refl; no_draws = refl; none_failed = refl }, refl);
+  gives = (record { no_opens = refl; no_draws = refl; none_failed = refl }, refl, refl);
   reports = λ runs_out. absurd (let e = runs_out in cc);
   answers = repeat_is_answered;
 }
