@@ -7,3 +7,5 @@ pub mod Gathering
 pub mod Sorting
 pub mod Reading
 pub mod Simple
+pub mod Ordered
+pub mod Order

@@ -1,6 +1,6 @@
 //! JSON, the other notation of the ng control protocol: a JSON text is read as the bencoded value that says the same, its twin, and a
 //! bencoded value is written as JSON. `specs/Strings.antt` says which bytes a JSON string stands for, `specs/Twins.antt` what the
-//! twin of a text is, and `specs/Written.antt` the text of a value.
+//! twin of a text is, `specs/Written.antt` the text of a value, and `specs/Order.antt` what stands where in it.
 #![tactic(auto)]
 
 mod decode;
@@ -12,5 +12,5 @@ mod strings;
 pub use decode::read;
 pub use encode::write;
 pub use errors::JsonFault;
-pub use law::written_is_read;
+pub use law::{members_stand_in_byte_order, written_is_read};
 pub use strings::put_bytes;
