@@ -1,6 +1,6 @@
 -- The words that are allowed after `load` in the form `--name=value` are refused for nothing, and say what their values do.
-use Rattle.std.proofs.Common.{◌≡◌, ◌∙◌, ap, sym, true, false, List, [], Option, Some, None, refl, arith, codes}
-use Rattle.std.specs.Prelude.{find, fold, option_and_then}
+use Rattle.std.proofs.Common.{◌≡◌, ◌∙◌, ap, sym, true, false, ℕ, List, [], Option, Some, None, refl, arith, codes}
+use Rattle.std.specs.Prelude.{find, fold, option_and_then, option_map, unwrap_or}
 use Rattle.std.specs.List.{list_all, list_any}
 use Rattle.std.specs.Str.{bytes_eq}
 use Rattle.clap.specs.Walk.{Row, Text, nothing_held, with_default}
@@ -11,14 +11,17 @@ use Rattle.clap.proofs.FaultLemmas.{leaf_fault}
 use Rattle.port_pool.specs.Ports.{pair_count}
 use Rattle.command_line.specs.Commands.{app_of_rules, load_app, load_rules}
 use Rattle.command_line.specs.Grammar.{allowed_load, call_count, is_option, lane_count, load_names, packet_count, seed_number, values_of}
-use Rattle.command_line.specs.Values.{default_config}
-use Rattle.command_line.specs.Words.{load_of, load_words, number_of, replay_words, taken}
+use Rattle.command_line.specs.Values.{default_config, load_from}
+use Rattle.command_line.specs.Words.{load_of, load_words, loads_of, number_of, replay_words, taken, task_after}
 use Rattle.command_line.specs.declared.settings.LoadSettings.{LoadSettings}
+use Rattle.command_line.specs.declared.settings.Task.{Task}
+use Rattle.command_line.specs.declared.settings.Task.TheVariants.{Load}
 use Rattle.command_line.proofs.Allowed.{IsOneValued, IsReady, merged, walk_over}
 use Rattle.command_line.proofs.Defaults.{find_default, no_fault, or_default, rows_are}
 use Rattle.command_line.proofs.Laws.{allowed, among_each, facts_of, ready, same_load, says_load, says_number, taken_by}
 use Rattle.command_line.proofs.Numerals.{read_alike}
 use Rattle.command_line.proofs.ReplayLaw.{replay_law}
+use Rattle.command_line.proofs.Tasks.{loads}
 
 abbrev app : App
 app = app_of_rules (codes "rtpengine load") load_rules
@@ -66,3 +69,26 @@ load_law words s is =
 pub replay_alone : replay_words [] ≡ Some (record { config = default_config; seed = 1 })
 unfolding pair_count
 replay_alone = replay_law [] (record { config = default_config; seed = 1 }) refl
+
+taken_config : (said : Option LoadSettings) (load : LoadSettings) → ((s : LoadSettings) → said ≡ Some s → s.config ≡ default_config) → option_map Load said ≡ Some (Load load) → load.config ≡ default_config
+taken_config None load each is = cc
+taken_config (Some s) load each is =
+    let same : s ≡ load = ap (λ (t : Option Task). unwrap_or (loads_of t) s) is in
+    sym (ap (λ (l : LoadSettings). l.config) same) ∙ each s refl
+
+from_config : (calls packets lanes seed : Option ℕ) (s : LoadSettings) → load_from calls packets lanes seed ≡ Some s → s.config ≡ default_config
+from_config (Some n) (Some p) (Some l) (Some k) s is = sym (ap (λ (o : Option LoadSettings). unwrap_or (option_map (λ (x : LoadSettings). x.config) o) s.config) is)
+from_config None p l k s is = cc
+from_config (Some n) None l k s is = cc
+from_config (Some n) (Some p) None k s is = cc
+from_config (Some n) (Some p) (Some l) None s is = cc
+
+words_config : (rows : Option (List Row)) (s : LoadSettings) → option_and_then load_of rows ≡ Some s → s.config ≡ default_config
+words_config None s is = cc
+words_config (Some rows) s is =
+    from_config (number_of 1 1000 (codes "calls") rows) (number_of 1 1000 (codes "packets") rows) (number_of 1 16 (codes "lanes") rows) (number_of 0 18446744073709551615 (codes "seed") rows) s is
+
+-- whatever the words of `load`, its configuration is that one
+pub load_config : (words : List Text) (load : LoadSettings) → task_after (codes "load") words ≡ Some (Load load) → load.config ≡ default_config
+load_config words load is =
+    taken_config (load_words words) load (λ s. words_config (taken load_app words) s) (sym (loads (codes "load") words (load_words words) refl refl refl refl) ∙ is)

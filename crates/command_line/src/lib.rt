@@ -3,6 +3,7 @@
 //! range of ports are read here.
 #![tactic(auto)]
 
+mod law;
 mod numbers;
 mod options;
 mod read;
@@ -10,6 +11,10 @@ mod refusal;
 mod settings;
 mod values;
 
+pub use law::{
+    load_words_are_taken, loads_are_configured_as_replay_alone, replay_words_are_taken,
+    serve_words_are_taken,
+};
 pub use read::{read_media, read_words};
 pub use refusal::{Refusal, Usage};
 pub use settings::{LoadSettings, Media, ReplaySettings, Settings, Task};
