@@ -25,7 +25,7 @@ cut true false z p q e = cc
 cut false y z p q e = cc
 
 -- `clap` cuts the word as the grammar does
-long : (word name value : Text) → named word ≡ Some (name, value) → long_of word ≡ Some (name, Some value)
+pub long : (word name value : Text) → named word ≡ Some (name, value) → long_of word ≡ Some (name, Some value)
 long [] name value e = cc
 long (a ∷ []) name value e = cc
 long (a ∷ b ∷ []) name value e =
@@ -37,7 +37,7 @@ long (a ∷ b ∷ x ∷ xs) name value e =
     rw (parts.0, parts.1, parts.2) (ap (λ (p : Text × Text). Some (p.0, Some p.1)) parts.3)
 
 -- it is not `--` alone
-no_dashes : (word name value : Text) → named word ≡ Some (name, value) → bytes_eq word (45 ∷ 45 ∷ []) ≡ false
+pub no_dashes : (word name value : Text) → named word ≡ Some (name, value) → bytes_eq word (45 ∷ 45 ∷ []) ≡ false
 no_dashes word name value e = go (bytes_eq word (45 ∷ 45 ∷ [])) refl
   where
     go : (b : Bool) → bytes_eq word (45 ∷ 45 ∷ []) ≡ b → bytes_eq word (45 ∷ 45 ∷ []) ≡ false
@@ -162,7 +162,7 @@ option_said names word is = go (named word) refl
         cc
     go (Some said) e = (said.0, said.1, e, rw e at is)
 
-values_before : (other word name value : Text) (words : List Text) → named word ≡ Some (name, value)
+pub values_before : (other word name value : Text) (words : List Text) → named word ≡ Some (name, value)
     → values_of other (word ∷ words) ≡ cons_option (if bytes_eq name other then Some value else None) (values_of other words)
 values_before other word name value words is = rw is refl
 

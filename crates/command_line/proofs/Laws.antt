@@ -106,10 +106,10 @@ module _ (s : Shape) (again : s.args_override_self ≡ false) (names : List Text
 
   module _ (rows : List Row) (name : Text) (among : list_any (bytes_eq name) names ≡ true)
       (found : find (λ r. bytes_eq r.id name) rows ≡ or_default name (merged s again names facts name None (values_of name words)) s.rules) where
-    used : (value : Text) → values_of name words ≡ value ∷ [] → find (λ r. bytes_eq r.id name) rows ≡ Some (use_row (facts name among).rule value)
+    pub used : (value : Text) → values_of name words ≡ value ∷ [] → find (λ r. bytes_eq r.id name) rows ≡ Some (use_row (facts name among).rule value)
     used value is = found ∙ rw (is, (facts name among).found) refl
 
-    unused : values_of name words ≡ [] → find (λ r. bytes_eq r.id name) rows ≡ or_default name None s.rules
+    pub unused : values_of name words ≡ [] → find (λ r. bytes_eq r.id name) rows ≡ or_default name None s.rules
     unused is = found ∙ rw is refl
 
     pub says_text : {X : Type 0} (read : Text → Option X) (default : Option X) (x : X) → one_value read default (values_of name words) ≡ Some x

@@ -2,12 +2,13 @@ mod Allowed
 mod Begins
 mod Chains
 mod Defaults
+mod Exact
 mod Laws
-pub mod LoadLaw
+mod LoadLaw
 mod NumberReads
 mod Numerals
 mod Refused
-pub mod ReplayLaw
-pub mod ServeLaw
+mod ReplayLaw
+mod ServeLaw
 mod Simple
 mod Tasks

@@ -1,16 +1,17 @@
 -- The words that are allowed after `load` in the form `--name=value` are refused for nothing, and say what their values do.
-use Rattle.std.proofs.Common.{◌≡◌, ◌∙◌, ap, sym, true, false, ℕ, List, [], Option, Some, None, refl, arith, codes}
+use Rattle.std.proofs.Common.{◌≡◌, ◌∙◌, ap, sym, true, false, ℕ, List, [], ◌∷◌, Option, Some, None, refl, arith, codes}
 use Rattle.std.specs.Prelude.{find, fold, option_and_then, option_map, unwrap_or}
 use Rattle.std.specs.List.{list_all, list_any}
 use Rattle.std.specs.Str.{bytes_eq}
-use Rattle.clap.specs.Walk.{Row, Text, nothing_held, with_default}
+use Rattle.clap.specs.Walk.{Row, Text, nothing_held, walk_from, with_default}
 use Rattle.clap.specs.Simple.{App, Shape, built}
-use Rattle.clap.specs.Faults.{check_fault}
+use Rattle.clap.specs.Faults.{check_fault, walk_fault}
+use Rattle.clap.specs.Kinds.{Kinds}
 use Rattle.clap.specs.Words.{fault_of, matches_of}
 use Rattle.clap.proofs.FaultLemmas.{leaf_fault}
 use Rattle.port_pool.specs.Ports.{pair_count}
 use Rattle.command_line.specs.Commands.{app_of_rules, load_app, load_rules}
-use Rattle.command_line.specs.Grammar.{allowed_load, call_count, is_option, lane_count, load_names, packet_count, seed_number, values_of}
+use Rattle.command_line.specs.Grammar.{allowed_load, call_count, is_in_form, is_option, lane_count, load_names, one_value, packet_count, seed_number, values_of}
 use Rattle.command_line.specs.Values.{default_config, load_from}
 use Rattle.command_line.specs.Words.{load_of, load_words, loads_of, number_of, replay_words, taken, task_after}
 use Rattle.command_line.specs.declared.settings.LoadSettings.{LoadSettings}
@@ -18,6 +19,7 @@ use Rattle.command_line.specs.declared.settings.Task.{Task}
 use Rattle.command_line.specs.declared.settings.Task.TheVariants.{Load}
 use Rattle.command_line.proofs.Allowed.{IsOneValued, IsReady, merged, walk_over}
 use Rattle.command_line.proofs.Defaults.{find_default, no_fault, or_default, rows_are}
+use Rattle.command_line.proofs.Exact.{clear, each_ready, number_is}
 use Rattle.command_line.proofs.Laws.{allowed, among_each, facts_of, ready, same_load, says_load, says_number, taken_by}
 use Rattle.command_line.proofs.Numerals.{read_alike}
 use Rattle.command_line.proofs.ReplayLaw.{replay_law}
@@ -64,6 +66,28 @@ load_law words s is =
     let seed : number_of 0 18446744073709551615 (codes "seed") rows ≡ Some parts.3 = says_number top refl load_names facts words rows (codes "seed") refl (found (codes "seed") refl) 0 18446744073709551615 1 parts.3 (omega arith) parts.7 refl refl in
     let all : load_of rows ≡ Some s = same_load _ _ _ _ _ _ _ _ _ (calls ∙ sym parts.4) (packets ∙ sym parts.5) (lanes ∙ sym parts.6) (seed ∙ sym parts.7) may.1 in
     ap (option_and_then load_of) (taken_by _ _ rows faultless rows_is) ∙ all
+
+-- other words in that form are refused
+pub load_else : (words : List Text) → list_all is_in_form words ≡ true → allowed_load words ≡ None → load_words words ≡ None
+unfolding taken load_app
+load_else words form none = go (fault_of app words) refl
+  where
+    go : (kinds : Kinds) → fault_of app words ≡ kinds → load_words words ≡ None
+    go (k ∷ ks) e = rw e refl
+    go [] e =
+        let faultless : walk_fault top [] (walk_from nothing_held) words ≡ [] = (clear (walk_fault top [] (walk_from nothing_held) words) _ (sym (leaf_fault (built app) nothing_held words refl) ∙ e)).0 in
+        let each = each_ready top refl load_names facts refl words [] form faultless in
+        let walk = walk_over top refl load_names facts words [] each.0 each.1 in
+        let rows : List Row = fold with_default walk.last top.rules in
+        let found : (name : Text) → list_any (bytes_eq name) load_names ≡ true → find (λ r. bytes_eq r.id name) rows ≡ or_default name (merged top refl load_names facts name None (values_of name words)) top.rules =
+        λ name among. find_default name top.rules walk.last ∙ ap (λ (o : Option Row). or_default name o top.rules) (walk.has name among) in
+        let rows_is : matches_of app words ≡ rows = rows_are top refl load_names facts words walk in
+        let calls : number_of 1 1000 (codes "calls") rows ≡ one_value call_count (Some 50) (values_of (codes "calls") words) = number_is top refl load_names facts words rows (codes "calls") refl (found (codes "calls") refl) (each.1 (codes "calls") refl) 1 1000 50 (omega arith) form refl refl in
+        let packets : number_of 1 1000 (codes "packets") rows ≡ one_value packet_count (Some 200) (values_of (codes "packets") words) = number_is top refl load_names facts words rows (codes "packets") refl (found (codes "packets") refl) (each.1 (codes "packets") refl) 1 1000 200 (omega arith) form refl refl in
+        let lanes : number_of 1 16 (codes "lanes") rows ≡ one_value lane_count (Some 4) (values_of (codes "lanes") words) = number_is top refl load_names facts words rows (codes "lanes") refl (found (codes "lanes") refl) (each.1 (codes "lanes") refl) 1 16 4 (omega arith) form refl refl in
+        let seed : number_of 0 18446744073709551615 (codes "seed") rows ≡ one_value seed_number (Some 1) (values_of (codes "seed") words) = number_is top refl load_names facts words rows (codes "seed") refl (found (codes "seed") refl) (each.1 (codes "seed") refl) 0 18446744073709551615 1 (omega arith) form refl refl in
+        let all : load_of rows ≡ allowed_load words = same_load _ _ _ _ _ _ _ _ _ calls packets lanes seed (sym (rw each.0 refl)) in
+        ap (option_and_then load_of) (taken_by _ _ rows e rows_is) ∙ all ∙ none
 
 -- the configuration of `load` is the one that `replay` has without words
 pub replay_alone : replay_words [] ≡ Some (record { config = default_config; seed = 1 })

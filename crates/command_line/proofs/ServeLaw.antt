@@ -1,21 +1,23 @@
 -- The words that are allowed after `serve` in the form `--name=value` are refused for nothing, and say what their values do.
-use Rattle.std.proofs.Common.{◌≡◌, ◌∙◌, ap, sym, true, false, List, [], Option, Some, None, refl, arith, codes}
+use Rattle.std.proofs.Common.{◌≡◌, ◌∙◌, ap, sym, true, false, List, [], ◌∷◌, Option, Some, None, refl, arith, codes}
 use Rattle.std.specs.Prelude.{find, fold, option_and_then}
 use Rattle.std.specs.List.{list_all, list_any}
 use Rattle.std.specs.Str.{bytes_eq}
-use Rattle.clap.specs.Walk.{Row, Text, nothing_held, with_default}
+use Rattle.clap.specs.Walk.{Row, Text, nothing_held, walk_from, with_default}
 use Rattle.clap.specs.Simple.{App, Shape, built}
 use Rattle.clap.specs.Takes.{is_given}
-use Rattle.clap.specs.Faults.{check_fault}
+use Rattle.clap.specs.Faults.{check_fault, walk_fault}
+use Rattle.clap.specs.Kinds.{Kinds}
 use Rattle.clap.specs.Words.{fault_of, first_of, matches_of}
 use Rattle.clap.proofs.FaultLemmas.{leaf_fault}
 use Rattle.command_line.specs.Commands.{app_of_rules, serve_app, serve_rules}
-use Rattle.command_line.specs.Grammar.{allowed_serve, default_listen, is_option, media_port, second_count, serve_names, session_count, thread_count, turn_count, values_of}
+use Rattle.command_line.specs.Grammar.{allowed_serve, configuration, default_listen, is_in_form, is_option, media_port, one_value, second_count, serve_names, session_count, thread_count, turn_count, values_of}
 use Rattle.command_line.specs.Values.{ipv4, listen_address}
 use Rattle.command_line.specs.Words.{config_of, number_of, serve_settings, settings_of, taken}
 use Rattle.command_line.specs.declared.settings.Settings.{Settings}
 use Rattle.command_line.proofs.Allowed.{IsOneValued, IsReady, merged, walk_over}
 use Rattle.command_line.proofs.Defaults.{find_default, no_fault, or_default, rows_are}
+use Rattle.command_line.proofs.Exact.{clear, each_ready, number_is, text_is}
 use Rattle.command_line.proofs.Laws.{allowed, among_each, facts_of, ready, says_config, says_given, says_number, says_settings, says_text, same_config, same_settings, taken_by}
 use Rattle.command_line.proofs.Numerals.{read_alike}
 
@@ -84,3 +86,31 @@ serve_law words s is =
     (max_sessions ∙ sym config.m_is) (timeout ∙ sym config.t_is) (offer_timeout ∙ sym config.o_is) parts.4 in
     let all : settings_of rows ≡ Some s = same_settings _ _ _ _ _ _ _ _ _ (config_is ∙ sym parts.4) (listen ∙ sym parts.5) (turns ∙ sym parts.6) (num_threads ∙ sym parts.7) may.1 in
     ap (option_and_then settings_of) (taken_by _ _ rows faultless rows_is) ∙ all
+
+-- other words in that form are refused
+pub serve_else : (words : List Text) → list_all is_in_form words ≡ true → allowed_serve words ≡ None → serve_settings words ≡ None
+unfolding taken serve_app
+serve_else words form none = go (fault_of app words) refl
+  where
+    go : (kinds : Kinds) → fault_of app words ≡ kinds → serve_settings words ≡ None
+    go (k ∷ ks) e = rw e refl
+    go [] e =
+        let faultless : walk_fault top [] (walk_from nothing_held) words ≡ [] = (clear (walk_fault top [] (walk_from nothing_held) words) _ (sym (leaf_fault (built app) nothing_held words refl) ∙ e)).0 in
+        let each = each_ready top refl serve_names facts refl words [] form faultless in
+        let walk = walk_over top refl serve_names facts words [] each.0 each.1 in
+        let rows : List Row = fold with_default walk.last top.rules in
+        let found : (name : Text) → list_any (bytes_eq name) serve_names ≡ true → find (λ r. bytes_eq r.id name) rows ≡ or_default name (merged top refl serve_names facts name None (values_of name words)) top.rules =
+        λ name among. find_default name top.rules walk.last ∙ ap (λ (o : Option Row). or_default name o top.rules) (walk.has name among) in
+        let rows_is : matches_of app words ≡ rows = rows_are top refl serve_names facts words walk in
+        let interface : option_and_then ipv4 (first_of (codes "interface") rows) ≡ one_value ipv4 None (values_of (codes "interface") words) = text_is top refl serve_names facts words rows (codes "interface") refl (found (codes "interface") refl) (each.1 (codes "interface") refl) ipv4 None refl in
+        let port_min : number_of 1024 65535 (codes "port-min") rows ≡ one_value media_port (Some 30000) (values_of (codes "port-min") words) = number_is top refl serve_names facts words rows (codes "port-min") refl (found (codes "port-min") refl) (each.1 (codes "port-min") refl) 1024 65535 30000 (omega arith) form refl refl in
+        let port_max : number_of 1024 65535 (codes "port-max") rows ≡ one_value media_port (Some 40000) (values_of (codes "port-max") words) = number_is top refl serve_names facts words rows (codes "port-max") refl (found (codes "port-max") refl) (each.1 (codes "port-max") refl) 1024 65535 40000 (omega arith) form refl refl in
+        let max_sessions : number_of 1 2048 (codes "max-sessions") rows ≡ one_value session_count (Some 2048) (values_of (codes "max-sessions") words) = number_is top refl serve_names facts words rows (codes "max-sessions") refl (found (codes "max-sessions") refl) (each.1 (codes "max-sessions") refl) 1 2048 2048 (omega arith) form refl refl in
+        let timeout : number_of 1 86400 (codes "timeout") rows ≡ one_value second_count (Some 60) (values_of (codes "timeout") words) = number_is top refl serve_names facts words rows (codes "timeout") refl (found (codes "timeout") refl) (each.1 (codes "timeout") refl) 1 86400 60 (omega arith) form refl refl in
+        let offer_timeout : number_of 1 86400 (codes "offer-timeout") rows ≡ one_value second_count (Some 3600) (values_of (codes "offer-timeout") words) = number_is top refl serve_names facts words rows (codes "offer-timeout") refl (found (codes "offer-timeout") refl) (each.1 (codes "offer-timeout") refl) 1 86400 3600 (omega arith) form refl refl in
+        let turns : number_of 1 1000000000000000 (codes "turns") rows ≡ one_value turn_count (Some 1000000000000000) (values_of (codes "turns") words) = number_is top refl serve_names facts words rows (codes "turns") refl (found (codes "turns") refl) (each.1 (codes "turns") refl) 1 1000000000000000 1000000000000000 (omega arith) form refl refl in
+        let num_threads : number_of 0 16 (codes "num-threads") rows ≡ one_value thread_count (Some 4) (values_of (codes "num-threads") words) = number_is top refl serve_names facts words rows (codes "num-threads") refl (found (codes "num-threads") refl) (each.1 (codes "num-threads") refl) 0 16 4 (omega arith) form refl refl in
+        let listen : option_and_then listen_address (first_of (codes "listen-ng") rows) ≡ one_value listen_address (Some default_listen) (values_of (codes "listen-ng") words) = text_is top refl serve_names facts words rows (codes "listen-ng") refl (found (codes "listen-ng") refl) (each.1 (codes "listen-ng") refl) listen_address (Some default_listen) refl in
+        let config_is : config_of rows ≡ configuration None words = same_config _ _ _ _ _ _ _ _ _ _ _ _ _ interface port_min port_max max_sessions timeout offer_timeout refl in
+        let all : settings_of rows ≡ allowed_serve words = same_settings _ _ _ _ _ _ _ _ _ config_is listen turns num_threads (sym (rw each.0 refl)) in
+        ap (option_and_then settings_of) (taken_by _ _ rows e rows_is) ∙ all ∙ none

@@ -1,5 +1,5 @@
 -- The words that may follow a command in the form `--name=value`, each name once at most, and what they say.
-use Rattle.std.specs.Prelude.{ℕ, ◌==◌, ◌&&◌, List, [], ◌∷◌, filter_map, Bool, false, Option, Some, None, if◌then◌else◌, codes, option_and_then}
+use Rattle.std.specs.Prelude.{ℕ, ◌==◌, ◌&&◌, ◌||◌, not, List, [], ◌∷◌, filter_map, Bool, false, Option, Some, None, if◌then◌else◌, codes, option_and_then}
 use Rattle.std.specs.List.{list_all, list_any, before_first, after_first}
 use Rattle.std.specs.Option.{option_map_or}
 use Rattle.std.specs.Str.{bytes_eq}
@@ -7,6 +7,7 @@ use Rattle.relay_outside.specs.declared.address.Addr.{Addr}
 use Rattle.relay_outside.specs.declared.address.Ip.{Ip}
 use Rattle.relay_outside.specs.declared.address.Ip.TheVariants.{V4}
 use Rattle.relay_outside.specs.declared.settings.Config.{Config}
+use Rattle.sdp_text.specs.Pieces.{is_digit, is_filled}
 use Rattle.command_line.specs.Numbers.{number_within}
 use Rattle.command_line.specs.Values.{ipv4, listen_address, config_from, settings_from, replay_from, load_from, replay_interface}
 use Rattle.command_line.specs.declared.settings.LoadSettings.{LoadSettings}
@@ -57,6 +58,15 @@ named (a ∷ b ∷ rest) =
     if a == 45 && (b == 45 && list_any (λ byte. byte == 61) rest)
     then Some (before_first (λ byte. byte == 61) rest, after_first (λ byte. byte == 61) rest)
     else None
+
+-- a decimal number in a spelling that the grammar doesn't have: behind a plus, or behind a zero
+abbrev pub is_respelled : List ℕ → Bool
+is_respelled [] = false
+is_respelled (first ∷ rest) = (first == 43 || first == 48) && (is_filled rest && list_all is_digit rest)
+
+-- a word in the form `--name=value`, whose value is no number in another spelling
+abbrev pub is_in_form : List ℕ → Bool
+is_in_form word = option_map_or (λ said. not (is_respelled said.1)) (named word) false
 
 -- the value that a word gives to an option, where it is that option's word
 abbrev pub value_for : List ℕ → List ℕ → Option (List ℕ)

@@ -12,8 +12,8 @@ mod settings;
 mod values;
 
 pub use law::{
-    load_words_are_taken, loads_are_configured_as_replay_alone, replay_words_are_taken,
-    serve_words_are_taken,
+    load_takes_the_defaults_of_replay, load_words_are_taken, other_words_are_refused,
+    replay_words_are_taken, serve_words_are_taken,
 };
 pub use read::{read_media, read_words};
 pub use refusal::{Refusal, Usage};

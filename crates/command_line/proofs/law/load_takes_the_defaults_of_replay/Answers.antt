@@ -2,7 +2,7 @@ use Rattle.std.proofs.Common.{[], Some, codes, refl}
 use Rattle.command_line.specs.Values.{default_config}
 use Rattle.command_line.proofs.LoadLaw.{load_config, replay_alone}
 use Rattle.command_line.proofs.Tasks.{replays}
-use Rattle.command_line.proofs.law.loads_are_configured_as_replay_alone.Goals as goal
+use Rattle.command_line.proofs.law.load_takes_the_defaults_of_replay.Goals as goal
 
 pub returns : goal.returns
 returns c words load is =
