@@ -48,16 +48,16 @@ not_read true true t = let k : false ≡ true = t in cc
 not_read true false t = let k : false ≡ true = t in cc
 not_read false b t = let k : false ≡ true = t in cc
 
-pub gives_plain : (d : Demand) (given : Given) (a : Act) → is_plain a ≡ true → GivesNothing given → given.report ≡ None → GivesFor d given a
-gives_plain d given act.Repeated t nothing none = (nothing, none)
-gives_plain d given act.OutOfMemory t nothing none = nothing
-gives_plain d given (act.Failed code) t nothing none = (nothing, none)
-gives_plain d given act.Told t nothing none = (nothing, none)
-gives_plain d given (act.Undone code leases draws) t nothing none = absurd (let k : false ≡ true = t in cc)
-gives_plain d given (act.Offered o) t nothing none = absurd (let k : false ≡ true = t in cc)
-gives_plain d given (act.Answered a) t nothing none = absurd (let k : false ≡ true = t in cc)
-gives_plain d given (act.Deleted of) t nothing none = absurd (let k : false ≡ true = t in cc)
-gives_plain d given (act.Queried of) t nothing none = absurd (let k : false ≡ true = t in cc)
+pub gives_plain : (d : Demand) (given : Given) (a : Act) → is_plain a ≡ true → GivesNothing given → given.report ≡ None → given.out_of_memory ≡ false → GivesFor d given a
+gives_plain d given act.Repeated t nothing none fed = (nothing, none, fed)
+gives_plain d given act.OutOfMemory t nothing none fed = nothing
+gives_plain d given (act.Failed code) t nothing none fed = (nothing, none)
+gives_plain d given act.Told t nothing none fed = (nothing, none)
+gives_plain d given (act.Undone code leases draws) t nothing none fed = absurd (let k : false ≡ true = t in cc)
+gives_plain d given (act.Offered o) t nothing none fed = absurd (let k : false ≡ true = t in cc)
+gives_plain d given (act.Answered a) t nothing none fed = absurd (let k : false ≡ true = t in cc)
+gives_plain d given (act.Deleted of) t nothing none fed = absurd (let k : false ≡ true = t in cc)
+gives_plain d given (act.Queried of) t nothing none fed = absurd (let k : false ≡ true = t in cc)
 
 module _ {M I O T : Type 0} {g : _} where
   out_of_memory_carries : (config : Config) (turns : Turns M (Part I O) Made T) (hand : Hand M (Part I O) Made T g) (entry_id : BoardEntryId) (request : Request) (pairs : Option Entries)
@@ -110,7 +110,7 @@ module _ {M I O T : Type 0} {g : _} where
       carries_due config hand hand entry_id x due (Some text) board told is
       (due_fits config h entry_id.moment c due is anew.framed anew.length_is
       (λ read. reads (read_short (not (is_repeat due.act)) request.too_long true read)) hears
-      (gives_plain (demanded config h c) (given_by Nothing) due.act plain (record { no_opens = refl; no_draws = refl; none_failed = refl }) refl) (λ s t. refl))
+      (gives_plain (demanded config h c) (given_by Nothing) due.act plain (record { no_opens = refl; no_draws = refl; none_failed = refl }) refl refl) (λ s t. refl))
       (does_nothing config turns hand entry_id x due board told turn.shows turn.opens refl plain) (kept, bytes)
 
   tells_case : (config : Config) (turns : Turns M (Part I O) Made T) (hand : Hand M (Part I O) Made T g) (entry_id : BoardEntryId) (request : Request) (pairs : Option Entries)
