@@ -1,9 +1,9 @@
 -- The master keys that the ChaCha20 stream of a seed gives (RFC 8439 section 2.3, with a block counter of 64 bits
 -- and the nonce 0, as Bernstein's).
-use Rattle.std.specs.Prelude.{ℕ, ◌*◌, ◌-◌, ◌^◌, nat_lt, Option, List, map, take}
-use Rattle.std.specs.Int.{to_le_bytes, w32}
+use Rattle.std.specs.Prelude.{ℕ, ◌*◌, ◌-◌, ◌^◌, ◌++◌, nat_lt, Option, List, map, replicate, take}
+use Rattle.std.specs.Int.{to_le_bytes, w32, w64}
 use Rattle.std.specs.List.{flat_map, range_with_len}
-use Rattle.rand_chacha.specs.ChaCha.{word_at}
+use Rattle.rand_chacha.specs.ChaCha.{key_of, word_at}
 use Rattle.relay_outside.specs.Told.{where_told}
 use Rattle.relay_outside.specs.declared.keys.KeyCall.{KeyCall}
 use Rattle.relay_outside.specs.declared.keys.KeyCall.TheVariants.{Drawn}
@@ -12,6 +12,14 @@ use Rattle.relay_outside.specs.declared.keys.KeyCall.TheVariants.{Drawn}
 pub record KeyStream : Type 0 where
   pub seed_words : List ℕ
   pub drawn : ℕ
+
+-- the bytes that a number stands for as a seed: its eight bytes, lowest first, and 24 zero bytes
+abbrev pub seed_bytes : ℕ → List ℕ
+seed_bytes seed = to_le_bytes w64 seed ++ replicate 24 0
+
+-- the stream of the seed that a number stands for, of which nothing was drawn
+abbrev pub stream_of : (seed : ℕ) → KeyStream
+stream_of seed = record { seed_words = key_of (seed_bytes seed); drawn = 0 }
 
 -- word i, from 0, of the stream
 abbrev pub stream_word : List ℕ → ℕ → ℕ

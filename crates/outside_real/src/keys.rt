@@ -1,5 +1,6 @@
-ghost use Rattle.std.specs.Prelude.{◌≡◌};
+ghost use Rattle.std.specs.Prelude.{◌≡◌, ◌-◌, ◌^◌, nat_lt};
 ghost use Rattle.rand_chacha.specs.ChaCha.{key_of};
+ghost use Rattle.outside_real.specs.KeyStream.{seed_bytes, stream_of};
 
 use rand_chacha::ChaCha20Rng;
 use rand_core::{SeedableRng, utils};
@@ -39,6 +40,30 @@ impl ChaChaKeys {
             drawn: 0,
         }
     }
+
+    /// The keys of the stream of the seed that a number stands for, of which none was drawn yet. The seed's bytes are the number's eight
+    /// bytes, lowest first, and then 24 zero bytes.
+    pub fn from_number(seed: u64) -> ChaChaKeys
+        ensures { result ≡ stream_of seed }
+    {
+        ChaChaKeys::from_seed(bytes_of_seed(seed))
+    }
+
+    /// Whether it still tells its draws.
+    pub fn tells(&self) -> bool
+        ensures { result ≡ nat_lt self.now.drawn (2 ^ 64 - 1) }
+    {
+        self.drawn < u64::MAX
+    }
+}
+
+/// The 32 bytes that a number stands for as a seed: its eight bytes, lowest first, and 24 zero bytes.
+fn bytes_of_seed(seed: u64) -> [u8; 32]
+    ensures { result ≡ seed_bytes seed }
+{
+    let mut bytes = [0; 32];
+    bytes[..8].copy_from_slice(&seed.to_le_bytes());
+    bytes
 }
 
 impl KeySource for ChaChaKeys {

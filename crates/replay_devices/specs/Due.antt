@@ -1,7 +1,6 @@
 -- The keys that draws have to give: those of lines `key`, and then those of a stream.
 use Rattle.std.specs.Prelude.{◌≡◌, ℕ, ◌+◌, List, [], ◌∷◌}
-use Rattle.outside_real.specs.KeyStream.{drawn_key}
-use Rattle.replay_devices.specs.Keys.{stream_of}
+use Rattle.outside_real.specs.KeyStream.{drawn_key, stream_of}
 
 -- the keys of lines that no draw used up, the oldest first; the words of the stream's seed, and how many keys were drawn from it
 pub record DueState : Type 0 where

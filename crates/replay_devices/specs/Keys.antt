@@ -1,7 +1,5 @@
 -- What the key source of a replay tells and gives.
-use Rattle.std.specs.Prelude.{◌≡◌, ℕ, ◌-◌, ◌^◌, ◌<◌, ◌++◌, Option, Some, None, List, [], ◌∷◌, IsSome, drop, filter_map, length, replicate, slice_get}
-use Rattle.std.specs.Int.{to_le_bytes, w64}
-use Rattle.rand_chacha.specs.ChaCha as chacha
+use Rattle.std.specs.Prelude.{◌≡◌, ℕ, ◌-◌, ◌^◌, ◌<◌, Option, Some, None, List, [], ◌∷◌, IsSome, drop, filter_map, length, slice_get}
 use Rattle.ng_bencode.specs.Room.{Room}
 use Rattle.outside_real.specs.KeyStream.{KeyStream, drawn_key}
 use Rattle.relay_outside.specs.declared.keys.KeyCall.{KeyCall}
@@ -33,14 +31,6 @@ pub record BeginsAt (place : ℕ) (lines : List Step) : Type 0 where
   pub within : place < length lines
   pub is_key : IsSome (key_at (slice_get lines place))
   pub keys : filter_map key_of lines ≡ filter_map key_of (drop place lines)
-
--- the bytes that a number stands for as a seed: its eight bytes, lowest first, and 24 zero bytes
-abbrev pub seed_bytes : ℕ → List ℕ
-seed_bytes seed = to_le_bytes w64 seed ++ replicate 24 0
-
--- the stream of a seed, of which nothing was drawn
-abbrev pub stream_of : (seed : ℕ) → KeyStream
-stream_of seed = record { seed_words = chacha.key_of (seed_bytes seed); drawn = 0 }
 
 -- the next key of the stream, of which no more than 2 ^ 64 - 1 are counted
 pub record DrawsNext (before after : KeyStream) (key : List ℕ) : Type 0 where

@@ -3,6 +3,7 @@
 use Rattle.std.specs.Prelude.{◌≡◌, ℕ, true, List, [], ◌∷◌, ◌++◌, map, if◌then◌else◌}
 use Rattle.relay_outside.specs.declared.settings.Config.{Config}
 use Rattle.port_pool.specs.Ports.{half_port}
+use Rattle.outside_real.specs.KeyStream.{stream_of}
 use Rattle.relay_script.specs.declared.step.FailKind.{FailKind}
 use Rattle.relay_script.specs.declared.step.FailKind.TheVariants as kind
 use Rattle.relay_script.specs.Steps as line
@@ -12,7 +13,6 @@ use Rattle.replay_devices.specs.Devices.{Happening, Made, Opened, Drew, Sent, co
 use Rattle.replay_devices.specs.Countdowns.{after_call}
 use Rattle.replay_devices.specs.declared.failures.SendFailure.{SendFailure}
 use Rattle.replay_devices.specs.Failures.{waiting_for, opened_at, sent_at}
-use Rattle.replay_devices.specs.Keys.{stream_of}
 use Rattle.replay_devices.specs.Due.{DueState, stream_from}
 
 -- Lines as the steps of the model.

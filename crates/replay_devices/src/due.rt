@@ -1,8 +1,7 @@
 ghost use Rattle.std.specs.Prelude.{◌≡◌, ◌≤◌, ◌-◌, ◌^◌, [], ◌∷◌, ◌++◌, None, OnOk, IfSome};
-ghost use Rattle.replay_devices.specs.Keys.{stream_of};
+ghost use Rattle.outside_real.specs.KeyStream.{stream_of};
 ghost use Rattle.replay_devices.specs.Due.{Draws};
 
-use crate::keys::stream_of_seed;
 use outside_real::ChaChaKeys;
 use relay_outside::{KeyAndSalt, KeySource, OutOfMemory};
 use std::alloc::Global;
@@ -38,7 +37,7 @@ impl KeysDue {
         KeysDue {
             lines: Vec::new(alloc),
             used: 0,
-            stream: stream_of_seed(seed),
+            stream: ChaChaKeys::from_number(seed),
             streamed: 0,
         }
     }

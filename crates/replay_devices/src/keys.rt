@@ -1,10 +1,11 @@
 ghost use Rattle.std.specs.Prelude.{◌≡◌, ◌↔◌, ◌<◌, ◌+◌, ◌∷◌, ℕ, Some, None, Ok, [], IsTrue, IsSome, IfOk, MatchOption, MatchResult, length, take, drop, filter_map, not, slice_get};
 ghost use Rattle.relay_outside.specs.Told.{Gains, HasCause, is_done};
 ghost use Rattle.relay_outside.specs.Keys.{drawn_as};
+ghost use Rattle.outside_real.specs.KeyStream.{stream_of};
 ghost use Rattle.relay_script.specs.declared.step.FailKind.TheVariants as kind;
 ghost use Rattle.replay_devices.specs.Countdowns.{next_fails, counted, faults_after};
 ghost use Rattle.replay_devices.specs.Lines.{Asks, asked_by, failures_of, key_of};
-ghost use Rattle.replay_devices.specs.Keys.{unused, seed_bytes, stream_of, GivesKey, BeginsAt};
+ghost use Rattle.replay_devices.specs.Keys.{unused, GivesKey, BeginsAt};
 
 use crate::countdowns::Countdowns;
 use crate::lines::{asked_at, between, failures_of};
@@ -54,7 +55,7 @@ impl<'a> ReplayKeys<'a> {
             steps,
             step: 0,
             next: 0,
-            stream: stream_of_seed(seed),
+            stream: ChaChaKeys::from_number(seed),
             draws,
             faults: 0,
         })
@@ -125,22 +126,6 @@ fn first_key(lines: &[Step]) -> Option<usize>
         }
     }
     None
-}
-
-/// The 32 bytes that a number stands for as a seed: its eight bytes, lowest first, and 24 zero bytes.
-fn bytes_of_seed(seed: u64) -> [u8; 32]
-    ensures { result ≡ seed_bytes seed }
-{
-    let mut bytes = [0; 32];
-    bytes[..8].copy_from_slice(&seed.to_le_bytes());
-    bytes
-}
-
-/// The stream of a seed, of which nothing was drawn.
-pub(crate) fn stream_of_seed(seed: u64) -> ChaChaKeys
-    ensures { result ≡ stream_of seed }
-{
-    ChaChaKeys::from_seed(bytes_of_seed(seed))
 }
 
 impl<'a> KeySource for ReplayKeys<'a> {
