@@ -16,6 +16,7 @@ pub mod CloseAfter
 pub mod Deleted
 pub mod Stopped
 pub mod Betweens
+pub mod MainHand
 pub mod Unheld
 pub mod Firsts
 pub mod StopTurns

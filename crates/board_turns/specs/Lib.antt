@@ -5,6 +5,7 @@ pub mod Bringing
 pub mod Leaving
 pub mod Acting
 pub mod Between
+pub mod Joins
 pub mod Closing
 pub mod Ending
 pub mod Stopping

@@ -13,8 +13,9 @@
 //! turn of a stop; `ticking` does so with those live calls alone that are due.
 //! `specs/Closing.antt` and `specs/Ending.antt` say when that may be done and what it tells, `specs/Stopping.antt` has the
 //! board's entry of a stop and `specs/Ticking.antt` that of a tick. `specs/Between.antt` says what is known of the main hand between the
-//! board's turns, and what a turn adds to its list, `specs/Acting.antt` what is known in a turn, and `specs/Ties.antt` how the port
-//! maker's calls follow from what is added to that list.
+//! board's turns, and what a turn adds to its list, `specs/Joins.antt` what is known of it while hands of lanes are taken in, and module `laws` that
+//! the turns may go on after that. `specs/Acting.antt` says what is known in a turn, and `specs/Ties.antt` how the port maker's calls follow
+//! from what is added to that list.
 //!
 //! Module `asked_command` has what a command's crate is handed besides the turn, and `command_outcome` what it hands back.
 //! `specs/Controls.antt` has the board's entry of a control datagram, as a function of the history, of what is recorded of the
@@ -33,6 +34,7 @@ mod deleting;
 mod device_answers;
 mod ending;
 mod faulty;
+mod laws;
 mod offered_changes;
 mod puts;
 mod putting;
@@ -51,6 +53,7 @@ pub use command_outcome::CommandOutcome;
 pub use deleting::delete_call;
 pub use device_answers::DeviceAnswers;
 pub use faulty::{misdescribed, unplanned};
+pub use laws::main_hand_stays;
 pub use offered_changes::OfferedChanges;
 pub use querying::query_call;
 pub use refusing::{missing, refused, short, told};

@@ -69,7 +69,7 @@ count_case : {T : Type 0} (k i : ℕ) (row : table.Entry Made T) (rows : List (t
 count_case k i row rows n rest true = omega (arith, rest)
 count_case k i row rows n rest false = omega (arith, rest)
 
-count_is : {T : Type 0} (k i : ℕ) (rows : List (table.Entry Made T)) → length (filter (is_at k i) (list_of rows)) ≡ times k i rows
+pub count_is : {T : Type 0} (k i : ℕ) (rows : List (table.Entry Made T)) → length (filter (is_at k i) (list_of rows)) ≡ times k i rows
 count_is k i [] = refl
 count_is k i (row ∷ rows) = count_case k i row rows (times k i rows) (count_is k i rows) ((row.place == k) && (row.number == i))
 

@@ -56,6 +56,7 @@ pub mod OutsTold
 pub mod Homes
 pub mod GivenHomes
 pub mod Closed
+pub mod Whole
 pub mod Closings
 pub mod Partings
 mod Example

@@ -20,7 +20,8 @@ mod part;
 pub use beginning::parts;
 pub use closing::close_relay;
 pub use laws::{
-    a_legal_list_exists, cells_are_apart, learning_is_one, legal_is_safe, orderly_is_safe,
+    a_legal_list_exists, cells_are_apart, joined_lists_are_sound, learning_is_one, legal_is_safe,
+    orderly_is_safe,
 };
 pub use machine::{Happening, Relay, Says, Told};
 pub use part::Part;
