@@ -12,4 +12,5 @@ pub mod Counts
 pub mod Between
 pub mod Receipts
 pub mod Sweeps
+pub mod LaneLists
 pub mod Deeds

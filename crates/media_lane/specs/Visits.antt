@@ -4,6 +4,7 @@ use Rattle.relay_outside.specs.declared.settings.Config.{Config}
 use Rattle.relay_outside.specs.Told.{WhereInRange}
 use Rattle.rtp_packet.specs.declared.head.Half.{Half}
 use Rattle.turn_table.specs.declared.machine.Entry as table
+use Rattle.turn_table.specs.Histories as table_lists
 use Rattle.turn_table.specs.Steps.{entry}
 use Rattle.srtp_sources.specs.Notes.{is_half}
 use Rattle.port_pool.specs.Ports.{pair_count}
@@ -14,12 +15,17 @@ use Rattle.call_cell.specs.declared.outcome.Outcome.TheVariants as outcomes
 use Rattle.call_cell.specs.Cells as cells
 use Rattle.relay_core.specs.Entries.{box_of}
 use Rattle.relay_core.specs.Made.{Made}
+use Rattle.relay_core.specs.Turning.{IsOfLane}
 use Rattle.media_lane.specs.declared.answers.Totals.{Totals}
 use Rattle.media_lane.specs.Taking.{take_made}
 use Rattle.media_lane.specs.Relaying.{relay_made}
 
 abbrev pub Row : Type 0
 Row = table.Entry Made (Unit {0})
+
+-- takes and relays
+abbrev pub AreOfLane : List Row → Type 0
+AreOfLane rows = (row : Row) → table_lists.In row rows → IsOfLane row.event.event
 
 -- a relay: its number at its cell, the moment that it was handed, its moment, and its outcome
 pub record Passing : Type 0 where

@@ -36,7 +36,7 @@ mod sweeping;
 
 pub use answers::{Received, Relayed, Totals};
 pub use lane::{Lane, LaneHand};
-pub use laws::parts_begin_lanes;
+pub use laws::{lanes_take_and_relay, lists_of_lanes_stay, main_hand_relays, parts_begin_lanes};
 pub use looping::lane_loop;
 pub use main_receiving::receive_between;
 pub use main_relaying::relay_between;
