@@ -16,6 +16,7 @@ use Rattle.board_laws.specs.Alike.{HasMemory, GiveAlike, SayAlike, AreOneInBoth}
 use Rattle.board_laws.proofs.Spelled.{read_once}
 use Rattle.board_laws.proofs.Given.{Fed}
 use Rattle.board_laws.proofs.Commands.{ToldAlike, asked_same}
+use Rattle.board_laws.proofs.Owing.{scripts_same}
 use Rattle.board_laws.proofs.Answered.{act_of, bytes_of, few, read, Answers, answers}
 
 -- no dictionary in bencode begins as JSON does
@@ -38,25 +39,27 @@ datagram_in : (config : Config) (cookie body : List ℕ) (reply : Reply) (in_jso
 unfolding reply_text
 datagram_in config cookie body reply in_json is = ap (λ (b : Bool). cookie ++ 32 ∷ text_in b (tree_of_reply config reply)) is
 
-one_value : (config : Config) (h : List BoardEntry) (c d : Control) (r : Result Said ErrorCode) → is_json c.body ≡ false → is_json d.body ≡ true → Fed c.given d.given
-    → ToldAlike c.given d.given c.act d.act → Answers config h c r → Answers config h d r → AreOneInBoth config c d
-one_value config h c d r in_bencode in_json fed told x y =
+one_value : (config : Config) (h : List BoardEntry) (now : ℕ) (c d : Control) (r : Result Said ErrorCode) → is_json c.body ≡ false → is_json d.body ≡ true → Fed c.given d.given
+    → ToldAlike c.given d.given c.act d.act → asked config c.too_long c.pairs ≡ r → asked config d.too_long d.pairs ≡ r → Answers config h c r → Answers config h d r → AreOneInBoth config h now c d
+one_value config h now c d r in_bencode in_json fed told asks_c asks_d x y =
     let same = asked_same config h c d r fed (λ of m n is_c is_d. told of m n (ap act_of x.answer ∙ is_c) (ap act_of y.answer ∙ is_d)) x.hears y.hears x.gives y.gives in
     let reply = (answering_asked config h c r).reply in
+    let act = ap act_of x.answer ∙ ap (λ (a : Answering). a.act) same.answer ∙ sym (ap act_of y.answer) in
     record {
       given = same.given;
-      act = ap act_of x.answer ∙ ap (λ (a : Answering). a.act) same.answer ∙ sym (ap act_of y.answer);
+      act = act;
+      scripts = scripts_same config h now c d same.given act (asks_c ∙ sym asks_d);
       reply = reply;
       spelled = ap bytes_of x.answer ∙ datagram_in config c.cookie c.body reply false in_bencode;
       written = ap bytes_of y.answer ∙ sym (ap (λ (a : Answering). reply_datagram config d.cookie d.body a.reply) same.answer) ∙ datagram_in config d.cookie d.body reply true in_json;
     }
 
 pub both_dialects : (config : Config) (h : List BoardEntry) (now : ℕ) (pairs : Entries) (c d : Control) → FitsControl config h now c → FitsControl config h now d → SayAlike h now pairs c d
-    → HasMemory c → HasMemory d → GiveAlike c d → AreOneInBoth config c d
+    → HasMemory c → HasMemory d → GiveAlike c d → AreOneInBoth config h now c d
 both_dialects config h now pairs c d f g say fed_c fed_d alike =
     let in_bencode = bencode_is c.body pairs say.spells in
     let asks_c = asks config h now c pairs f fed_c say.none_kept_c say.short_c (reads_in c.body pairs false in_bencode say.spells) in
     let asks_d = asks config h now d pairs g fed_d say.none_kept_d say.short_d (reads_in d.body pairs true say.in_json say.says) in
-    one_value config h c d (asked config false (Some pairs)) in_bencode say.in_json (record { left = fed_c; right = fed_d; opens = alike.opens; draws = alike.draws }) alike.reports
+    one_value config h now c d (asked config false (Some pairs)) in_bencode say.in_json (record { left = fed_c; right = fed_d; opens = alike.opens; draws = alike.draws }) alike.reports asks_c asks_d
     (answers config h now c (asked config false (Some pairs)) f fed_c say.none_kept_c asks_c)
     (answers config h now d (asked config false (Some pairs)) g fed_d say.none_kept_d asks_d)

@@ -3,6 +3,7 @@ pub mod Faults
 pub mod Given
 pub mod Commands
 pub mod Answered
+pub mod Owing
 pub mod Both
 pub mod First
 pub mod Ends

@@ -7,10 +7,11 @@ use Rattle.ng_bencode.specs.Spells.{Spells, spelling}
 use Rattle.ng_json.specs.Twins.{Says}
 use Rattle.ng_json.specs.Written.{json_text}
 use Rattle.port_pool.specs.declared.reports.LegReport.{LegReport}
-use Rattle.call_board.specs.Acts.{Call, Queried, Given, Control, BoardEntry}
+use Rattle.call_board.specs.Acts.{Call, Queried, Given, Control, Turn, BoardEntry}
 use Rattle.call_board.specs.Dialects.{is_json}
 use Rattle.call_board.specs.Kept.{kept}
 use Rattle.call_board.specs.Replies.{Reply, tree_of_reply}
+use Rattle.relay_core.specs.Scripts.{script}
 use Rattle.board_turns.specs.Giving.{draws_of}
 
 -- the same datagram, from the same source
@@ -65,11 +66,16 @@ pub record SayAlike (h : List BoardEntry) (now : ℕ) (pairs : Entries) (c d : C
   pub none_kept_c : kept h c.source c.cookie now ≡ None
   pub none_kept_d : kept h d.source d.cookie now ≡ None
 
--- The devices returned the same, the same was done, and one value was replied: spelled in bencode to the one, written as JSON to the other,
--- each after its own cookie
-pub record AreOneInBoth (config : Config) (c d : Control) : Type 0 where
+-- the board's entry of a turn
+abbrev pub entry_of : ℕ → Control → BoardEntry
+entry_of now c = record { moment = now; event = Turn c }
+
+-- After this history, at this moment, the devices returned the same, the same was done, the same nested entries are owed, in the same order, and
+-- one value was replied: spelled in bencode to the one, written as JSON to the other, each after its own cookie
+pub record AreOneInBoth (config : Config) (h : List BoardEntry) (now : ℕ) (c d : Control) : Type 0 where
   pub given : c.given ≡ d.given
   pub act : c.act ≡ d.act
+  pub scripts : script config h (entry_of now c) ≡ script config h (entry_of now d)
   pub reply : Reply
   pub spelled : c.reply ≡ c.cookie ++ 32 ∷ spelling (tree_of_reply config reply)
   pub written : d.reply ≡ d.cookie ++ 32 ∷ json_text (tree_of_reply config reply)

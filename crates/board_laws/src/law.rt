@@ -37,11 +37,12 @@ pub fn answers_are_one()
 {}
 
 /// Theorem (no run-time code): after one history of the board, at one moment, a datagram in bencode and one in JSON that say the same, for
-/// neither of which a reply is kept, and that don't run out of memory, do the same and get one value as their reply: spelled in bencode to
-/// the one, written as JSON to the other. That holds where the devices returned the same to both as far as both called them.
+/// neither of which a reply is kept, and that don't run out of memory, do the same, owe the same nested entries and get one value as their
+/// reply: spelled in bencode to the one, written as JSON to the other. That holds where the devices returned the same to both as far as both
+/// called them.
 pub fn dialects_are_one()
     ensures { (config : Config) (h : List BoardEntry) (now : ℕ) (pairs : Entries) (c d : Control) → FitsControl config h now c → FitsControl config h now d →
-        SayAlike h now pairs c d → HasMemory c → HasMemory d → GiveAlike c d → AreOneInBoth config c d }
+        SayAlike h now pairs c d → HasMemory c → HasMemory d → GiveAlike c d → AreOneInBoth config h now c d }
 {}
 
 /// Theorem (no run-time code): a datagram with a frame, for which no reply is kept, is answered: where memory did not run out, and no port and no
