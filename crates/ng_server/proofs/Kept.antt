@@ -172,7 +172,7 @@ module _ {M I O T : Type 0} {g : _} where
       let is_due = repeated_due config h entry_id.moment c bytes kept_is in
       deals_nothing config turns hand entry_id x due board board told turn is_due
       (due_fits config h entry_id.moment c due is_due is.framed is.length_is (λ read. absurd (let k : false ≡ true = read in cc))
-      (λ heard. absurd (let k : false ≡ true = heard in cc)) (record { no_opens = refl; no_draws = refl; none_failed = refl }, refl) (λ s t. refl))
+      (λ heard. absurd (let k : false ≡ true = heard in cc)) (record { no_opens = refl; no_draws = refl; none_failed = refl }, refl, refl) (λ s t. refl))
       refl refl refl turn.shows
 
   -- the same, of a record that says that no device was called
