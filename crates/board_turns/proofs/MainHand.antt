@@ -1,25 +1,55 @@
 -- The main hand, when hands are split from it and taken in.
-use Rattle.std.proofs.Common.{◌∙◌, sym, ap, subst, List}
+use Rattle.std.proofs.Common.{◌≡◌, ◌∙◌, sym, ap, subst, ℕ, ◌+◌, ◌<◌, false, List, [], ◌∷◌, ◌++◌, arith}
+use Rattle.std.proofs.lemmas.List.{map-append}
 use Rattle.relay_outside.specs.declared.settings.Config.{Config}
 use Rattle.turn_table.specs.declared.machine.Entry as table
 use Rattle.turn_table.specs.declared.hands.Turns.{Turns}
 use Rattle.turn_table.specs.declared.hands.Hand.{Hand}
 use Rattle.turn_table.specs.declared.view.View.{View}
+use Rattle.turn_table.specs.Histories as table_lists
 use Rattle.turn_table.specs.Histories.{phase_at}
 use Rattle.turn_table.specs.Hands.{IsLeft, IsJoined, IsUnchanged, KnowsAll, view, entries}
+use Rattle.histories.specs.Words.{In, here, there}
+use Rattle.histories.proofs.Lists.{in_left}
 use Rattle.relay_core.specs.declared.part.Part.{Part}
+use Rattle.relay_core.specs.Entries.{Entry}
 use Rattle.relay_core.specs.Beginning.{AreParts}
 use Rattle.relay_core.specs.Handed.{IsHanded}
 use Rattle.relay_core.specs.Joining.{TakesOwnPairs, IsLane, IsSound}
 use Rattle.relay_core.specs.Legal.{Orderly}
-use Rattle.relay_core.specs.Made.{Made, list_of}
-use Rattle.relay_core.specs.Recorded.{IsRecorded}
-use Rattle.relay_core.specs.Turning.{Numbered, IsReceiving, made_by}
+use Rattle.relay_core.specs.Made.{Made, entry_of, list_of}
+use Rattle.relay_core.specs.Recorded.{IsRecorded, is_boards}
+use Rattle.relay_core.specs.Turning.{Numbered, IsAbove, IsReceiving, made_by}
 use Rattle.relay_core.proofs.Joins.{joined}
+use Rattle.relay_core.proofs.Recording.{lane_no_boards, unseen_rows}
 use Rattle.relay_core.proofs.Whole.{known_numbered}
-use Rattle.board_turns.specs.Between.{IsBetween}
+use Rattle.board_turns.specs.Between.{board_of, IsBetween}
 use Rattle.board_turns.specs.Joins.{IsBetweenJoins}
-use Rattle.board_turns.proofs.Betweens.{between_sound}
+use Rattle.board_turns.proofs.Betweens.{between_sound, whole_board}
+
+-- A number above all.
+
+top : List Entry → ℕ
+top [] = 0
+top (e ∷ l) = (e.number + 1) + top l
+
+below_top : (l : List Entry) (e : Entry) → In e l → e.number < top l
+unfolding top
+below_top [] e i = elim i [ ]
+below_top (x ∷ l) e (here q) = let same = ap (λ (y : Entry). y.number) q in omega (arith, same)
+below_top (x ∷ l) e (there i) = let low = below_top l e i in omega (arith, low)
+
+-- the board's whole history is the same with rows after it that are none of its own
+pub history_stays : {T : Type 0} (rows others : List (table.Entry Made T)) → ((row : table.Entry Made T) → table_lists.In row others → is_boards row.event.event ≡ false)
+    → board_of (list_of (rows ++ others)) ≡ board_of (list_of rows)
+history_stays {T} rows others none =
+    let all = list_of (rows ++ others) in
+    let n = top all in
+    let longer : (e : Entry) → In e (list_of rows) → In e all =
+    λ e i. subst (λ (l : List Entry). In e l) (sym (map-append entry_of rows others)) (in_left (list_of rows) (list_of others) i) in
+    let after : IsAbove all 0 n = λ e i p. below_top all e i in
+    let before : IsAbove (list_of rows) 0 n = λ e i p. below_top all e (longer e i) in
+    sym (whole_board all n after) ∙ unseen_rows rows others none n ∙ whole_board (list_of rows) n before
 
 module _ {M I O T : Type 0} {g : _} (config : Config) (turns : Turns M (Part I O) Made T) where
   pub split_between : (old new : Hand M (Part I O) Made T g) → IsBetween config turns old → IsLeft old new → IsBetween config turns new
@@ -63,3 +93,8 @@ module _ {M I O T : Type 0} {g : _} (config : Config) (turns : Turns M (Part I O
         recorded = sound.recorded numbered;
         receiving = sound.receiving numbered;
       }
+
+  pub joined_history : (old other new : Hand M (Part I O) Made T g) → IsLane config (entries other) → IsJoined old other new → board_of (made_by new) ≡ board_of (made_by old)
+  joined_history old other new lane is =
+      ap (λ (rows : List (table.Entry Made T)). board_of (list_of rows)) is.2
+      ∙ history_stays (entries old) (entries other) (λ row i. lane_no_boards row.event.event (lane.of_lane row i))

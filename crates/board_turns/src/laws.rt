@@ -1,7 +1,9 @@
 //! What the main hand keeps when hands of lanes are split from it and taken in again.
+ghost use Rattle.std.specs.Prelude.{◌≡◌};
 ghost use Rattle.turn_table.specs.Hands.{IsLeft, IsJoined, IsUnchanged, KnowsAll, entries};
 ghost use Rattle.relay_core.specs.Joining.{IsLane};
-ghost use Rattle.board_turns.specs.Between.{IsBetween};
+ghost use Rattle.relay_core.specs.Turning.{made_by};
+ghost use Rattle.board_turns.specs.Between.{board_of, IsBetween};
 ghost use Rattle.board_turns.specs.Joins.{IsBetweenJoins};
 
 use relay_core::Relay;
@@ -10,7 +12,7 @@ use turn_table::{Hand, Turns};
 
 /// Theorem (no run-time code): what is known of the main hand between the board's turns is known of it when hands were split from it. When
 /// the hands of lanes are taken in, it stands as `IsBetweenJoins` says, which is what the close of the table asks of it. By a survey,
-/// for which it has all parts, it is again as it is between the board's turns, so that these may go on.
+/// for which it has all parts, it is again as it is between the board's turns, so that these may go on: the board's history is what it was.
 pub fn main_hand_stays<I: InEnd, O: OutEnd>(
     config: &Config,
     turns: &Turns<Relay<I, O>>,
@@ -22,4 +24,5 @@ pub fn main_hand_stays<I: InEnd, O: OutEnd>(
         → IsBetweenJoins config.now turns.now hand.now }
     ensures surveyed { (old : _) → IsBetweenJoins config.now turns.now old → IsUnchanged old hand.now → KnowsAll hand.now
         → IsBetween config.now turns.now hand.now }
+    ensures history { (old other : _) → IsLane config.now (entries other) → IsJoined old other hand.now → board_of (made_by hand.now) ≡ board_of (made_by old) }
 {}

@@ -1,5 +1,5 @@
 -- What the steps of a lane by the main hand leave of what is known between the board's turns.
-use Rattle.std.proofs.Common.{◌≡◌, ◌∙◌, sym, ap, subst, ℕ, ◌+◌, ◌<◌, false, List, [], ◌∷◌, ◌++◌, arith}
+use Rattle.std.proofs.Common.{◌≡◌, ◌∙◌, sym, ap, subst, false, List, [], ◌∷◌, ◌++◌}
 use Rattle.std.proofs.lemmas.List.{map-append}
 use Rattle.relay_outside.specs.declared.settings.Config.{Config}
 use Rattle.turn_table.specs.declared.machine.Entry as table
@@ -7,7 +7,7 @@ use Rattle.turn_table.specs.declared.hands.Turns.{Turns}
 use Rattle.turn_table.specs.declared.hands.Hand.{Hand}
 use Rattle.turn_table.specs.Histories as table_lists
 use Rattle.turn_table.specs.Hands.{IsSameHand, HasNoTurn, entries}
-use Rattle.histories.specs.Words.{In, here, there}
+use Rattle.histories.specs.Words.{In}
 use Rattle.histories.proofs.Lists.{in_left}
 use Rattle.relay_core.specs.declared.part.Part.{Part}
 use Rattle.relay_core.specs.Entries.{Entry}
@@ -16,36 +16,17 @@ use Rattle.relay_core.specs.Beginning.{AreParts}
 use Rattle.relay_core.specs.Handed.{IsHanded}
 use Rattle.relay_core.specs.Joining.{TakesOwnPairs}
 use Rattle.relay_core.specs.Recorded.{IsRecorded, is_boards}
-use Rattle.relay_core.specs.Turning.{Numbered, IsAbove, IsOfLane, made_by}
+use Rattle.relay_core.specs.Turning.{Numbered, IsOfLane, made_by}
 use Rattle.relay_core.proofs.Joins.{handed_joined}
-use Rattle.relay_core.proofs.Recording.{lane_no_boards, unseen_rows, recorded_behind}
+use Rattle.relay_core.proofs.Recording.{lane_no_boards, recorded_behind}
 use Rattle.media_lane.specs.Receipts.{KeepsList}
 use Rattle.board_turns.specs.Between.{board_of, IsBetween}
-use Rattle.board_turns.proofs.Betweens.{whole_board}
-
--- A number above all.
-
-top : List Entry → ℕ
-top [] = 0
-top (e ∷ l) = (e.number + 1) + top l
-
-below_top : (l : List Entry) (e : Entry) → In e l → e.number < top l
-unfolding top
-below_top [] e i = elim i [ ]
-below_top (x ∷ l) e (here q) = let same = ap (λ (y : Entry). y.number) q in omega (arith, same)
-below_top (x ∷ l) e (there i) = let low = below_top l e i in omega (arith, low)
+use Rattle.board_turns.proofs.MainHand.{history_stays}
 
 -- the board's whole history is the same with rows after it that are none of its own
 pub lanes_board : {T : Type 0} (rows others : List (table.Entry Made T)) → ((row : table.Entry Made T) → table_lists.In row others → is_boards row.event.event ≡ false)
     → board_of (list_of (rows ++ others)) ≡ board_of (list_of rows)
-lanes_board {T} rows others none =
-    let all = list_of (rows ++ others) in
-    let n = top all in
-    let longer : (e : Entry) → In e (list_of rows) → In e all =
-    λ e i. subst (λ (l : List Entry). In e l) (sym (map-append entry_of rows others)) (in_left (list_of rows) (list_of others) i) in
-    let after : IsAbove all 0 n = λ e i p. below_top all e i in
-    let before : IsAbove (list_of rows) 0 n = λ e i p. below_top all e (longer e i) in
-    sym (whole_board all n after) ∙ unseen_rows rows others none n ∙ whole_board (list_of rows) n before
+lanes_board rows others none = history_stays rows others none
 
 module _ {M I O T : Type 0} {g : _} where
   -- these rows were added by a lane

@@ -10,7 +10,7 @@ ghost use Rattle.call_cell.specs.Cells.{Receipt};
 ghost use Rattle.relay_core.specs.Made.{list_of};
 ghost use Rattle.relay_core.specs.Turning.{made_by};
 ghost use Rattle.relay_core.specs.Joining.{IsLane};
-ghost use Rattle.board_turns.specs.Between.{IsBetween};
+ghost use Rattle.board_turns.specs.Between.{board_of, IsBetween};
 ghost use Rattle.media_lane.specs.Receipts.{KeepsList};
 ghost use Rattle.media_lane.specs.Relaying.{relay_made};
 ghost use Rattle.media_lane.specs.Starts.{PartsBeginLanes};
@@ -43,12 +43,14 @@ pub fn lists_of_lanes_stay()
 {}
 
 /// Theorem (no run-time code): where the main hand itself goes into a lane, it comes out of each of the lane's calls as it is between the
-/// board's turns, by what these calls promise.
+/// board's turns, by what these calls promise; the board's history is what it was.
 pub fn main_hand_relays<I: InEnd, O: OutEnd>(
     config: &Config,
     turns: &Turns<Relay<I, O>>,
     hand: &Hand<Relay<I, O>>,
 )
-    ensures { (old : _) (rows : List Row) → IsBetween config.now turns.now old → IsSameHand old hand.now → HasNoTurn hand.now → entries hand.now ≡ entries old ++ rows
+    ensures between { (old : _) (rows : List Row) → IsBetween config.now turns.now old → IsSameHand old hand.now → HasNoTurn hand.now → entries hand.now ≡ entries old ++ rows
         → AreOfLane rows → KeepsList config.now (made_by old) (made_by hand.now) → IsBetween config.now turns.now hand.now }
+    ensures history { (old : _) (rows : List Row) → IsSameHand old hand.now → entries hand.now ≡ entries old ++ rows → AreOfLane rows
+        → board_of (made_by hand.now) ≡ board_of (made_by old) }
 {}

@@ -1,4 +1,4 @@
-use Rattle.board_turns.proofs.MainHand.{split_between, begun_joins, joined_joins, surveyed_between}
+use Rattle.board_turns.proofs.MainHand.{split_between, begun_joins, joined_joins, surveyed_between, joined_history}
 use Rattle.board_turns.proofs.laws.main_hand_stays.Goals as goal
 
 pub returns-clause-split : goal.returns-clause-split
@@ -12,3 +12,6 @@ returns-clause-joined g c = λ old other between lane is. joined_joins c.args.co
 
 pub returns-clause-surveyed : goal.returns-clause-surveyed
 returns-clause-surveyed g c = λ old between same knows. surveyed_between c.args.config.now c.args.turns.now old c.args.hand.now between same knows
+
+pub returns-clause-history : goal.returns-clause-history
+returns-clause-history g c = λ old other lane is. joined_history c.args.config.now c.args.turns.now old other c.args.hand.now lane is
