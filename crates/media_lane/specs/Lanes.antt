@@ -13,7 +13,7 @@ use Rattle.relay_core.specs.Turning.{made_by}
 use Rattle.media_lane.specs.declared.receipt.Receipt.{Receipt}
 use Rattle.media_lane.specs.declared.lane.LaneHand.{LaneHand}
 use Rattle.media_lane.specs.declared.lane.Lane.{Lane}
-use Rattle.media_lane.specs.Rooms.{front_in, sent_in}
+use Rattle.media_lane.specs.Rooms.{sent_in}
 
 -- the packet of a receipt: what was taken, by which take, and for which leg
 abbrev pub packet_of : Receipt → cells.Receipt
@@ -69,10 +69,6 @@ module _ {I O : Type 0} {gi : _} {go : _} {gm : _} where
   -- the bytes that its last relay sent
   abbrev pub sent_of : Lane I O gi go gm → List ℕ
   sent_of lane = sent_in lane.rooms
-
-  -- its room for a datagram that is taken: the bytes of the last one stand at the front
-  abbrev pub room_of : Lane I O gi go gm → List ℕ
-  room_of lane = front_in lane.rooms
 
   -- the same lane of the same table
   abbrev pub IsSameLane : (old new : Lane I O gi go gm) → Type 0
