@@ -328,6 +328,14 @@ IsFaulty r (step.Take port source bytes) = 64 ≤ length r.held
 IsFaulty r (step.Relay number) = list_any (is_under number) r.held ≡ false
 IsFaulty r _ = ⊥
 
+-- the step calls devices: it takes a datagram or a packet, or relays one
+abbrev pub calls_devices : Step → Bool
+calls_devices (step.Ng source bytes) = true
+calls_devices (step.Take port source bytes) = true
+calls_devices (step.Relay number) = true
+calls_devices (step.Packet port source bytes) = true
+calls_devices _ = false
+
 -- what a step did: it was made, and printed this; or it can't be made, and nothing was done. If it can't be told, nothing is said
 abbrev pub OfStep : Config → (seed : ℕ) → Course → Step → Stepped → Course → Type 0
 OfStep config seed r s stepped.Quiet new = Makes config seed r s [] new
