@@ -14,7 +14,7 @@ use Rattle.relay_runs.specs.Loads.{Loads}
 use Rattle.relay_runs.specs.declared.status.Status.TheVariants as status
 use Rattle.relay_runs.specs.Served.{Outside}
 use Rattle.relay_runs.specs.Run.{Serves}
-use Rattle.relay_app.specs.Run.{StatusByWords, ReplayedBy, ReplaysBy, PrintsUsage, TellsLine}
+use Rattle.relay_app.specs.Run.{StatusByWords, ReplayedBy, PrintsUsage, TellsLine}
 use Rattle.relay_runs.proofs.Runs.{not_begun}
 
 pub serves_nothing : (settings : Option Settings) (range : Option (ℕ × ℕ)) (gate : ℕ → Type 0) (outside : Outside) (wrote : Option (List WriteCall)) → outside.link ≡ outside.link_now
@@ -36,7 +36,7 @@ loads_nothing (Some load) gate wrote = inl (refl, gained_none wrote (λ more. mo
 pub replays_nothing : (settings : Option Settings) (replay : Option ReplaySettings) (read : Option (List LineCall)) (wrote : Option (List WriteCall))
     → ReplayedBy settings replay status.OutOfMemory read read wrote wrote
 replays_nothing None None read wrote = tt
-replays_nothing None (Some replay) read wrote = gained_none wrote (ReplaysBy replay (Some ended.OutOfMemory) read read) (inl refl)
+replays_nothing None (Some replay) read wrote = record { end = ended.OutOfMemory; answer_is = refl; replays = inl (gained_none wrote (λ more. more ≡ []) refl) }
 replays_nothing (Some settings) None read wrote = tt
 replays_nothing (Some settings) (Some replay) read wrote = tt
 
