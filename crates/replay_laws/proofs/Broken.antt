@@ -1,5 +1,5 @@
 -- A replay whose output failed broke off in a line of what another one wrote that wrote all.
-use Rattle.std.proofs.Common.{◌≡◌, ◌∙◌, sym, ap, subst, refl, ℕ, ◌+◌, ◌⊎◌, inl, inr, List, [], ◌∷◌, ◌++◌, map, length, append_assoc, true}
+use Rattle.std.proofs.Common.{◌≡◌, ◌∙◌, sym, ap, subst, refl, ℕ, ◌+◌, inl, inr, List, [], ◌∷◌, ◌++◌, map, length, append_assoc, true}
 use Rattle.std.proofs.lemmas.List.{map-append, append-nil}
 use Rattle.relay_outside.specs.declared.lines.WriteCall.{WriteCall}
 use Rattle.relay_outside.specs.declared.lines.WriteCall.TheVariants.{Write}
@@ -11,11 +11,11 @@ use Rattle.replay_devices.specs.declared.script.Ending.{Ending}
 use Rattle.replay_devices.specs.declared.script.Ending.TheVariants as ending
 use Rattle.replay_steps.specs.declared.ended.Ended.{Ended}
 use Rattle.replay_steps.specs.declared.ended.Ended.TheVariants as ended
-use Rattle.replay_steps.specs.Steps.{Course, at_first, after, Makes, IsFaulty, Plays, Stops}
+use Rattle.replay_steps.specs.Steps.{Course, at_first, after, Makes, IsFaulty, Stops}
 use Rattle.replay_steps.specs.Written.{written, unwritten, Played, PlayedAnd, StopsAt, FailsAt, Demands}
 use Rattle.replay_steps.proofs.Courses.{plays_more}
 use Rattle.replay_laws.specs.Alike.{NeverOutOfMemory, WritesOut, IsWrittenOut, BreaksOff}
-use Rattle.replay_laws.proofs.Texts.{InOrder, same, earlier, later, in_order, step_heads, step_tails, Parted, parted, Ran, ran, both_went, front_ran, never_made, played_once, stop_or_all, end_outside, fault_outside}
+use Rattle.replay_laws.proofs.Texts.{InOrder, same, earlier, later, in_order, step_heads, step_tails, parted, Ran, ran, both_went, front_ran, never_made, played_once, stop_or_all, end_outside, fault_outside}
 
 -- Where the steps of the one end, and those of the other.
 

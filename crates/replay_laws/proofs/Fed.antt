@@ -1,5 +1,5 @@
 -- That no turn of a list answers that memory ran out: of the parts of a list, and by what is printed.
-use Rattle.std.proofs.Common.{◌≡◌, ◌∙◌, sym, ap, subst, refl, ℕ, ◌+◌, ◌⊎◌, inl, inr, List, [], ◌∷◌, ◌++◌, map, length, Bool, true, false, Option}
+use Rattle.std.proofs.Common.{◌≡◌, ◌∙◌, sym, ap, subst, refl, ℕ, ◌+◌, ◌⊎◌, inl, inr, List, [], ◌∷◌, ◌++◌, map, length, Bool, true, false}
 use Rattle.histories.specs.Words.{In, here, there}
 use Rattle.histories.proofs.Lists.{in_append, in_left, in_right, maps}
 use Rattle.ng_reply.specs.declared.code.ErrorCode.TheVariants.{E17}
@@ -23,12 +23,12 @@ use Rattle.relay_core.specs.Legal.{Orderly}
 use Rattle.relay_core.proofs.Turns.{nothing_is_orderly, turn_elsewhere}
 use Rattle.media_lane.specs.Steps.{take_entry, relay_entry}
 use Rattle.board_turns.specs.Between.{board_of}
-use Rattle.board_turns.specs.Controls.{Hearing, unanswered, with_answer, control_of, entry_at, moment_at}
+use Rattle.board_turns.specs.Controls.{Hearing, unanswered, with_answer, entry_at, moment_at}
 use Rattle.relay_script.specs.Steps as step
 use Rattle.relay_script.specs.Steps.{Step}
 use Rattle.relay_script.specs.Printing.{Printed, Reply, ReplyFault, ScriptFault, line_of}
 use Rattle.replay_devices.specs.declared.script.Ending.{Ending}
-use Rattle.replay_steps.specs.Steps.{Course, Packet, TurnsBoard, TakesPacket, Misses, RelaysPacket, Replying, Answers, Controls, Makes, Plays, at_first, after}
+use Rattle.replay_steps.specs.Steps.{Course, Packet, TurnsBoard, TakesPacket, Misses, Replying, Controls, Makes, Plays, at_first, after}
 use Rattle.replay_steps.specs.Written.{written, unwritten, Played, PlayedAnd, StopsAt, FailsAt, Demands, DidWrite}
 use Rattle.replay_steps.specs.declared.ended.Ended.{Ended}
 use Rattle.replay_steps.specs.declared.ended.Ended.TheVariants as ended

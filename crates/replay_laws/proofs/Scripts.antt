@@ -1,5 +1,5 @@
 -- Two replays of one script, as the contract of a replay says of each what it did.
-use Rattle.std.proofs.Common.{◌≡◌, ◌∙◌, sym, subst, ℕ, List, ◌++◌, Option, Some}
+use Rattle.std.proofs.Common.{sym, subst, ℕ, List, ◌++◌, Option, Some}
 use Rattle.std.proofs.lemmas.List.{append_cancel_left}
 use Rattle.relay_outside.specs.declared.lines.LineCall.{LineCall}
 use Rattle.relay_outside.specs.declared.lines.WriteCall.{WriteCall}
