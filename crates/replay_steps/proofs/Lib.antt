@@ -1,7 +1,6 @@
 pub mod Holdings
 pub mod Turned
 pub mod Controls
-pub mod Differs
 pub mod Openings
 pub mod Courses
 pub mod Watchings
