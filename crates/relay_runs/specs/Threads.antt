@@ -1,5 +1,5 @@
 -- What is known of the lanes of all threads of media: before their work, of their work, and after it.
-use Rattle.std.specs.Prelude.{◌≡◌, ◌+◌, ◌<◌, ◌≤◌, ◌==◌, nat_lt, count_by, ℕ, false, List, [], ◌∷◌, ◌++◌, Option, All, length, map, slice_index_or, slice_set, vec_capacity}
+use Rattle.std.specs.Prelude.{◌≡◌, ◌<◌, ◌≤◌, ◌==◌, nat_lt, count_by, ℕ, false, List, [], ◌∷◌, ◌++◌, Option, All, length, map, slice_index_or, slice_set, vec_capacity, Vec}
 use Rattle.std.specs.List.{flat_map}
 use Rattle.std.specs.List.Sorted.{IsPermutation}
 use Rattle.relay_outside.specs.declared.settings.Config.{Config}
@@ -48,7 +48,7 @@ module _ {I O : Type 0} {gi : _} {go : _} {gm : _} where
   AreInOrder lanes = (i : ℕ) (d : OwnLane I O gi go gm) → i < length lanes → index_in (slice_index_or lanes i d).lane ≡ i
 
   -- an empty list has room for so many lanes
-  abbrev pub HasLaneRoom : ℕ → Vec (OwnLane I O gi go gm) → Type 0
+  abbrev pub HasLaneRoom : {A : Type 0} → ℕ → Vec (OwnLane I O gi go gm) A → Type 0
   HasLaneRoom lanes room = (room.items ≡ []) × (lanes ≤ vec_capacity room)
 
   -- it has no lane yet, and room for so many
