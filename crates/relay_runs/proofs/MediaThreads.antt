@@ -59,7 +59,7 @@ module _ {X Y : Type 0} (R : X → Y → Type 0) where
   zip_append (w ∷ ws) xs [] zs first second = absurd first
   zip_append (w ∷ ws) xs (y ∷ ys) zs first second = (first.0, zip_append ws xs ys zs first.1 second)
 
-zip_each : {X : Type 0} (R : X → X → Type 0) (xs ys : List X) → length ys ≡ length xs → ((i : ℕ) (d : X) → i < length xs → R (slice_index_or xs i d) (slice_index_or ys i d)) → AllZip R xs ys
+pub zip_each : {X : Type 0} (R : X → X → Type 0) (xs ys : List X) → length ys ≡ length xs → ((i : ℕ) (d : X) → i < length xs → R (slice_index_or xs i d) (slice_index_or ys i d)) → AllZip R xs ys
 zip_each {X} R [] [] many at = tt
 zip_each {X} R [] (y ∷ ys) many at = absurd (omega (arith, many))
 zip_each {X} R (x ∷ xs) [] many at = absurd (omega (arith, many))
