@@ -10,6 +10,7 @@ use Rattle.command_line.specs.Refusals.{begins_usage}
 use Rattle.command_line.specs.declared.settings.Settings.{Settings}
 use Rattle.command_line.specs.declared.settings.ReplaySettings.{ReplaySettings}
 use Rattle.command_line.specs.declared.settings.LoadSettings.{LoadSettings}
+use Rattle.relay_runs.specs.declared.load_end.LoadEnd.TheVariants as ended_load
 use Rattle.relay_runs.specs.Loads.{Loads}
 use Rattle.relay_runs.specs.declared.status.Status.TheVariants as status
 use Rattle.relay_runs.specs.Served.{Outside}
@@ -31,7 +32,7 @@ unread_status (Some settings) replay load = tt
 
 pub loads_nothing : (load : Option LoadSettings) (gate : ℕ → Type 0) (wrote : Option (List WriteCall)) → Loads load gate wrote wrote status.OutOfMemory
 loads_nothing None gate wrote = tt
-loads_nothing (Some load) gate wrote = inl (refl, gained_none wrote (λ more. more ≡ []) refl)
+loads_nothing (Some load) gate wrote = (ended_load.NotBegun, refl, gained_none wrote (λ more. more ≡ []) refl)
 
 pub replays_nothing : (settings : Option Settings) (replay : Option ReplaySettings) (read : Option (List LineCall)) (wrote : Option (List WriteCall))
     → ReplayedBy settings replay status.OutOfMemory read read wrote wrote

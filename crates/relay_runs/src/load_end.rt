@@ -17,16 +17,16 @@ pub enum LoadEnd {
     CutShort(Shortfall),
 }
 
-/// Why a load that was begun printed nothing. Its devices are in memory, so the first three come of want of memory.
+/// Why a load that was begun printed nothing.
 #[derive(Clone, Copy, PartialEq, Eq, Debug)]
 pub enum Shortfall {
-    /// A device has not kept the list of its calls.
+    /// A device has not kept the list of its calls, for want of memory.
     Untold,
     /// A reply is no success.
     ReplyFailed,
-    /// Each reply is a success, and the control link had no memory for its next datagram.
+    /// Each reply is a success, and the control turns ended before the end of the control link, as where a take has no memory for its datagram.
     TakeFailed,
-    /// The lanes took all that they wait for, but not just the packets of the calls from the ends of their ports.
+    /// The control turns found the end of the control link, but it gave not all datagrams, or the lanes took other packets than those of the calls.
     EndsDiffer,
 }
 
