@@ -1,7 +1,6 @@
 -- What a call of a load's control link adds to what the link tells.
-use Rattle.std.proofs.Common.{arith, suc, ◌∙◌, ◌≡◌, ap, sym, subst, refl, ◌+◌, Bool, true, false, ◌&&◌, Some, None, Option, List, [], ◌∷◌, ◌++◌, ℕ, ◌<◌, ◌≤◌, ◌*◌}
+use Rattle.std.proofs.Common.{arith, suc, ◌∙◌, ◌≡◌, ap, sym, subst, refl, ◌+◌, Bool, true, false, ◌&&◌, Some, None, Option, List, [], ◌∷◌, ◌++◌, ℕ}
 use Rattle.std.specs.List.{list_all}
-use Rattle.std.specs.Prelude.{filter_map}
 use Rattle.std.proofs.lemmas.List.{append-nil}
 use Rattle.std.proofs.lemmas.List.Elements.{filter_map-append}
 use Rattle.std.proofs.lemmas.List.Folds.{list_all-append}
@@ -15,7 +14,7 @@ use Rattle.load_maker.specs.Links.{TellsLoad}
 -- a link that was not called yet tells no datagram and no reply
 pub tells_nothing : TellsLoad 0 true []
 unfolding first_datagrams
-tells_nothing = record { taken = refl; replied = λ well. refl }
+tells_nothing = record { taken = refl; replied = refl }
 
 -- one more datagram
 next_taken : (given : ℕ) → first_datagrams given ++ (controller, datagram_at given) ∷ [] ≡ first_datagrams (given + 1)
@@ -33,27 +32,30 @@ add_sends calls call = filter_map-append send_of calls (call ∷ [])
 tells_other : (given : ℕ) (well : Bool) (calls : List LinkCall) (call : LinkCall) → datagrams (call ∷ []) ≡ [] → sends (call ∷ []) ≡ [] → TellsLoad given well calls → TellsLoad given well (calls ++ call ∷ [])
 tells_other given well calls call no_datagram no_send tells = record {
   taken = add_datagrams calls call ∙ ap (λ xs. datagrams calls ++ xs) no_datagram ∙ append-nil (datagrams calls) ∙ tells.taken;
-  replied = λ is_well. ap (λ xs. list_all (λ reply. is_success reply.1) xs) (add_sends calls call ∙ ap (λ xs. sends calls ++ xs) no_send ∙ append-nil (sends calls)) ∙ tells.replied is_well;
+  replied = ap (λ xs. list_all (λ reply. is_success reply.1) xs) (add_sends calls call ∙ ap (λ xs. sends calls ++ xs) no_send ∙ append-nil (sends calls)) ∙ tells.replied;
 }
 
 -- a take that gave the next datagram
 tells_datagram : (given : ℕ) (well : Bool) (calls : List LinkCall) (call : LinkCall) → datagrams (call ∷ []) ≡ (controller, datagram_at given) ∷ [] → sends (call ∷ []) ≡ [] → TellsLoad given well calls → TellsLoad (given + 1) well (calls ++ call ∷ [])
 tells_datagram given well calls call one no_send tells = record {
   taken = add_datagrams calls call ∙ ap (λ xs. datagrams calls ++ xs) one ∙ ap (λ xs. xs ++ (controller, datagram_at given) ∷ []) tells.taken ∙ next_taken given;
-  replied = λ is_well. ap (λ xs. list_all (λ reply. is_success reply.1) xs) (add_sends calls call ∙ ap (λ xs. sends calls ++ xs) no_send ∙ append-nil (sends calls)) ∙ tells.replied is_well;
+  replied = ap (λ xs. list_all (λ reply. is_success reply.1) xs) (add_sends calls call ∙ ap (λ xs. sends calls ++ xs) no_send ∙ append-nil (sends calls)) ∙ tells.replied;
 }
 
-both_hold : (well one before : Bool) → (well && one) ≡ true → (well ≡ true → before ≡ true) → (before && (one && true)) ≡ true
-both_hold true true before both all = ap (λ b. b && true) (all refl)
-both_hold true false before both all = let k : false ≡ true = both in cc
-both_hold false one before both all = let k : false ≡ true = both in cc
+and_true : (one : Bool) → (one && true) ≡ one
+and_true true = refl
+and_true false = refl
+
+both_hold : (well one before : Bool) → before ≡ well → (before && (one && true)) ≡ (well && one)
+both_hold well one true is = and_true one ∙ ap (λ b. b && one) is
+both_hold well one false is = ap (λ b. b && one) is
 
 -- a send
 tells_send : (given : ℕ) (well : Bool) (calls : List LinkCall) (to : Addr) (reply : List ℕ) (call : LinkCall) → datagrams (call ∷ []) ≡ [] → sends (call ∷ []) ≡ (to, reply) ∷ [] → TellsLoad given well calls → TellsLoad given (well && is_success reply) (calls ++ call ∷ [])
 tells_send given well calls to reply call no_datagram one tells = record {
   taken = add_datagrams calls call ∙ ap (λ xs. datagrams calls ++ xs) no_datagram ∙ append-nil (datagrams calls) ∙ tells.taken;
-  replied = λ both. ap (λ xs. list_all (λ reply. is_success reply.1) xs) (add_sends calls call ∙ ap (λ xs. sends calls ++ xs) one)
-      ∙ list_all-append (λ reply. is_success reply.1) (sends calls) ((to, reply) ∷ []) ∙ both_hold well (is_success reply) (list_all (λ reply. is_success reply.1) (sends calls)) both tells.replied;
+  replied = ap (λ xs. list_all (λ reply. is_success reply.1) xs) (add_sends calls call ∙ ap (λ xs. sends calls ++ xs) one)
+      ∙ list_all-append (λ reply. is_success reply.1) (sends calls) ((to, reply) ∷ []) ∙ both_hold well (is_success reply) (list_all (λ reply. is_success reply.1) (sends calls)) tells.replied;
 }
 
 -- The same of what the link tells after a call, where it still tells.

@@ -1,5 +1,5 @@
 -- A moment more is 0 too.
-use Rattle.std.proofs.Common.{◌∙◌, ◌≡◌, ap, sym, subst, refl, ℕ, ◌==◌, ◌&&◌, true, Some, None, Option, List, [], ◌∷◌, ◌++◌}
+use Rattle.std.proofs.Common.{◌∙◌, ◌≡◌, ap, sym, subst, ℕ, ◌==◌, ◌&&◌, true, Some, None, Option, List, [], ◌∷◌, ◌++◌}
 use Rattle.std.specs.List.{list_all}
 use Rattle.std.proofs.lemmas.List.Folds.{list_all-append}
 use Rattle.relay_outside.specs.Told.{Gains}

@@ -1,5 +1,5 @@
 -- What a call adds to what the in ends of a load gave.
-use Rattle.std.proofs.Common.{◌≡◌, ◌∙◌, ap, refl, sym, subst, Bool, true, false, ℕ, ◌+◌, min, length, Some, None, Option, MatchOption, IfSome, List, [], ◌∷◌, ◌++◌, take}
+use Rattle.std.proofs.Common.{◌≡◌, ◌∙◌, ap, refl, sym, subst, Bool, true, false, ℕ, ◌+◌, min, length, Some, None, Option, MatchOption, IfSome, IsSome, List, [], ◌∷◌, ◌++◌, take}
 use Rattle.std.proofs.Math.Nat.{min_comm}
 use Rattle.std.proofs.lemmas.List.{take_min}
 use Rattle.relay_outside.specs.declared.address.Addr.{Addr}
@@ -13,7 +13,7 @@ use Rattle.load_maker.specs.declared.stream.Stream.{Stream}
 use Rattle.load_maker.specs.Packets.{source_of, packet}
 use Rattle.load_maker.specs.declared.ports.ClosedEnd.{ClosedEnd}
 use Rattle.load_maker.specs.Ports.{where_left}
-use Rattle.load_maker.specs.Takes.{GivesOn, AreClosed}
+use Rattle.load_maker.specs.Takes.{GivesOn, GaveFirst, AreClosed}
 
 gives_nothing : (stream : Option Stream) (before after room : ℕ) (calls : List InCall) → GivesOn stream before calls after
     → GivesOn stream before (calls ++ into.Take room given.Nothing ∷ []) after
@@ -66,7 +66,7 @@ opens_more at (port.Open there done ∷ calls) closings closed = opens_more at c
 opens_more at (port.Close there taken sent ∷ calls) [] closed = absurd closed
 opens_more at (port.Close there taken sent ∷ calls) (c ∷ closings) closed = (closed.0, closed.1, opens_more at calls closings closed.2)
 
-closes_more : (one : ClosedEnd) (taken : Option (List InCall)) (calls : List PortCall) (closings : List ClosedEnd) → WhereTold taken (λ takes. GivesOn one.stream 0 takes one.given)
+closes_more : (one : ClosedEnd) (taken : Option (List InCall)) (calls : List PortCall) (closings : List ClosedEnd) → GaveFirst one.stream taken one.given
     → AreClosed calls closings → AreClosed (calls ++ port.Close one.at taken None ∷ []) (closings ++ one ∷ [])
 closes_more one taken [] [] gives closed = (refl, gives, tt)
 closes_more one taken [] (c ∷ closings) gives closed = absurd closed
@@ -81,22 +81,29 @@ noted_open at closings None (Some new) gains told = elim gains [ ]
 noted_open at closings (Some calls) (Some new) gains told = subst (λ l. AreClosed l closings) (sym gains) (opens_more at calls closings told)
 
 pub noted_close : (one : ClosedEnd) (taken : Option (List InCall)) (closings : List ClosedEnd) (old new : Option (List PortCall)) → Gains old new (port.Close one.at taken None)
-    → WhereTold taken (λ takes. GivesOn one.stream 0 takes one.given)
+    → GaveFirst one.stream taken one.given
     → WhereTold old (λ calls. AreClosed calls closings) → WhereTold new (λ calls. AreClosed calls (closings ++ one ∷ []))
 noted_close one taken closings old None gains gives told = tt
 noted_close one taken closings None (Some new) gains gives told = elim gains [ ]
 noted_close one taken closings (Some calls) (Some new) gains gives told = subst (λ l. AreClosed l (closings ++ one ∷ [])) (sym gains) (closes_more one taken calls closings gives told)
+
+-- an end that tells what it gave
+gave_first : (stream : Option Stream) (taken : Option (List InCall)) (given : ℕ) → IsSome taken → WhereTold taken (λ takes. GivesOn stream 0 takes given) → GaveFirst stream taken given
+gave_first stream None given tells gives = let k : false ≡ true = tells in cc
+gave_first stream (Some takes) given tells gives = (takes, refl, gives)
 
 -- a closing was noted, where what the end gave was kept
 pub noted_kept : (one : ClosedEnd) (taken : Option (List InCall)) (closings closings_now : List ClosedEnd) (old new : Option (List PortCall)) (noted call : Option PortCall) (kept : Bool)
     → MatchOption noted (new ≡ None) (λ c. Gains old new c)
     → IfSome noted (λ c. (kept ≡ true) × (call ≡ Some c))
     → IfSome call (λ c. c ≡ port.Close one.at taken None)
+    → (IsSome call → IsSome taken)
     → (kept ≡ true → closings_now ≡ closings ++ one ∷ [])
     → WhereTold taken (λ takes. GivesOn one.stream 0 takes one.given)
     → WhereTold old (λ calls. AreClosed calls closings) → WhereTold new (λ calls. AreClosed calls closings_now)
-noted_kept one taken closings closings_now old new None call kept stops both is more gives told = subst (λ n. WhereTold n (λ calls. AreClosed calls closings_now)) (sym stops) tt
-noted_kept one taken closings closings_now old new (Some c) call kept gains both is more gives told =
+noted_kept one taken closings closings_now old new None call kept stops both is tells more gives told = subst (λ n. WhereTold n (λ calls. AreClosed calls closings_now)) (sym stops) tt
+noted_kept one taken closings closings_now old new (Some c) call kept gains both is tells more gives told =
     let same : c ≡ port.Close one.at taken None = subst (λ x. IfSome x (λ c. c ≡ port.Close one.at taken None)) both.1 is in
     subst (λ l. WhereTold new (λ calls. AreClosed calls l)) (sym (more both.0))
-    (noted_close one taken closings old new (subst (λ x. Gains old new x) same gains) gives told)
+    (noted_close one taken closings old new (subst (λ x. Gains old new x) same gains)
+    (gave_first one.stream taken one.given (tells (subst (λ x. IsSome x) (sym both.1) refl)) gives) told)

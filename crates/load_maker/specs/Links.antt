@@ -1,5 +1,5 @@
 -- The control link of a load: what it tells, and that this is of the load.
-use Rattle.std.specs.Prelude.{◌≡◌, ℕ, ◌*◌, ◌≤◌, Bool, true, Option, List}
+use Rattle.std.specs.Prelude.{◌≡◌, ℕ, ◌*◌, ◌≤◌, Bool, Option, List}
 use Rattle.std.specs.List.{list_all}
 use Rattle.relay_outside.specs.declared.link.LinkCall.{LinkCall}
 use Rattle.relay_outside.specs.Link.{datagrams, sends}
@@ -14,10 +14,10 @@ pub record LinkState : Type 0 where
   pub well : Bool
   pub faults : ℕ
 
--- the datagrams that were taken are the first of the load, and where all replies were successes, they are in the list
+-- the datagrams that were taken are the first of the load, and all replies are successes exactly where the link says so
 pub record TellsLoad (given : ℕ) (well : Bool) (calls : List LinkCall) : Type 0 where
   pub taken : datagrams calls ≡ first_datagrams given
-  pub replied : well ≡ true → list_all (λ reply. is_success reply.1) (sends calls) ≡ true
+  pub replied : list_all (λ reply. is_success reply.1) (sends calls) ≡ well
 
 -- What is so of every link of a load, whoever has it
 pub record IsOfLoad (link : LinkState) : Type 0 where

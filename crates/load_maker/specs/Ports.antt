@@ -1,5 +1,5 @@
 -- What the ports of the generated load tell and give.
-use Rattle.std.specs.Prelude.{◌≡◌, ℕ, ◌+◌, ◌/◌, ◌%◌, min, nat_lt, Bool, ◌==◌, Option, Some, None, MatchOption, List, length, take, if◌then◌else◌}
+use Rattle.std.specs.Prelude.{◌≡◌, ◌<◌, ℕ, ◌+◌, ◌/◌, ◌%◌, min, nat_lt, Bool, ◌==◌, Option, Some, None, MatchOption, List, length, take, if◌then◌else◌}
 use Rattle.relay_outside.specs.declared.address.Addr.{Addr}
 use Rattle.relay_outside.specs.declared.address.Ip.{Ip}
 use Rattle.relay_outside.specs.declared.ports.InCall.{InCall}
@@ -53,6 +53,11 @@ end_at host first packets n = record {
   stream = stream_at (Some (n / 4 + 1)) (n % 4);
   given = if n % 2 == 0 then packets else 0;
 }
+
+-- How many ports the largest load opens: four for each of a thousand calls. Of the maker of a whole load, in the midst of a call: its ports are
+-- those of the call of this number, of which as many were opened as are left over
+abbrev pub IsInCall : (call : Option ℕ) → (begun : ℕ) → (opened : ℕ) → Type 0
+IsInCall call begun opened = opened < 4000 → 0 < opened % 4 → (call ≡ Some (opened / 4 + 1)) × (begun ≡ opened % 4)
 
 -- the in end of the next port, opened for this address
 abbrev pub next_end : MakerState → Addr → InState

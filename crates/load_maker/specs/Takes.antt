@@ -22,18 +22,26 @@ GivesOn None before (into.Take room (given.Datagram from bytes) ∷ calls) after
 GivesOn (Some stream) before (into.Take room (given.Datagram from bytes) ∷ calls) after =
     (from ≡ source_of stream.call stream.side) × (bytes ≡ take room (packet stream.call stream.side (before + 1))) × GivesOn (Some stream) (before + 1) calls after
 
--- these calls of a maker gave back just these ends, in order, each of which gave the first so many packets of its stream
+-- an end tells what its takes gave: the first so many packets of this stream, in order
+abbrev pub GaveFirst : Option Stream → (taken : Option (List InCall)) → (given : ℕ) → Type 0
+GaveFirst stream taken given = (takes : List InCall) × (taken ≡ Some takes) × GivesOn stream 0 takes given
+
+-- these calls of a maker gave back just these ends, in order, each of which tells its takes, and gave the first so many packets of its stream
 abbrev pub AreClosed : List PortCall → List ClosedEnd → Type 0
 AreClosed [] [] = Unit {0}
 AreClosed [] (c ∷ closings) = ⊥
 AreClosed (port.Open at done ∷ calls) closings = AreClosed calls closings
 AreClosed (port.Close at taken sent ∷ calls) [] = ⊥
-AreClosed (port.Close at taken sent ∷ calls) (c ∷ closings) = (c.at ≡ at) × WhereTold taken (λ takes. GivesOn c.stream 0 takes c.given) × AreClosed calls closings
+AreClosed (port.Close at taken sent ∷ calls) (c ∷ closings) = (c.at ≡ at) × GaveFirst c.stream taken c.given × AreClosed calls closings
 
--- The ends that a maker was given back, by what it tells, are those of this many calls, each of two pairs, in the order of their ports, from the
--- first one on; and each gave all packets of its side, one after the other
-pub record HasGivenAll (host : Ip) (first calls packets : ℕ) (told : Option (List PortCall)) : Type 0 where
-  pub closed : List ClosedEnd
+-- These ends are those of this many calls, each of two pairs, in the order of their ports, from the first one on; and each gave all packets of
+-- its side
+pub record AreAllEnds (host : Ip) (first calls packets : ℕ) (closed : List ClosedEnd) : Type 0 where
   pub count : length closed ≡ 4 * calls
   pub ends : (n : ℕ) (d : ClosedEnd) → n < 4 * calls → slice_index_or closed n d ≡ end_at host first packets n
+
+-- The ends that a maker was given back, by what it tells, are those of this many calls, and each gave all packets of its side, one after the other
+pub record HasGivenAll (host : Ip) (first calls packets : ℕ) (told : Option (List PortCall)) : Type 0 where
+  pub closed : List ClosedEnd
+  pub all : AreAllEnds host first calls packets closed
   pub gave : WhereTold told (λ opened. AreClosed opened closed)

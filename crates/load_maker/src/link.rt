@@ -1,5 +1,5 @@
 //! The control link of a load.
-ghost use Rattle.std.specs.Prelude.{◌≡◌, ◌↔◌, ◌≤◌, ◌<◌, ◌*◌, ℕ, true, Some, [], IsTrue, IsSome, IfOk, IfSome, MatchOption, length, take};
+ghost use Rattle.std.specs.Prelude.{◌≡◌, ◌↔◌, ◌≤◌, ◌<◌, ◌*◌, ℕ, true, false, Some, [], IsTrue, IsSome, IfOk, IfSome, MatchOption, length, take};
 ghost use Rattle.relay_outside.specs.Told.{Gains, HasCause, is_done};
 ghost use Rattle.relay_outside.specs.Link.{FitsRoom, link_given};
 ghost use Rattle.load_maker.specs.Datagrams.{controller, datagram_at, is_success};
@@ -80,13 +80,28 @@ impl LoadLink {
         }
     }
 
-    /// Whether the datagrams of this many calls were given and each reply was a success, and the link still tells its list.
-    pub fn is_spent(&self, calls: u32) -> bool
-        requires { calls ≤ 1000 }
-        ensures spent { IsTrue result → (self.now.given ≡ 2 * calls) × (self.now.well ≡ true) × IsSome self.now.told }
+    /// Whether the link still tells its list.
+    pub fn tells(&self) -> bool
+        ensures tells { IsTrue result ↔ IsSome self.now.told }
         ensures of_load { IsOfLoad self.now }
     {
-        self.given == 2 * calls && self.well && self.told.tells()
+        self.told.tells()
+    }
+
+    /// Whether each reply so far was a success.
+    pub fn has_succeeded(&self) -> bool
+        ensures { result ≡ self.now.well }
+    {
+        self.well
+    }
+
+    /// Whether all datagrams of this many calls were given.
+    pub fn gave_all(&self, calls: u32) -> bool
+        requires { calls ≤ 1000 }
+        ensures gave { IsTrue result → self.now.given ≡ 2 * calls }
+        ensures otherwise { result ≡ false → self.now.given ≡ 2 * calls → ⊥ }
+    {
+        self.given == 2 * calls
     }
 
     /// The next datagram, where the replies were successes, there is memory for it, and it is no longer than the room for it.

@@ -1,9 +1,9 @@
 //! The maker of the ports of the load.
-ghost use Rattle.std.specs.Prelude.{◌≡◌, ◌↔◌, ◌≤◌, ◌<◌, ◌+◌, ◌-◌, ◌^◌, ℕ, Some, None, [], true, IsTrue, IsSome, IsOk, IfOk, IfSome, min};
+ghost use Rattle.std.specs.Prelude.{◌≡◌, ◌↔◌, ◌≤◌, ◌<◌, ◌+◌, ◌-◌, ◌^◌, ℕ, Some, None, [], true, false, IsTrue, IsSome, IsOk, IfOk, IfSome, min};
 ghost use Rattle.relay_outside.specs.Told.{Gains, HasCause, IsOpenedFor, WhereTold, is_done};
 ghost use Rattle.relay_outside.specs.Ports.{IsOpen};
 ghost use Rattle.load_maker.specs.Ports.{end_at, next_end, silent_at, stream_at};
-ghost use Rattle.load_maker.specs.Takes.{HasGivenAll};
+ghost use Rattle.load_maker.specs.Takes.{AreAllEnds, AreClosed, HasGivenAll};
 
 use crate::ends::{LoadIn, LoadOut};
 use crate::stream::Stream;
@@ -84,7 +84,9 @@ impl LoadMaker {
     /// and each gave this many packets of its side, if it is one to which the side sends.
     pub fn gave_all(&self, host: Ip, first: u16, calls: u32, packets: u32) -> bool
         requires { calls ≤ 1000 }
-        ensures { IsTrue result → HasGivenAll host first calls packets self.now.told }
+        ensures gave { IsTrue result → HasGivenAll host first calls packets self.now.told }
+        ensures otherwise { result ≡ false → AreAllEnds host first calls packets self.now.closed → ⊥ }
+        ensures closed { WhereTold self.now.told (λ opened. AreClosed opened self.now.closed) }
     {
         if self.closed.len() != 4 * calls as usize {
             return false;
@@ -129,7 +131,8 @@ fn stream_at(call: u32, opened: u32) -> Option<Stream>
 /// Whether this is the end that is to be given back as the one of this number, from 0.
 fn is_end_at(end: &ClosedEnd, host: Ip, first: u16, packets: u32, number: u32) -> bool
     requires { number < 4000 }
-    ensures { IsTrue result → end.now ≡ end_at host first packets number }
+    ensures is { IsTrue result → end.now ≡ end_at host first packets number }
+    ensures other { result ≡ false → end.now ≡ end_at host first packets number → ⊥ }
 {
     let port = u32::from(end.at.port);
     let given = if number % 2 == 0 { packets } else { 0 };

@@ -1,9 +1,9 @@
 //! The port maker of a whole load.
-ghost use Rattle.std.specs.Prelude.{◌≡◌, ◌↔◌, ◌≤◌, Some, [], None, IsTrue, IsSome, IfOk};
+ghost use Rattle.std.specs.Prelude.{◌≡◌, ◌↔◌, ◌≤◌, ◌<◌, ◌+◌, ◌-◌, ◌/◌, ◌%◌, ◌^◌, Some, [], None, false, IsTrue, IsSome, IsOk, IfOk, min};
 ghost use Rattle.relay_outside.specs.Told.{Gains, HasCause, IsOpenedFor, WhereTold, is_done};
 ghost use Rattle.relay_outside.specs.Ports.{IsOpen};
-ghost use Rattle.load_maker.specs.Ports.{silent_at};
-ghost use Rattle.load_maker.specs.Takes.{HasGivenAll};
+ghost use Rattle.load_maker.specs.Ports.{silent_at, stream_at};
+ghost use Rattle.load_maker.specs.Takes.{AreAllEnds, AreClosed, HasGivenAll};
 
 use crate::ends::{LoadIn, LoadOut};
 use crate::ports::LoadMaker;
@@ -25,11 +25,13 @@ pub struct LoadPorts {
 }
 
 impl Model for LoadPorts {
-    ghost use Rattle.load_maker.specs.Ports.{PortsState};
+    ghost use Rattle.load_maker.specs.Ports.{PortsState, IsInCall};
 
     ghost Value = { PortsState };
 
     ghost view = { λ ports. record { maker = ports.maker; opened = ports.opened } };
+
+    ghost invariant = { λ ports. IsInCall ports.maker.call ports.maker.opened ports.opened };
 }
 
 impl LoadPorts {
@@ -57,7 +59,9 @@ impl LoadPorts {
     /// and each gave this many packets of its side, if it is one to which the side sends.
     pub fn gave_all(&self, host: Ip, first: u16, calls: u32, packets: u32) -> bool
         requires { calls ≤ 1000 }
-        ensures { IsTrue result → HasGivenAll host first calls packets self.now.maker.told }
+        ensures gave { IsTrue result → HasGivenAll host first calls packets self.now.maker.told }
+        ensures otherwise { result ≡ false → AreAllEnds host first calls packets self.now.maker.closed → ⊥ }
+        ensures closed { WhereTold self.now.maker.told (λ opened. AreClosed opened self.now.maker.closed) }
     {
         self.maker.gave_all(host, first, calls, packets)
     }
@@ -68,10 +72,10 @@ impl PortMaker for LoadPorts {
 
     type Out = LoadOut;
 
-    ghost use Rattle.std.specs.Prelude.{◌≡◌, ◌≤◌, None, IfOk};
+    ghost use Rattle.std.specs.Prelude.{◌≡◌, ◌≤◌, ◌<◌, ◌+◌, ◌-◌, ◌/◌, ◌%◌, ◌^◌, Some, None, IfOk, IsOk, min};
     ghost use Rattle.relay_outside.specs.Told.{Gains, HasCause, IsOpenedFor, WhereTold, is_done};
     ghost use Rattle.relay_outside.specs.Ports.{IsOpen};
-    ghost use Rattle.load_maker.specs.Ports.{silent_at};
+    ghost use Rattle.load_maker.specs.Ports.{silent_at, stream_at};
 
     ghost told = { λ ports. ports.maker.told };
 
@@ -83,6 +87,11 @@ impl PortMaker for LoadPorts {
         ensures receiving { IfOk result (λ ends. IsOpenedFor at ends.0.told) }
         ensures sending { IfOk result (λ ends. IsOpenedFor at (silent_at ends.1)) }
         ensures cause { HasCause 0 0 result }
+        ensures done { IsOk result }
+        ensures stream { IfOk result (λ ends. self.old.opened < 4000 → ends.0.stream ≡ stream_at (Some (self.old.opened / 4 + 1)) (self.old.opened % 4)) }
+        ensures packets { IfOk result (λ ends. (ends.0.packets ≡ self.old.maker.packets) × (ends.0.given ≡ 0)) }
+        ensures opened { self.new.opened ≡ min (self.old.opened + 1) (2 ^ 32 - 1) }
+        ensures same { (self.new.maker.packets ≡ self.old.maker.packets) × (self.new.maker.closed ≡ self.old.maker.closed) }
     {
         let call = self.opened / PORTS + 1;
         if self.opened % PORTS == 0 && call <= LAST {
@@ -97,6 +106,7 @@ impl PortMaker for LoadPorts {
         requires ends { (receiving.told.at ≡ at) × (sending ≡ at) }
         ensures told { Gains self.old.maker.told self.new.maker.told (PortCall.Close at receiving.told.calls None) }
         ensures later { 0 ≤ 0 }
+        ensures left { self.new ≡ record self.old { maker = record self.old.maker { told = self.new.maker.told; closed = self.new.maker.closed } } }
     {
         self.maker.close(at, receiving, sending);
     }

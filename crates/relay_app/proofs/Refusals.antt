@@ -10,11 +10,12 @@ use Rattle.command_line.specs.Refusals.{begins_usage}
 use Rattle.command_line.specs.declared.settings.Settings.{Settings}
 use Rattle.command_line.specs.declared.settings.ReplaySettings.{ReplaySettings}
 use Rattle.command_line.specs.declared.settings.LoadSettings.{LoadSettings}
+use Rattle.relay_runs.specs.declared.load_end.LoadEnd.TheVariants as ended_load
 use Rattle.relay_runs.specs.Loads.{Loads}
 use Rattle.relay_runs.specs.declared.status.Status.TheVariants as status
 use Rattle.relay_runs.specs.Served.{Outside}
 use Rattle.relay_runs.specs.Run.{Serves}
-use Rattle.relay_app.specs.Run.{StatusByWords, ReplayedBy, ReplaysBy, PrintsUsage, TellsLine}
+use Rattle.relay_app.specs.Run.{StatusByWords, ReplayedBy, PrintsUsage, TellsLine}
 use Rattle.relay_runs.proofs.Runs.{not_begun}
 
 pub serves_nothing : (settings : Option Settings) (range : Option (ℕ × ℕ)) (gate : ℕ → Type 0) (outside : Outside) (wrote : Option (List WriteCall)) → outside.link ≡ outside.link_now
@@ -31,12 +32,12 @@ unread_status (Some settings) replay load = tt
 
 pub loads_nothing : (load : Option LoadSettings) (gate : ℕ → Type 0) (wrote : Option (List WriteCall)) → Loads load gate wrote wrote status.OutOfMemory
 loads_nothing None gate wrote = tt
-loads_nothing (Some load) gate wrote = inl (refl, gained_none wrote (λ more. more ≡ []) refl)
+loads_nothing (Some load) gate wrote = (ended_load.NotBegun, refl, gained_none wrote (λ more. more ≡ []) refl)
 
 pub replays_nothing : (settings : Option Settings) (replay : Option ReplaySettings) (read : Option (List LineCall)) (wrote : Option (List WriteCall))
     → ReplayedBy settings replay status.OutOfMemory read read wrote wrote
 replays_nothing None None read wrote = tt
-replays_nothing None (Some replay) read wrote = gained_none wrote (ReplaysBy replay (Some ended.OutOfMemory) read read) (inl refl)
+replays_nothing None (Some replay) read wrote = record { end = ended.OutOfMemory; answer_is = refl; replays = inl (gained_none wrote (λ more. more ≡ []) refl) }
 replays_nothing (Some settings) None read wrote = tt
 replays_nothing (Some settings) (Some replay) read wrote = tt
 

@@ -12,7 +12,6 @@ use Rattle.relay_outside.specs.declared.lines.LineCall.{LineCall}
 use Rattle.replay_steps.specs.declared.ended.Ended.{Ended}
 use Rattle.replay_steps.specs.declared.ended.Ended.TheVariants as ended
 use Rattle.replay_steps.specs.Written.{Replays}
-use Rattle.relay_outside.specs.Told.{Gained}
 use Rattle.relay_runs.specs.Loads.{IsLoaded}
 use Rattle.relay_runs.specs.Run.{is_printed, IsServed}
 
@@ -45,33 +44,24 @@ StatusByWords None None (Some load) answer = IsLoaded answer
 StatusByWords None (Some replay) load answer = IsReplayed answer
 StatusByWords (Some settings) replay load answer = IsServed answer
 
--- how a replay ended with this status
-abbrev pub ended_of : Status → Option Ended
-ended_of status.Ok = Some ended.Finished
-ended_of status.PrintFault = Some ended.PrintFault
-ended_of status.OutOfMemory = Some ended.OutOfMemory
-ended_of status.ScriptFault = Some ended.ScriptFault
-ended_of status.ScriptRead = Some ended.ScriptRead
-ended_of status.ControlFault = None
-ended_of status.TurnsSpent = None
-ended_of status.Usage = None
+-- how the end of a replay is told by a status: OutOfMemory tells two, want of memory and a device in memory that did otherwise than the script says
+abbrev pub status_of : Ended → Status
+status_of ended.Finished = status.Ok
+status_of ended.ScriptFault = status.ScriptFault
+status_of ended.ScriptRead = status.ScriptRead
+status_of ended.PrintFault = status.PrintFault
+status_of ended.OutOfMemory = status.OutOfMemory
+status_of ended.DeviceFault = status.OutOfMemory
 
--- how the end of a replay is told by a status: a device that did otherwise than the script says has that of want of memory
-abbrev pub told_as : Ended → Ended
-told_as ended.Finished = ended.Finished
-told_as ended.ScriptFault = ended.ScriptFault
-told_as ended.ScriptRead = ended.ScriptRead
-told_as ended.PrintFault = ended.PrintFault
-told_as ended.OutOfMemory = ended.OutOfMemory
-told_as ended.DeviceFault = ended.OutOfMemory
+-- A replay with the configuration and the seed of the words, which ended in a way that the status tells
+pub record EndsReplay (replay : ReplaySettings) (answer : Status) (read read_now : Option (List LineCall)) (wrote wrote_now : Option (List WriteCall)) : Type 0 where
+  pub end : Ended
+  pub answer_is : answer ≡ status_of end
+  pub replays : Replays replay.config replay.seed end read read_now wrote wrote_now
 
-abbrev pub ReplaysBy : ReplaySettings → Option Ended → Option (List LineCall) → Option (List LineCall) → List WriteCall → Type 0
-ReplaysBy replay None read read_now writes = ⊥
-ReplaysBy replay (Some end) read read_now writes = Replays replay.config replay.seed end read read_now writes
-
--- what was written, by what was read of the script and by the configuration and the seed of the words, where these are those of `replay`
-abbrev pub ReplayedBy : Option Settings → Option ReplaySettings → Status → Option (List LineCall) → Option (List LineCall) → Option (List WriteCall) → Option (List WriteCall) → Type 0
-ReplayedBy None (Some replay) answer read read_now wrote wrote_now = Gained wrote wrote_now (ReplaysBy replay (ended_of answer) read read_now)
+-- what a run of `replay` did: there is nothing to say where the words are of another command
+abbrev pub ReplayedBy : Option Settings → Option ReplaySettings → Status → (read read_now : Option (List LineCall)) → (wrote wrote_now : Option (List WriteCall)) → Type 0
+ReplayedBy None (Some replay) answer read read_now wrote wrote_now = EndsReplay replay answer read read_now wrote wrote_now
 ReplayedBy settings replay answer read read_now wrote wrote_now = Unit {0}
 
 -- the words are those of `replay`

@@ -104,7 +104,7 @@ where
             serve(rt, alloc, &settings, &mut devices, &media, out)
         }
         Ok(Task::Replay(settings)) => replay_script(rt, alloc, &settings, script, out),
-        Ok(Task::Load(settings)) => load(rt, alloc, &settings, gate, out),
+        Ok(Task::Load(settings)) => load(rt, alloc, &settings, gate, out).status(),
         Err(Refusal::Usage(usage)) => print_usage(&usage, out),
         Err(Refusal::OutOfMemory) => Status::OutOfMemory,
     }

@@ -1,7 +1,7 @@
 //! The command `replay`.
-ghost use Rattle.std.specs.Prelude.{◌≡◌, ◌≤◌, None, Some};
+ghost use Rattle.std.specs.Prelude.{◌≡◌, None, Some};
 ghost use Rattle.relay_outside.specs.Told.{Rose};
-ghost use Rattle.relay_app.specs.Run.{ended_of, told_as, StatusByWords, ReplayedBy};
+ghost use Rattle.relay_app.specs.Run.{status_of, StatusByWords, ReplayedBy};
 
 use command_line::ReplaySettings;
 use relay_outside::{LineSink, LineSource};
@@ -13,7 +13,7 @@ use std::sync::Wait;
 /// The status of a replay. One status has two causes here: a device that did otherwise than the script says ends a replay as want of memory
 /// does, since statuses are those of the whole program.
 fn status_of(ended: Ended) -> Status
-    ensures { ended_of result ≡ Some (told_as ended) }
+    ensures { result ≡ status_of ended }
 {
     match ended {
         Ended::Finished => Status::Ok,

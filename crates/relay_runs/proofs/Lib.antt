@@ -1,6 +1,7 @@
 mod Between
 mod Counts
 mod Departures
+mod Dues
 mod Each
 mod Ends
 mod Gates

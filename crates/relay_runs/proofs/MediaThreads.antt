@@ -59,7 +59,7 @@ module _ {X Y : Type 0} (R : X → Y → Type 0) where
   zip_append (w ∷ ws) xs [] zs first second = absurd first
   zip_append (w ∷ ws) xs (y ∷ ys) zs first second = (first.0, zip_append ws xs ys zs first.1 second)
 
-zip_each : {X : Type 0} (R : X → X → Type 0) (xs ys : List X) → length ys ≡ length xs → ((i : ℕ) (d : X) → i < length xs → R (slice_index_or xs i d) (slice_index_or ys i d)) → AllZip R xs ys
+pub zip_each : {X : Type 0} (R : X → X → Type 0) (xs ys : List X) → length ys ≡ length xs → ((i : ℕ) (d : X) → i < length xs → R (slice_index_or xs i d) (slice_index_or ys i d)) → AllZip R xs ys
 zip_each {X} R [] [] many at = tt
 zip_each {X} R [] (y ∷ ys) many at = absurd (omega (arith, many))
 zip_each {X} R (x ∷ xs) [] many at = absurd (omega (arith, many))
@@ -160,17 +160,17 @@ module _ {I O : Type 0} {gi : _} {go : _} {gm : _} (config : Config) (turns : Tu
     are_lanes = λ i d lt. made_at i d (omega (arith, lt, long));
   }
     where
-      made_at : (i : ℕ) (d : List Row) → i < length xs → IsLane config lanes range i (slice_index_or (rows_each xs) i d)
-      made_at i d lt = made_by_lane i d lt (first_of xs i lt)
+      first_of : (zs : List (OwnLane I O gi go gm)) (i : ℕ) → i < length zs → OwnLane I O gi go gm
+      first_of [] i lt = absurd (omega (arith, lt))
+      first_of (z ∷ zs) i lt = z
 
       made_by_lane : (i : ℕ) (d : List Row) → i < length xs → OwnLane I O gi go gm → IsLane config lanes range i (slice_index_or (rows_each xs) i d)
       made_by_lane i d lt e =
           subst (λ (rows : List Row). IsLane config lanes range i rows) (sym (get_or-map (λ (own : OwnLane I O gi go gm). rows_of own) xs i e d lt))
           (subst (λ (n : ℕ). IsLane config lanes range n (rows_of (slice_index_or xs i e))) (in_order i e lt) (done i e lt).is_lane)
 
-      first_of : (zs : List (OwnLane I O gi go gm)) (i : ℕ) → i < length zs → OwnLane I O gi go gm
-      first_of [] i lt = absurd (omega (arith, lt))
-      first_of (z ∷ zs) i lt = z
+      made_at : (i : ℕ) (d : List Row) → i < length xs → IsLane config lanes range i (slice_index_or (rows_each xs) i d)
+      made_at i d lt = made_by_lane i d lt (first_of xs i lt)
 
   pub all_of_lane : (xs : List (OwnLane I O gi go gm)) → AreDone xs → (row : Row) → table_lists.In row (all_of (rows_each xs)) → IsOfLane row.event.event
   all_of_lane [] done row i = elim i [ ]

@@ -1,5 +1,5 @@
 -- Sweeps of one lane, one after the other, and of many lanes.
-use Rattle.std.proofs.Common.{◌≡◌, ◌∙◌, refl, sym, ap, subst, ℕ, ◌+◌, ◌<◌, ◌≤◌, inl, inr, List, [], ◌∷◌, ◌++◌, Option, length, length-append, append_assoc, append-nil, get_or, set, arith}
+use Rattle.std.proofs.Common.{◌≡◌, ◌∙◌, refl, sym, ap, subst, ℕ, ◌+◌, ◌^◌, ◌<◌, ◌≤◌, inl, inr, List, [], ◌∷◌, ◌++◌, Option, length, length-append, append_assoc, append-nil, get_or, set, arith}
 use Rattle.std.proofs.lemmas.Bool.{cases_eq}
 use Rattle.std.proofs.lemmas.List.{get_or-set_other, length-set}
 use Rattle.std.proofs.lemmas.Grind.{get_or-set_at}
@@ -49,14 +49,15 @@ module _ {I O : Type 0} {gi : _} {go : _} {gm : _} (range : Option (ℕ × ℕ))
     totals_are = λ before are. subst (λ (vs : List Visit). AreTotals vs own.totals) (sym (append-nil before)) are;
     keeps = keeps_none (config_in own.lane) (list_in own.lane);
     gated = gains_none gate (list_in own.lane);
+    taken = omega arith;
   }
 
   -- one sweep
   pub swept_one : (old new : OwnLane I O gi go gm) (more : Totals) → IsSameHandOf old.lane new.lane
       → Sweeps (config_in old.lane) (index_in old.lane) (lanes_in old.lane) range (hand_in old.lane) (hand_in new.lane) more
       → KeepsList (config_in old.lane) (list_in old.lane) (list_in new.lane) → GainsGated gate (list_in old.lane) (list_in new.lane)
-      → AddsTotals old.totals more new.totals → Swept 1 range gate old new
-  swept_one old new more same sweep keeps gated sum = record {
+      → AddsTotals old.totals more new.totals → old.totals.taken < 2 ^ 64 → Swept 1 range gate old new
+  swept_one old new more same sweep keeps gated sum few = record {
     same = same;
     sweeps = sweep.visits ∷ [];
     enough = omega arith;
@@ -65,6 +66,7 @@ module _ {I O : Type 0} {gi : _} {go : _} {gm : _} (range : Option (ℕ × ℕ))
     totals_are = λ before are. totals_both before sweep.visits old.totals more new.totals are sweep.totals_are sum;
     keeps = keeps;
     gated = gated;
+    taken = (let now = sum.taken in omega (arith, now, few));
   }
 
   pub swept_both : (m n : ℕ) (x y z : OwnLane I O gi go gm) → Swept m range gate x y → Swept n range gate y z → Swept (m + n) range gate x z
@@ -102,6 +104,7 @@ module _ {I O : Type 0} {gi : _} {go : _} {gm : _} (range : Option (ℕ × ℕ))
     keeps = keeps_more (config_in x.lane) (config_in y.lane) (all_rows (config_in y.lane) (visits_of second.sweeps)) (hand_in x.lane) (hand_in y.lane) (hand_in z.lane) second.list_is
         first.same.config_is first.keeps second.keeps;
     gated = gains_both gate (list_in x.lane) (list_in y.lane) (list_in z.lane) first.gated second.gated;
+    taken = (let a = first.taken in let b = second.taken in omega (arith, a, b));
   }
 
   -- as many sweeps are enough where fewer are wanted
@@ -115,6 +118,7 @@ module _ {I O : Type 0} {gi : _} {go : _} {gm : _} (range : Option (ℕ × ℕ))
     totals_are = s.totals_are;
     keeps = s.keeps;
     gated = s.gated;
+    taken = s.taken;
   }
 
   -- Many lanes.

@@ -1,12 +1,15 @@
 -- What a run of `load` does.
-use Rattle.std.specs.Prelude.{◌≡◌, ◌⊎◌, ◌<◌, ℕ, ◌*◌, ◌==◌, true, false, List, [], ◌∷◌, ◌++◌, Option, Some, None, codes, decimal, length, map}
+use Rattle.std.specs.Prelude.{◌≡◌, ◌⊎◌, ◌<◌, ◌≤◌, ℕ, ◌*◌, ◌==◌, true, false, List, [], ◌∷◌, ◌++◌, Option, Some, None, codes, decimal, length, map}
 use Rattle.std.specs.List.{list_all}
 use Rattle.relay_outside.specs.declared.lines.WriteCall.{WriteCall}
 use Rattle.relay_outside.specs.declared.lines.WriteCall.TheVariants as put
+use Rattle.relay_outside.specs.declared.keys.KeyCall.{KeyCall}
 use Rattle.relay_outside.specs.declared.link.LinkCall.{LinkCall}
 use Rattle.relay_outside.specs.declared.ports.PortCall.{PortCall}
 use Rattle.relay_outside.specs.declared.settings.Config.{Config}
+use Rattle.relay_outside.specs.Link.{sends}
 use Rattle.relay_outside.specs.Told.{Gained}
+use Rattle.outside_real.specs.KeyStream as stream
 use Rattle.histories.specs.Words.{In}
 use Rattle.port_pool.specs.declared.signal.SectionSignal.{SectionSignal}
 use Rattle.call_cell.specs.Cells.{Commit, Relay, Relayed}
@@ -15,8 +18,10 @@ use Rattle.relay_core.specs.Legal.{Legal}
 use Rattle.relay_core.specs.Made.{list_of, told}
 use Rattle.relay_core.specs.Safe.{Safe}
 use Rattle.relay_core.specs.Timed.{AreTimed}
+use Rattle.load_maker.specs.declared.ports.ClosedEnd.{ClosedEnd}
+use Rattle.load_maker.specs.Datagrams.{is_success}
 use Rattle.load_maker.specs.Links.{TellsLoad}
-use Rattle.load_maker.specs.Takes.{HasGivenAll}
+use Rattle.load_maker.specs.Takes.{AreAllEnds, AreClosed, HasGivenAll}
 use Rattle.media_lane.specs.declared.answers.Totals.{Totals}
 use Rattle.media_lane.specs.Gated.{AreGated}
 use Rattle.media_lane.specs.Totals.{HasTotals}
@@ -24,10 +29,15 @@ use Rattle.media_lane.specs.Visits.{Row}
 use Rattle.board_turns.specs.Between.{board_of}
 use Rattle.board_turns.specs.Stopping.{stop_entry}
 use Rattle.command_line.specs.declared.settings.LoadSettings.{LoadSettings}
+use Rattle.relay_runs.specs.declared.load_end.LoadEnd.{LoadEnd}
+use Rattle.relay_runs.specs.declared.load_end.LoadEnd.TheVariants as end
+use Rattle.relay_runs.specs.declared.load_end.Shortfall.{Shortfall}
+use Rattle.relay_runs.specs.declared.load_end.Shortfall.TheVariants as why
 use Rattle.relay_runs.specs.declared.status.Status.{Status}
 use Rattle.relay_runs.specs.declared.status.Status.TheVariants as status
 use Rattle.relay_runs.specs.declared.totals.Counts.{Counts}
 use Rattle.relay_runs.specs.Ends.{HasAllSends, AreEnds, OpensSame}
+use Rattle.relay_runs.specs.Numbered.{load_status}
 use Rattle.relay_runs.specs.Rounds.{Round, history_after, IsBoardTurn, AreRounds, AreLanes, all_of}
 use Rattle.relay_runs.specs.Served.{Outside, Gave, counts_in, last_take, HasEnded, AreTold}
 
@@ -86,23 +96,34 @@ pub record DidLoadTurns (limit : ℕ) (config : Config) (threads : ℕ) (range :
   pub all_sent : HasAllSends config whole.list
   pub opens_same : OpensSame outside.opened outside.opened_now
 
+-- how many packets the two sides of all calls send
+abbrev pub packets_of : LoadSettings → ℕ
+packets_of settings = 2 * settings.calls * settings.packets
+
+-- what the first draws from the stream of the seed of these words are told as
+abbrev pub first_draws : LoadSettings → ℕ → List KeyCall
+first_draws settings count = stream.draws (stream.stream_of settings.seed).seed_words count
+
 -- Devices in memory were driven as `DidLoadTurns` says, with as many threads of media as the words say lanes, and with these counts.
--- What their link took are the datagrams that make the calls, all of them and in order, and each reply was a success; each moment was 0; and
--- the in ends, which were all given back, gave just the packets that the two sides of the calls send, all of them and in order
+-- What their link took are the datagrams that make the calls, all of them and in order, and each reply was a success; each moment was 0; the keys
+-- that were drawn are the first ones of the stream of the seed; and the in ends, which were all given back, gave just the packets that the two
+-- sides of the calls send, all of them and in order
 pub record RunsLoad (settings : LoadSettings) (gate : ℕ → Type 0) (totals : Totals) : Type 0 where
   pub outside : Outside
   pub counts : Counts
   pub calls : List LinkCall
   pub opened : List PortCall
   pub moments : List ℕ
+  pub drawn : ℕ
   pub link : (outside.link ≡ Some []) × (outside.link_now ≡ Some calls)
   pub ports : (outside.opened ≡ Some []) × (outside.opened_now ≡ Some opened)
   pub timer : (outside.timer ≡ Some []) × (outside.timer_now ≡ Some moments)
+  pub keys : (outside.drew ≡ Some []) × (outside.drew_now ≡ Some (first_draws settings drawn))
   pub did : DidLoadTurns 1000000 settings.config settings.lanes (Some (0, 0)) gate outside status.Ok counts totals
   pub heard : TellsLoad (2 * settings.calls) true calls
   pub at_zero : list_all (λ moment. moment == 0) moments ≡ true
   pub gave : HasGivenAll settings.config.interface settings.config.port_min settings.calls settings.packets (Some opened)
-  pub all_taken : totals.taken ≡ 2 * settings.calls * settings.packets
+  pub all_taken : totals.taken ≡ packets_of settings
 
 -- and one line was printed, or the sink did not take it
 pub record DidLoad (settings : LoadSettings) (gate : ℕ → Type 0) (wrote wrote_now : Option (List WriteCall)) (answer : Status) : Type 0 where
@@ -111,10 +132,46 @@ pub record DidLoad (settings : LoadSettings) (gate : ℕ → Type 0) (wrote wrot
   pub printed : ((answer ≡ status.Ok) × Gave wrote wrote_now (put.Write (load_line settings.calls totals) true ∷ []))
       ⊎ ((answer ≡ status.PrintFault) × Gave wrote wrote_now (put.Write (load_line settings.calls totals) false ∷ []))
 
--- With words of `load`: memory ran out, and nothing was printed, or the run is as `DidLoad` says
+-- one of these devices, the link, the ports, the timer and the keys, tells nothing any more
+abbrev pub IsUntold : Option (List LinkCall) → Option (List PortCall) → Option (List ℕ) → Option (List KeyCall) → Type 0
+IsUntold link opened moments drew = (link ≡ None) ⊎ (opened ≡ None) ⊎ (moments ≡ None) ⊎ (drew ≡ None)
+
+-- Why a load whose control turns ended with this status printed nothing, by what its link, its ports, its timer and its keys tell of their calls: one
+-- of them tells nothing any more; or a reply is no success; or each is one, and the control turns didn't find the link's end; or, where they did, not all
+-- datagrams were given, or other packets were taken than those of the calls
+abbrev pub IsCutBy : Shortfall → LoadSettings → (link : Option (List LinkCall)) → (opened : Option (List PortCall)) → (moments : Option (List ℕ)) → (drew : Option (List KeyCall)) → Status → Totals → Type 0
+IsCutBy why.Untold settings link opened moments drew ended totals = IsUntold link opened moments drew
+IsCutBy why.ReplyFailed settings link opened moments drew ended totals = (calls : List LinkCall) × (link ≡ Some calls) × (list_all (λ reply. is_success reply.1) (sends calls) ≡ false)
+IsCutBy why.TakeFailed settings link opened moments drew ended totals =
+    (calls : List LinkCall) × (link ≡ Some calls) × (list_all (λ reply. is_success reply.1) (sends calls) ≡ true) × (ended ≡ status.Ok → ⊥)
+IsCutBy why.EndsDiffer settings link opened moments drew ended totals =
+    (calls : List LinkCall) × (ports : List PortCall) × (given : ℕ) × (closed : List ClosedEnd) × (link ≡ Some calls) × (opened ≡ Some ports) × (ended ≡ status.Ok)
+    × TellsLoad given true calls × AreClosed ports closed
+    × (given ≡ 2 * settings.calls → totals.taken ≡ packets_of settings → AreAllEnds settings.config.interface settings.config.port_min settings.calls settings.packets closed → ⊥)
+
+-- Devices in memory, none of which was asked before, were driven as `DidLoadTurns` says, with as many threads of media as the words say lanes. Where the
+-- control turns found the link's end, the lanes took as many datagrams as the sides of the calls send, or more. This is why no line was printed
+pub record CutsShort (settings : LoadSettings) (gate : ℕ → Type 0) (cause : Shortfall) : Type 0 where
+  pub outside : Outside
+  pub ended : Status
+  pub counts : Counts
+  pub totals : Totals
+  pub begun : (outside.link ≡ Some []) × (outside.opened ≡ Some []) × (outside.timer ≡ Some []) × (outside.drew ≡ Some [])
+  pub did : DidLoadTurns 1000000 settings.config settings.lanes (Some (0, 0)) gate outside ended counts totals
+  pub took : ended ≡ status.Ok → packets_of settings ≤ totals.taken
+  pub cause_is : IsCutBy cause settings outside.link_now outside.opened_now outside.timer_now outside.drew_now ended totals
+
+-- How a load with these words ended: it is as `DidLoad` says; or memory ran out before it was begun; or it was cut short. In the last two nothing was printed
+abbrev pub EndsLoad : LoadSettings → (gate : ℕ → Type 0) → (wrote wrote_now : Option (List WriteCall)) → LoadEnd → Type 0
+EndsLoad settings gate wrote wrote_now end.Finished = DidLoad settings gate wrote wrote_now status.Ok
+EndsLoad settings gate wrote wrote_now end.PrintFault = DidLoad settings gate wrote wrote_now status.PrintFault
+EndsLoad settings gate wrote wrote_now end.NotBegun = Gave wrote wrote_now []
+EndsLoad settings gate wrote wrote_now (end.CutShort cause) = Gave wrote wrote_now [] × CutsShort settings gate cause
+
+-- With words of `load`: the status tells how the load ended
 abbrev pub Loads : Option LoadSettings → (gate : ℕ → Type 0) → (wrote wrote_now : Option (List WriteCall)) → Status → Type 0
 Loads None gate wrote wrote_now answer = Unit {0}
-Loads (Some settings) gate wrote wrote_now answer = ((answer ≡ status.OutOfMemory) × Gave wrote wrote_now []) ⊎ DidLoad settings gate wrote wrote_now answer
+Loads (Some settings) gate wrote wrote_now answer = (ended : LoadEnd) × (answer ≡ load_status ended) × EndsLoad settings gate wrote wrote_now ended
 
 -- how a run of `load` may end
 abbrev pub IsLoaded : Status → Type 0

@@ -1,7 +1,7 @@
 -- The steps of a run. Those of the main hand, in the order in which they were made: rounds, each a control turn, one more sweep of all pairs, and the
 -- stop. Where no thread relays media, a sweep of media follows each control turn too; else each lane made sweeps meanwhile. At the end of a
 -- round stands a tick, about once a second.
-use Rattle.std.specs.Prelude.{◌≡◌, ◌+◌, ◌<◌, ℕ, zero, suc, Bool, true, false, ◌==◌, nat_le, min, List, [], ◌∷◌, ◌++◌, Option, None, Some, is_some, map, filter, length, slice_index_or}
+use Rattle.std.specs.Prelude.{◌≡◌, ◌+◌, ◌<◌, ℕ, zero, suc, Bool, true, false, nat_le, min, List, [], ◌∷◌, ◌++◌, Option, None, Some, is_some, map, filter, length, slice_index_or}
 use Rattle.std.specs.Option.{option_map}
 use Rattle.relay_outside.specs.declared.settings.Config.{Config}
 use Rattle.histories.specs.Words.{In}

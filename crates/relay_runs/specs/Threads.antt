@@ -1,5 +1,5 @@
 -- What is known of the lanes of all threads of media: before their work, of their work, and after it.
-use Rattle.std.specs.Prelude.{◌≡◌, ◌+◌, ◌<◌, ◌≤◌, ◌==◌, nat_lt, count_by, ℕ, false, List, [], ◌∷◌, ◌++◌, Option, All, length, map, slice_index_or, slice_set, vec_capacity}
+use Rattle.std.specs.Prelude.{◌≡◌, ◌+◌, ◌-◌, ◌/◌, ◌<◌, ◌≤◌, ◌==◌, nat_lt, count_by, ℕ, false, zero, suc, List, [], ◌∷◌, ◌++◌, Option, All, length, map, slice_index_or, slice_set, vec_capacity, Vec}
 use Rattle.std.specs.List.{flat_map}
 use Rattle.std.specs.List.Sorted.{IsPermutation}
 use Rattle.relay_outside.specs.declared.settings.Config.{Config}
@@ -21,13 +21,44 @@ use Rattle.media_lane.specs.Totals.{HasTotals}
 use Rattle.media_lane.specs.Visits.{Row, Visit, all_rows, AreTotals, one_if}
 use Rattle.relay_runs.specs.declared.lanes.OwnLane.{OwnLane}
 use Rattle.relay_runs.specs.declared.threads.MediaThread.{MediaThread}
+use Rattle.relay_runs.specs.declared.threads.Until.{Until}
+use Rattle.relay_runs.specs.declared.threads.Until.TheVariants as until
 use Rattle.relay_runs.specs.Rounds.{IsLane, AreLanes, all_of}
 
 -- each number below this one is among them once, and no other is
 abbrev pub AreNumbers : ℕ → List ℕ → Type 0
 AreNumbers lanes numbers = (i : ℕ) → count_by (λ j. j == i) numbers ≡ one_if (nat_lt i lanes)
 
+-- for how many datagrams a thread waits
+abbrev pub due_of : Until → ℕ
+due_of until.Halted = 0
+due_of (until.Taken due) = due
+
+-- A thread that relays until then goes on after it took so many datagrams: always, where it does so until the halt word is set
+abbrev pub GoesOn : Until → (taken : ℕ) → Type 0
+GoesOn until.Halted taken = Unit {0}
+GoesOn (until.Taken due) taken = taken < due
+
+-- how many of so many pairs are those of the lane with this index, of so many lanes: their numbers are the index modulo the number of lanes
+abbrev pub pairs_of_lane : (pairs lanes index : ℕ) → ℕ
+pairs_of_lane pairs lanes index = (pairs + (lanes - 1 - index)) / lanes
+
+-- how many are those of the first lanes
+abbrev pub pairs_before : (pairs lanes index : ℕ) → ℕ
+pairs_before pairs lanes zero = 0
+pairs_before pairs lanes (suc index) = pairs_before pairs lanes index + pairs_of_lane pairs lanes index
+
 module _ {I O : Type 0} {gi : _} {go : _} {gm : _} where
+  -- how many datagrams these lanes took
+  abbrev pub taken_by : List (OwnLane I O gi go gm) → ℕ
+  taken_by [] = 0
+  taken_by (own ∷ more) = own.totals.taken + taken_by more
+
+  -- for how many datagrams these threads wait
+  abbrev pub due_in : List (MediaThread I O gi go gm) → ℕ
+  due_in [] = 0
+  due_in (thread ∷ more) = due_of thread.until + due_in more
+
   abbrev pub rows_of : OwnLane I O gi go gm → List Row
   rows_of own = entries (hand_in own.lane)
 
@@ -48,7 +79,7 @@ module _ {I O : Type 0} {gi : _} {go : _} {gm : _} where
   AreInOrder lanes = (i : ℕ) (d : OwnLane I O gi go gm) → i < length lanes → index_in (slice_index_or lanes i d).lane ≡ i
 
   -- an empty list has room for so many lanes
-  abbrev pub HasLaneRoom : ℕ → Vec (OwnLane I O gi go gm) → Type 0
+  abbrev pub HasLaneRoom : {A : Type 0} → ℕ → Vec (OwnLane I O gi go gm) A → Type 0
   HasLaneRoom lanes room = (room.items ≡ []) × (lanes ≤ vec_capacity room)
 
   -- it has no lane yet, and room for so many
@@ -62,6 +93,7 @@ module _ {I O : Type 0} {gi : _} {go : _} {gm : _} where
     pub new_is : new ≡ slice_set old at grown
     pub lanes_are : (d : MediaThread I O gi go gm) → grown.lanes.items ≡ (slice_index_or old at d).lanes.items ++ own ∷ []
     pub room : (d : MediaThread I O gi go gm) → vec_capacity grown.lanes ≡ vec_capacity (slice_index_or old at d).lanes
+    pub until : (d : MediaThread I O gi go gm) → grown.until ≡ (slice_index_or old at d).until
 
   -- each has a hand of this table
   abbrev pub AreOfTable : Turns (Relay I O) (Part I O) Made (Unit {0}) → List (OwnLane I O gi go gm) → Type 0
@@ -107,6 +139,7 @@ module _ {I O : Type 0} {gi : _} {go : _} {gm : _} where
     pub totals_are : (before : List Visit) → AreTotals before old.totals → AreTotals (before ++ visits_of sweeps) new.totals
     pub keeps : KeepsList (config_in old.lane) (list_in old.lane) (list_in new.lane)
     pub gated : GainsGated gate (list_in old.lane) (list_in new.lane)
+    pub taken : old.totals.taken ≤ new.totals.taken
 
   -- so all that a lane did are sweeps of its own pairs
   pub record IsDone (config : Config) (turns : Turns (Relay I O) (Part I O) Made (Unit {0})) (lanes : ℕ) (range : Option (ℕ × ℕ)) (gate : ℕ → Type 0) (own : OwnLane I O gi go gm) : Type 0 where

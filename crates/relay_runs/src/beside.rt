@@ -2,7 +2,7 @@
 //!
 //! Each side is behind a trait: the checker follows a borrow into a closure that goes to another thread only where one type is not
 //! known by another's associated types, as a hand is by its port maker's ends. Here all of them are plain types.
-ghost use Rattle.std.specs.Prelude.{◌≡◌, ◌<◌, ℕ, All, length, slice_index_or};
+ghost use Rattle.std.specs.Prelude.{◌≡◌, ◌<◌, ℕ, true, false, All, length, slice_index_or};
 
 use crate::halt::{HaltWord, Over};
 use std::marker::Brand;
@@ -27,14 +27,14 @@ pub(crate) trait MediaWork<S, X> {
 
     ghost did: { S → X → Self → Self → Type 0 };
 
-    /// It goes on until the control turns are over.
-    ghost goes_on: { Self → Type 0 };
+    /// After this work it would go on, were the control turns not over.
+    ghost goes_on: { Self → Self → Type 0 };
 
     /// Relays media, until the halt word is set at the latest.
     fn work<W: Wait, F: Over>(&mut self, rt: &W, turns: &S, media: &X, halt: &HaltWord<F>)
         requires { can_work self.old turns.now }
         ensures did { did turns.now media.now self.old self.new }
-        ensures over { goes_on self.old → ∥ F.holds ∥₁ };
+        ensures over { goes_on self.old self.new → ∥ F.holds ∥₁ };
 }
 
 /// Runs all threads of media, each in a thread of its own.
@@ -48,7 +48,7 @@ where
     requires some { 0 < length threads.old }
     requires ready { All (λ thread. L.can_work thread turns.now) threads.old }
     ensures did { (i : ℕ) (d : _) → i < length threads.old → L.did turns.now media.now (slice_index_or threads.old i d) (slice_index_or threads.new i d) }
-    ensures over { (i : ℕ) (d : _) → i < length threads.old → L.goes_on (slice_index_or threads.old i d) → ∥ F.holds ∥₁ }
+    ensures over { (i : ℕ) (d : _) → i < length threads.old → L.goes_on (slice_index_or threads.old i d) (slice_index_or threads.new i d) → ∥ F.holds ∥₁ }
 {
     let count = threads.len();
     thread::for_each_mut(
@@ -59,7 +59,36 @@ where
     );
 }
 
-/// Runs all threads of media after the control turns. Where these did not end as they should, the halt word is set from the start.
+/// Runs all threads of media after the control turns. Where these did not end as they should, the halt word is set from the start, and else never.
+fn run_unless_over<R, S, X, L, F>(
+    rt: &R,
+    turns: &S,
+    media: &X,
+    threads: &mut Vec<L>,
+    went_well: bool,
+)
+where
+    R: Threads + Wait + Sync,
+    S: Sync,
+    X: Sync,
+    L: MediaWork<S, X> + Send,
+    F: Over + Send + Sync,
+    requires some { 0 < length threads.old.items }
+    requires ready { All (λ thread. L.can_work thread turns.now) threads.old.items }
+    requires over { went_well ≡ false → ∥ F.holds ∥₁ }
+    ensures as_many { length threads.new.items ≡ length threads.old.items }
+    ensures threads { (i : ℕ) (d : _) → i < length threads.old.items → L.did turns.now media.now (slice_index_or threads.old.items i d) (slice_index_or threads.new.items i d) }
+    ensures over { (i : ℕ) (d : _) → i < length threads.old.items → L.goes_on (slice_index_or threads.old.items i d) (slice_index_or threads.new.items i d) → ∥ F.holds ∥₁ }
+{
+    let halt: HaltWord<F> = HaltWord::new();
+    if !went_well {
+        halt.set(rt);
+    }
+    media_threads(rt, turns, media, &halt, threads.as_mut_slice());
+}
+
+/// Runs all threads of media after the control turns, each until it has done all its work. Where the control turns did not end as they should, the halt
+/// word is set from the start.
 pub(crate) fn run_after<R, S, X, L>(
     rt: &R,
     turns: &S,
@@ -76,12 +105,9 @@ where
     requires threads { All (λ thread. L.can_work thread turns.now) threads.old.items }
     ensures as_many { length threads.new.items ≡ length threads.old.items }
     ensures threads { (i : ℕ) (d : _) → i < length threads.old.items → L.did turns.now media.now (slice_index_or threads.old.items i d) (slice_index_or threads.new.items i d) }
+    ensures done { went_well ≡ true → (i : ℕ) (d : _) → i < length threads.old.items → L.goes_on (slice_index_or threads.old.items i d) (slice_index_or threads.new.items i d) → ⊥ }
 {
-    let halt: HaltWord<Brand> = HaltWord::new();
-    if !went_well {
-        halt.set(rt);
-    }
-    media_threads(rt, turns, media, &halt, threads.as_mut_slice());
+    run_unless_over::<R, S, X, L, Brand>(rt, turns, media, threads, went_well);
 }
 
 /// Makes all control turns in this thread, and then sets the halt word; until it is set media is relayed in as many others as there are threads of media.

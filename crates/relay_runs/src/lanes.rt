@@ -32,6 +32,7 @@ impl<I: InEnd, O: OutEnd> OwnLane<I, O> {
         requires { IsHandOf turns.now (hand_in self.old.lane) }
         ensures { Swept 1 (C.range media.now.clock.now) (G.passed media.now.gate.now) self.old self.new }
     {
+        let _before = self.totals.taken;
         let more = self.lane.sweep(rt, turns, media, rooms);
         self.totals.add(more);
     }

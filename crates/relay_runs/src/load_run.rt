@@ -1,13 +1,13 @@
 //! The control turns of a load, then its threads of media, and then its end: one after the other, so that each relay stands at its cell after
 //! all that the control turns made there, and before all that the stop makes.
-ghost use Rattle.std.specs.Prelude.{◌≡◌, ◌≤◌, ◌<◌, ◌^◌, [], All, length};
+ghost use Rattle.std.specs.Prelude.{◌≡◌, ◌≤◌, ◌<◌, ◌^◌, ℕ, [], All, length};
 ghost use Rattle.turn_table.specs.Hands.{parts};
 ghost use Rattle.relay_core.specs.Turning.{made_by};
 ghost use Rattle.media_ports.specs.Held.{TellsHeld};
 ghost use Rattle.board_turns.specs.Between.{IsBetween, board_of};
 ghost use Rattle.relay_runs.specs.Devices.{AreSame};
 ghost use Rattle.relay_runs.specs.Loads.{DidLoadTurns};
-ghost use Rattle.relay_runs.specs.Threads.{HasLaneRoom, HasRoom, RelaysDue};
+ghost use Rattle.relay_runs.specs.Threads.{HasLaneRoom, HasRoom, RelaysDue, due_in};
 
 use crate::beside::{ControlWork, run_after};
 use crate::devices::{Devices, Tells};
@@ -57,6 +57,7 @@ where
     ensures parts { parts hand.new ≡ parts hand.old }
     ensures history { board_of (made_by hand.new) ≡ board_of (made_by hand.old) }
     ensures relays { RelaysDue settings.now.config settings.now.threads (C.range media.now.clock.now) (G.passed media.now.gate.now) hand.old hand.new looped.old.totals looped.new.totals }
+    ensures took { looped.old.status ≡ Status.Ok → (n : ℕ) → n ≤ due_in room.items → n < 2 ^ 64 → n ≤ looped.new.totals.taken }
     ensures same { (looped.new.status ≡ looped.old.status) × (looped.new.counts ≡ looped.old.counts) }
 {
     turns.survey(hand);
@@ -105,6 +106,7 @@ where
     ensures did { DidLoadTurns settings.now.turns server.config settings.now.threads (C.range media.now.clock.now) (G.passed media.now.gate.now)
         (⟦<Devices<'static, 'static, 'static, 'static, N, P, K, T> as Tells>⟧.outside devices.old devices.new)
         result.status result.counts result.totals }
+    ensures took { result.status ≡ Status.Ok → (n : ℕ) → n ≤ due_in prepared.room.items → n < 2 ^ 64 → n ≤ result.totals.taken }
 {
     let Prepared {
         hand,

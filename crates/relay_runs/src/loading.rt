@@ -1,18 +1,22 @@
 //! The command `load`.
-ghost use Rattle.std.specs.Prelude.{◌≡◌, ◌≤◌, ◌*◌, [], Some, true, All, IfSome, IsSome, IsTrue, length};
-ghost use Rattle.relay_runs.specs.Threads.{HasLaneRoom, HasRoom};
-ghost use Rattle.relay_outside.specs.Told.{Rose};
+ghost use Rattle.std.specs.Prelude.{◌≡◌, ◌≤◌, ◌*◌, ◌-◌, ◌^◌, [], Some, true, false, nat_lt, All, IfOk, IfErr, IsSome, IsTrue, length};
+ghost use Rattle.relay_runs.specs.Numbered.{load_status};
+ghost use Rattle.relay_runs.specs.Threads.{HasLaneRoom, HasRoom, due_in};
+ghost use Rattle.relay_outside.specs.Told.{Rose, WhereTold};
+ghost use Rattle.outside_real.specs.KeyStream.{stream_of, told_draws};
 ghost use Rattle.turn_table.specs.Hands.{parts};
 ghost use Rattle.relay_core.specs.Turning.{made_by};
 ghost use Rattle.board_turns.specs.Between.{IsBetween};
 ghost use Rattle.command_line.specs.Values.{IsLoadInLimits};
 ghost use Rattle.load_maker.specs.Links.{IsOfLoad};
 ghost use Rattle.load_maker.specs.Moments.{AreZero};
-ghost use Rattle.load_maker.specs.Takes.{HasGivenAll};
-ghost use Rattle.relay_runs.specs.Loads.{RunsLoad, Loads, IsLoaded, load_line};
+ghost use Rattle.load_maker.specs.Takes.{AreAllEnds, AreClosed, HasGivenAll};
+ghost use Rattle.relay_runs.specs.Loads.{RunsLoad, CutsShort, EndsLoad, Loads, IsCutBy, IsLoaded, IsUntold, load_line, packets_of};
 
 use crate::devices::Devices;
+use crate::load_end::{LoadEnd, Shortfall};
 use crate::load_run::load_turns;
+use crate::seeded::{Seed, SeedKeys};
 use crate::serving::line_room;
 use crate::sharing::{Due, lane_room, thread_room};
 use crate::status::Status;
@@ -23,9 +27,9 @@ use load_maker::{LoadIn, LoadLink, LoadOut, LoadPorts, LoadTimer};
 use media_lane::{Media, Totals};
 use ng_bencode::Text;
 use ng_server::{Desk, Server};
-use outside_real::ChaChaKeys;
 use relay_outside::{Addr, Gate, HandClock, Ip, LaneShare, LineSink};
 use std::alloc::Global;
+use std::marker::Brand;
 use std::sync::Wait;
 use std::thread::Threads;
 
@@ -69,15 +73,7 @@ fn put_load_line(line: &mut Text, calls: u32, totals: Totals)
     line.push(b'\n');
 }
 
-/// The 32 bytes that a number stands for as a seed: its eight bytes, lowest first, and 24 zero bytes.
-fn bytes_of_seed(seed: u64) -> [u8; 32] {
-    let mut bytes = [0; 32];
-    bytes[..8].copy_from_slice(&seed.to_le_bytes());
-    bytes
-}
-
-/// Runs a load over devices in memory: its control turns, then the threads of media, then the stop of all calls. `None`: memory ran out, or
-/// a packet was not taken.
+/// Runs a load over devices in memory: its control turns, then the threads of media, then the stop of all calls.
 fn run_load<G, R>(
     rt: &R,
     alloc: Global,
@@ -85,7 +81,7 @@ fn run_load<G, R>(
     server: Server<LoadPorts>,
     prepared: Prepared<LoadIn, LoadOut>,
     gate: &G,
-) -> Option<Totals>
+) -> Result<Totals, Shortfall>
 where
     G: Gate + Sync,
     R: Threads + Wait + Sync,
@@ -97,11 +93,42 @@ where
     requires as_many { length prepared.room.items ≡ settings.now.lanes }
     requires room { All (λ thread. HasRoom settings.now.lanes thread) prepared.room.items }
     requires lanes { HasLaneRoom settings.now.lanes prepared.lanes }
-    ensures { IfSome result (λ totals. RunsLoad settings.now (G.passed gate.now) totals) }
+    requires due { due_in prepared.room.items ≡ packets_of settings.now }
+    ensures whole { IfOk result (λ totals. RunsLoad settings.now (G.passed gate.now) totals) }
+    ensures short { IfErr result (λ cause. CutsShort settings.now (G.passed gate.now) cause) }
+{
+    run_seeded::<G, R, Brand>(rt, alloc, settings, server, prepared, gate)
+}
+
+/// The same, with keys of this seed.
+fn run_seeded<G, R, S>(
+    rt: &R,
+    alloc: Global,
+    settings: &LoadSettings,
+    server: Server<LoadPorts>,
+    prepared: Prepared<LoadIn, LoadOut>,
+    gate: &G,
+) -> Result<Totals, Shortfall>
+where
+    G: Gate + Sync,
+    R: Threads + Wait + Sync,
+    S: Seed,
+    requires seed { settings.now.seed ≡ S.number }
+    requires limits { IsLoadInLimits settings.now }
+    requires config { server.config ≡ settings.now.config }
+    requires between { IsBetween server.config server.turns prepared.hand }
+    requires nothing { made_by prepared.hand ≡ [] }
+    requires all { parts prepared.hand ≡ 1024 }
+    requires as_many { length prepared.room.items ≡ settings.now.lanes }
+    requires room { All (λ thread. HasRoom settings.now.lanes thread) prepared.room.items }
+    requires lanes { HasLaneRoom settings.now.lanes prepared.lanes }
+    requires due { due_in prepared.room.items ≡ packets_of settings.now }
+    ensures whole { IfOk result (λ totals. RunsLoad settings.now (G.passed gate.now) totals) }
+    ensures short { IfErr result (λ cause. CutsShort settings.now (G.passed gate.now) cause) }
 {
     let mut link = LoadLink::new(alloc, settings.calls);
     let mut ports = LoadPorts::new(alloc, settings.packets);
-    let mut keys = ChaChaKeys::from_seed(bytes_of_seed(settings.seed));
+    let mut keys: SeedKeys<S> = SeedKeys::new(settings.seed);
     let mut timer = LoadTimer::new(alloc);
     let clock = HandClock::new(0);
     let media = Media {
@@ -123,87 +150,114 @@ where
         &mut devices,
         &media,
     );
-    let Some(totals) = whole_totals(settings, &looped, &link, &ports, &timer) else {
-        return None;
-    };
-    Some(totals)
+    whole_totals(settings, &looped, &link, &ports, &keys, &timer)
+}
+
+/// Whether each device of a load still tells its calls.
+fn tell_all<S: Seed>(
+    link: &LoadLink,
+    ports: &LoadPorts,
+    keys: &SeedKeys<S>,
+    timer: &LoadTimer,
+) -> bool
+    ensures told { IsTrue result → IsSome link.now.told × IsSome ports.now.maker.told × IsSome timer.now × (nat_lt keys.now.drawn (2 ^ 64 - 1) ≡ true) }
+    ensures untold { result ≡ false → IsUntold link.now.told ports.now.maker.told timer.now (told_draws keys.now) }
+    ensures heard { IsOfLoad link.now }
+    ensures zero { AreZero timer.now }
+    ensures seeded { keys.now.seed_words ≡ (stream_of S.number).seed_words }
+{
+    let is_linked = link.tells();
+    let is_opened = ports.tells();
+    let is_drawn = keys.tells();
+    let is_timed = timer.tells();
+    is_linked && is_opened && is_drawn && is_timed
+}
+
+/// Whether the link of a load gave all datagrams, and the ports, all given back, gave all packets of the sides of the calls.
+fn gave_all(settings: &LoadSettings, link: &LoadLink, ports: &LoadPorts) -> bool
+    requires { settings.now.calls ≤ 1000 }
+    ensures given { IsTrue result → link.now.given ≡ 2 * settings.now.calls }
+    ensures gave { IsTrue result → HasGivenAll settings.now.config.interface settings.now.config.port_min settings.now.calls settings.now.packets ports.now.maker.told }
+    ensures otherwise { result ≡ false → link.now.given ≡ 2 * settings.now.calls →
+        AreAllEnds settings.now.config.interface settings.now.config.port_min settings.now.calls settings.now.packets ports.now.maker.closed → ⊥ }
+    ensures closed { WhereTold ports.now.maker.told (λ opened. AreClosed opened ports.now.maker.closed) }
+{
+    let config = &settings.config;
+    let is_given = ports.gave_all(
+        config.interface,
+        config.port_min,
+        settings.calls,
+        settings.packets,
+    );
+    link.gave_all(settings.calls) && is_given
 }
 
 /// What came of the packets of a load, where its control turns went well, all packets were taken, and its devices tell all their calls and gave all
-/// that they had.
-fn whole_totals(
+/// that they had; else why not.
+fn whole_totals<S: Seed>(
     settings: &LoadSettings,
     looped: &Looped,
     link: &LoadLink,
     ports: &LoadPorts,
+    keys: &SeedKeys<S>,
     timer: &LoadTimer,
-) -> Option<Totals>
+) -> Result<Totals, Shortfall>
     requires { IsLoadInLimits settings.now }
-    ensures went { IfSome result (λ totals. (totals ≡ looped.now.totals) × (looped.now.status ≡ Status.Ok)) }
-    ensures taken { IfSome result (λ totals. totals.taken ≡ 2 * settings.now.calls * settings.now.packets) }
-    ensures spent { IfSome result (λ totals. (link.now.given ≡ 2 * settings.now.calls) × (link.now.well ≡ true) × IsSome link.now.told) }
-    ensures heard { IfSome result (λ totals. IsOfLoad link.now) }
-    ensures told { IfSome result (λ totals. IsSome ports.now.maker.told × IsSome timer.now) }
-    ensures zero { IfSome result (λ totals. AreZero timer.now) }
-    ensures gave { IfSome result (λ totals. HasGivenAll settings.now.config.interface settings.now.config.port_min settings.now.calls settings.now.packets ports.now.maker.told) }
+    ensures went { IfOk result (λ totals. (totals ≡ looped.now.totals) × (looped.now.status ≡ Status.Ok)) }
+    ensures taken { IfOk result (λ totals. totals.taken ≡ packets_of settings.now) }
+    ensures spent { IfOk result (λ totals. (link.now.given ≡ 2 * settings.now.calls) × (link.now.well ≡ true) × IsSome link.now.told) }
+    ensures told { IfOk result (λ totals. IsSome ports.now.maker.told × IsSome timer.now × (nat_lt keys.now.drawn (2 ^ 64 - 1) ≡ true)) }
+    ensures gave { IfOk result (λ totals. HasGivenAll settings.now.config.interface settings.now.config.port_min settings.now.calls settings.now.packets ports.now.maker.told) }
+    ensures heard { IsOfLoad link.now }
+    ensures zero { AreZero timer.now }
+    ensures seeded { keys.now.seed_words ≡ (stream_of S.number).seed_words }
+    ensures short { IfErr result (λ cause. IsCutBy cause settings.now link.now.told ports.now.maker.told timer.now (told_draws keys.now) looped.now.status looped.now.totals) }
 {
+    let are_told = tell_all(link, ports, keys, timer);
+    if !are_told {
+        return Err(Shortfall::Untold);
+    }
+    if !link.has_succeeded() {
+        return Err(Shortfall::ReplyFailed);
+    }
     let Status::Ok = looped.status else {
-        return None;
+        return Err(Shortfall::TakeFailed);
     };
     let all = 2 * u64::from(settings.calls) * u64::from(settings.packets);
-    if looped.totals.taken == all && gave_all(settings, link, ports, timer) {
-        Some(looped.totals)
+    let is_given = gave_all(settings, link, ports);
+    if looped.totals.taken == all && is_given {
+        Ok(looped.totals)
     } else {
-        None
+        Err(Shortfall::EndsDiffer)
     }
 }
 
-/// Whether the devices of a load tell all their calls, the link gave all datagrams, and the ports, all given back, gave all packets of the sides of
-/// the calls.
-fn gave_all(settings: &LoadSettings, link: &LoadLink, ports: &LoadPorts, timer: &LoadTimer) -> bool
-    requires { settings.now.calls ≤ 1000 }
-    ensures spent { IsTrue result → (link.now.given ≡ 2 * settings.now.calls) × (link.now.well ≡ true) × IsSome link.now.told }
-    ensures heard { IsTrue result → IsOfLoad link.now }
-    ensures told { IsTrue result → IsSome ports.now.maker.told × IsSome timer.now }
-    ensures zero { IsTrue result → AreZero timer.now }
-    ensures gave { IsTrue result → HasGivenAll settings.now.config.interface settings.now.config.port_min settings.now.calls settings.now.packets ports.now.maker.told }
-{
-    let config = &settings.config;
-    link.is_spent(settings.calls)
-        && ports.tells()
-        && timer.tells()
-        && ports.gave_all(
-            config.interface,
-            config.port_min,
-            settings.calls,
-            settings.packets,
-        )
-}
-
 /// Makes generated calls over devices in memory, has lanes of media relay the packets of their sides until all were taken, ends the calls
-/// and prints a line with what came of the packets. `OutOfMemory`: nothing was printed; `PrintFault`: the sink did not take the line.
+/// and prints a line with what came of the packets. `PrintFault`: the sink did not take the line. Else nothing was printed: `NotBegun`: out of memory
+/// before the first control turn; `CutShort`: the load was run, and this is why it is not whole.
 pub fn load<G, O, R>(
     rt: &R,
     alloc: Global,
     settings: &LoadSettings,
     gate: &G,
     out: &mut O,
-) -> Status
+) -> LoadEnd
 where
     G: Gate + Sync,
     O: LineSink,
     R: Threads + Wait + Sync,
     requires limits { IsLoadInLimits settings.now }
-    ensures loads { Loads (Some settings.now) (G.passed gate.now) (O.told out.old) (O.told out.new) result }
-    ensures status { IsLoaded result }
-    ensures memory { result ≡ Status.OutOfMemory → out.new ≡ out.old }
-    ensures print_fault { result ≡ Status.PrintFault → Rose (O.faults out.old) (O.faults out.new) }
+    ensures ends { EndsLoad settings.now (G.passed gate.now) (O.told out.old) (O.told out.new) result }
+    ensures loads { Loads (Some settings.now) (G.passed gate.now) (O.told out.old) (O.told out.new) (load_status result) }
+    ensures status { IsLoaded (load_status result) }
+    ensures memory { load_status result ≡ Status.OutOfMemory → out.new ≡ out.old }
+    ensures print_fault { load_status result ≡ Status.PrintFault → Rose (O.faults out.old) (O.faults out.new) }
 {
     let Ok(mut line) = line_room(alloc) else {
-        return Status::OutOfMemory;
+        return LoadEnd::NotBegun;
     };
     let Ok(desk) = Desk::new(alloc) else {
-        return Status::OutOfMemory;
+        return LoadEnd::NotBegun;
     };
     let due = Due {
         pairs: 2 * settings.calls,
@@ -211,13 +265,13 @@ where
     };
     let share = LaneShare::one_each(settings.lanes);
     let Ok(room) = thread_room(alloc, share, Some(due)) else {
-        return Status::OutOfMemory;
+        return LoadEnd::NotBegun;
     };
     let Ok(lanes) = lane_room(alloc, share) else {
-        return Status::OutOfMemory;
+        return LoadEnd::NotBegun;
     };
     let Ok((server, hand)) = Server::start(alloc, settings.config) else {
-        return Status::OutOfMemory;
+        return LoadEnd::NotBegun;
     };
     let prepared = Prepared {
         hand,
@@ -225,12 +279,13 @@ where
         room,
         lanes,
     };
-    let Some(totals) = run_load(rt, alloc, settings, server, prepared, gate) else {
-        return Status::OutOfMemory;
+    let totals = match run_load(rt, alloc, settings, server, prepared, gate) {
+        Ok(totals) => totals,
+        Err(cause) => return LoadEnd::CutShort(cause),
     };
     put_load_line(&mut line, settings.calls, totals);
     match out.write(line.as_slice()) {
-        Ok(()) => Status::Ok,
-        Err(_) => Status::PrintFault,
+        Ok(()) => LoadEnd::Finished,
+        Err(_) => LoadEnd::PrintFault,
     }
 }

@@ -1,10 +1,11 @@
 //! The main hand shares out hands of the table to the lanes of all threads of media, and takes them in again.
-ghost use Rattle.std.specs.Prelude.{◌≡◌, ◌+◌, ◌<◌, ◌≤◌, ◌++◌, [], All, IfOk, length, vec_capacity, slice_index_or};
+ghost use Rattle.std.specs.Prelude.{◌≡◌, ◌+◌, ◌*◌, ◌<◌, ◌≤◌, ◌++◌, [], All, IfOk, Some, length, vec_capacity, slice_index_or};
 ghost use Rattle.std.specs.List.Sorted.{IsPermutation};
 ghost use Rattle.turn_table.specs.Hands.{IsHandOf, HasNoTurn, view, starts, entries, parts};
 ghost use Rattle.board_turns.specs.Between.{IsBetween};
 ghost use Rattle.relay_runs.specs.Rounds.{all_of, lane_count};
-ghost use Rattle.relay_runs.specs.Threads.{AreNumbers, AreInOrder, MayJoin, IsFresh, AddsEach, AddsLane, HasLaneRoom, HasRoom, JoinsInOrder, all_lanes, numbers_of, rows_each};
+ghost use Rattle.relay_runs.specs.Threads.{AreNumbers, AreInOrder, MayJoin, IsFresh, AddsEach, AddsLane, HasLaneRoom, HasRoom, JoinsInOrder, all_lanes, due_in, numbers_of, pairs_of_lane, rows_each};
+ghost use Rattle.relay_runs.specs.declared.sharing.Due.{Due};
 
 use crate::lanes::OwnLane;
 use crate::threads::{MediaThread, Until};
@@ -28,12 +29,27 @@ impl Due {
     /// How many of them come to the pairs of the lane with this index, of so many lanes.
     fn of_lane(self, index: u32, lanes: u32) -> u64
         requires { index < lanes }
+        ensures { result ≡ pairs_of_lane self.pairs lanes index * self.packets }
     {
         if index >= self.pairs {
             return 0;
         }
         let pairs = (self.pairs - 1 - index) / lanes + 1;
         u64::from(pairs) * u64::from(self.packets)
+    }
+}
+
+impl Until {
+    /// How long the thread with this number, of so many threads with one lane each, relays: where it is known how many datagrams come, until its lane
+    /// took those that come to that.
+    fn of_thread(due: Option<Due>, number: u32, threads: u32) -> Until
+        requires { number < threads }
+        ensures { (all : Due) → due ≡ Some all → result ≡ Until.Taken (pairs_of_lane all.pairs threads number * all.packets) }
+    {
+        match due {
+            Some(due) => Until::Taken(due.of_lane(number, threads)),
+            None => Until::Halted,
+        }
     }
 }
 
@@ -57,6 +73,7 @@ pub(crate) fn thread_room<I: InEnd, O: OutEnd>(
 ) -> Result<Vec<MediaThread<I, O>>, OutOfMemory>
     ensures as_many { IfOk result (λ room. length room.items ≡ share.threads) }
     ensures room { IfOk result (λ room. All (λ thread. HasRoom share.lanes thread) room.items) }
+    ensures due { (all : Due) → due ≡ Some all → 0 < share.threads → IfOk result (λ room. due_in room.items ≡ all.pairs * all.packets) }
 {
     let Ok(mut threads) = Vec::with_capacity(alloc, share.threads as usize) else {
         return Err(OutOfMemory);
@@ -65,15 +82,11 @@ pub(crate) fn thread_room<I: InEnd, O: OutEnd>(
         let Ok(lanes) = Vec::with_capacity(alloc, share.lanes as usize) else {
             return Err(OutOfMemory);
         };
-        let until = match due {
-            Some(due) => Until::Taken(due.of_lane(number, share.threads)),
-            None => Until::Halted,
-        };
         threads.push_reserved(MediaThread {
             lanes,
             number,
             share,
-            until,
+            until: Until::of_thread(due, number, share.threads),
             rooms: Rooms::new(),
         });
     }
@@ -122,6 +135,7 @@ pub(crate) fn make_lanes<I: InEnd, O: OutEnd>(
     ensures parts { parts hand.new + length (all_lanes threads.new.items) ≡ parts hand.old }
     ensures list { entries hand.new ≡ entries hand.old }
     ensures between { IsBetween config.now turns.now hand.new }
+    ensures due { due_in threads.new.items ≡ due_in threads.old.items }
 {
     for index in 0..share.lanes {
         let part = turns.split_hand(hand);

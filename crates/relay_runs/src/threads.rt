@@ -1,7 +1,6 @@
 //! The threads of media of a run: each owns lanes, and sweeps those at whose pairs datagrams stand.
-ghost use Rattle.std.specs.Prelude.{◌≡◌, ◌<◌, ℕ, length, slice_index_or};
-ghost use Rattle.relay_runs.specs.declared.threads.Until.TheVariants as Until;
-ghost use Rattle.relay_runs.specs.Threads.{AreOfTable, Swept, Each};
+ghost use Rattle.std.specs.Prelude.{◌≡◌, ◌-◌, ◌^◌, ◌<◌, ℕ, length, min, slice_index_or};
+ghost use Rattle.relay_runs.specs.Threads.{AreOfTable, Swept, Each, GoesOn, taken_by};
 
 use crate::beside::MediaWork;
 use crate::halt::{HaltWord, Over};
@@ -146,7 +145,9 @@ impl<I: InEnd, O: OutEnd> MediaThread<I, O> {
     }
 
     /// How many datagrams its lanes took.
-    fn taken(&self) -> u64 {
+    fn taken(&self) -> u64
+        ensures { result ≡ min (taken_by self.now.lanes.items) (2 ^ 64 - 1) }
+    {
         let mut taken: u64 = 0;
         for own in &self.lanes {
             taken = taken.saturating_add(own.totals.taken);
@@ -166,6 +167,7 @@ impl<I: InEnd, O: OutEnd> MediaThread<I, O> {
         requires { AreOfTable turns.now self.old.lanes.items }
         ensures each { Each (Swept 0 (C.range media.now.clock.now) (G.passed media.now.gate.now)) self.old.lanes.items self.new.lanes.items }
         ensures table { AreOfTable turns.now self.new.lanes.items }
+        ensures over { taken_by self.new.lanes.items < due → ∥ F.holds ∥₁ }
     {
         for _ in rt.forever() {
             if self.taken() >= due || halt.is_set() {
@@ -180,7 +182,7 @@ impl<I: InEnd, O: OutEnd, C: Clock, G: Gate> MediaWork<Turns<Relay<I, O>>, Media
     for MediaThread<I, O> {
     ghost can_work = { λ thread turns. AreOfTable turns thread.lanes.items };
 
-    ghost goes_on = { λ thread. thread.until ≡ Until.Halted };
+    ghost goes_on = { λ old new. GoesOn old.until (taken_by new.lanes.items) };
 
     ghost did = { λ turns media old new. Each (Swept 1 (C.range media.clock.now) (G.passed media.gate.now)) old.lanes.items new.lanes.items };
 

@@ -1,5 +1,5 @@
 -- Two control turns that are alike make turns of the board that are alike.
-use Rattle.std.proofs.Common.{◌≡◌, ◌∙◌, sym, ap, refl, ℕ, ◌==◌, List, [], ◌∷◌, ◌++◌, map, filter, length, Bool, true, false, cond, not, Option, Some, None, Result, Ok, Err}
+use Rattle.std.proofs.Common.{◌≡◌, ◌∙◌, sym, ap, subst, refl, ℕ, ◌==◌, List, [], ◌∷◌, ◌++◌, map, filter, length, Bool, true, false, cond, not, Option, Some, None, Result, Ok, Err}
 use Rattle.std.specs.Prelude.{◌&&◌, nat_le}
 use Rattle.std.specs.List.{list_any}
 use Rattle.relay_outside.specs.declared.address.Addr.{Addr}
@@ -7,7 +7,7 @@ use Rattle.relay_outside.specs.declared.settings.Config.{Config}
 use Rattle.ng_command.specs.Said as said
 use Rattle.ng_command.specs.Said.{Said}
 use Rattle.ng_reply.specs.declared.code.ErrorCode.{ErrorCode}
-use Rattle.ng_reply.specs.declared.code.ErrorCode.TheVariants.{E9, E10, E13, E14}
+use Rattle.ng_reply.specs.declared.code.ErrorCode.TheVariants.{E9, E10, E13, E14, E17}
 use Rattle.histories.specs.Words.{has}
 use Rattle.port_pool.specs.declared.holder.Holder.{Holder}
 use Rattle.offer_answer.specs.Rounds.{Round, OfferAsk, AnswerAsk}
@@ -19,9 +19,9 @@ use Rattle.call_board.specs.Calls.{live, find_call, new_call, rounds, ended_by_a
 use Rattle.call_board.specs.Pairs.{held, free_in, is_short, closes_leg_act}
 use Rattle.call_board.specs.Kept.{kept}
 use Rattle.call_board.specs.Asked.{asked}
-use Rattle.call_board.specs.Replies.{Done}
+use Rattle.call_board.specs.Replies.{Done, Fault, reply_text, reply_datagram, fault_datagram}
 use Rattle.call_board.specs.Answers.{Answered, failing, leased_pairs, offer_ask, answer_ask, offer_leased, offer_unless, offer_to, answer_unless, answer_to, missing, names_side, delete_of, query_of, answering, answering_asked, answering_unless}
-use Rattle.call_board.specs.Fits.{FitsControl}
+use Rattle.call_board.specs.Fits.{FitsControl, GivesFor, demanded}
 use Rattle.call_board.proofs.Fixed.{unless_out_of_memory}
 use Rattle.call_board.proofs.Tells.{leased_case}
 use Rattle.relay_core.specs.Scripts.{Owed, opening, closing, in_cell, reading, script, script_of_act}
@@ -101,6 +101,35 @@ never e = cc
 pub not_out_of_memory : (config : Config) (h : List BoardEntry) (now : ℕ) (c : Control) → FitsControl config h now c → HasMemory c → c.act ≡ act.OutOfMemory → ⊥
 not_out_of_memory config h now c fits fed is =
     never (sym (ap runs_out is) ∙ ap (λ (a : Answered). runs_out a.act) fits.answers ∙ due_fed config h c (kept h c.source c.cookie now) fed)
+
+-- the same, of the reply that is due
+flag_or_reply : (config : Config) (h : List BoardEntry) (c : Control) (ran_out : Bool) → (unless_out_of_memory config c.cookie c.body ran_out (answering config h c)).act ≡ act.OutOfMemory
+    → (unless_out_of_memory config c.cookie c.body ran_out (answering config h c)).bytes ≡ reply_datagram config c.cookie c.body (Fault E17)
+flag_or_reply config h c true is = refl
+flag_or_reply config h c false is = absurd (never (sym (ap runs_out is) ∙ asked_fed config h c (asked config c.too_long c.pairs)))
+
+-- a reply that says so is E17
+pub says_so : (config : Config) (h : List BoardEntry) (c : Control) (o : Option (List ℕ)) → (answering_unless config h c o).act ≡ act.OutOfMemory
+    → (answering_unless config h c o).bytes ≡ fault_datagram c.cookie c.body E17
+unfolding reply_text
+says_so config h c (Some bytes) is = absurd (let e = is in cc)
+says_so config h c None is = flag_or_reply config h c c.given.out_of_memory is
+
+abbrev act_of : Answered → Act
+act_of a = a.act
+
+-- a turn that doesn't say so had memory
+pub has_memory : (config : Config) (h : List BoardEntry) (now : ℕ) (c : Control) → FitsControl config h now c → (c.act ≡ act.OutOfMemory → ⊥) → HasMemory c
+has_memory config h now c fits fed = by_kept (kept h c.source c.cookie now) refl
+  where
+    by_flag : (b : Bool) → c.given.out_of_memory ≡ b → kept h c.source c.cookie now ≡ None → HasMemory c
+    by_flag false flag none = flag
+    by_flag true flag none =
+        absurd (fed (ap act_of (fits.answers ∙ ap (answering_unless config h c) none ∙ ap (λ (b : Bool). unless_out_of_memory config c.cookie c.body b (answering config h c)) flag)))
+
+    by_kept : (o : Option (List ℕ)) → kept h c.source c.cookie now ≡ o → HasMemory c
+    by_kept (Some bytes) is = (subst (GivesFor (demanded config h c) c.given) (ap act_of (fits.answers ∙ ap (answering_unless config h c) is)) fits.gives).2
+    by_kept None is = by_flag c.given.out_of_memory refl is
 
 -- What turns owe that do the same, and were given the same.
 

@@ -31,7 +31,7 @@ use Rattle.board_laws.specs.Alike.{AreOfOne, HasMemory, GiveAlike, AreOne}
 use Rattle.board_laws.proofs.Answered.{one_turn}
 use Rattle.replay_laws.specs.Alike.{bare_event, AlikeLists, NeverOutOfMemory, TellsReports, IsReport}
 use Rattle.replay_laws.proofs.Boards.{SameBoards, same_boards}
-use Rattle.replay_laws.proofs.Answering.{owes_one, not_out_of_memory, bare_one}
+use Rattle.replay_laws.proofs.Answering.{has_memory, owes_one, not_out_of_memory, bare_one}
 use Rattle.replay_laws.proofs.Fitting.{fits_same, time_same, turn_same, script_same}
 use Rattle.replay_laws.proofs.Turns.{TurnAlike}
 use Rattle.replay_laws.proofs.Lists.{told_once, same_history, not_cell}
@@ -112,7 +112,7 @@ turned config clock l x new t fed tells =
     let there = turn_event config l e new t in
     record {
       fits = turn_fits config l e new t;
-      fed = fed t.last c there.0 there.1;
+      fed = has_memory config h (moment_at h clock) c (turn_fits config l e new t) (fed t.last c there.0 there.1);
       told = λ of some is told. reported config l e new c of some t refl tells
           (ap (script_of_act config h e c) is ∙ ap (reading (Some of)) told);
     }

@@ -16,6 +16,9 @@ pub mod Turns
 pub mod Answering
 pub mod Gaining
 pub mod Whole
+pub mod Fed
 pub mod Texts
+pub mod Broken
 pub mod Reading
 pub mod Faultless
+pub mod Scripts

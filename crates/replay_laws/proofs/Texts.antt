@@ -1,5 +1,5 @@
 -- So they write one text.
-use Rattle.std.proofs.Common.{◌≡◌, ◌∙◌, sym, ap, subst, refl, ℕ, ◌+◌, ◌⊎◌, inl, inr, List, [], ◌∷◌, ◌++◌, map, length, Bool, true, false, arith}
+use Rattle.std.proofs.Common.{◌≡◌, ◌∙◌, sym, ap, subst, refl, ℕ, ◌+◌, ◌⊎◌, inl, inr, List, [], ◌∷◌, ◌++◌, map, length, append_assoc, Bool, true, false, arith}
 use Rattle.std.specs.Prelude.{◌||◌}
 use Rattle.std.specs.List.{list_any}
 use Rattle.histories.proofs.Lists.{equal}
@@ -51,29 +51,37 @@ made_right config seed r step.Tick p x m faulty = faulty
 
 -- Of several steps, those up to one.
 
-record Parted (config : Config) (seed : ℕ) (a b : List Step) (r : Course) (x : Course) : Type 0 where
-  mid : Course
-  first : List Printed
-  rest : List Printed
-  plays : Plays config seed a r first mid
-  plays_on : Plays config seed b mid rest x
+pub record Parted (config : Config) (seed : ℕ) (a b : List Step) (r : Course) (p : List Printed) (x : Course) : Type 0 where
+  pub mid : Course
+  pub first : List Printed
+  pub rest : List Printed
+  pub prints_are : p ≡ first ++ rest
+  pub plays : Plays config seed a r first mid
+  pub plays_on : Plays config seed b mid rest x
 
-parted : (config : Config) (seed : ℕ) (a b : List Step) (r : Course) (p : List Printed) (x : Course) → Plays config seed (a ++ b) r p x → Parted config seed a b r x
-parted config seed [] b r p x plays = record { mid = r; first = []; rest = p; plays = (refl, refl); plays_on = plays }
+pub parted : (config : Config) (seed : ℕ) (a b : List Step) (r : Course) (p : List Printed) (x : Course) → Plays config seed (a ++ b) r p x → Parted config seed a b r p x
+parted config seed [] b r p x plays = record { mid = r; first = []; rest = p; prints_are = refl; plays = (refl, refl); plays_on = plays }
 parted config seed (s ∷ a) b r p x plays =
     let more = parted config seed a b (after s plays.0) plays.2 x plays.5 in
-    record { mid = more.mid; first = plays.1 ++ more.first; rest = more.rest; plays = (plays.0, plays.1, more.first, refl, plays.4, more.plays); plays_on = more.plays_on }
+    record {
+      mid = more.mid;
+      first = plays.1 ++ more.first;
+      rest = more.rest;
+      prints_are = plays.3 ∙ ap (λ (xs : List Printed). plays.1 ++ xs) more.prints_are ∙ sym (append_assoc plays.1 more.first more.rest);
+      plays = (plays.0, plays.1, more.first, refl, plays.4, more.plays);
+      plays_on = more.plays_on;
+    }
 
 -- the steps of one list up to two of it
-data InOrder (before : List Step) (one : Step) (first : List Step) (other : Step) : Type 0 where
+pub data InOrder (before : List Step) (one : Step) (first : List Step) (other : Step) : Type 0 where
   same : before ≡ first → InOrder before one first other
   earlier : (rest : List Step) → first ≡ before ++ one ∷ rest → InOrder before one first other
   later : (rest : List Step) → before ≡ first ++ other ∷ rest → InOrder before one first other
 
-step_heads : (s t : Step) (ss ts : List Step) → s ∷ ss ≡ t ∷ ts → s ≡ t
+pub step_heads : (s t : Step) (ss ts : List Step) → s ∷ ss ≡ t ∷ ts → s ≡ t
 step_heads s t ss ts e = cc
 
-step_tails : (s t : Step) (ss ts : List Step) → s ∷ ss ≡ t ∷ ts → ss ≡ ts
+pub step_tails : (s t : Step) (ss ts : List Step) → s ∷ ss ≡ t ∷ ts → ss ≡ ts
 step_tails s t ss ts e = cc
 
 order_there : (s t : Step) (before first : List Step) (one other : Step) → s ≡ t → InOrder before one first other → InOrder (s ∷ before) one (t ∷ first) other
@@ -81,7 +89,7 @@ order_there s t before first one other is (same q) = same (ap (λ (x : Step). x 
 order_there s t before first one other is (earlier rest q) = earlier rest (ap (λ (xs : List Step). t ∷ xs) q ∙ ap (λ (x : Step). x ∷ before ++ one ∷ rest) (sym is))
 order_there s t before first one other is (later rest q) = later rest (ap (λ (xs : List Step). s ∷ xs) q ∙ ap (λ (x : Step). x ∷ first ++ other ∷ rest) is)
 
-in_order : (before behind first more : List Step) (one other : Step) → before ++ one ∷ behind ≡ first ++ other ∷ more → InOrder before one first other
+pub in_order : (before behind first more : List Step) (one other : Step) → before ++ one ∷ behind ≡ first ++ other ∷ more → InOrder before one first other
 in_order [] behind [] more one other is = same refl
 in_order [] behind (t ∷ first) more one other is = earlier first (ap (λ (x : Step). x ∷ first) (sym (step_heads one t behind (first ++ other ∷ more) is)))
 in_order (s ∷ before) behind [] more one other is = later before (ap (λ (x : Step). x ∷ before) (step_heads s other (before ++ one ∷ behind) more is))
@@ -90,43 +98,51 @@ in_order (s ∷ before) behind (t ∷ first) more one other is =
     (in_order before behind first more one other (step_tails s t (before ++ one ∷ behind) (first ++ other ∷ more) is))
 
 -- a replay up to here, after which comes a stop
-record Ran (config : Config) (seed : ℕ) (steps : List Step) (p : List Printed) (x : Course) : Type 0 where
-  plays : Plays config seed steps at_first p x
-  begins : Begins config x.entries
-  fed : NeverOutOfMemory x.entries
+pub record Ran (config : Config) (seed : ℕ) (steps : List Step) (p : List Printed) (x : Course) : Type 0 where
+  pub plays : Plays config seed steps at_first p x
+  pub begins : Begins config x.entries
+  pub fed : NeverOutOfMemory x.entries
 
-ran : (config : Config) (seed : ℕ) (steps : List Step) (p : List Printed) (x : Course) (l : List Entry) → Plays config seed steps at_first p x → x.entries ≡ l → Stops config l → NeverOutOfMemory l → Ran config seed steps p x
+pub ran : (config : Config) (seed : ℕ) (steps : List Step) (p : List Printed) (x : Course) (l : List Entry) → Plays config seed steps at_first p x → x.entries ≡ l → Stops config l → NeverOutOfMemory l → Ran config seed steps p x
 ran config seed steps p x l plays is stops fed = record {
   plays = plays;
   begins = stop_begins config x.entries (play_gained config seed steps at_first p x (nothing_is_orderly config) plays).orderly (subst (Stops config) (sym is) stops);
   fed = subst NeverOutOfMemory (sym is) fed;
 }
 
-both_went : (config : Config) (seed : ℕ) (steps : List Step) (p q : List Printed) (x y : Course) → Ran config seed steps p x → Ran config seed steps q y → Went config p q x y
+pub both_went : (config : Config) (seed : ℕ) (steps : List Step) (p q : List Printed) (x y : Course) → Ran config seed steps p x → Ran config seed steps q y → Went config p q x y
 both_went config seed steps p q x y a b = plays_once config seed steps at_first at_first p q x y (first_both config) a.plays b.plays a.begins b.begins a.fed b.fed
 
+-- the first of its steps
+pub front_ran : (config : Config) (seed : ℕ) (a b : List Step) (p : List Printed) (x : Course) → Ran config seed (a ++ b) p x → (parts : Parted config seed a b at_first p x)
+    → Ran config seed a parts.first parts.mid
+front_ran config seed a b p x ran parts =
+    let orderly = (play_gained config seed a at_first parts.first parts.mid (nothing_is_orderly config) parts.plays).orderly in
+    let grown = play_gained config seed b parts.mid parts.rest x orderly parts.plays_on in
+    record {
+      plays = parts.plays;
+      begins = begins_less config parts.mid.entries grown.added x.entries grown.is grown.rising ran.begins;
+      fed = fed_before parts.mid.entries x.entries grown.added grown.is ran.fed;
+    }
+
 -- what can't be made in the one is not made in the other
-never_made : (config : Config) (seed : ℕ) (before : List Step) (it : Step) (rest : List Step) (p q : List Printed) (x y : Course) → Ran config seed before p x → IsFaulty x it
+pub never_made : (config : Config) (seed : ℕ) (before : List Step) (it : Step) (rest : List Step) (p q : List Printed) (x y : Course) → Ran config seed before p x → IsFaulty x it
     → Ran config seed (before ++ it ∷ rest) q y → ⊥
 never_made config seed before it rest p q x y a faulty b =
     let parts = parted config seed before (it ∷ rest) at_first q y b.plays in
     let mid : Course = parts.mid in
-    let orderly = (play_gained config seed before at_first parts.first mid (nothing_is_orderly config) parts.plays).orderly in
-    let grown = play_gained config seed (it ∷ rest) mid parts.rest y orderly parts.plays_on in
-    let front : Ran config seed before parts.first mid =
-    record { plays = parts.plays; begins = begins_less config mid.entries grown.added y.entries grown.is grown.rising b.begins; fed = fed_before mid.entries y.entries grown.added grown.is b.fed } in
-    let went = both_went config seed before p parts.first x mid a front in
+    let went = both_went config seed before p parts.first x mid a (front_ran config seed before (it ∷ rest) q y b parts) in
     made_right config seed mid it parts.plays_on.1 parts.plays_on.0 parts.plays_on.4 (faulty_too config x mid it went.both faulty)
 
 -- What is written.
 
-played_once : (config : Config) (seed : ℕ) (steps : List Step) (l k : List Entry) (v w : List WriteCall) → Played config seed steps l v → Played config seed steps k w
+pub played_once : (config : Config) (seed : ℕ) (steps : List Step) (l k : List Entry) (v w : List WriteCall) → Played config seed steps l v → Played config seed steps k w
     → Stops config l → Stops config k → NeverOutOfMemory l → NeverOutOfMemory k → v ≡ w
 played_once config seed steps l k v w a b s t fed fed_too =
     a.writes_are ∙ ap (map written) (both_went config seed steps a.prints b.prints a.course b.course
     (ran config seed steps a.prints a.course l a.plays a.entries_are s fed) (ran config seed steps b.prints b.course k b.plays b.entries_are t fed_too)).prints ∙ sym b.writes_are
 
-stop_or_all : (config : Config) (seed : ℕ) (steps : List Step) (l k : List Entry) (v w : List WriteCall) → StopsAt config seed steps l v → Played config seed steps k w
+pub stop_or_all : (config : Config) (seed : ℕ) (steps : List Step) (l k : List Entry) (v w : List WriteCall) → StopsAt config seed steps l v → Played config seed steps k w
     → Stops config l → Stops config k → NeverOutOfMemory l → NeverOutOfMemory k → ⊥
 stop_or_all config seed steps l k v w a b s t fed fed_too =
     never_made config seed a.before a.step a.after a.prints b.prints a.course b.course (ran config seed a.before a.prints a.course l a.plays a.entries_are s fed) a.faulty
@@ -158,10 +174,10 @@ stops_once config seed steps l k v w a b s t fed fed_too = by_case (in_order a.b
 end_fault : ending.End ≡ ending.Fault → ⊥
 end_fault e = cc
 
-end_outside : ending.End ≡ ending.Outside → ⊥
+pub end_outside : ending.End ≡ ending.Outside → ⊥
 end_outside e = cc
 
-fault_outside : ending.Fault ≡ ending.Outside → ⊥
+pub fault_outside : ending.Fault ≡ ending.Outside → ⊥
 fault_outside e = cc
 
 pub writes_once : (config : Config) (seed : ℕ) (steps : List Step) (how : Ending) (end other : Ended) (v w : List WriteCall) → IsWrittenOut end → IsWrittenOut other

@@ -1,27 +1,30 @@
 -- Replays that are alike between two steps, and what one more step is then to have in common.
-use Rattle.std.specs.Prelude.{◌≡◌, ℕ, List, [], None, map}
+use Rattle.std.specs.Prelude.{◌≡◌, ℕ, Bool, true, false, List, [], ◌∷◌, ◌++◌, None, map}
 use Rattle.relay_outside.specs.declared.settings.Config.{Config}
 use Rattle.histories.specs.Words.{In}
+use Rattle.ng_reply.specs.declared.code.ErrorCode.TheVariants.{E17}
 use Rattle.port_pool.specs.declared.reports.LegReport.{LegReport}
 use Rattle.port_pool.specs.Boxes.{holder}
 use Rattle.call_cell.specs.Cells.{CellEntry, Read, since_end}
 use Rattle.call_cell.specs.Asked.{reports}
 use Rattle.call_cell.specs.Good.{FittingCell}
-use Rattle.call_board.specs.Acts.{Control, BoardEvent, Turn, Tick, Stop, BoardEntry}
+use Rattle.call_board.specs.Acts.{Control, BoardEvent, OutOfMemory, Turn, Tick, Stop, BoardEntry}
 use Rattle.call_board.specs.Pairs.{Once}
+use Rattle.call_board.specs.Replies.{fault_datagram}
 use Rattle.relay_core.specs.Entries.{Entry, Board, Cell, box_of, cell_history, box_history}
 use Rattle.relay_core.specs.Standing.{told_entry}
 use Rattle.relay_core.specs.Turning.{IsAbove}
 use Rattle.board_turns.specs.Between.{board_of}
-use Rattle.relay_script.specs.Printing.{Printed}
+use Rattle.relay_script.specs.Printing.{Printed, Reply, ReplyFault, line_of}
 use Rattle.relay_script.specs.Steps.{Step}
+use Rattle.relay_outside.specs.declared.address.Addr.{Addr}
 use Rattle.relay_outside.specs.declared.lines.WriteCall.{WriteCall}
+use Rattle.relay_outside.specs.declared.lines.WriteCall.TheVariants.{Write}
 use Rattle.replay_devices.specs.declared.script.Ending.{Ending}
 use Rattle.replay_steps.specs.declared.ended.Ended.{Ended}
 use Rattle.replay_steps.specs.declared.ended.Ended.TheVariants as ended
 use Rattle.replay_steps.specs.Steps.{Course, Packet, Stops}
 use Rattle.replay_steps.specs.Written.{DidWrite}
-use Rattle.board_laws.specs.Alike.{HasMemory}
 
 -- a datagram's turn without what is recorded of its body and of crypto lines: where nobody read the one, or chose the others, that is
 -- anything, and decides nothing
@@ -51,9 +54,9 @@ pub record Alike (config : Config) (r s : Course) : Type 0 where
   pub clock : r.clock ≡ s.clock
   pub past : r.past ≡ s.past
 
--- no turn of the list ran out of memory
+-- no turn of the list answers that memory ran out (E17)
 abbrev pub NeverOutOfMemory : List Entry → Type 0
-NeverOutOfMemory l = (e : Entry) (c : Control) → In e l → e.event ≡ Board (Turn c) → HasMemory c
+NeverOutOfMemory l = (e : Entry) (c : Control) → In e l → e.event ≡ Board (Turn c) → c.act ≡ OutOfMemory → ⊥
 
 -- what is told of a cell's call is what the whole history of the cell demands. Of the relays in it the list records the outcomes
 pub record IsReport (config : Config) (l : List Entry) (e : Entry) (told : List LegReport) : Type 0 where
@@ -98,7 +101,25 @@ pub record WritesOut (config : Config) (seed : ℕ) (steps : List Step) (how : E
   pub stopped : Stops config entries
   pub fed : NeverOutOfMemory entries
 
+-- the line of this event was written, or its write failed
+abbrev pub HasLine : Printed → List WriteCall → Type 0
+HasLine event writes = (done : Bool) × In (Write (line_of event ++ 10 ∷ []) done) writes
+
+-- No reply is E17, want of memory, as far as the text shows, and it shows each: no line is that of a reply with this error, or of one that could
+-- not be sent
+pub record NoReplyIsE17 (writes : List WriteCall) : Type 0 where
+  pub none_says_so : (to : Addr) (cookie body : List ℕ) → HasLine (Reply to (fault_datagram cookie body E17)) writes → ⊥
+  pub each_is_shown : HasLine ReplyFault writes → ⊥
+
 -- both ended the same way, and wrote the same
 pub record SaysTheSame (one other : Ended) (first second : List WriteCall) : Type 0 where
   pub end : one ≡ other
   pub writes : first ≡ second
+
+-- the first text broke off in a line of the other: up to there they are the same, and the write of this line failed
+pub record BreaksOff (first second : List WriteCall) : Type 0 where
+  pub front : List WriteCall
+  pub line : List ℕ
+  pub rest : List WriteCall
+  pub first_is : first ≡ front ++ Write line false ∷ []
+  pub second_is : second ≡ front ++ Write line true ∷ rest

@@ -7,4 +7,6 @@
 
 mod law;
 
-pub use law::{faultless_scripts_are_played, replays_print_one_list, steps_print_alike};
+pub use law::{
+    faultless_scripts_are_played, replays_print_one_list, scripts_print_one_text, steps_print_alike,
+};

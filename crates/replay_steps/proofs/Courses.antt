@@ -1,5 +1,5 @@
 -- What a step of a script did.
-use Rattle.std.proofs.Common.{◌≡◌, ◌∙◌, refl, sym, ap, subst, ℕ, ◌+◌, ◌<◌, ◌≤◌, Bool, true, false, ◌||◌, List, [], ◌∷◌, ◌++◌, Option, None, Result, Ok, Err, inl, inr, map, length, is_some, arith}
+use Rattle.std.proofs.Common.{◌≡◌, ◌∙◌, refl, sym, ap, subst, ℕ, ◌+◌, ◌<◌, ◌≤◌, ◌⊎◌, Bool, true, false, ◌||◌, List, [], ◌∷◌, ◌++◌, Option, None, Result, Ok, Err, inl, inr, map, length, is_some, arith}
 use Rattle.std.specs.Prelude.{MatchResult}
 use Rattle.std.specs.List.{list_any}
 use Rattle.std.proofs.lemmas.List.{length-map, map-append, append-nil, append_assoc}
@@ -36,7 +36,7 @@ use Rattle.replay_devices.specs.Steps as model
 use Rattle.replay_devices.specs.Devices.{Happening, fails}
 use Rattle.replay_steps.specs.Arrivals.{IsEndAt}
 use Rattle.replay_steps.specs.Holding.{Numbered, ReceiptList, has_number, LacksNumber, TakesOut, taken_by}
-use Rattle.replay_steps.specs.Steps.{Packet, Course, packet_under, course_of, with_past, holding, left_with, after, TurnsBoard, TakesPacket, PrintsTaken, FailsSo, Misses, RelaysPacket, PrintsOne, HoldsNone, Makes, OfStep, is_under, Plays, Stops}
+use Rattle.replay_steps.specs.Steps.{Packet, Course, packet_under, course_of, with_past, holding, left_with, after, TurnsBoard, TakesPacket, PrintsTaken, FailsSo, Misses, TookOther, TakesOther, RelaysPacket, PrintsOne, HoldsNone, Makes, OfStep, is_under, Plays, Stops}
 use Rattle.replay_devices.specs.Watch.{WatchState, StandsFor}
 use Rattle.replay_steps.specs.Watching.{RelaysSo, StepsSo}
 use Rattle.replay_steps.proofs.Controls.{turns_board}
@@ -89,6 +89,35 @@ module _ (config : Config) (l new : List Entry) (port : ℕ) (source : Addr) (by
   pub takes_fault : failing ≡ true → Took config l pair half answer.TakeFault new → Misses config l port source bytes failing event.TakeFault new
   takes_fault fault took =
       takes_none answer.TakeFault event.TakeFault took (subst (λ (t : Taken). PrintsTaken t bytes event.TakeFault) (sym took.tells) refl) (subst (λ (t : Taken). FailsSo t failing) (sym took.tells) fault)
+
+  takes_other : (given : Received) (took : Took config l pair half given new) → TookOther took.taken source bytes failing → TakesOther config l port source bytes failing new
+  takes_other given took other = record {
+    end = (pair, half);
+    at = at;
+    number = took.number;
+    at_front = took.at_front;
+    taken = took.taken;
+    fits = took.fits;
+    other = other;
+    list_is = took.list_is;
+  }
+
+  pub other_packet : (r : Receipt) → (failing ≡ false → (packet_of r).source ≡ source → (packet_of r).bytes ≡ bytes → ⊥) → Took config l pair half (answer.Got r) new
+      → TakesOther config l port source bytes failing new
+  other_packet r differs took = takes_other (answer.Got r) took (subst (λ (t : Taken). TookOther t source bytes failing) (sym took.tells.gave) differs)
+
+  pub other_nothing : Took config l pair half answer.Nothing new → TakesOther config l port source bytes failing new
+  other_nothing took = takes_other answer.Nothing took (by_case took.tells)
+    where
+      by_case : (took.taken ≡ box.Closed) ⊎ (took.taken ≡ box.Nothing) → TookOther took.taken source bytes failing
+      by_case (inl is) = subst (λ (t : Taken). TookOther t source bytes failing) (sym is) tt
+      by_case (inr is) = subst (λ (t : Taken). TookOther t source bytes failing) (sym is) tt
+
+  pub other_length : (failing ≡ false → 2000 < length bytes → ⊥) → Took config l pair half answer.TooLong new → TakesOther config l port source bytes failing new
+  other_length differs took = takes_other answer.TooLong took (subst (λ (t : Taken). TookOther t source bytes failing) (sym took.tells.2) differs)
+
+  pub other_fault : failing ≡ false → Took config l pair half answer.TakeFault new → TakesOther config l port source bytes failing new
+  other_fault not took = takes_other answer.TakeFault took (subst (λ (t : Taken). TookOther t source bytes failing) (sym took.tells) not)
 
 -- Where a replay comes to.
 

@@ -1,5 +1,5 @@
 -- What a step leaves of what holds between two steps.
-use Rattle.std.proofs.Common.{◌≡◌, ◌∙◌, refl, sym, subst, ℕ, arith, List, Option}
+use Rattle.std.proofs.Common.{◌≡◌, ◌∙◌, refl, sym, subst, ℕ, true, arith, List, Option}
 use Rattle.relay_outside.specs.declared.ports.PortCall.{PortCall}
 use Rattle.relay_outside.specs.declared.settings.Config.{Config}
 use Rattle.turn_table.specs.declared.hands.Turns.{Turns}
@@ -15,9 +15,11 @@ use Rattle.ng_server.specs.Servers.{OpensJust, history_of}
 use Rattle.relay_script.specs.Steps.{Step}
 use Rattle.replay_devices.specs.Devices.{Happening}
 use Rattle.replay_steps.specs.declared.state.ReplayState.{ReplayState}
+use Rattle.replay_steps.specs.declared.ended.Untold.TheVariants as untold
 use Rattle.replay_steps.specs.declared.stepping.Stepped.{Stepped}
+use Rattle.replay_steps.specs.declared.stepping.Stepped.TheVariants as stepped
 use Rattle.replay_steps.specs.Holding.{AreReceipts}
-use Rattle.replay_steps.specs.Steps.{course_of, OfStep}
+use Rattle.replay_steps.specs.Steps.{course_of, calls_devices, OfStep}
 use Rattle.replay_steps.specs.Board.{LeavesBoard}
 use Rattle.replay_steps.specs.Ready.{IsReady}
 use Rattle.replay_steps.specs.Moves.{MakesStep}
@@ -88,13 +90,14 @@ module _ {M I O T : Type 0} {g : _} where
 
   -- a step that leaves all as it was
   pub stays : (config : Config) (turns : Turns M (Part I O) Made T) (line : Step) (did : Stepped) (hand : Hand M (Part I O) Made T g) (state : ReplayState) → IsReady config turns hand state
-      → ((seed : ℕ) (past : List Happening)
+      → (did ≡ stepped.Untold untold.DeviceFault → calls_devices line ≡ true) → ((seed : ℕ) (past : List Happening)
       → OfStep config seed (course_of (made_by hand) state.receipts state.clock past) line did (course_of (made_by hand) state.receipts state.clock past))
       → MakesStep config turns line did hand hand state state
-  stays config turns line did hand state ready here = record {
+  stays config turns line did hand state ready differs here = record {
     same = (refl, refl, refl, refl);
     ready = ready;
     received = omega arith;
+    differs = differs;
     steps = λ seed.
         steps_unwatched config seed did state.watch
         (λ past past_now. OfStep config seed (course_of (made_by hand) state.receipts state.clock past) line did (course_of (made_by hand) state.receipts state.clock past_now))

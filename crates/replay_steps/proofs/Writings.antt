@@ -1,10 +1,10 @@
 -- What is written where a write fails, and by several steps.
-use Rattle.std.proofs.Common.{◌≡◌, ◌∙◌, refl, sym, ap, subst, ℕ, ◌+◌, List, [], ◌∷◌, ◌++◌, Option, Some, None, inl, inr, length, map}
+use Rattle.std.proofs.Common.{◌≡◌, ◌∙◌, refl, sym, ap, subst, ℕ, ◌+◌, List, [], ◌∷◌, ◌++◌, true, Option, Some, None, inl, inr, length, map}
 use Rattle.std.proofs.lemmas.List.{map-append, append-nil}
 use Rattle.relay_outside.specs.Told.{Gains, Gained}
 use Rattle.relay_outside.specs.declared.lines.WriteCall.{WriteCall}
 use Rattle.relay_outside.specs.declared.settings.Config.{Config}
-use Rattle.relay_outside.proofs.Telling.{gained_none, gained_one}
+use Rattle.relay_outside.proofs.Telling.{gained_none, gained_one, gained_both}
 use Rattle.relay_core.specs.Entries.{Entry}
 use Rattle.relay_script.specs.Printing.{Printed, ScriptFault, event_of}
 use Rattle.replay_devices.specs.declared.writing.WriteFault.{WriteFault}
@@ -20,22 +20,46 @@ use Rattle.replay_steps.specs.declared.ended.Untold.{Untold}
 use Rattle.replay_steps.specs.declared.ended.Untold.TheVariants as untold
 use Rattle.replay_steps.specs.declared.stepping.Stepped.{Stepped}
 use Rattle.replay_steps.specs.declared.stepping.Stepped.TheVariants as stepped
-use Rattle.replay_steps.specs.Steps.{Course, at_first, after, Makes, IsFaulty, OfStep, Plays, Stops}
-use Rattle.replay_steps.specs.Written.{written, unwritten, EndsFor, ended_by, DidTell, DidPrint, DidStep, Played, Demands, FailsAt, PlayedSome, DidSteps, DidEnd, DidFinish, PlayedAnd, DidWrite, DidPlay, Replays}
+use Rattle.replay_steps.specs.Steps.{Course, at_first, after, calls_devices, Makes, IsFaulty, OfStep, Plays, Stops}
+use Rattle.replay_steps.specs.Written.{Wrote, written, unwritten, EndsFor, ended_by, DidTell, DidPrint, DidStep, Played, Demands, FailsAt, PlayedSome, DidSteps, DidEnd, DidFinish, PlayedAnd, DidWrite, DidPlay, DidReplay, Replays}
 use Rattle.replay_steps.proofs.Courses.{plays_more}
+
+-- Writes of which something holds.
+
+-- none
+pub wrote_none : (told : Option (List WriteCall)) (P : List WriteCall → Type 0) → P [] → Wrote told told P
+wrote_none told P here = record { writes = []; holds = here; told = gained_none told (λ more. more ≡ []) refl }
+
+-- one
+pub wrote_one : (old new : Option (List WriteCall)) (call : WriteCall) (P : List WriteCall → Type 0) → Gains old new call → P (call ∷ []) → Wrote old new P
+wrote_one old new call P gains here = record { writes = call ∷ []; holds = here; told = gained_one old new call (λ more. more ≡ call ∷ []) gains refl }
+
+-- some, and then more
+pub wrote_both : (first second third : Option (List WriteCall)) (P Q R : List WriteCall → Type 0) → ((xs ys : List WriteCall) → P xs → Q ys → R (xs ++ ys))
+    → Wrote first second P → Wrote second third Q → Wrote first third R
+wrote_both first second third P Q R join before after = record {
+  writes = before.writes ++ after.writes;
+  holds = join before.writes after.writes before.holds after.holds;
+  told = gained_both first second third (λ more. more ≡ before.writes) (λ more. more ≡ after.writes) (λ more. more ≡ before.writes ++ after.writes)
+      (λ xs ys p q. ap (λ (zs : List WriteCall). zs ++ ys) p ∙ ap (λ (zs : List WriteCall). before.writes ++ zs) q) before.told after.told;
+}
+
+-- what holds of them, said in another way
+pub wrote_less : (old new : Option (List WriteCall)) (P Q : List WriteCall → Type 0) → ((xs : List WriteCall) → P xs → Q xs) → Wrote old new P → Wrote old new Q
+wrote_less old new P Q less wrote = record { writes = wrote.writes; holds = less wrote.writes wrote.holds; told = wrote.told }
 
 -- One line.
 
 module _ {S : Type 0} (told : S → Option (List WriteCall)) (event : Printed) (old new : S) (Told : Ended → List WriteCall → Type 0) where
   -- a line that was not written ends the replay
   pub not_written : (why : WriteFault) (end : Ended) → EndsFor why end → (why ≡ fault.OutOfMemory → new ≡ old)
-      → (why ≡ fault.Failed → Gains (told old) (told new) (unwritten event)) → Told ended.OutOfMemory [] → Told ended.PrintFault (unwritten event ∷ []) → Gained (told old) (told new) (Told end)
+      → (why ≡ fault.Failed → Gains (told old) (told new) (unwritten event)) → Told ended.OutOfMemory [] → Told ended.PrintFault (unwritten event ∷ []) → Wrote (told old) (told new) (Told end)
   not_written fault.OutOfMemory end is same failed memory fault =
-      subst (λ (e : Ended). Gained (told old) (told new) (Told e)) (sym is)
-      (subst (λ (s : S). Gained (told old) (told s) (Told ended.OutOfMemory)) (sym (same refl)) (gained_none (told old) (Told ended.OutOfMemory) memory))
+      subst (λ (e : Ended). Wrote (told old) (told new) (Told e)) (sym is)
+      (subst (λ (s : S). Wrote (told old) (told s) (Told ended.OutOfMemory)) (sym (same refl)) (wrote_none (told old) (Told ended.OutOfMemory) memory))
   not_written fault.Failed end is same failed memory fault =
-      subst (λ (e : Ended). Gained (told old) (told new) (Told e)) (sym is)
-      (gained_one (told old) (told new) (unwritten event) (Told ended.PrintFault) (failed refl) fault)
+      subst (λ (e : Ended). Wrote (told old) (told new) (Told e)) (sym is)
+      (wrote_one (told old) (told new) (unwritten event) (Told ended.PrintFault) (failed refl) fault)
 
 -- Several steps.
 
@@ -133,16 +157,27 @@ module _ (config : Config) (seed : ℕ) (before : List Step) (r : Course) (s : S
     told_faulty ended.OutOfMemory xs ys x faulty same y = ended_there xs ys x y
     told_faulty ended.DeviceFault xs ys x faulty same y = absurd y
 
-    untold_there : (why : Untold) (xs ys : List WriteCall) → PlayedTo config seed before r xs → ys ≡ [] → DidSteps config seed steps l (Some (ended_by why)) (xs ++ ys)
-    untold_there untold.OutOfMemory xs ys x none = ended_there xs ys x none
-    untold_there untold.DeviceFault xs ys x none = ended_there xs ys x none
+    untold_there : (why : Untold) → (stepped.Untold why ≡ stepped.Untold untold.DeviceFault → calls_devices s ≡ true) → (xs ys : List WriteCall) → PlayedTo config seed before r xs → ys ≡ []
+        → DidSteps config seed steps l (Some (ended_by why)) (xs ++ ys)
+    untold_there untold.OutOfMemory differs xs ys x none = ended_there xs ys x none
+    untold_there untold.DeviceFault differs xs ys x none = record {
+      before = before;
+      step = s;
+      after = behind;
+      steps_are = steps_are;
+      prints = x.prints;
+      course = r;
+      plays = x.plays;
+      calls = differs refl;
+      writes_are = none_written xs ys x.prints x.writes_are none;
+    }
 
-    pub ended_in : (did : Stepped) (end : Ended) → OfStep config seed r s did new → (xs ys : List WriteCall) → PlayedTo config seed before r xs → DidStep did line (Some end) ys
+    pub ended_in : (did : Stepped) (end : Ended) → (did ≡ stepped.Untold untold.DeviceFault → calls_devices s ≡ true) → OfStep config seed r s did new → (xs ys : List WriteCall) → PlayedTo config seed before r xs → DidStep did line (Some end) ys
         → DidSteps config seed steps l (Some end) (xs ++ ys)
-    ended_in stepped.Quiet end makes xs ys x y = absurd (let k : Some end ≡ None = y.0 in cc)
-    ended_in (stepped.Prints e) end makes xs ys x y = printed (event_of e) end xs ys x makes y
-    ended_in stepped.Faulty end makes xs ys x y = told_faulty end xs ys x makes.0 makes.1 y
-    ended_in (stepped.Untold why) end makes xs ys x y = subst (λ (o : Option Ended). DidSteps config seed steps l o (xs ++ ys)) (sym y.0) (untold_there why xs ys x y.1)
+    ended_in stepped.Quiet end differs makes xs ys x y = absurd (let k : Some end ≡ None = y.0 in cc)
+    ended_in (stepped.Prints e) end differs makes xs ys x y = printed (event_of e) end xs ys x makes y
+    ended_in stepped.Faulty end differs makes xs ys x y = told_faulty end xs ys x makes.0 makes.1 y
+    ended_in (stepped.Untold why) end differs makes xs ys x y = subst (λ (o : Option Ended). DidSteps config seed steps l o (xs ++ ys)) (sym y.0) (untold_there why differs xs ys x y.1)
 
 -- some of the steps were made
 pub some_played : (config : Config) (seed : ℕ) (steps before behind : List Step) (r : Course) → steps ≡ before ++ behind → (xs : List WriteCall) → PlayedTo config seed before r xs → PlayedSome config seed steps xs
@@ -232,11 +267,15 @@ module _ (config : Config) (seed : ℕ) (steps : List Step) (l : List Entry) whe
   after_stop line ran how end at stops xs ys x y = and_stopped how end stops (xs ++ ys) (after_all line ran how end at xs ys x y)
 
 -- what was read with it
-pub replays : (config : Config) (seed : ℕ) (steps : List Step) (how : Ending) (end : Ended) (read read_now : Option (List LineCall)) → Gained read read_now (Reads steps how)
-    → (writes : List WriteCall) → DidPlay config seed steps how end writes → Replays config seed end read read_now writes
-replays config seed steps how ended.Finished read read_now reads writes did = record { steps = steps; how = how; reads_are = reads; did = did }
-replays config seed steps how ended.ScriptFault read read_now reads writes did = record { steps = steps; how = how; reads_are = reads; did = did }
-replays config seed steps how ended.ScriptRead read read_now reads writes did = record { steps = steps; how = how; reads_are = reads; did = did }
-replays config seed steps how ended.PrintFault read read_now reads writes did = record { steps = steps; how = how; reads_are = reads; did = did }
-replays config seed steps how ended.OutOfMemory read read_now reads writes did = inr (record { steps = steps; how = how; reads_are = reads; did = did })
-replays config seed steps how ended.DeviceFault read read_now reads writes did = record { steps = steps; how = how; reads_are = reads; did = did }
+pub replays : (config : Config) (seed : ℕ) (steps : List Step) (how : Ending) (end : Ended) (read read_now : Option (List LineCall)) (wrote wrote_now : Option (List WriteCall))
+    → Gained read read_now (Reads steps how) → Wrote wrote wrote_now (DidPlay config seed steps how end) → Replays config seed end read read_now wrote wrote_now
+replays config seed steps how end read read_now wrote wrote_now reads w = by_end end
+    (record { steps = steps; how = how; writes = w.writes; did = w.holds; reads_are = reads; writes_are = w.told })
+  where
+    by_end : (e : Ended) → DidReplay config seed e read read_now wrote wrote_now → Replays config seed e read read_now wrote wrote_now
+    by_end ended.Finished did = did
+    by_end ended.ScriptFault did = did
+    by_end ended.ScriptRead did = did
+    by_end ended.PrintFault did = did
+    by_end ended.OutOfMemory did = inr did
+    by_end ended.DeviceFault did = did

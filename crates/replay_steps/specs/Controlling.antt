@@ -1,5 +1,5 @@
 -- What the control link of a replay tells of a control turn, and what is printed of it.
-use Rattle.std.specs.Prelude.{◌≡◌, ℕ, Bool, true, false, List, Option, Some, Result, Ok, Err}
+use Rattle.std.specs.Prelude.{◌≡◌, ℕ, Bool, true, false, List, Option, Some, IsSome, Result, Ok, Err}
 use Rattle.relay_outside.specs.declared.address.Addr.{Addr}
 use Rattle.relay_outside.specs.declared.keys.KeyCall.{KeyCall}
 use Rattle.relay_outside.specs.declared.link.LinkCall.{LinkCall}
@@ -15,6 +15,7 @@ use Rattle.relay_script.specs.Printing as event
 use Rattle.relay_script.specs.Printing.{Printed, event_of}
 use Rattle.replay_devices.specs.Link.{last_taken}
 use Rattle.replay_steps.specs.declared.ended.Untold.{Untold}
+use Rattle.replay_steps.specs.declared.ended.Untold.TheVariants as untold
 use Rattle.replay_steps.specs.Steps.{filled, Controls}
 
 -- the event is that of a reply, the last one that the link says it sent
@@ -42,9 +43,11 @@ abbrev pub TellsTurn : ControlTurn → (read_fails reply_fails : Bool) → Optio
 TellsTurn turn.ReadFault read_fails reply_fails told source bytes e = (read_fails ≡ true) × (e ≡ event.ReadFault)
 TellsTurn answer read_fails reply_fails told source bytes e = (read_fails ≡ false) × TellsTaken told source bytes × IsOfTurn answer reply_fails told e
 
--- the same of what is printed; without memory for it, or where the link doesn't tell or did otherwise, nothing is said
+-- the same of what is printed; the link did otherwise only where it tells, and no event is that of such a turn. Without memory nothing is said
 abbrev pub TellsEvent : ControlTurn → (read_fails reply_fails : Bool) → Option (List LinkCall) → Addr → List ℕ → Result coded.Printed Untold → Type 0
-TellsEvent answer read_fails reply_fails told source bytes (Err why) = Unit {0}
+TellsEvent answer read_fails reply_fails told source bytes (Err untold.OutOfMemory) = Unit {0}
+TellsEvent answer read_fails reply_fails told source bytes (Err untold.DeviceFault) =
+    IsSome told × ((e : Printed) → TellsTurn answer read_fails reply_fails told source bytes e → ⊥)
 TellsEvent answer read_fails reply_fails told source bytes (Ok e) = TellsTurn answer read_fails reply_fails told source bytes (event_of e)
 
 -- what a control turn did, where its event is printed, with the calls of the port maker and of the key source, where these tell them

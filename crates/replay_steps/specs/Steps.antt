@@ -221,11 +221,31 @@ pub record RelaysPacket (config : Config) (clock : ℕ) (l : List Entry) (old : 
   pub relayed : RelaysBy config l p clock outcome sent new
   pub asked : SendsAsked config outcome (deed_after config relayed.history p outcome).sending old past
 
--- the same of what an arrival came to, whose take has to fail or not; of another packet than the line's nothing is said
+-- what was taken is not what the line asks for: another packet, or one that had to fail; none at an open port; one that is too long, though
+-- the line's is not, or it had to fail; or a failure that had not to be
+abbrev pub TookOther : Taken → Addr → (bytes : List ℕ) → (failing : Bool) → Type 0
+TookOther box.Closed source bytes failing = Unit {0}
+TookOther box.Nothing source bytes failing = Unit {0}
+TookOther (box.Datagram holder from given) source bytes failing = failing ≡ false → from ≡ source → given ≡ bytes → ⊥
+TookOther (box.TooLong from given) source bytes failing = failing ≡ false → 2000 < length bytes → ⊥
+TookOther box.Fault source bytes failing = failing ≡ false
+
+-- one take was made at the end of the port, and was another than the line asks for
+pub record TakesOther (config : Config) (l : List Entry) (port : ℕ) (source : Addr) (bytes : List ℕ) (failing : Bool) (new : List Entry) : Type 0 where
+  pub end : End
+  pub at : IsEndAt config port source.ip end
+  pub number : ℕ
+  pub at_front : IsAbove l (box_of config end.0) number
+  pub taken : Taken
+  pub fits : FitsTaken (holder (box_history l (box_of config end.0) number)) taken
+  pub other : TookOther taken source bytes failing
+  pub list_is : new ≡ l ++ take_entry config end.0 end.1 number taken ∷ []
+
+-- the same of what an arrival came to, whose take has to fail or not
 abbrev pub Arrives : Config → List Entry → (port : ℕ) → Addr → List ℕ → (failing : Bool) → Arrived → List Entry → Type 0
 Arrives config l port source bytes failing (arrived.Packet r) new = (failing ≡ false) × TakesPacket config l port source bytes (taken_by r) new
 Arrives config l port source bytes failing (arrived.Printed e) new = Misses config l port source bytes failing (event_of e) new
-Arrives config l port source bytes failing arrived.Other new = Unit {0}
+Arrives config l port source bytes failing arrived.Other new = TakesOther config l port source bytes failing new
 
 -- Ticks.
 
@@ -327,6 +347,14 @@ abbrev pub IsFaulty : Course → Step → Type 0
 IsFaulty r (step.Take port source bytes) = 64 ≤ length r.held
 IsFaulty r (step.Relay number) = list_any (is_under number) r.held ≡ false
 IsFaulty r _ = ⊥
+
+-- the step calls devices: it takes a datagram or a packet, or relays one
+abbrev pub calls_devices : Step → Bool
+calls_devices (step.Ng source bytes) = true
+calls_devices (step.Take port source bytes) = true
+calls_devices (step.Relay number) = true
+calls_devices (step.Packet port source bytes) = true
+calls_devices _ = false
 
 -- what a step did: it was made, and printed this; or it can't be made, and nothing was done. If it can't be told, nothing is said
 abbrev pub OfStep : Config → (seed : ℕ) → Course → Step → Stepped → Course → Type 0

@@ -3,9 +3,14 @@ use Rattle.std.specs.Prelude.{◌≡◌, ℕ, Bool, true, false, List, Option, S
 use Rattle.relay_outside.specs.declared.keys.KeyCall.{KeyCall}
 use Rattle.relay_outside.specs.declared.ports.PortCall.{PortCall}
 use Rattle.relay_outside.specs.declared.settings.Config.{Config}
-use Rattle.replay_devices.specs.Devices.{Happening}
+use Rattle.rtp_packet.specs.declared.head.Half.{Half}
+use Rattle.port_pool.specs.Ports.{half_port}
+use Rattle.call_cell.specs.Cells as cells
+use Rattle.media_lane.specs.Steps.{Relayed}
+use Rattle.replay_devices.specs.Devices.{Happening, send_fails}
 use Rattle.replay_devices.specs.Watch.{WatchState, StandsFor}
 use Rattle.replay_steps.specs.declared.ended.Untold.{Untold}
+use Rattle.replay_steps.specs.declared.ended.Untold.TheVariants as untold
 use Rattle.replay_steps.specs.declared.stepping.Stepped.{Stepped}
 use Rattle.replay_steps.specs.declared.stepping.Stepped.TheVariants as stepped
 use Rattle.call_cell.specs.declared.outcome.Lost.{Lost}
@@ -38,11 +43,6 @@ StepsSo config seed (stepped.Prints e) old new P = Watches config seed old new P
 StepsSo config seed stepped.Faulty old new P = Watches config seed old new P
 StepsSo config seed (stepped.Untold why) old new P = Unit {0}
 
--- the same of what is printed of a relay; without memory for it, or where its send failed otherwise, nothing is said
-abbrev pub RelaysSo : Config → (seed clock : ℕ) → List Entry → Packet → Result coded.Printed Untold → WatchState → WatchState → List Entry → Type 0
-RelaysSo config seed clock l p (Err why) old now new = Unit {0}
-RelaysSo config seed clock l p (Ok e) old now new = Watches config seed old now (λ past past_now. RelaysPacket config clock l past p.1 (event_of e) new past_now)
-
 -- By which port a relay with this outcome sent, and whether its send returned Ok
 
 abbrev pub failed_send_of : Lost → Option (ℕ × Bool)
@@ -57,3 +57,23 @@ abbrev pub send_of : Outcome → Option (ℕ × Bool)
 send_of (outcomes.Sent port to len) = Some (port, true)
 send_of (outcomes.Lost cause) = failed_send_of cause
 send_of (outcomes.Refused cause) = None
+
+-- it sent by a port, and the send failed where it had not to, or did not where it had to, by whatever happened before
+pub record SendsOther (outcome : Outcome) (old : WatchState) : Type 0 where
+  pub port : ℕ
+  pub done : Bool
+  pub send_is : send_of outcome ≡ Some (port, done)
+  pub other : (config : Config) (seed : ℕ) (past : List Happening) (pair : ℕ) (half : Half) → half_port config pair half ≡ port → StandsFor config seed past old
+      → done ≡ send_fails config past pair half
+
+-- a packet was relayed, and its send was another than the lines ask for
+pub record RelaysOther (l : List Entry) (p : cells.Receipt) (old : WatchState) (new : List Entry) : Type 0 where
+  pub outcome : Outcome
+  pub relayed : Relayed l p outcome new
+  pub sends : SendsOther outcome old
+
+-- the same of what is printed of a relay; without memory for it nothing is said
+abbrev pub RelaysSo : Config → (seed clock : ℕ) → List Entry → Packet → Result coded.Printed Untold → WatchState → WatchState → List Entry → Type 0
+RelaysSo config seed clock l p (Err untold.OutOfMemory) old now new = Unit {0}
+RelaysSo config seed clock l p (Err untold.DeviceFault) old now new = RelaysOther l p.1 old new
+RelaysSo config seed clock l p (Ok e) old now new = Watches config seed old now (λ past past_now. RelaysPacket config clock l past p.1 (event_of e) new past_now)

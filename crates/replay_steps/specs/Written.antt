@@ -19,7 +19,7 @@ use Rattle.replay_steps.specs.declared.ended.Untold.{Untold}
 use Rattle.replay_steps.specs.declared.ended.Untold.TheVariants as untold
 use Rattle.replay_steps.specs.declared.stepping.Stepped.{Stepped}
 use Rattle.replay_steps.specs.declared.stepping.Stepped.TheVariants as stepped
-use Rattle.replay_steps.specs.Steps.{Course, at_first, Makes, IsFaulty, Plays, Stops}
+use Rattle.replay_steps.specs.Steps.{Course, at_first, calls_devices, Makes, IsFaulty, Plays, Stops}
 
 -- the line of an event is written, with a line feed
 abbrev pub written : Printed → WriteCall
@@ -28,6 +28,12 @@ written event = Write (line_of event ++ 10 ∷ []) true
 -- the write of it fails
 abbrev pub unwritten : Printed → WriteCall
 unwritten event = Write (line_of event ++ 10 ∷ []) false
+
+-- Some writes of which P holds, whether the sink tells or not; and a sink that tells was given just these, in order
+pub record Wrote (wrote wrote_now : Option (List WriteCall)) (P : List WriteCall → Type 0) : Type 0 where
+  pub writes : List WriteCall
+  pub holds : P writes
+  pub told : Gained wrote wrote_now (λ more. more ≡ writes)
 
 -- how a replay ends where a line was not written
 abbrev pub EndsFor : WriteFault → Ended → Type 0
@@ -120,13 +126,25 @@ pub record PlayedSome (config : Config) (seed : ℕ) (steps : List Step) (writes
   pub plays : Plays config seed before at_first prints course
   pub writes_are : writes ≡ map written prints
 
+-- steps were made up to one that calls devices, and what they print was written
+pub record DiffersAt (config : Config) (seed : ℕ) (steps : List Step) (writes : List WriteCall) : Type 0 where
+  pub before : List Step
+  pub step : Step
+  pub after : List Step
+  pub steps_are : steps ≡ before ++ step ∷ after
+  pub prints : List Printed
+  pub course : Course
+  pub plays : Plays config seed before at_first prints course
+  pub calls : calls_devices step ≡ true
+  pub writes_are : writes ≡ map written prints
+
 -- what is written by steps, when all were made or the replay ended, and the entries are these
 abbrev pub DidSteps : Config → (seed : ℕ) → List Step → List Entry → Option Ended → List WriteCall → Type 0
 DidSteps config seed steps l None writes = Played config seed steps l writes
 DidSteps config seed steps l (Some ended.ScriptFault) writes = StopsAt config seed steps l writes
 DidSteps config seed steps l (Some ended.PrintFault) writes = FailsAt config seed steps l writes
 DidSteps config seed steps l (Some ended.OutOfMemory) writes = PlayedSome config seed steps writes
-DidSteps config seed steps l (Some ended.DeviceFault) writes = PlayedSome config seed steps writes
+DidSteps config seed steps l (Some ended.DeviceFault) writes = DiffersAt config seed steps writes
 DidSteps config seed steps l (Some ended.Finished) writes = ⊥
 DidSteps config seed steps l (Some ended.ScriptRead) writes = ⊥
 
@@ -160,22 +178,26 @@ DidWrite config seed steps how ended.ScriptRead l writes = (how ≡ ending.Fault
 DidWrite config seed steps how ended.ScriptFault l writes = AtFault config seed steps how l (StopsAt config seed) (written (ScriptFault (length steps + 1))) writes
 DidWrite config seed steps how ended.PrintFault l writes = AtFault config seed steps how l (FailsAt config seed) (unwritten (ScriptFault (length steps + 1))) writes
 DidWrite config seed steps how ended.OutOfMemory l writes = PlayedSome config seed steps writes
-DidWrite config seed steps how ended.DeviceFault l writes = PlayedSome config seed steps writes
+DidWrite config seed steps how ended.DeviceFault l writes = DiffersAt config seed steps writes
 
 -- the same of some entries, after which all calls were stopped
 abbrev pub DidPlay : Config → (seed : ℕ) → List Step → Ending → Ended → List WriteCall → Type 0
 DidPlay config seed steps how ended.OutOfMemory writes = PlayedSome config seed steps writes
-DidPlay config seed steps how ended.DeviceFault writes = PlayedSome config seed steps writes
+DidPlay config seed steps how ended.DeviceFault writes = DiffersAt config seed steps writes
 DidPlay config seed steps how end writes = (l : List Entry) × DidWrite config seed steps how end l writes × Stops config l
 
--- the same of a script that this was read of
-pub record DidReplay (config : Config) (seed : ℕ) (end : Ended) (read read_now : Option (List LineCall)) (writes : List WriteCall) : Type 0 where
+-- One replay, whatever its devices tell: the steps of a script, how its reading ended, and what is written of them. Where the source tells, its
+-- reads are those of these steps with this ending; where the sink tells, it was given just these writes
+pub record DidReplay (config : Config) (seed : ℕ) (end : Ended) (read read_now : Option (List LineCall)) (wrote wrote_now : Option (List WriteCall)) : Type 0 where
   pub steps : List Step
   pub how : Ending
-  pub reads_are : Gained read read_now (Reads steps how)
+  pub writes : List WriteCall
   pub did : DidPlay config seed steps how end writes
+  pub reads_are : Gained read read_now (Reads steps how)
+  pub writes_are : Gained wrote wrote_now (λ more. more ≡ writes)
 
 -- if memory ran out, the script was perhaps not read to its end; then nothing was written
-abbrev pub Replays : Config → (seed : ℕ) → Ended → Option (List LineCall) → Option (List LineCall) → List WriteCall → Type 0
-Replays config seed ended.OutOfMemory read read_now writes = (writes ≡ []) ⊎ DidReplay config seed ended.OutOfMemory read read_now writes
-Replays config seed end read read_now writes = DidReplay config seed end read read_now writes
+abbrev pub Replays : Config → (seed : ℕ) → Ended → (read read_now : Option (List LineCall)) → (wrote wrote_now : Option (List WriteCall)) → Type 0
+Replays config seed ended.OutOfMemory read read_now wrote wrote_now =
+    Gained wrote wrote_now (λ more. more ≡ []) ⊎ DidReplay config seed ended.OutOfMemory read read_now wrote wrote_now
+Replays config seed end read read_now wrote wrote_now = DidReplay config seed end read read_now wrote wrote_now

@@ -1,5 +1,5 @@
 //! The packets of lines `take` and `packet`, and their relays.
-ghost use Rattle.std.specs.Prelude.{◌≡◌, ℕ, List, Some, IsTrue};
+ghost use Rattle.std.specs.Prelude.{◌≡◌, ℕ, List, Some, IsTrue, false};
 ghost use Rattle.relay_outside.specs.Ports.{IsOpen};
 ghost use Rattle.relay_outside.specs.declared.settings.Config.{Config};
 ghost use Rattle.rtp_packet.specs.declared.head.Half.{Half};
@@ -18,7 +18,7 @@ ghost use Rattle.call_cell.specs.Cells as cells;
 ghost use Rattle.media_lane.specs.Steps.{deed_after};
 ghost use Rattle.replay_steps.specs.Arrivals.{IsShutUnless};
 ghost use Rattle.replay_steps.specs.Steps.{Arrives, SendsAsked};
-ghost use Rattle.replay_steps.specs.Watching.{Watches, RelaysSo, send_of, failed_send_of};
+ghost use Rattle.replay_steps.specs.Watching.{Watches, RelaysSo, SendsOther, send_of, failed_send_of};
 
 use crate::ended::Untold;
 use crate::ends::find_end;
@@ -158,8 +158,9 @@ fn failed_send_of(cause: Lost) -> Option<(u16, bool)>
 
 /// Notes the send of a relay with this outcome, if it made one, and says whether it failed just where it had to.
 fn note_send(watch: &mut Watch, outcome: Outcome) -> bool
-    ensures { IsTrue result → (config : Config) (seed : ℕ) (h : List CellEntry) (p : cells.Receipt) → outcome ≡ (deed_after config h p outcome).outcome →
+    ensures asked { IsTrue result → (config : Config) (seed : ℕ) (h : List CellEntry) (p : cells.Receipt) → outcome ≡ (deed_after config h p outcome).outcome →
         Watches config seed watch.old watch.new (SendsAsked config outcome (deed_after config h p outcome).sending) }
+    ensures other { result ≡ false → SendsOther outcome watch.old }
 {
     let Some((port, done)) = send_of(outcome) else {
         return true;

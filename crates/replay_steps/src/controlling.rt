@@ -1,5 +1,5 @@
 //! The step of a line `ng`: one control turn.
-ghost use Rattle.std.specs.Prelude.{◌≡◌, IsTrue, IsSome, IfOk, take};
+ghost use Rattle.std.specs.Prelude.{◌≡◌, false, None, IsTrue, IsSome, IfOk, Err, take};
 ghost use Rattle.relay_outside.specs.LinkTape.{last_sent};
 ghost use Rattle.replay_devices.specs.Link.{last_taken};
 ghost use Rattle.turn_table.specs.Hands.{IsSameHand};
@@ -44,7 +44,8 @@ fn front(bytes: &[u8], count: usize) -> &[u8]
 
 /// Whether the last datagram that the link gave is the one of the line, as far as its room takes it.
 fn gave_line(link: &ReplayLink<'_>, source: Addr, bytes: &[u8]) -> bool
-    ensures { IsTrue result → TellsTaken link.now.told source bytes.now }
+    ensures gave { IsTrue result → TellsTaken link.now.told source bytes.now }
+    ensures other { result ≡ false → TellsTaken link.now.told source bytes.now → ⊥ }
 {
     match link.last_taken() {
         Some((from, taken)) => from == source && taken == front(bytes, DATAGRAM_ROOM),
@@ -65,7 +66,8 @@ fn cause_of(link: &ReplayLink<'_>) -> Untold
 
 /// The reply that was sent last.
 fn reply_event(alloc: Global, link: &ReplayLink<'_>) -> Result<Printed, Untold>
-    ensures { IfOk result (λ event. IsReply link.now.told (event_of event)) }
+    ensures sent { IfOk result (λ event. IsReply link.now.told (event_of event)) }
+    ensures none { result ≡ Err Untold.DeviceFault → IsSome link.now.told × (last_sent link.now.told ≡ None) }
 {
     let Some((to, bytes)) = link.last_sent() else {
         return Err(cause_of(link));

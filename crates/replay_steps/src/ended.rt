@@ -11,7 +11,8 @@ pub enum Ended {
     PrintFault,
     /// There was no memory, or a device in memory told nothing any more.
     OutOfMemory,
-    /// A device in memory did otherwise than the script says. The steps of the lines before were made.
+    /// A device in memory did otherwise than the script says, at a line that calls devices: `ng`, `take`, `relay` or `packet`. The steps of
+    /// the lines before were made.
     DeviceFault,
 }
 

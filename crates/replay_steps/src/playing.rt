@@ -1,6 +1,6 @@
 //! The steps of a script in order.
 ghost use Rattle.std.specs.Prelude.{◌≡◌, ◌≤◌, ◌≢◌, ℕ, [], None, Some, map, length};
-ghost use Rattle.relay_outside.specs.Told.{Gained, Rose};
+ghost use Rattle.relay_outside.specs.Told.{Rose};
 ghost use Rattle.turn_table.specs.Hands.{IsSameHand};
 ghost use Rattle.relay_core.specs.Turning.{made_by};
 ghost use Rattle.relay_script.specs.Steps.{meaning};
@@ -8,7 +8,7 @@ ghost use Rattle.replay_devices.specs.Watch.{StandsFor};
 ghost use Rattle.replay_steps.specs.Ready.{IsReady};
 ghost use Rattle.replay_steps.specs.Steps.{at_first, course_of};
 ghost use Rattle.replay_steps.specs.declared.ended.Untold.{Untold};
-ghost use Rattle.replay_steps.specs.Written.{EndsFor, ended_by, DidTell, DidStep, DidSteps};
+ghost use Rattle.replay_steps.specs.Written.{Wrote, EndsFor, ended_by, DidTell, DidStep, DidSteps};
 
 use crate::ended::{Ended, Untold};
 use crate::state::ReplayState;
@@ -46,7 +46,7 @@ fn untold_ended(why: Untold) -> Ended
 
 /// Tells the number of a faulty line, from 1.
 pub(crate) fn tell_fault<O: LineSink>(alloc: Global, out: &mut O, line: u32) -> Ended
-    ensures told { Gained (O.told out.old) (O.told out.new) (DidTell line result) }
+    ensures told { Wrote (O.told out.old) (O.told out.new) (DidTell line result) }
     ensures fault { result ≡ Ended.PrintFault → Rose (O.faults out.old) (O.faults out.new) }
     ensures later { O.faults out.old ≤ O.faults out.new }
     ensures end { result ≢ Ended.ScriptRead }
@@ -59,7 +59,7 @@ pub(crate) fn tell_fault<O: LineSink>(alloc: Global, out: &mut O, line: u32) -> 
 
 /// What a step did is written. `None`: the replay goes on.
 fn write_step<O: LineSink>(alloc: Global, out: &mut O, stepped: Stepped, line: u32) -> Option<Ended>
-    ensures told { Gained (O.told out.old) (O.told out.new) (DidStep stepped line result) }
+    ensures told { Wrote (O.told out.old) (O.told out.new) (DidStep stepped line result) }
     ensures fault { result ≡ Some Ended.PrintFault → Rose (O.faults out.old) (O.faults out.new) }
     ensures later { O.faults out.old ≤ O.faults out.new }
     ensures end { result ≢ Some Ended.ScriptRead }
@@ -92,7 +92,7 @@ pub(crate) fn play_steps<'a, O: LineSink, R: Wait>(
     requires most { length steps.now ≤ 50000 }
     ensures same { IsSameHand hand.entry result.2 }
     ensures ready { IsReady server.now.config server.now.turns result.2 state.new }
-    ensures told { (seed : ℕ) → StandsFor server.now.config seed [] state.old.watch → Gained (O.told out.old) (O.told out.new) (DidSteps server.now.config seed (map meaning steps.now) (made_by result.2) result.0) }
+    ensures told { (seed : ℕ) → StandsFor server.now.config seed [] state.old.watch → Wrote (O.told out.old) (O.told out.new) (DidSteps server.now.config seed (map meaning steps.now) (made_by result.2) result.0) }
     ensures all { result.0 ≡ None → result.1 ≡ length steps.now }
     ensures few { result.1 ≤ 50000 }
     ensures fault { result.0 ≡ Some Ended.PrintFault → Rose (O.faults out.old) (O.faults out.new) }

@@ -1,6 +1,6 @@
 //! A whole replay.
 ghost use Rattle.std.specs.Prelude.{◌≡◌, ◌≢◌, ◌⊎◌, ◌≤◌, ℕ, [], Option, Some, map, length};
-ghost use Rattle.relay_outside.specs.Told.{Gained, Rose};
+ghost use Rattle.relay_outside.specs.Told.{Rose};
 ghost use Rattle.turn_table.specs.Hands.{IsSameHand};
 ghost use Rattle.relay_core.specs.Turning.{made_by};
 ghost use Rattle.board_turns.specs.Between.{IsBetween, MakesTurn, board_of};
@@ -9,7 +9,7 @@ ghost use Rattle.relay_script.specs.Steps.{meaning};
 ghost use Rattle.replay_devices.specs.Watch.{StandsFor};
 ghost use Rattle.replay_steps.specs.Ready.{IsReady};
 ghost use Rattle.replay_steps.specs.Steps.{at_first, course_of};
-ghost use Rattle.replay_steps.specs.Written.{DidEnd, DidFinish, DidPlay, Replays};
+ghost use Rattle.replay_steps.specs.Written.{Wrote, DidEnd, DidFinish, DidPlay, Replays};
 
 use crate::devices::Devices;
 use crate::ended::Ended;
@@ -27,7 +27,7 @@ use turn_table::Hand;
 
 /// How a replay ends whose steps were all made, by how the reading of its script ended.
 fn end_script<O: LineSink>(alloc: Global, out: &mut O, ending: Ending, line: u32) -> Ended
-    ensures told { Gained (O.told out.old) (O.told out.new) (DidEnd ending line result) }
+    ensures told { Wrote (O.told out.old) (O.told out.new) (DidEnd ending line result) }
     ensures fault { result ≡ Ended.PrintFault → Rose (O.faults out.old) (O.faults out.new) }
     ensures later { O.faults out.old ≤ O.faults out.new }
     ensures read { result ≡ Ended.ScriptRead → ending ≡ Ending.Fault }
@@ -48,7 +48,7 @@ fn end_replay<O: LineSink>(
     line: u32,
 ) -> Ended
     requires { ended ≢ Some Ended.ScriptRead }
-    ensures told { Gained (O.told out.old) (O.told out.new) (DidFinish ended ending line result) }
+    ensures told { Wrote (O.told out.old) (O.told out.new) (DidFinish ended ending line result) }
     ensures fault { result ≡ Ended.PrintFault → (ended ≡ Some Ended.PrintFault) ⊎ Rose (O.faults out.old) (O.faults out.new) }
     ensures later { O.faults out.old ≤ O.faults out.new }
     ensures read { result ≡ Ended.ScriptRead → ending ≡ Ending.Fault }
@@ -89,7 +89,7 @@ fn play_on<'a, O: LineSink, R: Wait>(
     requires most { length steps.now ≤ 50000 }
     requires ready { IsReady server.config server.turns hand state }
     requires none { course_of (made_by hand) state.receipts state.clock [] ≡ at_first }
-    ensures told { (seed : ℕ) → StandsFor server.entry.config seed [] state.entry.watch → Gained (O.told out.old) (O.told out.new) (DidPlay server.entry.config seed (map meaning steps.now) ending result) }
+    ensures told { (seed : ℕ) → StandsFor server.entry.config seed [] state.entry.watch → Wrote (O.told out.old) (O.told out.new) (DidPlay server.entry.config seed (map meaning steps.now) ending result) }
     ensures fault { result ≡ Ended.PrintFault → Rose (O.faults out.old) (O.faults out.new) }
     ensures later { O.faults out.old ≤ O.faults out.new }
     ensures read { result ≡ Ended.ScriptRead → ending ≡ Ending.Fault }
@@ -115,7 +115,7 @@ fn play<'a, O: LineSink, R: Wait>(
     out: &mut O,
 ) -> Ended
     requires most { length steps.now ≤ 50000 }
-    ensures told { Gained (O.told out.old) (O.told out.new) (DidPlay config.now seed (map meaning steps.now) ending result) }
+    ensures told { Wrote (O.told out.old) (O.told out.new) (DidPlay config.now seed (map meaning steps.now) ending result) }
     ensures fault { result ≡ Ended.PrintFault → Rose (O.faults out.old) (O.faults out.new) }
     ensures later { O.faults out.old ≤ O.faults out.new }
     ensures read { result ≡ Ended.ScriptRead → ending ≡ Ending.Fault }
@@ -156,7 +156,7 @@ pub fn replay<S: LineSource, O: LineSink, R: Wait>(
     source: &mut S,
     out: &mut O,
 ) -> Ended
-    ensures replayed { Gained (O.told out.old) (O.told out.new) (Replays config.now seed result (S.told source.old) (S.told source.new)) }
+    ensures replayed { Replays config.now seed result (S.told source.old) (S.told source.new) (O.told out.old) (O.told out.new) }
     ensures script_read { result ≡ Ended.ScriptRead → Rose (S.faults source.old) (S.faults source.new) }
     ensures print_fault { result ≡ Ended.PrintFault → Rose (O.faults out.old) (O.faults out.new) }
     ensures later { (S.faults source.old ≤ S.faults source.new) × (O.faults out.old ≤ O.faults out.new) }

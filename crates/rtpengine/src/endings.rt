@@ -1,6 +1,7 @@
 use outside_real::{LinkFault, socket_addr};
 use relay_app::Status;
 use std::io::{self, Error, ErrorKind};
+use std::process::ExitCode;
 
 /// Why the program ends.
 #[derive(Drop)]
@@ -16,12 +17,28 @@ pub(crate) enum Ending {
 }
 
 impl Ending {
-    /// The status of the program: a run that didn't begin is as one that got no memory.
-    pub(crate) fn status(&self) -> Status {
-        match self {
-            Ending::NoMemory | Ending::NoSeed(_) => Status::OutOfMemory,
-            Ending::Ran(status, _) | Ending::Replayed(status) => *status,
+    ghost use Rattle.std.specs.Prelude.{◌≡◌};
+    ghost use Rattle.std.specs.Process.{exit_status};
+    ghost use Rattle.rtpengine.specs.Endings.{ending_number, status_of};
+
+    /// The ending of a run with these words, which ended with this status, and whose control link met this.
+    pub(crate) fn of_run(words: &[&str], status: Status, fault: Option<LinkFault>) -> Ending
+        ensures { status_of result ≡ status }
+    {
+        match words.first() {
+            Some(&"replay") => Ending::Replayed(status),
+            _ => Ending::Ran(status, fault),
         }
+    }
+
+    /// The number that the program ends with: that of the run's status. Where nothing was run it is that of a run that got no memory.
+    pub(crate) fn exit_code(&self) -> ExitCode
+        ensures { exit_status result ≡ ending_number self.now }
+    {
+        ExitCode::from(match self {
+            Ending::NoMemory | Ending::NoSeed(_) => Status::OutOfMemory.number(),
+            Ending::Ran(status, _) | Ending::Replayed(status) => status.number(),
+        })
     }
 
     /// Writes one line to standard error where the status isn't 0. Nothing depends on that line.

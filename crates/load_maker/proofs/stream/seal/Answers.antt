@@ -1,4 +1,4 @@
-use Rattle.std.proofs.Common.{◌≡◌, ◌∙◌, ap, sym, [], ◌++◌, length, take, ℕ, List}
+use Rattle.std.proofs.Common.{◌≡◌, ◌∙◌, ap, sym, [], take, ℕ, List}
 use Rattle.rtp_packet.specs.Head.{rtp_head}
 use Rattle.sdes_lines.specs.declared.crypto_line.Suite.TheVariants.{Tag80}
 use Rattle.srtp_context.specs.Packets.{protect}

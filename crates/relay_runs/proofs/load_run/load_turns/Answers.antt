@@ -67,3 +67,6 @@ returns-clause-did g c =
     c.work.new.self.looped.totals c.relay_due.new.looped.totals c.args.server.turns c.in-Some.hand c.relay_due.new.hand c.stop.new.hand c.requires.some made.did.are_rounds made.did.board_is made.between due
     c.relay_due.ensures.history between c.stop.ensures.between c.stop.ensures.makes made.totals c.close_table.ensures.legal c.close_table.ensures.timed)
     due.list_is c.close_table.ensures.ins c.requires.open c.stop.ensures.shut)
+
+pub returns-clause-took : goal.returns-clause-took
+returns-clause-took g c ok n le few = c.relay_due.ensures.took (sym c.relay_due.ensures.same.0 ∙ ok) n le few

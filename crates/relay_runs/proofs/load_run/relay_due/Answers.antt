@@ -1,7 +1,8 @@
-use Rattle.std.proofs.Common.{◌∙◌, ap, sym, subst, refl, arith}
+use Rattle.std.proofs.Common.{rules, ◌≡◌, ◌∙◌, ap, sym, subst, refl, true, arith}
 use Rattle.relay_core.specs.Made.{list_of}
 use Rattle.board_turns.specs.Between.{board_of}
-use Rattle.relay_runs.specs.Threads.{HasLaneRoom, rows_each}
+use Rattle.relay_runs.specs.Threads.{HasLaneRoom, all_lanes, rows_each}
+use Rattle.relay_runs.proofs.Dues.{adds_least, all_done, same_taken}
 use Rattle.relay_runs.proofs.Joined.{surveyed_between, has_taken}
 use Rattle.relay_runs.proofs.LoadRuns.{old_list, relays_due}
 use Rattle.relay_runs.proofs.MediaThreads.{have_worked}
@@ -82,3 +83,12 @@ returns-clause-relays g c =
     relays_due c.args.settings.now.config c.args.settings.now.threads (g.C.Clock.range c.args.media.now.clock.now) (g.G.Gate.passed c.args.media.now.gate.now) c.args.hand.now c.survey.new.hand
     c.make_lanes.new.hand c.survey.ensures.same c.make_lanes.ensures.list c.survey-2.new.hand (rows_each c.join_threads.ensures.joins.lanes) c.args.looped.now.totals
     c.join_threads.new.totals c.survey.ensures.whole taken.made taken.list_is taken.gated taken.totals
+
+pub returns-clause-took : goal.returns-clause-took
+returns-clause-took g c ok n le few =
+    let well : c.eq-went_well.result ≡ true = search (rules, ok) in
+    let all = all_done c.make_lanes.new.threads.items c.run_after.new.threads.items c.run_after.ensures.as_many (c.run_after.ensures.done well) in
+    let due = c.make_lanes.ensures.due in
+    let joins = c.join_threads.ensures.joins in
+    let same = same_taken (all_lanes c.run_after.new.threads.items) joins.lanes joins.are in
+    adds_least joins.lanes c.args.looped.now.totals c.join_threads.new.totals n joins.adds few (omega (arith, le, all, due, same))

@@ -1,5 +1,6 @@
-use Rattle.std.proofs.Common.{◌∙◌, inl, inr, refl, true, false}
+use Rattle.std.proofs.Common.{◌∙◌, subst, All, inl, inr, refl, true, false}
 use Rattle.relay_runs.specs.declared.status.Status.TheVariants as status
+use Rattle.relay_runs.specs.Threads.{HasRoom}
 use Rattle.relay_runs.proofs.Runs.{loop_prints, not_begun, not_bound, bound_runs}
 use Rattle.relay_runs.proofs.serving.serve.Goals as goal
 
@@ -11,6 +12,13 @@ returns-in_default-new-clause-served g c = not_begun c.args.settings.now _ _ _ _
 
 pub returns-in_default-thread_room-clause-served : goal.returns-in_default-thread_room-clause-served
 returns-in_default-thread_room-clause-served g c = not_begun c.args.settings.now _ _ _ _ refl refl refl refl
+
+pub returns-in_default-lane_room-clause-served : goal.returns-in_default-lane_room-clause-served
+returns-in_default-lane_room-clause-served g c = not_begun c.args.settings.now _ _ _ _ refl refl refl refl
+
+pub serve_turns-looped-requires-clause-room : goal.serve_turns-looped-requires-clause-room
+serve_turns-looped-requires-clause-room g c lifetimes within =
+    subst (λ n. All (λ thread. HasRoom n thread) c.in-Ok-thread_room.room.items) c.serve_share-share.ensures.lanes c.in-Ok-thread_room.ensures.room
 
 pub returns-in_default-start-clause-served : goal.returns-in_default-start-clause-served
 returns-in_default-start-clause-served g c = not_begun c.args.settings.now _ _ _ _ refl refl refl refl

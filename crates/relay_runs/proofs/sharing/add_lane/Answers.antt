@@ -11,5 +11,6 @@ returns g c = record {
   grown = record { lanes = c.push_reserved.new.self; number = c.index_mut.result.now.number; share = c.index_mut.result.now.share; until = c.index_mut.result.now.until; rooms = c.index_mut.result.now.rooms };
   new_is = refl;
   lanes_are = λ d. c.push_reserved.ensures.items ∙ ap (λ thread. thread.lanes.items ++ c.args.own ∷ []) (same g c d);
+  until = λ d. ap (λ thread. thread.until) (same g c d);
   room = λ d. c.push_reserved.ensures.capacity ∙ ap (λ thread. vec_capacity thread.lanes) (same g c d);
 }

@@ -1,4 +1,4 @@
-use Rattle.std.proofs.Common.{◌≡◌, ◌∙◌, ap, sym, subst, length, arith}
+use Rattle.std.proofs.Common.{◌∙◌, ◌+◌, ap, sym, subst, length}
 use Rattle.std.proofs.lemmas.List.Sorted.{All-permutation, length_permutation}
 use Rattle.std.specs.List.Sorted.{IsPermutation}
 use Rattle.turn_table.specs.Hands.{parts}

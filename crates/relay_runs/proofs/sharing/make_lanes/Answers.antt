@@ -3,6 +3,7 @@ use Rattle.turn_table.specs.Hands.{starts}
 use Rattle.media_lane.specs.Starts.{HasLaneStarts}
 use Rattle.media_lane.proofs.Places.{parts_begin}
 use Rattle.relay_runs.specs.Threads.{AreNumbers, IsFresh, all_lanes, numbers_of}
+use Rattle.relay_runs.proofs.Dues.{due_same}
 use Rattle.relay_runs.proofs.MediaThreads.{left_between}
 use Rattle.relay_runs.proofs.Making.{once_more, long_more, many_more, fresh_more, few_more, room_more, no_fresh, none_once, none_long, none_few, cut_fresh}
 use Rattle.relay_runs.proofs.sharing.make_lanes.Goals as goal
@@ -20,6 +21,7 @@ loop-index-init g c =
       parts_are = omega arith;
       list = refl;
       between = c.requires.between;
+      due = refl;
     }
 
 pub new-requires-clause-begins : goal.new-requires-clause-begins
@@ -53,6 +55,7 @@ loop-index-preserved g c =
       parts_are = (let parts = left.3 in let all = before.parts_are in omega (arith, parts, all));
       list = left.2 ∙ before.list;
       between = left_between config turns c.loop-index.hand c.split_hand-part.new.hand left before.between;
+      due = due_same xs zs c.min-at.result _ lt adds ∙ before.due;
     }
 
 pub returns-clause-once : goal.returns-clause-once

@@ -1,7 +1,7 @@
 use Rattle.std.proofs.Common.{◌≡◌, ◌+◌, ◌≤◌, All, length, vec_capacity}
 use Rattle.turn_table.specs.Hands.{entries, parts}
 use Rattle.board_turns.specs.Between.{IsBetween}
-use Rattle.relay_runs.specs.Threads.{AreNumbers, IsFresh, all_lanes, numbers_of}
+use Rattle.relay_runs.specs.Threads.{AreNumbers, IsFresh, all_lanes, due_in, numbers_of}
 use Rattle.relay_runs.proofs.sharing.make_lanes.Given as goal
 
 abbrev pub invariant-loop-index : goal.invariant-loop-index
@@ -15,4 +15,5 @@ invariant-loop-index g l = record {
   parts_are : parts l.hand + l.index ≡ parts l.fn.hand;
   list : entries l.hand ≡ entries l.fn.hand;
   between : IsBetween l.config l.turns l.hand;
+  due : due_in l.threads.items ≡ due_in l.fn.threads.items;
 }

@@ -1,5 +1,6 @@
-use Rattle.std.proofs.Common.{◌≡◌, ◌≤◌, All, length, vec_capacity}
-use Rattle.relay_runs.specs.Threads.{HasRoom}
+use Rattle.std.proofs.Common.{◌≡◌, ◌*◌, ◌≤◌, All, Some, length, vec_capacity}
+use Rattle.relay_runs.specs.declared.sharing.Due.{Due}
+use Rattle.relay_runs.specs.Threads.{HasRoom, due_in, pairs_before}
 use Rattle.relay_runs.proofs.sharing.thread_room.Given as goal
 
 abbrev pub invariant-loop-number : goal.invariant-loop-number
@@ -7,4 +8,5 @@ invariant-loop-number g l = record {
   as_many : length l.threads.items ≡ l.number;
   capacity : l.share.threads ≤ vec_capacity l.threads;
   room : All (λ thread. HasRoom l.share.lanes thread) l.threads.items;
+  due : (all : Due) → l.due ≡ Some all → due_in l.threads.items ≡ pairs_before all.pairs l.share.threads l.number * all.packets;
 }

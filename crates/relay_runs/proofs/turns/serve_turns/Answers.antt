@@ -56,7 +56,7 @@ join_threads-requires-clause-room g c =
     let worked = have_worked c.args.server.config c.args.settings.now.config c.args.server.turns c.turns.result.now (lane_count c.args.server.config c.args.settings.now.threads) c.serve_share-share.result.lanes (g.C.Clock.range c.args.media.now.clock.now) (g.G.Gate.passed c.args.media.now.gate.now)
     c.make_lanes.new.threads.items c.run_beside.new.threads.items (sym c.requires.config) c.turns.ensures (c.serve_share-share.ensures.lanes ∙ ap (λ k. lane_count k c.args.settings.now.threads) (sym c.requires.config)) c.run_beside.ensures.as_many
     c.make_lanes.ensures.fresh c.make_lanes.ensures.once c.make_lanes.ensures.count c.run_beside.ensures.threads in
-    subst (λ n. HasLaneRoom n c.args.prepared.lanes) (ap (λ k. lane_count k c.args.settings.now.threads) c.requires.config ∙ sym worked.long) c.requires.lanes
+    subst (λ n. HasLaneRoom n c.args.prepared.lanes) (ap (λ k. lane_count k c.args.settings.now.threads) (sym c.requires.config) ∙ sym worked.long) c.requires.lanes
 
 pub survey-requires-clause-all : goal.survey-requires-clause-all
 survey-requires-clause-all g c =

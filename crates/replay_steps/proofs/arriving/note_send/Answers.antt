@@ -4,8 +4,8 @@ use Rattle.replay_steps.proofs.SendsTold.{IsUnsent, IsSentBy, tells_send, unsent
 use Rattle.replay_steps.proofs.Watchings.{false_is, differ}
 use Rattle.replay_steps.proofs.arriving.note_send.Goals as goal
 
-pub returns : goal.returns
-returns c told config seed h p is =
+pub returns-clause-asked : goal.returns-clause-asked
+returns-clause-asked c told config seed h p is =
     let outcome = c.args.outcome in
     let by = subst (λ (o : Option (ℕ × Bool)). MatchOption o (IsUnsent config h p outcome) (λ x. IsSentBy config h p outcome x.0 x.1)) (sym c.send_of.ensures ∙ c.in-Some.is)
     (tells_send config h p outcome is) in
@@ -13,8 +13,8 @@ returns c told config seed h p is =
     (λ pair half at past s. c.send_fails-failing.ensures config seed past pair half at s)
     (λ pair half ok at. c.sent.ensures config seed pair half ok at) (differ c.in-Some.done c.send_fails-failing.result (false_is _ told))
 
-pub returns-in_default : goal.returns-in_default
-returns-in_default c told config seed h p is =
+pub returns-in_default-clause-asked : goal.returns-in_default-clause-asked
+returns-in_default-clause-asked c told config seed h p is =
     let outcome = c.args.outcome in
     unsent config h p seed c.args.watch.now outcome
     (subst (λ (o : Option (ℕ × Bool)). MatchOption o (IsUnsent config h p outcome) (λ x. IsSentBy config h p outcome x.0 x.1)) (sym c.send_of.ensures ∙ c.in_default.is)

@@ -1,6 +1,5 @@
 use Rattle.std.proofs.Common.{◌∙◌, ◌+◌, suc, refl, sym, ap, subst, List, [], ◌∷◌, ◌++◌, Some, None, map, drop, arith}
 use Rattle.std.proofs.lemmas.List.{append_assoc}
-use Rattle.relay_outside.proofs.Telling.{gained_none, gained_both, gained_less}
 use Rattle.relay_core.specs.Turning.{made_by}
 use Rattle.relay_script.specs.Steps.{Step, meaning}
 use Rattle.replay_devices.specs.Devices.{Happening, Made}
@@ -10,7 +9,7 @@ use Rattle.replay_steps.specs.Written.{DidStep, Played, PlayedSome, DidSteps}
 use Rattle.replay_steps.proofs.Fronts.{upto, step_at, upto_next, upto_count, upto_all}
 use Rattle.replay_steps.proofs.Steps.{ready_still}
 use Rattle.replay_steps.proofs.Watchings.{some_step, one_step}
-use Rattle.replay_steps.proofs.Writings.{PlayedTo, none_played, went_on, ended_in, some_played, all_played}
+use Rattle.replay_steps.proofs.Writings.{PlayedTo, wrote_none, wrote_both, wrote_less, none_played, went_on, ended_in, some_played, all_played}
 use Rattle.replay_steps.proofs.playing.play_steps.Goals as goal
 
 pub steps-init : goal.steps-init
@@ -20,7 +19,7 @@ steps-init g c = record {
   received = let none = ap (λ (r : Course). r.received) c.requires.none in omega (arith, none);
   below = omega arith;
   numbered = refl;
-  told = λ seed begins. ([], begins, gained_none (g.O.LineSink.told c.args.out.now) _ (none_played c.args.server.now.config seed _ c.requires.none));
+  told = λ seed begins. ([], begins, wrote_none (g.O.LineSink.told c.args.out.now) _ (none_played c.args.server.now.config seed _ c.requires.none));
   later = omega arith;
 }
 
@@ -38,10 +37,10 @@ returns-in-Some-clause-told g c seed begins =
     let less = c.steps-test.true in
     let count = upto_count steps made x less c.index-steps-made.is in
     let numbered = c.steps.invariant.numbered in
-    gained_both (g.O.LineSink.told c.args.out.now) (g.O.LineSink.told c.steps.out) (g.O.LineSink.told c.write_step.new.out) (PlayedTo config seed (upto made steps) (from told.0))
+    wrote_both (g.O.LineSink.told c.args.out.now) (g.O.LineSink.told c.steps.out) (g.O.LineSink.told c.write_step.new.out) (PlayedTo config seed (upto made steps) (from told.0))
     (DidStep did (c.steps.line + 1) (Some c.in-Some.ended)) (DidSteps config seed (map meaning steps) (made_by c.make_step-stepped.result.1) (Some c.in-Some.ended))
     (ended_in config seed (upto made steps) (from told.0) (meaning x) (to step.0) (c.steps.line + 1) (map meaning steps) (map meaning (drop (suc made) steps)) (step_at steps made x less c.index-steps-made.is)
-    (made_by c.make_step-stepped.result.1) (omega (arith, count, numbered)) refl did c.in-Some.ended step.1)
+    (made_by c.make_step-stepped.result.1) (omega (arith, count, numbered)) refl did c.in-Some.ended c.make_step-stepped.ensures.differs step.1)
     told.2 c.in-Some.ensures.told
 
 pub returns-in_default-clause-told : goal.returns-in_default-clause-told
@@ -52,7 +51,7 @@ returns-in_default-clause-told g c seed begins =
     let x = c.index-steps-made.result in
     let told = c.steps.invariant.told seed begins in
     let at = course_of (made_by c.steps.hand) c.steps.state.receipts c.steps.state.clock told.0 in
-    gained_less (g.O.LineSink.told c.args.out.now) (g.O.LineSink.told c.steps.out) (PlayedTo config seed (upto made steps) at) (PlayedSome config seed (map meaning steps))
+    wrote_less (g.O.LineSink.told c.args.out.now) (g.O.LineSink.told c.steps.out) (PlayedTo config seed (upto made steps) at) (PlayedSome config seed (map meaning steps))
     (some_played config seed (map meaning steps) (upto made steps) (meaning x ∷ map meaning (drop (suc made) steps)) at (step_at steps made x c.steps-test.true c.index-steps-made.is)) told.2
 
 pub returns-then-not-tell-clause-told : goal.returns-then-not-tell-clause-told
@@ -68,7 +67,7 @@ returns-then-not-tell-clause-told g c seed begins =
     let step = one_step config seed from (meaning x) did to c.steps.state.watch c.make_step-stepped.new.state.watch (c.make_step-stepped.ensures.steps seed) told.0 told.1 (c.write_step.ensures.known c.in-None.is) in
     let less = c.steps-test.true in
     let behind = map meaning (drop (suc made) steps) in
-    gained_both (g.O.LineSink.told c.args.out.now) (g.O.LineSink.told c.steps.out) (g.O.LineSink.told c.write_step.new.out) (PlayedTo config seed (upto made steps) (from told.0))
+    wrote_both (g.O.LineSink.told c.args.out.now) (g.O.LineSink.told c.steps.out) (g.O.LineSink.told c.write_step.new.out) (PlayedTo config seed (upto made steps) (from told.0))
     (DidStep did (c.steps.line + 1) None) (PlayedSome config seed (map meaning steps))
     (λ xs ys played wrote. some_played config seed (map meaning steps) (upto made steps ++ meaning x ∷ []) behind (after (meaning x) (to step.0))
     (step_at steps made x less c.index-steps-made.is ∙ sym (append_assoc (upto made steps) (meaning x ∷ []) behind)) (xs ++ ys)
@@ -84,7 +83,7 @@ returns-clause-told g c seed begins =
     let most = c.steps.invariant.below in
     let least = c.steps-test.false in
     let at = course_of (made_by c.steps.hand) c.steps.state.receipts c.steps.state.clock told.0 in
-    gained_less (g.O.LineSink.told c.args.out.now) (g.O.LineSink.told c.steps.out) (PlayedTo config seed (upto made steps) at) (Played config seed (map meaning steps) (made_by c.steps.hand))
+    wrote_less (g.O.LineSink.told c.args.out.now) (g.O.LineSink.told c.steps.out) (PlayedTo config seed (upto made steps) at) (Played config seed (map meaning steps) (made_by c.steps.hand))
     (all_played config seed (map meaning steps) (upto made steps) at (made_by c.steps.hand) (upto_all steps made (omega (arith, most, least))) refl) told.2
 
 pub steps-preserved : goal.steps-preserved
@@ -115,7 +114,7 @@ steps-preserved g c =
           let step = one_step config seed from (meaning x) did to c.steps.state.watch c.make_step-stepped.new.state.watch (c.make_step-stepped.ensures.steps seed) told.0 told.1 (c.write_step.ensures.known c.in-None.is) in (
             Made (step_of (meaning x)) ∷ step.0,
             c.in-Ok.ensures config seed step.0 step.2,
-            gained_both (g.O.LineSink.told c.args.out.now) (g.O.LineSink.told c.steps.out) (g.O.LineSink.told c.write_step.new.out) (PlayedTo config seed (upto made steps) (from told.0))
+            wrote_both (g.O.LineSink.told c.args.out.now) (g.O.LineSink.told c.steps.out) (g.O.LineSink.told c.write_step.new.out) (PlayedTo config seed (upto made steps) (from told.0))
                 (DidStep did (c.steps.line + 1) None) (PlayedTo config seed (upto (made + 1) steps) (after (meaning x) (to step.0)))
                 (λ xs ys played wrote. subst (λ (k : List Step). PlayedTo config seed k (after (meaning x) (to step.0)) (xs ++ ys)) (upto_next steps made x test c.index-steps-made.is)
                 (went_on config seed (upto made steps) (from told.0) (meaning x) (to step.0) (c.steps.line + 1) did step.1 xs ys played wrote))

@@ -1,11 +1,11 @@
 use Rattle.std.proofs.Common.{◌≡◌, ◌-◌, ◌≤◌, ℕ, List, [], length}
-use Rattle.relay_outside.specs.Told.{Gained}
 use Rattle.turn_table.specs.Hands.{IsSameHand}
 use Rattle.relay_core.specs.Turning.{made_by}
 use Rattle.replay_devices.specs.Devices.{Happening}
 use Rattle.replay_devices.specs.Watch.{StandsFor}
 use Rattle.replay_steps.specs.Ready.{IsReady}
 use Rattle.replay_steps.specs.Steps.{course_of}
+use Rattle.replay_steps.specs.Written.{Wrote}
 use Rattle.replay_steps.proofs.Fronts.{upto}
 use Rattle.replay_steps.proofs.Writings.{PlayedTo}
 use Rattle.replay_steps.proofs.playing.play_steps.Given as goal
@@ -18,7 +18,7 @@ invariant-steps g l = record {
   below : l.made ≤ length l.steps;
   numbered : l.line ≡ l.made;
   told : (seed : ℕ) → StandsFor l.server.config seed [] l.fn.state.watch → (past : List Happening) × StandsFor l.server.config seed past l.state.watch
-      × Gained (g.O.LineSink.told l.fn.out) (g.O.LineSink.told l.out) (PlayedTo l.server.config seed (upto l.made l.steps) (course_of (made_by l.hand) l.state.receipts l.state.clock past));
+      × Wrote (g.O.LineSink.told l.fn.out) (g.O.LineSink.told l.out) (PlayedTo l.server.config seed (upto l.made l.steps) (course_of (made_by l.hand) l.state.receipts l.state.clock past));
   later : g.O.LineSink.faults l.fn.out ≤ g.O.LineSink.faults l.out;
 }
 

@@ -1,12 +1,10 @@
 use Rattle.std.proofs.Common.{◌∙◌, refl, sym, ap, subst, Some, None, Err}
-use Rattle.relay_outside.specs.Told.{Gained}
-use Rattle.relay_outside.proofs.Telling.{gained_one}
 use Rattle.relay_script.specs.Printing.{event_of}
 use Rattle.replay_steps.specs.declared.ended.Ended.{Ended}
 use Rattle.replay_steps.specs.declared.stepping.Stepped.{Stepped}
 use Rattle.replay_steps.specs.declared.stepping.Stepped.TheVariants as stepped
-use Rattle.replay_steps.specs.Written.{written, DidStep}
-use Rattle.replay_steps.proofs.Writings.{not_written}
+use Rattle.replay_steps.specs.Written.{Wrote, written, DidStep}
+use Rattle.replay_steps.proofs.Writings.{wrote_one, not_written}
 use Rattle.replay_steps.proofs.playing.write_step.Goals as goal
 
 pub returns-in-Ok-clause-told : goal.returns-in-Ok-clause-told
@@ -14,14 +12,14 @@ returns-in-Ok-clause-told g c =
     let e = c.in-Prints.event in
     let was = g.O.LineSink.told c.args.out.now in
     let is = g.O.LineSink.told c.write_event.new.out in
-    subst (λ (did : Stepped). Gained was is (DidStep did c.args.line None)) (sym c.in-Prints.is)
-    (gained_one was is (written (event_of e)) (DidStep (stepped.Prints e) c.args.line None) c.in-Ok.ensures.written refl)
+    subst (λ (did : Stepped). Wrote was is (DidStep did c.args.line None)) (sym c.in-Prints.is)
+    (wrote_one was is (written (event_of e)) (DidStep (stepped.Prints e) c.args.line None) c.in-Ok.ensures.written refl)
 
 pub returns-in-Prints-clause-told : goal.returns-in-Prints-clause-told
 returns-in-Prints-clause-told g c =
     let e = c.in-Prints.event in
     let was = g.O.LineSink.told c.args.out.now in
     let is = g.O.LineSink.told c.write_event.new.out in
-    subst (λ (did : Stepped). Gained was is (DidStep did c.args.line (Some c.write_ended.result))) (sym c.in-Prints.is)
+    subst (λ (did : Stepped). Wrote was is (DidStep did c.args.line (Some c.write_ended.result))) (sym c.in-Prints.is)
     (not_written g.O.LineSink.told (event_of e) c.args.out.now c.write_event.new.out (λ (end : Ended). DidStep (stepped.Prints e) c.args.line (Some end)) c.in-Err.fault c.write_ended.result
     c.write_ended.ensures (λ q. c.write_event.ensures.memory (c.in-Err.is ∙ ap Err q)) (λ q. c.write_event.ensures.failed (c.in-Err.is ∙ ap Err q)) refl refl)

@@ -1,8 +1,7 @@
 use Rattle.std.proofs.Common.{refl, sym, subst, map}
 use Rattle.relay_outside.specs.declared.settings.Config.{Config}
-use Rattle.relay_outside.specs.Told.{Gained}
 use Rattle.relay_script.specs.Steps.{meaning}
-use Rattle.replay_steps.specs.Written.{DidPlay}
+use Rattle.replay_steps.specs.Written.{Wrote, DidPlay}
 use Rattle.replay_steps.proofs.Beginnings.{ready_first, course_first}
 use Rattle.replay_steps.proofs.replaying.play.Goals as goal
 
@@ -23,5 +22,5 @@ play_on-requires-clause-none g c =
 
 pub returns-clause-told : goal.returns-clause-told
 returns-clause-told g c =
-    subst (λ (k : Config). Gained (g.O.LineSink.told c.args.out.now) (g.O.LineSink.told c.play_on.new.out) (DidPlay k c.args.seed (map meaning c.args.steps.now) c.args.ending c.play_on.result))
+    subst (λ (k : Config). Wrote (g.O.LineSink.told c.args.out.now) (g.O.LineSink.told c.play_on.new.out) (DidPlay k c.args.seed (map meaning c.args.steps.now) c.args.ending c.play_on.result))
     c.in-Ok-start.ensures.config (c.play_on.ensures.told c.args.seed (c.in-Ok.ensures c.in-Ok-start.server.config))

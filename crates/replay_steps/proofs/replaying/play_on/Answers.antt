@@ -1,11 +1,10 @@
 use Rattle.std.proofs.Common.{◌∙◌, ap, sym, ℕ, ◌+◌, map}
 use Rattle.std.proofs.lemmas.List.{length-map}
-use Rattle.relay_outside.proofs.Telling.{gained_both}
 use Rattle.relay_core.specs.Turning.{made_by}
 use Rattle.relay_script.specs.Steps.{meaning}
 use Rattle.replay_steps.specs.Written.{DidSteps, DidFinish, DidPlay}
 use Rattle.replay_steps.proofs.Courses.{stops}
-use Rattle.replay_steps.proofs.Writings.{after_stop}
+use Rattle.replay_steps.proofs.Writings.{wrote_both, after_stop}
 use Rattle.replay_steps.proofs.replaying.play_on.Goals as goal
 
 pub returns-clause-told : goal.returns-clause-told
@@ -18,7 +17,7 @@ returns-clause-told g c seed stands =
     let how = c.args.ending in
     let end = c.end_replay-ended.result in
     let closed = c.close.ensures.legal in
-    gained_both (g.O.LineSink.told c.args.out.now) (g.O.LineSink.told c.play_steps-ended.new.out) (g.O.LineSink.told c.end_replay-ended.new.out) (DidSteps config seed steps l ran)
+    wrote_both (g.O.LineSink.told c.args.out.now) (g.O.LineSink.told c.play_steps-ended.new.out) (g.O.LineSink.told c.end_replay-ended.new.out) (DidSteps config seed steps l ran)
     (DidFinish ran how line end) (DidPlay config seed steps how end)
     (after_stop config seed steps l line ran how end (λ q. ap (λ (k : ℕ). k + 1) (c.play_steps-ended.ensures.all q ∙ sym (length-map c.args.steps.now meaning))) (stops config c.play_steps-ended.result.2 c.stop.new.hand c.stop.ensures.makes (closed.0, closed.1, closed.2, closed.3)))
     (c.play_steps-ended.ensures.told seed stands) c.end_replay-ended.ensures.told

@@ -1,11 +1,9 @@
 use Rattle.std.proofs.Common.{sym, subst, List, map}
 use Rattle.relay_outside.specs.Told.{Gained}
-use Rattle.relay_outside.proofs.Telling.{gained_less}
 use Rattle.replay_devices.specs.Scripts.{Reads}
 use Rattle.relay_script.specs.declared.step.Step as coded
 use Rattle.relay_script.specs.Steps.{meaning}
 use Rattle.replay_devices.specs.declared.script.Ending.{Ending}
-use Rattle.replay_steps.specs.Written.{DidPlay, Replays}
 use Rattle.replay_steps.proofs.Writings.{replays}
 use Rattle.replay_steps.proofs.replaying.replay.Goals as goal
 
@@ -17,8 +15,7 @@ returns-clause-replayed g c =
     let how = c.ending.result in
     let read = g.S.LineSource.told c.args.source.now in
     let read_now = g.S.LineSource.told c.read_script.new.source in
-    gained_less (g.O.LineSink.told c.args.out.now) (g.O.LineSink.told c.play.new.out) (DidPlay config seed steps how c.play.result) (Replays config seed c.play.result read read_now)
-    (replays config seed steps how c.play.result read read_now
+    replays config seed steps how c.play.result read read_now (g.O.LineSink.told c.args.out.now) (g.O.LineSink.told c.play.new.out)
     (subst (λ (xs : List coded.Step). Gained read read_now (Reads (map meaning xs) how)) (sym c.steps-2.ensures)
-    (subst (λ (e : Ending). Gained read read_now (Reads (map meaning c.in-Ok.script.steps) e)) (sym c.ending.ensures) c.in-Ok.ensures.reads)))
+    (subst (λ (e : Ending). Gained read read_now (Reads (map meaning c.in-Ok.script.steps) e)) (sym c.ending.ensures) c.in-Ok.ensures.reads))
     c.play.ensures.told

@@ -13,6 +13,7 @@ returns-then-not-note_calls g c =
       same = turn.same;
       ready = ready_after c.args.server.now.config c.args.server.now.turns c.args.hand.now c.make_turn-event.new.hand c.args.state.now _ c.requires.ready turn.same turn.between turn.open turn.receipts refl refl;
       received = omega arith;
+      differs = λ q. refl;
       steps = λ seed. tt;
     }
 
@@ -25,6 +26,7 @@ returns g c =
       same = turn.same;
       ready = ready_after config c.args.server.now.turns c.args.hand.now c.make_turn-event.new.hand state _ c.requires.ready turn.same turn.between turn.open turn.receipts refl refl;
       received = omega arith;
+      differs = λ q. refl;
       steps = λ seed.
           commanded config seed (made_by c.args.hand.now) (made_by c.make_turn-event.new.hand) state.clock c.args.source c.args.bytes.now state.receipts c.fails-read_fails.result c.fails-reply_fails.result
           state.watch c.note_calls.new.watch c.note_reply.new.watch state.devices.ports.told c.make_turn-event.new.devices.ports.told state.devices.keys.told c.make_turn-event.new.devices.keys.told

@@ -35,7 +35,7 @@ pass-event-requires g c =
 pub returns-in_default : goal.returns-in_default
 returns-in_default g c =
     stays c.args.server.now.config c.args.server.now.turns (line.Packet c.args.packet.port c.args.packet.source c.args.packet.bytes.now) (stepped.Untold untold.OutOfMemory) c.args.hand c.args.state.now c.requires.ready
-    (λ seed past. tt)
+    (λ q. refl) (λ seed past. tt)
 
 pub returns-in-Packet : goal.returns-in-Packet
 returns-in-Packet g c =
@@ -53,6 +53,7 @@ returns-in-Packet g c =
       same = leaves.same;
       ready = ready_again k t c.args.hand c.pass-event.result.1 state _ ready leaves refl refl (receipts_kept k l new state.receipts.list keeps ready.receipts) ready.room;
       received = omega arith;
+      differs = λ q. refl;
       steps = λ seed.
           passed k seed l state.receipts state.clock state.watch c.pass-event.new.watch c.args.packet.port c.args.packet.source c.args.packet.bytes.now c.in-Packet.receipt mid new
           c.pass-event.result.0 c.tell_event.result c.fails-failing.result c.tell_event.ensures (λ past s. c.fails-failing.ensures k seed past s)
@@ -73,6 +74,7 @@ returns-in-Printed g c =
       same = leaves.same;
       ready = ready_again k t c.args.hand c.arrive-arrived.result.1 state _ ready leaves refl refl (receipts_kept k l new state.receipts.list c.arrive-arrived.ensures.receipts ready.receipts) ready.room;
       received = omega arith;
+      differs = λ q. refl;
       steps = λ seed past s. (
         past,
         passes_none k seed l state.receipts state.clock past c.fails-failing.result (c.fails-failing.ensures k seed past s) c.args.packet.port c.args.packet.source c.args.packet.bytes.now
@@ -94,5 +96,6 @@ returns-in-Other g c =
       ready = ready_again k t c.args.hand c.arrive-arrived.result.1 state _ ready leaves refl refl
           (receipts_kept k (made_by c.args.hand) (made_by c.arrive-arrived.result.1) state.receipts.list c.arrive-arrived.ensures.receipts ready.receipts) ready.room;
       received = omega arith;
+      differs = λ q. refl;
       steps = λ seed. tt;
     })

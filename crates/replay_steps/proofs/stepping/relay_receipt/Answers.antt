@@ -35,6 +35,7 @@ returns-in-Some g c =
           (subst (λ (list : List Numbered). AreReceipts k new list) (sym found.new_is) (receipts_passed k l new c.in-Some.receipt _ c.pass-event.ensures.receipts one.apart one.others))
           (found.room_is ∙ ready.room);
       received = let as_many = found.received_is in omega (arith, as_many);
+      differs = λ q. refl;
       steps = λ seed.
           relayed k seed l state.receipts state.clock state.watch c.pass-event.new.watch c.args.number c.in-Some.receipt new c.take.new.self c.pass-event.result.0 c.tell_event.result c.tell_event.ensures
           found (c.pass-event.ensures.relays seed);
@@ -51,5 +52,6 @@ returns-in-None g c =
       same = (refl, refl, refl, refl);
       ready = ready_still config c.args.server.now.turns c.args.hand state _ c.requires.ready refl refl nothing.0;
       received = omega (arith, as_many);
+      differs = λ q. refl;
       steps = λ seed past s. (past, (lacks_under c.args.number state.receipts.list nothing.1, same_receipts l l state.receipts c.take.new.self state.clock past refl nothing.0), s);
     }

@@ -28,12 +28,12 @@ arrive-arrived-requires-clause-opens g c =
 pub returns-in_default : goal.returns-in_default
 returns-in_default g c =
     stays c.args.server.now.config c.args.server.now.turns (line.Take c.args.packet.port c.args.packet.source c.args.packet.bytes.now) (stepped.Untold untold.OutOfMemory) c.args.hand c.args.state.now c.requires.ready
-    (λ seed past. tt)
+    (λ q. refl) (λ seed past. tt)
 
 pub returns-then-is_full : goal.returns-then-is_full
 returns-then-is_full g c =
     stays c.args.server.now.config c.args.server.now.turns (line.Take c.args.packet.port c.args.packet.source c.args.packet.bytes.now) stepped.Faulty c.args.hand c.args.state.now c.requires.ready
-    (λ seed past. (many_held c.args.state.now.receipts.list (c.if-is_full.ensures.0 refl), refl))
+    (λ q. refl) (λ seed past. (many_held c.args.state.now.receipts.list (c.if-is_full.ensures.0 refl), refl))
 
 pub returns-in-Packet : goal.returns-in-Packet
 returns-in-Packet g c =
@@ -54,6 +54,7 @@ returns-in-Packet g c =
           (receipts_pushed k new was.list (_, r) (receipts_kept k l new was.list c.arrive-arrived.ensures.receipts ready.receipts) good.0 (all_apart k l r was.list good.1 ready.receipts)))
           (c.keep.ensures.room ∙ ready.room);
       received = let more = c.keep.ensures.received in omega (arith, more);
+      differs = λ q. refl;
       steps = λ seed past s. (
         past,
         holds_packet k seed l was state.clock past c.fails-failing.result (c.fails-failing.ensures k seed past s) c.args.packet.port c.args.packet.source c.args.packet.bytes.now r c.keep.result new
@@ -78,6 +79,7 @@ returns-in-Printed g c =
       same = leaves.same;
       ready = ready_again k t c.args.hand c.arrive-arrived.result.1 state _ ready leaves refl refl (receipts_kept k l new was.list c.arrive-arrived.ensures.receipts ready.receipts) ready.room;
       received = omega arith;
+      differs = λ q. refl;
       steps = λ seed past s. (
         past,
         holds_none k seed l was state.clock past c.fails-failing.result (c.fails-failing.ensures k seed past s) c.args.packet.port c.args.packet.source c.args.packet.bytes.now
@@ -99,6 +101,7 @@ returns-in-Other g c =
       ready = ready_again k t c.args.hand c.arrive-arrived.result.1 state _ ready leaves refl refl
           (receipts_kept k (made_by c.args.hand) (made_by c.arrive-arrived.result.1) state.receipts.list c.arrive-arrived.ensures.receipts ready.receipts) ready.room;
       received = omega arith;
+      differs = λ q. refl;
       steps = λ seed. tt;
     })
 

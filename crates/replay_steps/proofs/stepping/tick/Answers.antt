@@ -1,10 +1,11 @@
-use Rattle.std.proofs.Common.{refl, ap, arith}
+use Rattle.std.proofs.Common.{◌≡◌, refl, ap, arith}
 use Rattle.relay_core.specs.Turning.{made_by}
 use Rattle.board_turns.specs.Between.{board_of}
 use Rattle.board_turns.specs.Ticking.{tick_entry}
 use Rattle.relay_script.specs.declared.event.Printed.TheVariants as printed
 use Rattle.relay_script.specs.Printing as event
 use Rattle.relay_script.specs.Steps as line
+use Rattle.replay_steps.specs.declared.ended.Untold.TheVariants as untold
 use Rattle.replay_steps.specs.declared.stepping.Stepped.TheVariants as stepped
 use Rattle.replay_steps.specs.Steps.{course_of, OfStep}
 use Rattle.replay_steps.proofs.Controls.{turns_board}
@@ -28,6 +29,7 @@ returns g c =
       same = turn.same;
       ready = ready_after config turns old new state _ c.requires.ready turn.same turn.between turn.open (makes_keeps config turns old new entry c.requires.ready.between ticks.makes) refl refl;
       received = omega arith;
+      differs = λ q. absurd (let k : did ≡ stepped.Untold untold.DeviceFault = q in cc);
       steps = λ seed.
           steps_unwatched config seed did state.watch
           (λ past past_now. OfStep config seed (course_of (made_by old) state.receipts state.clock past) line.Tick did (course_of (made_by new) state.receipts state.clock past_now))

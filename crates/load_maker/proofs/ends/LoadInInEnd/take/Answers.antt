@@ -1,4 +1,4 @@
-use Rattle.std.proofs.Common.{◌∙◌, ◌≡◌, ap, sym, subst, arith, ◌+◌, ◌<◌, nat_lt, Some, Option, MatchOption, length, take}
+use Rattle.std.proofs.Common.{◌∙◌, ◌≡◌, ap, sym, subst, arith, ◌+◌, ◌<◌, nat_lt, Some, MatchOption, length, take}
 use Rattle.relay_outside.specs.declared.ports.InCall.TheVariants as into
 use Rattle.relay_outside.specs.declared.ports.InGiven.TheVariants as given
 use Rattle.relay_outside.specs.Told.{WhereTold}

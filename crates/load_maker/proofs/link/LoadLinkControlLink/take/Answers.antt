@@ -1,4 +1,4 @@
-use Rattle.std.proofs.Common.{ap, sym, refl, subst, ◌∙◌, arith, ◌≡◌, Option, MatchOption, length}
+use Rattle.std.proofs.Common.{ap, sym, refl, subst, ◌∙◌, arith, ◌≡◌, MatchOption, length}
 use Rattle.relay_outside.specs.declared.link.LinkCall.TheVariants as call
 use Rattle.relay_outside.specs.declared.link.LinkGiven.TheVariants as given
 use Rattle.load_maker.specs.Datagrams.{controller, datagram_at}

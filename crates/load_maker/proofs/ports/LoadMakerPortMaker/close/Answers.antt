@@ -14,7 +14,7 @@ invariant_of-self c =
       before.0,
       before.1,
       noted_kept one taken closings c.push-kept.new.self.items c.self.inside.told c.note.new.self c.when_kept.result c.close_call-call.result c.is_ok.result
-          c.note.ensures c.when_kept.ensures c.close_call-call.ensures.call
+          c.note.ensures c.when_kept.ensures c.close_call-call.ensures.call c.close_call-call.ensures.told
           (λ ok. c.push-kept.ensures.items ∙ ap (λ b. if b then closings ++ one ∷ [] else closings) (sym c.is_ok.ensures.value ∙ ok))
           (subst (λ stream. WhereTold taken (λ takes. GivesOn stream 0 takes c.gave-stream.result.1)) (sym c.gave-stream.ensures.stream)
           (subst (λ count. WhereTold taken (λ takes. GivesOn c.args.receiving.stream 0 takes count)) (sym c.gave-stream.ensures.given) c.gave-stream.ensures.takes))

@@ -1,4 +1,4 @@
-use Rattle.std.proofs.Common.{arith, []}
+use Rattle.std.proofs.Common.{arith}
 use Rattle.turn_table.proofs.Spans.{surveys_at}
 use Rattle.turn_table.proofs.hands.Turns.survey.Goals as goal
 
