@@ -1,12 +1,13 @@
-ghost use Rattle.std.specs.Prelude.{◌≡◌, IfOk};
+ghost use Rattle.std.specs.Prelude.{◌≡◌, IfSome};
 
 use crate::address::{addr_of, socket_addr};
 use crate::errors::passes_by_itself;
 use crate::faults::Faults;
 use crate::readiness::{Hints, Readiness};
 use relay_outside::{Addr, Failed, InCall, InEnd, OutCall, OutEnd, PortCall, PortMaker};
-use std::io;
+use std::alloc::Global;
 use std::net::{Net, UdpSocket};
+use std::sync::Arc;
 
 /// The receiving end of a UDP port. It tells the address that it was opened for, and nothing of its calls.
 ///
@@ -14,14 +15,14 @@ use std::net::{Net, UdpSocket};
 /// tells of all sockets of a thread (`Readiness`), it is asked where it told, and once a second besides. An error of the system that
 /// passes by itself (`passes_by_itself`) counts as nothing, and any other is a fault, of this port alone.
 #[derive(Drop)]
-pub struct UdpIn<'a> {
+pub struct UdpIn {
     at: Addr,
-    socket: UdpSocket,
-    hints: Hints<'a>,
+    socket: Arc<UdpSocket, Global>,
+    hints: Hints,
     faults: Faults,
 }
 
-impl<'a> InEnd for UdpIn<'a> {
+impl InEnd for UdpIn {
     ghost use Rattle.std.specs.Prelude.{None};
 
     ghost told = { λ end. record { at = end.at; calls = None } };
@@ -46,7 +47,7 @@ impl<'a> InEnd for UdpIn<'a> {
 #[derive(Drop)]
 pub struct UdpOut {
     at: Addr,
-    socket: UdpSocket,
+    socket: Arc<UdpSocket, Global>,
     faults: Faults,
 }
 
@@ -67,7 +68,7 @@ impl OutEnd for UdpOut {
 
 /// Opens UDP ports, of both families, each as two ends of one socket. It tells nothing.
 ///
-/// An address that is in use or isn't this host's is a fault, and so is running out of descriptors. That the
+/// An address that is in use or isn't this host's is a fault, and so is running out of descriptors or of memory. That the
 /// system doesn't watch a socket isn't one.
 #[derive(Drop)]
 pub struct UdpMaker<'a, R: Net> {
@@ -89,16 +90,17 @@ impl<'a, R: Net> UdpMaker<'a, R> {
     }
 }
 
-/// The two ends of a socket that is bound here, never waits, and is watched.
-fn open<'a, R: Net>(net: &R, readiness: &'a Readiness, at: Addr) -> io::Result<(UdpIn<'a>, UdpOut)>
-    ensures at { IfOk result (λ ends. (ends.0.at ≡ at) × (ends.1.at ≡ at)) }
-    ensures faults { IfOk result (λ ends. (ends.0.faults ≡ 0) × (ends.1.faults ≡ 0)) }
+/// The two ends of a socket that is bound here, never waits, and is watched. They share it: a port takes one descriptor.
+fn open<R: Net>(net: &R, readiness: &Readiness, at: Addr) -> Option<(UdpIn, UdpOut)>
+    ensures at { IfSome result (λ ends. (ends.0.at ≡ at) × (ends.1.at ≡ at)) }
+    ensures faults { IfSome result (λ ends. (ends.0.faults ≡ 0) × (ends.1.faults ≡ 0)) }
 {
-    let socket = UdpSocket::bind(net, socket_addr(at))?;
-    socket.set_nonblocking(true)?;
+    let socket = UdpSocket::bind(net, socket_addr(at)).ok()?;
+    socket.set_nonblocking(true).ok()?;
+    let socket = Arc::new(readiness.alloc, socket).ok()?;
     let sending = UdpOut {
         at,
-        socket: socket.try_clone()?,
+        socket: Arc::try_clone(&socket).ok()?,
         faults: Faults::new(),
     };
     let hints = readiness.watch(&socket, at.port);
@@ -108,11 +110,11 @@ fn open<'a, R: Net>(net: &R, readiness: &'a Readiness, at: Addr) -> io::Result<(
         hints,
         faults: Faults::new(),
     };
-    Ok((receiving, sending))
+    Some((receiving, sending))
 }
 
 impl<'a, R: Net> PortMaker for UdpMaker<'a, R> {
-    type In = UdpIn<'a>;
+    type In = UdpIn;
 
     type Out = UdpOut;
 
@@ -122,15 +124,15 @@ impl<'a, R: Net> PortMaker for UdpMaker<'a, R> {
 
     ghost faults = { λ maker. maker.faults };
 
-    fn open(&mut self, at: Addr) -> Result<(UdpIn<'a>, UdpOut), Failed> {
+    fn open(&mut self, at: Addr) -> Result<(UdpIn, UdpOut), Failed> {
         match open(self.net, self.readiness, at) {
-            Ok(ends) => Ok(ends),
-            Err(_) => Err(self.faults.count()),
+            Some(ends) => Ok(ends),
+            None => Err(self.faults.count()),
         }
     }
 
     /// The system closes the port, and watches it no more, where both ends are dropped, which is done here.
-    fn close(&mut self, _at: Addr, receiving: UdpIn<'a>, sending: UdpOut) {
+    fn close(&mut self, _at: Addr, receiving: UdpIn, sending: UdpOut) {
         drop(receiving);
         drop(sending);
     }

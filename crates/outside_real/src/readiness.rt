@@ -7,6 +7,7 @@ use relay_outside::LaneShare;
 use std::alloc::Global;
 use std::net::UdpSocket;
 use std::os::fd::AsRawFd;
+use std::sync::Arc;
 use std::sync::atomic::{AtomicBool, AtomicU32, Ordering};
 use std::time::Duration;
 use std::{rt, thread};
@@ -129,19 +130,19 @@ impl EventSet {
 /// Whether the system is to be asked for a datagram of a socket: where it told of one there since it was asked last, where it wasn't
 /// asked in the second of its thread's last wait, or where it can't tell.
 #[derive(Drop)]
-pub(crate) struct Hints<'a> {
+pub(crate) struct Hints {
     /// The set in which the socket is watched; none where nothing is left to hints.
-    set: Option<&'a EventSet>,
+    set: Option<Arc<EventSet, Global>>,
     /// The socket's number there.
     port: usize,
     /// In which second it was asked last.
     asked: Option<u32>,
 }
 
-impl<'a> Hints<'a> {
+impl Hints {
     /// Whether the system is to be asked now.
     pub(crate) fn are_due(&mut self) -> bool {
-        let Some(set) = self.set else {
+        let Some(set) = &self.set else {
             return true;
         };
         let second = Some(set.second.load(Ordering::SeqCst));
@@ -164,7 +165,7 @@ fn rest(clock: &impl rt::Clock, millis: u32) {
 }
 
 /// At which ports sockets are readable, thread by thread, as the system tells it. It is a hint, on which rests how long a thread
-/// sleeps, which of its lanes it sweeps, and whether a take asks the system: it does so at least once a second.
+/// sleeps, which of its lanes it sweeps, and whether a take asks the system. The first take of a port in each second asks it without a hint.
 ///
 /// Maker, clock and link share it by reference. Nothing of it fails: where the system refuses a set or a socket, each of
 /// that thread's waits returns 0, within 2 ms. So the thread knows by the clock that the time was not up, and looks at all
@@ -172,8 +173,9 @@ fn rest(clock: &impl rt::Clock, millis: u32) {
 /// A socket leaves its set by itself once all its descriptors are closed.
 #[derive(Drop)]
 pub struct Readiness {
+    pub(crate) alloc: Global,
     /// The sets of the first threads: of all, or of those before the first one that was refused.
-    sets: Vec<EventSet>,
+    sets: Vec<Arc<EventSet, Global>>,
     share: LaneShare,
     first_port: u16,
 }
@@ -192,11 +194,15 @@ impl Readiness {
             if let Some(pipe) = stop.descriptor() {
                 set.add(pipe, 0, PIPE);
             }
+            let Ok(set) = Arc::new(alloc, set) else {
+                break;
+            };
             if sets.push(set).is_err() {
                 break;
             }
         }
         Readiness {
+            alloc,
             sets,
             share,
             first_port,
@@ -204,7 +210,7 @@ impl Readiness {
     }
 
     /// The set of a thread, where there is one.
-    fn set_of(&self, thread: u32) -> Option<&EventSet> {
+    fn set_of(&self, thread: u32) -> Option<&Arc<EventSet, Global>> {
         self.sets.get(usize::try_from(thread).ok()?)
     }
 
@@ -217,18 +223,21 @@ impl Readiness {
 
     /// Watches a media socket at this port, in the set of the thread that has the lane of its pair; of the first thread where there is no
     /// lane. Where no thread relays media, a sweep asks at all ports, and no hint says at which.
-    pub(crate) fn watch(&self, socket: &UdpSocket, port: u16) -> Hints<'_> {
+    pub(crate) fn watch(&self, socket: &UdpSocket, port: u16) -> Hints {
         let lane = self.share.lane_of(self.pair_of(port)).unwrap_or(0);
         let port = usize::from(port.saturating_sub(self.first_port));
-        let set = self.set_of(self.share.thread_of(lane));
-        if let Some(set) = set {
-            set.add(socket.as_raw_fd(), EPOLLIN, port as u64);
-        }
-        Hints {
-            set: if self.share.threads == 0 { None } else { set },
+        let mut hints = Hints {
+            set: None,
             port,
             asked: None,
+        };
+        if let Some(set) = self.set_of(self.share.thread_of(lane)) {
+            set.add(socket.as_raw_fd(), EPOLLIN, port as u64);
+            if self.share.threads > 0 {
+                hints.set = Arc::try_clone(set).ok();
+            }
         }
+        hints
     }
 
     /// Watches the control socket in the set of thread 0, under the number that no pair has.

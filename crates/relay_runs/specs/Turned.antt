@@ -51,7 +51,7 @@ pub record DidTurns (limit : ℕ) (config : Config) (threads : ℕ) (range : Opt
   pub told : AreTold config [] rounds last ended outside
   pub tied : Gained outside.opened outside.opened_now (AreTied config rows)
 
--- what follows a turn after which the run goes on, and the last one: a sweep, where no thread relays media
+-- what follows a turn after which the run goes on: a sweep, where no thread relays media
 pub record AddsSweep (config : Config) (threads : ℕ) (range : Option (ℕ × ℕ)) (before after : List Row) : Type 0 where
   pub rows : List Row
   pub are : after ≡ before ++ rows

@@ -86,8 +86,8 @@ fn an_address_in_use_can_not_be_bound(rt: HostRuntime) {
 fn movable<T: Send>(_end: &T) {}
 
 /// The ends of a port that is opened.
-fn open<'a, R: Net>(rt: &impl Abort, maker: &mut UdpMaker<'a, R>, at: Addr) -> (UdpIn<'a>, UdpOut)
-    ensures { ((⟦<UdpIn<'static> as InEnd>⟧.told result.0).at ≡ at) × ((⟦<UdpOut as OutEnd>⟧.told result.1).at ≡ at) }
+fn open<R: Net>(rt: &impl Abort, maker: &mut UdpMaker<R>, at: Addr) -> (UdpIn, UdpOut)
+    ensures { ((⟦<UdpIn as InEnd>⟧.told result.0).at ≡ at) × ((⟦<UdpOut as OutEnd>⟧.told result.1).at ≡ at) }
 {
     let Ok(ends) = maker.open(at) else {
         panic!(rt; "not opened");
@@ -98,7 +98,7 @@ fn open<'a, R: Net>(rt: &impl Abort, maker: &mut UdpMaker<'a, R>, at: Addr) -> (
 
 /// Whether a take gives this.
 fn takes(end: &mut UdpIn, buf: &mut [u8; 4], wanted: Option<(Addr, usize)>) -> bool
-    ensures { (⟦<UdpIn<'static> as InEnd>⟧.told end.new).at ≡ (⟦<UdpIn<'static> as InEnd>⟧.told end.old).at }
+    ensures { (⟦<UdpIn as InEnd>⟧.told end.new).at ≡ (⟦<UdpIn as InEnd>⟧.told end.old).at }
 {
     end.take(buf) == Ok(wanted)
 }

@@ -10,7 +10,7 @@
 //! - `life`: a table begins and ends, and hands are split and joined.
 //! - `view`, `plays`: what the proofs know between two atomic steps. The rule that then holds is `specs/Kept.antt`.
 //! - `layout`: where the places lie, so that those of one thread lie side by side.
-//! - `cased`, `room`: how the states are kept, so that a turn moves one word, no two places share a cache line, and the close takes no memory.
+//! - `cased`, `room`: how the states are kept, so that a turn moves one word, and the close takes no memory.
 //! - `threads`: that tables may be shared, and hands moved, among threads.
 //! - `laws`: what follows for a user of the table.
 #![tactic(auto)]
