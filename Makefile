@@ -1,6 +1,7 @@
 # Building is a step of its own, and installing never builds:
 #
 #     make build && make install          as root, or with DESTDIR and PREFIX
+#     make build && make deb              a Debian package
 #
 # PREFIX is /usr/local as it stands. Debian's package rtpengine-daemon has a program of the same name in /usr: don't install over it.
 
@@ -60,4 +61,8 @@ uninstall:
 	rm -rf $(LIBEXEC) $(SHARE) $(DOC)
 	@! cmp -s packaging/rtpengine.default $(DEFAULTS)/rtpengine || rm -f $(DEFAULTS)/rtpengine
 
-.PHONY: all build check man install uninstall
+# A Debian package and a tarball of what stands built, in out/: GATE=FILE names what the gate printed.
+deb dist:
+	packaging/pack $@
+
+.PHONY: all build check man install uninstall deb dist

@@ -1,7 +1,8 @@
 #!/usr/bin/env python3
-"""One call from 127.0.0.2 to 127.0.0.3 through a SIP proxy on 127.0.0.1:5070, with two seconds of RTP each way.
+"""One call from 127.0.0.2 to 127.0.0.3 through a SIP proxy on 127.0.0.1:5070, with two seconds of RTP each way. Then the caller sends another INVITE
+within the call, which the callee refuses with 488, and both send for two more seconds: the call goes on as it was.
 
-    call.py         makes the call, prints how many packets each side got and from where; status 1 unless both got 90
+    call.py         makes the call, prints how many packets each side got and from where; status 1 unless both got 90 of each 100
     call.py ping    asks a media proxy on 127.0.0.1:2223 whether it is there; status 0 if it is
 """
 import re
@@ -58,10 +59,10 @@ class Side:
 
     def __init__(self, name, host, port):
         self.name, self.mark, self.sock = name, name.encode().ljust(160, b"."), udp(host, port)
-        self.got, self.sources = 0, set()
+        self.got, self.sources, self.worst = 0, set(), PACKETS
 
-    def talk(self, target):
-        begun = time.monotonic()
+    def talk(self, target, when):
+        self.got, self.sources, begun = 0, set(), time.monotonic()
         for number in range(PACKETS + 25):  # the last 25 are for what is still under way
             if number < PACKETS:
                 head = bytes([0x80, 0]) + number.to_bytes(2, "big") + (160 * number).to_bytes(4, "big") + self.mark[:4]
@@ -75,13 +76,12 @@ class Side:
                 if len(packet) == 172 and packet[12:] != self.mark:
                     self.got += 1
                     self.sources.add("%s:%d" % source)
-
-    def report(self):
-        print(f"{self.name} got {self.got} of {PACKETS} packets, from {', '.join(sorted(self.sources)) or 'nowhere'}")
+        self.worst = min(self.worst, self.got)
+        print(f"{self.name} got {self.got} of {PACKETS} packets{when}, from {', '.join(sorted(self.sources)) or 'nowhere'}")
 
 
 def answer(sock, side):
-    """The callee: answers one call, talks, and waits for its end."""
+    """The callee: answers one call, talks, refuses the next INVITE, talks again, and waits for the end."""
     invite = receive(sock, "INVITE")
     target = media_address(invite)
     print(f"callee was offered media at {target[0]}:{target[1]}")
@@ -89,17 +89,21 @@ def answer(sock, side):
     copied += [headers_of(invite, "to")[0] + ";tag=callee", "Contact: <sip:callee@127.0.0.3:5070>"]
     sock.sendto(message("SIP/2.0 200 OK", copied, description(*side.sock.getsockname())), PROXY)
     receive(sock, "ACK")
-    side.talk(target)
+    side.talk(target, "")
+    again = receive(sock, "INVITE")
+    sock.sendto(message("SIP/2.0 488 Not Acceptable Here", headers_of(again, "via", "from", "to", "call-id", "cseq")), PROXY)
+    receive(sock, "ACK")
+    side.talk(target, " after the refused INVITE")
     bye = receive(sock, "BYE")
     sock.sendto(message("SIP/2.0 200 OK", headers_of(bye, "via", "from", "to", "call-id", "cseq")), PROXY)
 
 
 def call(sock, side):
-    """The caller: calls, talks, hangs up."""
+    """The caller: calls, talks, sends an INVITE that is refused, talks again, hangs up."""
     name, ident = "sip:callee@127.0.0.3:5070", uuid.uuid4().hex
 
-    def request(method, number, to, extra=(), body=""):
-        branch = uuid.uuid4().hex
+    def request(method, number, to, extra=(), body="", branch=None):
+        branch = branch or uuid.uuid4().hex
         return message(f"{method} {name} SIP/2.0", [
             f"Via: SIP/2.0/UDP 127.0.0.2:5070;branch=z9hG4bK{branch}", "Max-Forwards: 70",
             "From: <sip:caller@127.0.0.2>;tag=caller", to, f"Call-ID: {ident}", f"CSeq: {number} {method}",
@@ -113,8 +117,13 @@ def call(sock, side):
     to = headers_of(accepted, "to")[0]
     routes = [line.replace("Record-Route", "Route") for line in reversed(headers_of(accepted, "record-route"))]
     sock.sendto(request("ACK", 1, to, routes), PROXY)
-    side.talk(target)
-    sock.sendto(request("BYE", 2, to, routes), PROXY)
+    side.talk(target, "")
+    branch = uuid.uuid4().hex
+    sock.sendto(request("INVITE", 2, to, routes, own, branch), PROXY)
+    print("callee refused another INVITE:", receive(sock, " 488 ").split("\r\n")[0])
+    sock.sendto(request("ACK", 2, to, routes, branch=branch), PROXY)
+    side.talk(target, " after the refused INVITE")
+    sock.sendto(request("BYE", 3, to, routes), PROXY)
     receive(sock, " 200 ")
 
 
@@ -136,9 +145,7 @@ def main():
     other.start()
     call(udp("127.0.0.2", 5070), caller)
     other.join(10)
-    caller.report()
-    callee.report()
-    sys.exit(min(caller.got, callee.got) < 0.9 * PACKETS)
+    sys.exit(min(caller.worst, callee.worst) < 0.9 * PACKETS)
 
 
 main()
