@@ -34,7 +34,7 @@ check:
 	attacks/try --look
 	rt ci
 
-# Writes the man page from docs/PROTOCOL.md.
+# Writes the man page from docs/OPERATING.md.
 man:
 	tools/man-page --write
 
