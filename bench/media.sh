@@ -15,7 +15,9 @@ usage: bench/media.sh MODE [NUMBER]...
   neighbours [SECONDS [WINDOW]]
                                the same with 2 and 4 threads, with calls side by side, and with each 17th of 272; 3 seconds, 64
   soak [MINUTES [CALLS]]       one program alone, ours, a line each minute; 10 minutes, 200 calls
-  all                          all but neighbours and soak: some ten minutes
+  trace                        what strace -c and perf tell of 100 paced calls, and of a flood with one thread, of plain RTP: which system
+                               calls a packet takes, and where the time goes; as root
+  all                          all but neighbours, soak and trace: some ten minutes
 
 paced, flood and single have calls of plain RTP, and calls whose answerer speaks SRTP. Each program is started afresh for each measurement: ours,
 peer, ours, peer. What the words of a line mean is told at the top of bench/media.c. `bench/media.sh all | bench/table --write -` keeps the
@@ -175,6 +177,40 @@ soak() {
     stop
 }
 
+# traced CASE PROGRAM THREADS CALLS MODE WORD...: the load on the program, and each tracer beside it for three seconds.
+traced() {
+    local case=$1 program=$2 count=$3 calls=$4 tracer load
+    shift 4
+    for tracer in strace perf; do
+        start "$program" "$count" "$calls"
+        "$room/media" "$@" port=$control calls="$calls" pid="$running" >"$room/load" &
+        load=$!
+        sleep 3
+        printf '\n%s of %s, %s\n' "$tracer" "$program" "$case"
+        if [ $tracer = strace ]; then
+            timeout -s INT 3 strace -f -c -o "$room/calls" -p "$running" 2>/dev/null || true
+            grep -v '^---' "$room/calls" || true
+            awk '
+            $NF == "epoll_wait" { waits = $4 }
+            $NF ~ /^recv/ { receives += $4; if (NF == 6) empty += $5 }
+            $NF ~ /^send/ { sends += $4 }
+            END { if (sends) printf "a packet sent: %.2f waits, %.2f receives, of which %.2f failed\n", waits / sends, receives / sends, empty / sends }' "$room/calls"
+        else
+            perf record -q -F 4999 -o "$room/perf" -p "$running" -- sleep 3 >/dev/null 2>&1 || true
+            perf report -i "$room/perf" --stdio --sort dso 2>/dev/null | awk '/^ +[0-9]/ && ++n <= 5'
+            perf report -i "$room/perf" --stdio --sort symbol 2>/dev/null | awk '/^ +[0-9]/ && ++n <= 12'
+        fi
+        wait "$load" || { tell "the load on $program failed" && exit 4; }
+        stop
+    done
+}
+
+trace() {
+    local program
+    for program in $programs; do traced "100 paced calls, $threads threads" "$program" "$threads" 100 paced seconds=8 secure=0; done
+    for program in $programs; do traced "a flood of 10 calls, 1 thread" "$program" 1 10 flood seconds=8 window=32 threads="$senders" secure=0; done
+}
+
 # The median of each figure over the rounds, and the ratio of the programs'.
 table() {
     awk -F '\t' '
@@ -231,6 +267,12 @@ mode=${1-}
 case $mode in
 paced | flood | single | lanes | neighbours | soak) most=2 ;;
 idle | setup) most=1 ;;
+trace)
+    most=0
+    for tracer in strace perf; do
+        command -v $tracer >/dev/null || { tell "there is no $tracer" && exit 3; }
+    done
+    ;;
 all) most=0 ;;
 -h | --help | help) usage; exit ;;
 *) wrong "${mode:-nothing} is no mode" ;;

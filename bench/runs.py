@@ -1,8 +1,12 @@
-"""Reads what bench/media.sh prints, for bench/table and bench/picture: the measurement lines, alone or within a file of bench/results."""
+"""Keeps runs of the benches as files of bench/results, and reads what bench/media.sh prints, alone or within such a file: for bench/keep, bench/table
+and bench/picture."""
 import glob
 import os
+import platform
 import re
 import statistics
+import subprocess
+import time
 
 TOP = os.path.dirname(os.path.dirname(os.path.abspath(__file__)))
 RESULTS = f"{TOP}/bench/results"
@@ -69,3 +73,42 @@ class Figures:
         for case, run in self.source.items():
             found.setdefault(run.path, (run, []))[1].append(case)
         return list(found.values())
+
+
+def said(*words):
+    """What a command prints, or nothing where it fails."""
+    try:
+        return subprocess.run(words, cwd=TOP, stdout=subprocess.PIPE, stderr=subprocess.DEVNULL, text=True, check=True).stdout.strip()
+    except (OSError, subprocess.CalledProcessError):
+        return ""
+
+
+def first(path, name):
+    """The first value of a name in a file of /proc."""
+    try:
+        with open(path, encoding="utf-8") as it:
+            return re.search(rf"^{name}\s*: *(.*)$", it.read(), re.M)[1]
+    except (OSError, TypeError):
+        return "?"
+
+
+def keep(text, name, title, beside, program, command=""):
+    """Keeps what a bench printed as a file of bench/results, with its head: the file's path. The program is named by the commit of which it was built; without
+    one that is the newest."""
+    memory = int(re.sub(r"\D", "", first("/proc/meminfo", "MemTotal")) or 0) / 1024**2
+    told = re.search(r"^(bench/\S+(?: [^:\n]*)?): \d+ processors", text, re.M)
+    command = command or told and told[1] or "not noted"
+    if not program:
+        program = said("git", "rev-parse", "--short", "HEAD") or "not noted"
+        program += ", with changes" if said("git", "status", "--porcelain", "--", "crates") else ""
+    number, path = 1, f"{RESULTS}/{time.strftime('%Y-%m-%d')}-{name}.md"
+    while os.path.exists(path):
+        number += 1
+        path = f"{RESULTS}/{time.strftime('%Y-%m-%d')}-{name}-{number}.md"
+    with open(path, "w", encoding="utf-8") as it:
+        it.write(f"# {title}\n\n- Date: {time.strftime('%Y-%m-%d %H:%M')}\n"
+                 f"- Machine: {os.cpu_count()} processors ({first('/proc/cpuinfo', 'model name')}), {memory:.0f} GB, Linux {platform.release()}\n"
+                 f"- Kit: {(said('rt', 'version').split() or ['not noted'])[0]}\n- Program: commit {program}\n"
+                 f"- Command: `{command}`\n- Beside it: {beside}\n\n"
+                 f"What the words of a line mean is told at the top of `bench/media.c`.\n\n```\n{text.strip()}\n```\n")
+    return path
