@@ -25,10 +25,12 @@ all: build
 build:
 	tools/build-program
 
-# Checks what the documents have from the sources, proves everything, and runs all tests.
+# Checks what the documents have from the sources and from measured runs, proves everything, and runs all tests.
 check:
 	tools/crates-txt
-	tools/links
+	tools/layers
+	tools/documents
+	bench/table --check
 	tools/refusing-calls
 	tools/man-page
 	attacks/try --look

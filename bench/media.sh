@@ -8,16 +8,20 @@ usage: bench/media.sh MODE [NUMBER]...
 
   paced [CALLS [SECONDS]]      each call a packet each way every 20 ms; 1, 100 and 500 calls, 5 seconds
   flood [SECONDS [WINDOW]]     10 calls, as fast as packets come back, at most WINDOW on their way; 3 seconds, 32
+  single [SECONDS [WINDOW]]    the same with one thread of each program
   idle [SECONDS]               no calls, and 100 without media; 10 seconds
   setup [SECONDS]              calls offered, answered and deleted one after the other, while 100 others have media; 5 seconds
   lanes [SECONDS [WINDOW]]     a flood of this program with 0, 1, 2 and 4 threads, and of a bare relay; 3 seconds, 64
   neighbours [SECONDS [WINDOW]]
                                the same with 2 and 4 threads, with calls side by side, and with each 17th of 272; 3 seconds, 64
   soak [MINUTES [CALLS]]       one program alone, ours, a line each minute; 10 minutes, 200 calls
-  all                          all but neighbours and soak: some ten minutes
+  trace                        what strace -c and perf tell of 100 paced calls, and of a flood with one thread, of plain RTP: which system
+                               calls a packet takes, and where the time goes; as root
+  all                          all but neighbours, soak and trace: some ten minutes
 
-paced and flood have calls of plain RTP, and calls whose answerer speaks SRTP. Each program is started afresh for each measurement: ours,
-peer, ours, peer. What the words of a line mean is told at the top of bench/media.c. Variables, with what they are where they are not set:
+paced, flood and single have calls of plain RTP, and calls whose answerer speaks SRTP. Each program is started afresh for each measurement: ours,
+peer, ours, peer. What the words of a line mean is told at the top of bench/media.c. `bench/media.sh all | bench/table --write -` keeps the
+figures in bench/results and puts them into docs/PERFORMANCE.md. Variables, with what they are where they are not set:
 
   RTPENGINE   our program (crates/rtpengine/out/rtpengine of this clone)
   PEER        the peer (/usr/bin/rtpengine, of Debian's rtpengine-daemon); where it isn't there, ours is measured alone
@@ -128,6 +132,13 @@ flood() {
     done
 }
 
+single() {
+    local kind threads=1
+    for kind in $kinds; do
+        in_turn "one-thread $kind" 10 flood seconds="${1:-3}" window="${2:-32}" threads="$senders" secure="$(is_secure "$kind")"
+    done
+}
+
 idle() {
     local calls
     for calls in 0 100; do in_turn "idle $calls" "$calls" idle seconds="${1:-10}"; done
@@ -166,6 +177,40 @@ soak() {
     stop
 }
 
+# traced CASE PROGRAM THREADS CALLS MODE WORD...: the load on the program, and each tracer beside it for three seconds.
+traced() {
+    local case=$1 program=$2 count=$3 calls=$4 tracer load
+    shift 4
+    for tracer in strace perf; do
+        start "$program" "$count" "$calls"
+        "$room/media" "$@" port=$control calls="$calls" pid="$running" >"$room/load" &
+        load=$!
+        sleep 3
+        printf '\n%s of %s, %s\n' "$tracer" "$program" "$case"
+        if [ $tracer = strace ]; then
+            timeout -s INT 3 strace -f -c -o "$room/calls" -p "$running" 2>/dev/null || true
+            grep -v '^---' "$room/calls" || true
+            awk '
+            $NF == "epoll_wait" { waits = $4 }
+            $NF ~ /^recv/ { receives += $4; if (NF == 6) empty += $5 }
+            $NF ~ /^send/ { sends += $4 }
+            END { if (sends) printf "a packet sent: %.2f waits, %.2f receives, of which %.2f failed\n", waits / sends, receives / sends, empty / sends }' "$room/calls"
+        else
+            perf record -q -F 4999 -o "$room/perf" -p "$running" -- sleep 3 >/dev/null 2>&1 || true
+            perf report -i "$room/perf" --stdio --sort dso 2>/dev/null | awk '/^ +[0-9]/ && ++n <= 5'
+            perf report -i "$room/perf" --stdio --sort symbol 2>/dev/null | awk '/^ +[0-9]/ && ++n <= 12'
+        fi
+        wait "$load" || { tell "the load on $program failed" && exit 4; }
+        stop
+    done
+}
+
+trace() {
+    local program
+    for program in $programs; do traced "100 paced calls, $threads threads" "$program" "$threads" 100 paced seconds=8 secure=0; done
+    for program in $programs; do traced "a flood of 10 calls, 1 thread" "$program" 1 10 flood seconds=8 window=32 threads="$senders" secure=0; done
+}
+
 # The median of each figure over the rounds, and the ratio of the programs'.
 table() {
     awk -F '\t' '
@@ -200,12 +245,12 @@ table() {
         for (k = 1; k <= count; k++) {
             name = names[k]
             if (name ~ /^setup/) { row(name, "setups", "set-ups a second"); row(name, "setup_p50", "set-up, p50, us"); row(name, "setup_p99", "set-up, p99, us") }
-            if (name ~ /^flood/) row(name, "rate", "packets a second")
+            if (name ~ /^(flood|one-thread)/) row(name, "rate", "packets a second")
             if (name !~ /^idle/) { row(name, "lost", "packets lost"); row(name, "p50", "delay, p50, us"); row(name, "p99", "delay, p99, us") }
-            if (name ~ /^(paced|flood)/) row(name, "us", "processor time a packet, us")
+            if (name ~ /^(paced|flood|one-thread)/) row(name, "us", "processor time a packet, us")
             row(name, "processor", "processor time, % of one")
             row(name, "rss", "resident memory, KiB")
-            if (name ~ /^flood/) row(name, "generator", "generator, % of one processor")
+            if (name ~ /^(flood|one-thread)/) row(name, "generator", "generator, % of one processor")
             if (name ~ /^(paced|setup)/) row(name, "latest", "generator late, at most, us")
         }
         if (lane_count) printf "\n%-18s %10s %10s %10s %10s %10s %10s %10s\n", "lanes", "packets/s", "to relay", "us/packet", "own %", "lost", "p50, us", "p99, us"
@@ -220,8 +265,14 @@ table() {
 
 mode=${1-}
 case $mode in
-paced | flood | lanes | neighbours | soak) most=2 ;;
+paced | flood | single | lanes | neighbours | soak) most=2 ;;
 idle | setup) most=1 ;;
+trace)
+    most=0
+    for tracer in strace perf; do
+        command -v $tracer >/dev/null || { tell "there is no $tracer" && exit 3; }
+    done
+    ;;
 all) most=0 ;;
 -h | --help | help) usage; exit ;;
 *) wrong "${mode:-nothing} is no mode" ;;
@@ -252,10 +303,11 @@ if ! "${CC:-cc}" -O2 -pthread -o "$room/media" "$top"/bench/media*.c || ! "${CC:
     tell "the load generator can't be built"
     exit 3
 fi
-echo "$(nproc) processors, load $(cut -d ' ' -f 1-3 /proc/loadavg)"
+echo "bench/media.sh $mode${*:+ $*}: $(nproc) processors, load $(cut -d ' ' -f 1-3 /proc/loadavg), --num-threads=$threads, $rounds rounds"
 if [ "$mode" = all ]; then
     paced
     flood
+    single
     idle
     setup
     [[ $programs != *ours* ]] || lanes
