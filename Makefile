@@ -48,7 +48,7 @@ install:
 	$(INSTALL) -m 644 VERSION $(SHARE)/VERSION
 	$(INSTALL) -m 644 docs/rtpengine.8 $(MAN)/rtpengine.8
 	$(INSTALL) -m 644 README.md CHANGELOG.md CONTRIBUTING.md SECURITY.md LICENSE NOTICE $(DOC)
-	$(INSTALL) -m 644 docs/*.md $(DOC)/docs
+	$(INSTALL) -m 644 docs/*.md docs/*.svg $(DOC)/docs
 	$(INSTALL) -d $(DOC)/reference && $(INSTALL) -m 644 reference/*.md $(DOC)/reference
 	$(INSTALL) -m 644 bench/offer.py $(DOC)/bench
 	$(INSTALL) -m 644 examples/README.md $(DOC)/examples
