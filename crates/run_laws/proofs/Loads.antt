@@ -1,12 +1,11 @@
 -- The Ends of a load are those of its stop: no entry of its control turns ends a call.
 use Rattle.std.proofs.Common.{◌≡◌, ◌∙◌, refl, sym, ap, subst, ℕ, ◌+◌, ◌*◌, ◌<◌, ◌≤◌, ◌^◌, ◌==◌, ◌⊎◌, inl, inr, zero, suc, true, false, Bool, List, [], ◌∷◌, ◌++◌, length, map, Option, None, Some, Result, Ok, Err, nat_lt, arith}
-use Rattle.std.specs.Prelude.{◌&&◌, nat_le, is_some}
+use Rattle.std.specs.Prelude.{◌&&◌, nat_le, is_some, slice_index_or}
 use Rattle.std.specs.List.{list_all}
 use Rattle.std.specs.Option.{option_map}
 use Rattle.std.proofs.lemmas.Bool.Decides.{nat_tests}
 use Rattle.std.proofs.lemmas.List.{length-append, map-append}
 use Rattle.std.proofs.lemmas.List.Folds.{list_all-append}
-use Rattle.std.specs.List.{AllZip}
 use Rattle.relay_outside.specs.declared.address.Addr.{Addr}
 use Rattle.relay_outside.specs.declared.link.LinkCall.{LinkCall}
 use Rattle.relay_outside.specs.declared.link.LinkCall.TheVariants as call
@@ -210,13 +209,13 @@ sweep_none : (config : Config) (threads : ℕ) (range : Option (ℕ × ℕ)) (ro
 sweep_none config zero range rows swept = visits_none config swept.visits rows swept.rows_are
 sweep_none config (suc more) range rows none = nothing_none rows none
 
-lanes_none : (config : Config) (lanes : ℕ) (range : Option (ℕ × ℕ)) (numbers : List ℕ) (beside : List (List Row))
-    → AllZip (λ (index : ℕ) (rows : List Row). IsLane config lanes range index rows) numbers beside → HasNoEnd (all_of beside)
-lanes_none config lanes range [] [] are = nothing_none [] refl
-lanes_none config lanes range [] (rows ∷ more) are = absurd are
-lanes_none config lanes range (n ∷ ns) [] are = absurd are
-lanes_none config lanes range (n ∷ ns) (rows ∷ more) are =
-    none_both rows (all_of more) (visits_none config (visits_of are.0.sweeps) rows are.0.rows_are) (lanes_none config lanes range ns more are.1)
+lanes_none : (config : Config) (lanes : ℕ) (range : Option (ℕ × ℕ)) (beside : List (List Row))
+    → ((i : ℕ) (d : List Row) → i < length beside → (index : ℕ) × IsLane config lanes range index (slice_index_or beside i d)) → HasNoEnd (all_of beside)
+lanes_none config lanes range [] are = nothing_none [] refl
+lanes_none config lanes range (rows ∷ more) are =
+    let first = are 0 rows (omega arith) in
+    none_both rows (all_of more) (visits_none config (visits_of first.1.sweeps) rows first.1.rows_are)
+    (lanes_none config lanes range more (λ i d lt. are (suc i) d (omega (arith, lt))))
 
 -- the entries of a turn: the nested ones, and the board's own
 turn_parts : (config : Config) (before : List Row) (e : BoardEntry) (rows : List Row) → (t : IsBoardTurn config before e rows) → (f : Entry) → In f (list_of rows)
@@ -367,7 +366,8 @@ module _ (settings : LoadSettings) (gate : ℕ → Type 0) (totals : Totals) (ru
       ends_of_stop config settings.lanes (Some (0, 0)) rounds whole.in_rounds (all_of whole.beside) whole.stop _ link.more whole.are_rounds link.exchanges
       (takes_front runs.calls link.more (last_take status.Ok) link.calls_are (tells_generated (2 * settings.calls) true runs.calls runs.heard))
       (zero_front runs.moments (moments rounds) runs.did.last timer runs.at_zero)
-      (lanes_none config settings.lanes (Some (0, 0)) whole.are_lanes.numbers whole.beside whole.are_lanes.are_lanes) whole.is_stop whole.list
+      (lanes_none config settings.lanes (Some (0, 0)) whole.beside
+      (λ i d lt. (i, whole.are_lanes.are_lanes i d (let many = whole.are_lanes.as_many in omega (arith, lt, many))))) whole.is_stop whole.list
       (whole.told_is ∙ ap (λ (xs : List Row). list_of xs) whole.rows_are)
 
   pub relays_before_ends : AreBeforeEnds runs.did.whole.list
