@@ -1,4 +1,4 @@
--- Where a table keeps the emptied vector of its start states.
+-- Where a table keeps an empty vector with room for its states.
 use Rattle.std.specs.Prelude.{◌≡◌, ℕ, ◌≤◌, [], ◌∷◌, vec_capacity}
 use Rattle.std.specs.declared.vec.Vec.{Vec}
 use mathlib.Core.Option.{some}

@@ -105,14 +105,14 @@ impl<S> Slot<S> {
     }
 }
 
-/// Sets the states aside by their places, and leaves their vector empty with its room.
+/// Sets the states aside by their places, and gives the memory of their vector back.
 pub(crate) fn set_aside<S: Drop>(
     alloc: Global,
-    states: &mut Vec<S>,
+    states: Vec<S>,
 ) -> Result<Vec<Option<S>>, AllocError>
-    ensures aside { IfOk result (λ v. v.items ≡ map (λ x. Some x) states.old.items) }
-    ensures empty { IfOk result (λ _. (states.new.items ≡ []) × (vec_capacity states.new ≡ vec_capacity states.old)) }
+    ensures { IfOk result (λ v. v.items ≡ map (λ x. Some x) states.items) }
 {
+    let mut states = states;
     let mut aside = Vec::with_capacity(alloc, states.len())?;
     'moves: while !states.is_empty() {
         aside.push_reserved(Some(states.take_last()));

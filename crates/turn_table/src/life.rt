@@ -34,7 +34,6 @@ impl<M: Machine> Turns<M> {
         requires { 0 < vec_len states }
         ensures { IfOk result (λ r. IsHandOf r.0 r.1 × IsFirstHand states.items r.1) }
     {
-        let mut states = states;
         let places = states.len();
         if places >= MOST {
             return Err(OutOfMemory);
@@ -44,7 +43,7 @@ impl<M: Machine> Turns<M> {
         let Ok(words) = clear_words(alloc, 3840 * rows) else {
             return Err(OutOfMemory);
         };
-        let Ok(aside) = set_aside(alloc, &mut states) else {
+        let Ok(aside) = set_aside(alloc, states) else {
             return Err(OutOfMemory);
         };
         let Ok(slots) = case_all(alloc, aside, rows) else {
@@ -53,7 +52,7 @@ impl<M: Machine> Turns<M> {
         let Ok((table, seat)) = Table::new(alloc, words.as_slice(), slots, &key) else {
             return Err(OutOfMemory);
         };
-        let Ok(room) = Room::keep(alloc, states, places) else {
+        let Ok(room) = Room::new(alloc, places) else {
             return Err(OutOfMemory);
         };
         let turns = Turns {

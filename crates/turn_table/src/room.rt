@@ -1,4 +1,5 @@
-//! Where a table keeps the emptied vector of its start states, so that closing it takes no memory.
+//! Where a table keeps an empty vector with room for its states, so that closing it takes no memory.
+//! Nothing is written there before the close: until then the system need give no pages for it.
 //! The vector lies in a table of its own, of one slot and no word, on which no thread steps: so it can be shared among threads whatever the states are.
 ghost use Rattle.std.specs.Prelude.{◌≡◌, ◌≤◌, [], vec_len, vec_capacity, IfOk};
 
@@ -16,19 +17,18 @@ impl<S> TableRule<Vec<S>, (), usize> for Roomy {
     ghost first = { λ _. tt };
 }
 
-/// An emptied vector with its room.
+/// An empty vector with room for the states.
 pub(crate) struct Room<S> {
     pub(crate) table: Table<Vec<S>, (), usize, Roomy, Global>,
     ghost one: { table.shared.table_id.slots ≡ 1 },
 }
 
 impl<S> Room<S> {
-    /// Keeps an empty vector that has capacity for this many items.
-    pub(crate) fn keep(alloc: Global, empty: Vec<S>, places: usize) -> Result<Room<S>, AllocError>
-        requires empty { empty.items ≡ [] }
-        requires room { places ≤ vec_capacity empty }
+    /// Room for this many states.
+    pub(crate) fn new(alloc: Global, places: usize) -> Result<Room<S>, AllocError>
         ensures { IfOk result (λ r. r.table.shared.key ≡ places) }
     {
+        let empty = Vec::with_capacity(alloc, places)?;
         let mut slots = Vec::new(alloc);
         if let Err(failed) = slots.push(empty) {
             failed.value.destroy_empty();

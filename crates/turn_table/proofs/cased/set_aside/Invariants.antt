@@ -3,9 +3,8 @@ use Rattle.turn_table.proofs.cased.set_aside.Given as goal
 
 abbrev pub invariant-moves : goal.invariant-moves
 invariant-moves g l = record {
-  whole : map (λ x. Some x) l.initial.states.items ≡ map (λ x. Some x) l.states.items ++ reverse l.aside.items;
+  whole : map (λ x. Some x) l.fn.states.items ≡ map (λ x. Some x) l.states.items ++ reverse l.aside.items;
   room : vec_len l.aside + vec_len l.states ≡ vec_capacity l.aside;
-  kept : vec_capacity l.states ≡ vec_capacity l.initial.states;
 }
 
 abbrev pub decreases-moves : goal.decreases-moves

@@ -12,7 +12,7 @@ new-requires g c =
     let starts = c.of-key.result.value.items in
     let places : c.len-places.result ≡ length starts = c.len-places.ensures ∙ (c.args.states.ok.0 ∙ ap length (sym is)) in
     let rows : c.row_count-rows.result ≡ rows_of (length starts) = c.row_count-rows.ensures ∙ ap rows_of places in
-    let aside : c.in-Ok-set_aside.aside.items ≡ map (λ x. Some x) starts = c.in-Ok-set_aside.ensures.aside ∙ ap (map (λ x. Some x)) (sym is) in
+    let aside : c.in-Ok-set_aside.aside.items ≡ map (λ x. Some x) starts = c.in-Ok-set_aside.ensures ∙ ap (map (λ x. Some x)) (sym is) in
     let slots = c.in-Ok-case_all.slots.items in
     opens g.M.Machine.relates g.M.Machine.reserved starts c.as_slice.result.now slots
     (ap length words ∙ (c.in-Ok.ensures.length ∙ ap (λ n. 3840 * n) rows))
