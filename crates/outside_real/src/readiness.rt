@@ -8,7 +8,7 @@ use std::alloc::Global;
 use std::net::UdpSocket;
 use std::os::fd::AsRawFd;
 use std::sync::Arc;
-use std::sync::atomic::{AtomicBool, AtomicU32, Ordering};
+use std::sync::atomic::{AtomicBool, AtomicU32, AtomicU64, Ordering};
 use std::time::Duration;
 use std::{rt, thread};
 
@@ -27,6 +27,41 @@ const CONTROL: u64 = 1 << 32;
 /// Under which the pipe is watched.
 const PIPE: u64 = 1 << 33;
 
+/// For each of the first sockets, by their numbers, a bit: whether the system told since the last take that a datagram stands there.
+#[derive(Drop)]
+struct HintBits {
+    /// Each has the bits of 64 sockets.
+    words: Vec<AtomicU64>,
+}
+
+impl HintBits {
+    /// Bits for so many sockets or some more, none of which is set; `None` where there is no memory.
+    fn new(alloc: Global, sockets: usize) -> Option<HintBits> {
+        let count = sockets.div_ceil(64);
+        let mut words = Vec::with_capacity(alloc, count).ok()?;
+        for _ in 0..count {
+            words.push(AtomicU64::new(0)).ok()?;
+        }
+        Some(HintBits { words })
+    }
+
+    /// Sets the bit of this socket, if it has one.
+    fn set(&self, socket: u16) {
+        if let Some(word) = self.words.get(usize::from(socket / 64)) {
+            word.fetch_or(1 << (socket % 64), Ordering::SeqCst);
+        }
+    }
+
+    /// Clears the bit of this socket, and returns whether it was set. A socket without one counts as if it always were.
+    fn take(&self, socket: u16) -> bool {
+        let Some(word) = self.words.get(usize::from(socket / 64)) else {
+            return true;
+        };
+        let bit = 1 << (socket % 64);
+        word.load(Ordering::SeqCst) & bit != 0 && word.fetch_and(!bit, Ordering::SeqCst) & bit != 0
+    }
+}
+
 /// A set of sockets of which the system tells those that are readable, as long as they are (epoll,
 /// level-triggered). A media socket's number is its port's distance from the first one. The set's descriptor is closed where it is
 /// dropped.
@@ -34,8 +69,8 @@ struct EventSet {
     descriptor: i32,
     /// Whether the system tells of each socket that was to be in the set, and the pipe hasn't ended.
     complete: AtomicBool,
-    /// By the sockets' numbers, whether the system told since the last take that a datagram stands there.
-    hinted: Vec<AtomicBool>,
+    /// At which sockets a datagram stands.
+    hinted: HintBits,
     /// The second of the last wait that ended, counted from any moment.
     second: AtomicU32,
 }
@@ -55,10 +90,7 @@ impl Drop for EventSet {
 impl EventSet {
     /// An empty set, with room for the hints of so many ports; `None` where the system refuses it or there is no memory.
     fn new(alloc: Global, ports: usize) -> Option<EventSet> {
-        let mut hinted = Vec::with_capacity(alloc, ports).ok()?;
-        for _ in 0..ports {
-            hinted.push(AtomicBool::new(false)).ok()?;
-        }
+        let hinted = HintBits::new(alloc, ports)?;
         let descriptor = epoll_create1(EPOLL_CLOEXEC);
         if descriptor < 0 {
             return None;
@@ -86,14 +118,11 @@ impl EventSet {
         if number == PIPE {
             self.complete.store(false, Ordering::SeqCst);
         }
-        let Ok(port) = usize::try_from(number) else {
+        let Ok(port) = u16::try_from(number) else {
             return NO_PAIR;
         };
-        let Some(hinted) = self.hinted.get(port) else {
-            return NO_PAIR;
-        };
-        hinted.store(true, Ordering::SeqCst);
-        u32::try_from(port / 2).unwrap_or(NO_PAIR)
+        self.hinted.set(port);
+        u32::from(port / 2)
     }
 
     /// Waits until a socket is readable, for at most this many milliseconds, and writes the pairs of those that are to
@@ -134,7 +163,7 @@ pub(crate) struct Hints {
     /// The set in which the socket is watched; none where nothing is left to hints.
     set: Option<Arc<EventSet, Global>>,
     /// The socket's number there.
-    port: usize,
+    port: u16,
     /// In which second it was asked last.
     asked: Option<u32>,
 }
@@ -146,11 +175,10 @@ impl Hints {
             return true;
         };
         let second = Some(set.second.load(Ordering::SeqCst));
-        let is_hinted = match set.hinted.get(self.port) {
-            Some(hinted) => hinted.load(Ordering::SeqCst) && hinted.swap(false, Ordering::SeqCst),
-            None => true,
-        };
-        if is_hinted || self.asked != second || !set.complete.load(Ordering::SeqCst) {
+        if set.hinted.take(self.port)
+            || self.asked != second
+            || !set.complete.load(Ordering::SeqCst)
+        {
             self.asked = second;
             return true;
         }
@@ -183,9 +211,18 @@ pub struct Readiness {
 impl Readiness {
     /// A set for each thread of the share, with the pipe's end in it and no socket yet; no thread counts as one, whose set
     /// has all pairs. The first port is the even one of the range's first pair: pair n, from 0, has the ports
-    /// `first_port + 2 * n` and the next, and its sockets stand in the set of the thread that has its lane.
-    pub fn new(alloc: Global, share: LaneShare, first_port: u16, stop: StopPipe) -> Readiness {
-        let ports = usize::from(u16::MAX - first_port) + 1;
+    /// `first_port + 2 * n` and the next, and its sockets stand in the set of the thread that has its lane. Each set has room for hints of
+    /// so many pairs; a port behind them is asked without one.
+    pub fn new(
+        alloc: Global,
+        share: LaneShare,
+        first_port: u16,
+        pairs: u32,
+        stop: StopPipe,
+    ) -> Readiness {
+        let ports = (pairs as usize)
+            .saturating_mul(2)
+            .min(usize::from(u16::MAX - first_port) + 1);
         let mut sets = Vec::new(alloc);
         for _ in 0..share.threads.max(1) {
             let Some(set) = EventSet::new(alloc, ports) else {
@@ -225,14 +262,14 @@ impl Readiness {
     /// lane. Where no thread relays media, a sweep asks at all ports, and no hint says at which.
     pub(crate) fn watch(&self, socket: &UdpSocket, port: u16) -> Hints {
         let lane = self.share.lane_of(self.pair_of(port)).unwrap_or(0);
-        let port = usize::from(port.saturating_sub(self.first_port));
+        let port = port.saturating_sub(self.first_port);
         let mut hints = Hints {
             set: None,
             port,
             asked: None,
         };
         if let Some(set) = self.set_of(self.share.thread_of(lane)) {
-            set.add(socket.as_raw_fd(), EPOLLIN, port as u64);
+            set.add(socket.as_raw_fd(), EPOLLIN, u64::from(port));
             if self.share.threads > 0 {
                 hints.set = Arc::try_clone(set).ok();
             }

@@ -75,7 +75,7 @@ where
     let media = media_of(alloc, words);
     let share = LaneShare::of_pairs(media.threads, media.pairs);
     let stop = StopPipe::standard_input();
-    let readiness = Readiness::new(alloc, share, media.first_port, stop);
+    let readiness = Readiness::new(alloc, share, media.first_port, media.pairs, stop);
     let mut devices = RealDevices::new(rt, &readiness, stop, media.threads, seed, input);
     let status = run_over(rt, alloc, words, &mut devices);
     Ending::of_run(words, status, devices.control.fault())
