@@ -18,6 +18,9 @@ const BLIND_MILLIS: u32 = 2;
 /// How many sockets one wait tells at most.
 const EVENTS: usize = 64;
 
+/// How many milliseconds a second has.
+const SECOND: u16 = 1_000;
+
 /// The number that no pair has, which stands for the control socket and for the pipe whose end stops the program.
 const NO_PAIR: u32 = u32::MAX;
 
@@ -71,8 +74,8 @@ struct EventSet {
     complete: AtomicBool,
     /// At which sockets a datagram stands.
     hinted: HintBits,
-    /// The second of the last wait that ended, counted from any moment.
-    second: AtomicU32,
+    /// When the last wait ended, in milliseconds from any moment.
+    moment: AtomicU32,
 }
 
 impl Drop for EventSet {
@@ -81,7 +84,7 @@ impl Drop for EventSet {
             descriptor,
             complete: _,
             hinted: _,
-            second: _,
+            moment: _,
         } = self;
         libc::close(descriptor);
     }
@@ -99,7 +102,7 @@ impl EventSet {
             descriptor,
             complete: AtomicBool::new(true),
             hinted,
-            second: AtomicU32::new(0),
+            moment: AtomicU32::new(0),
         })
     }
 
@@ -148,12 +151,18 @@ impl EventSet {
         count
     }
 
-    /// Notes the second in which a wait ended.
-    fn note_second(&self, second: u32) {
-        if self.second.load(Ordering::SeqCst) != second {
-            self.second.store(second, Ordering::SeqCst);
+    /// Notes when a wait ended, in milliseconds.
+    fn note_moment(&self, moment: u32) {
+        if self.moment.load(Ordering::SeqCst) != moment {
+            self.moment.store(moment, Ordering::SeqCst);
         }
     }
+}
+
+/// In which second of its own a socket is at this moment. The seconds of sockets begin at different milliseconds, so that they aren't all
+/// asked at once.
+fn second_of(port: u16, moment: u32) -> u32 {
+    moment.wrapping_add(u32::from(port % SECOND)) / u32::from(SECOND)
 }
 
 /// Whether the system is to be asked for a datagram of a socket: where it told of one there since it was asked last, where it wasn't
@@ -164,7 +173,7 @@ pub(crate) struct Hints {
     set: Option<Arc<EventSet, Global>>,
     /// The socket's number there.
     port: u16,
-    /// In which second it was asked last.
+    /// In which of its seconds it was asked last.
     asked: Option<u32>,
 }
 
@@ -174,7 +183,7 @@ impl Hints {
         let Some(set) = &self.set else {
             return true;
         };
-        let second = Some(set.second.load(Ordering::SeqCst));
+        let second = Some(second_of(self.port, set.moment.load(Ordering::SeqCst)));
         if set.hinted.take(self.port)
             || self.asked != second
             || !set.complete.load(Ordering::SeqCst)
@@ -313,7 +322,7 @@ impl Readiness {
     /// Notes the moment, in milliseconds, at which a wait of a thread ended.
     pub(crate) fn note_moment(&self, thread: u32, now: u64) {
         if let Some(set) = self.set_of(thread) {
-            set.note_second((now / 1_000 % (1 << 32)) as u32);
+            set.note_moment((now % (1 << 32)) as u32);
         }
     }
 }
