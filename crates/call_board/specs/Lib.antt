@@ -17,3 +17,4 @@ pub mod Lending
 pub mod Applied
 pub mod Whole
 pub mod Returns
+pub mod Futures
