@@ -22,3 +22,6 @@ pub mod Written
 pub mod WrittenBack
 pub mod Kept
 pub mod HeardLines
+pub mod Alike
+pub mod AlikeNext
+pub mod AlikePlans
