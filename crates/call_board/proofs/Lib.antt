@@ -40,3 +40,8 @@ pub mod Found
 pub mod Outs
 pub mod Dues
 pub mod Done
+pub mod AlikeKeepings
+pub mod AlikeViews
+pub mod AlikeHistories
+pub mod AlikeAnswers
+pub mod OneBoard

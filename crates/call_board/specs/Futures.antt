@@ -4,10 +4,12 @@ use Rattle.std.specs.Prelude.{◌≡◌, ℕ, List, ◌∷◌, map}
 use Rattle.relay_outside.specs.declared.settings.Config.{Config}
 use Rattle.port_pool.specs.declared.holder.Holder.{Holder}
 use Rattle.call_board.specs.declared.board.Board.{Board}
-use Rattle.call_board.specs.Acts.{BoardEntry}
+use Rattle.call_board.specs.Acts.{Control, BoardEntry}
 use Rattle.call_board.specs.Calls.{live}
 use Rattle.call_board.specs.Pairs.{closed}
-use Rattle.call_board.specs.Fits.{FitsBoard, IsFitting}
+use Rattle.call_board.specs.Kept.{kept}
+use Rattle.call_board.specs.Answers.{answering_unless}
+use Rattle.call_board.specs.Fits.{FitsBoard, IsFitting, demanded}
 use Rattle.call_board.specs.Boards.{BoardFor}
 use Rattle.call_board.specs.Whole.{IsTimely}
 
@@ -19,11 +21,22 @@ closed_pairs h e = map (λ (leg : Holder). leg.pair) (closed h e)
 abbrev pub OneBoardLives : Type 0
 OneBoardLives = (config : Config) (board : Board) (g h : List BoardEntry) → BoardFor config board g → BoardFor config board h → live g ≡ live h
 
--- an entry that one of them demands is demanded by the other: the same reply, the same act and the same demands
+-- a datagram gets the same reply after both, and does the same
+abbrev pub OneBoardAnswers : Type 0
+OneBoardAnswers =
+    (config : Config) (board : Board) (g h : List BoardEntry) (now : ℕ) (c : Control) → IsFitting config g → BoardFor config board g → BoardFor config board h →
+    answering_unless config g c (kept g c.source c.cookie now) ≡ answering_unless config h c (kept h c.source c.cookie now)
+
+-- and demands the same
+abbrev pub OneBoardDemands : Type 0
+OneBoardDemands =
+    (config : Config) (board : Board) (g h : List BoardEntry) (c : Control) → BoardFor config board g → BoardFor config board h → demanded config g c ≡ demanded config h c
+
+-- an entry that one of them demands is demanded by the other
 abbrev pub OneBoardFits : Type 0
 OneBoardFits =
-    (config : Config) (board : Board) (g h : List BoardEntry) (e : BoardEntry) → IsFitting config g → IsFitting config h →
-    BoardFor config board g → BoardFor config board h → FitsBoard config g e → FitsBoard config h e
+    (config : Config) (board : Board) (g h : List BoardEntry) (e : BoardEntry) → IsFitting config g → BoardFor config board g → BoardFor config board h →
+    FitsBoard config g e → FitsBoard config h e
 
 -- a board that stands for one of them with such an entry stands for the other with it, where the entry gives back the same pairs in both
 abbrev pub OneBoardGoesOn : Type 0

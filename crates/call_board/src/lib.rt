@@ -8,7 +8,8 @@
 //! `leasing` leases the pairs that it demands and takes them back, `applying` takes it in, `ending` ends a call.
 //! `specs/Views.antt` says what the board keeps of its history, and what each call changes of that; `specs/Boards.antt` that it
 //! keeps it, `specs/Planned.antt` the result of planning an offer or an answer, `specs/Applied.antt` what a plan makes of the board,
-//! `specs/Whole.antt` what the calls of an entry's turn make together, and `law` that this is the entry.
+//! `specs/Whole.antt` what the calls of an entry's turn make together, and `law` that this is the entry. `specs/Futures.antt` says that
+//! histories for which one board stands have one future.
 #![tactic(auto)]
 
 mod answering;
@@ -27,5 +28,5 @@ mod planning;
 pub use board::Board;
 pub use board_plan::BoardPlan;
 pub use fault::BoardFault;
-pub use law::changes_are_entries;
+pub use law::{changes_are_entries, one_board_has_one_future};
 pub use live_call::LiveCall;
