@@ -18,14 +18,14 @@ use Rattle.rtp_packet.specs.declared.head.Half.{Half}
 use Rattle.port_pool.specs.declared.holder.Holder.{Holder}
 use Rattle.port_pool.specs.Boxes.{Take, Datagram, FitsTaken, holder}
 use Rattle.relay_core.specs.declared.part.Part.{Part}
-use Rattle.relay_core.specs.Entries.{Event, Board, Cell, Box, Entry, is_at, history, board_entry, board_history, cell_entry, box_event, box_history}
+use Rattle.relay_core.specs.Entries.{Event, Box, Entry, is_at, history, board_entry, cell_entry, box_event, box_history}
+use Rattle.call_board.specs.Acts.{BoardEntry}
 use Rattle.relay_core.specs.Legal.{is_handed_boards, Orderly, Legal}
 use Rattle.relay_core.specs.Made.{Made, entry_of, list_of, told}
-use Rattle.relay_core.specs.Recorded.{is_boards, IsRecorded}
-use Rattle.relay_core.specs.declared.part.Part.TheVariants as part
+use Rattle.relay_core.specs.Recorded.{AreReturned}
 use Rattle.relay_core.specs.Safe.{Safe}
 use Rattle.relay_core.specs.Beginning.{AreParts}
-use Rattle.relay_core.specs.Standing.{BringsNewKeys, Stands, IsBoardPart}
+use Rattle.relay_core.specs.Standing.{BringsNewKeys, Stands}
 use Rattle.relay_core.specs.Turning.{Numbered, IsAbove, IsReceiving}
 use Rattle.relay_core.specs.Handed.{IsHanded}
 use Rattle.relay_core.specs.Timed.{AreTimed}
@@ -37,7 +37,8 @@ use Rattle.relay_core.proofs.Boards.{le_or_eq}
 use Rattle.relay_core.proofs.Generations.{holder_leased}
 use Rattle.relay_core.proofs.Counts as counts
 use Rattle.relay_core.proofs.Own.{own_history, rows_in, in_rows, onto_last}
-use Rattle.relay_core.proofs.Stays.{Steps, onto, RecordsOnto, records_from, records_taken, stands_onto}
+use Rattle.relay_core.proofs.Recording.{gives_back}
+use Rattle.relay_core.proofs.Stays.{Steps, onto, GivesBack, GiveBackOnto, give_back_from, give_back_taken, stands_onto}
 use Rattle.relay_core.proofs.Given.{begins_as}
 use Rattle.relay_core.proofs.KeysOnce.{keys_once}
 use Rattle.relay_core.proofs.Filling.{filled_in}
@@ -73,17 +74,6 @@ pub count_is : {T : Type 0} (k i : ℕ) (rows : List (table.Entry Made T)) → l
 count_is k i [] = refl
 count_is k i (row ∷ rows) = count_case k i row rows (times k i rows) (count_is k i rows) ((row.place == k) && (row.number == i))
 
-boards_placed : (config : Config) (k moment : ℕ) (v : Event) → IsPlaced config k moment v → is_boards v ≡ true → k ≡ 0
-boards_placed config k moment (Board b) placed t = placed.0
-boards_placed config k moment (Cell c) placed t = absurd (let z : false ≡ true = t in cc)
-boards_placed config k moment (Box b) placed t = absurd (let z : false ≡ true = t in cc)
-
--- the board's place is the first
-board_place : {I O : Type 0} (config : Config) (k : ℕ) (x : Part I O) → IsAtPlace config k x → IsBoardPart x → k ≡ 0
-board_place config k (part.Board b) at is = at
-board_place config k (part.Cell c) at is = absurd is
-board_place config k (part.Pair b) at is = absurd is
-
 pub in_range : {A : Type 0} (starts : List A) (k : ℕ) → k < length starts → (a : A) × (slice_get starts k ≡ Some a)
 in_range [] k within = absurd (omega (arith, within))
 in_range (a ∷ starts) zero within = (a, refl)
@@ -117,7 +107,7 @@ module _ {T I O : Type 0} (it : I → EndTold InCall) (ic : I → ℕ) (ot : O �
       let r = in_rows rows i in
       subst (λ (x : Entry). length (filter (is_at x.place x.number) (list_of rows)) ≡ 1) r.is (numbered_row r.row r.is_in)
 
-  module _ (config : Config) (are : AreParts config starts) (orderly : Orderly config (list_of rows)) (recorded : IsRecorded rows) where
+  module _ (config : Config) (are : AreParts config starts) (orderly : Orderly config (list_of rows)) (returned : AreReturned config rows) where
     -- the history of a place, up to a number, is the list's
     pub past_is : (k : ℕ) (a : Part I O) → (w : IsWhole it ic ot oc rows k a) → (n : ℕ) → n ≤ length w.past
         → onto (take n w.past) [] ≡ history (list_of rows) k n
@@ -133,17 +123,17 @@ module _ {T I O : Type 0} (it : I → EndTold InCall) (ic : I → ℕ) (ot : O �
     new_keys k a w n within =
         subst (λ (h : List Entry). BringsNewKeys (filter_map cell_entry h)) (sym (past_is k a w n within)) (keys_once config (list_of rows) orderly k n)
 
-    -- each step of the board records what stands before it
-    records : (k : ℕ) (a : Part I O) → slice_get starts k ≡ Some a → (w : IsWhole it ic ot oc rows k a) → IsBoardPart a → RecordsOnto w.past []
-    records k a q w is =
-        let at_board : k ≡ 0 = board_place config k a (begins_kind config k a (begins_as config starts are k a q)) is in
-        records_from w.past [] (λ i row at boards.
+    -- each step of the board records the pairs of the legs that it closes
+    give_back : (k : ℕ) (a : Part I O) → (w : IsWhole it ic ot oc rows k a) → GiveBackOnto w.past []
+    give_back k a w =
+        give_back_from w.past [] (λ i row at.
         let low = slice_get_within w.past i row at in
-        let number : row.number ≡ i = (w.is.named i row at).1 in
-        recorded row (w.is.all i row at) boards
-        ∙ ap (λ (m : ℕ). board_history (list_of rows) m) number
-        ∙ ap (λ (m : ℕ). filter_map board_entry (history (list_of rows) m i)) (sym at_board)
+        let named = w.is.named i row at in
+        subst (λ (h : List BoardEntry). GivesBack row.event row.event.event h)
+        (ap (λ (m : ℕ). filter_map board_entry (history (list_of rows) row.place m)) named.1
+        ∙ ap (λ (m : ℕ). filter_map board_entry (history (list_of rows) m i)) named.0
         ∙ ap (λ (h : List Entry). filter_map board_entry h) (sym (past_is k a w i (omega (arith, low)))))
+        (gives_back config rows orderly returned row (w.is.all i row at)))
 
     begins : (row : table.Entry Made T) → (p : Place row) → IsAtPlace config row.place p.start × Stands config p.start []
     begins row p =
@@ -192,16 +182,15 @@ module _ {T I O : Type 0} (it : I → EndTold InCall) (ic : I → ℕ) (ot : O �
         let old : Stands config s.old (history (list_of rows) row.place row.number)
         = subst (λ (h : List Entry). Stands config s.old h) (past_is row.place p.start w row.number low)
         (stands_onto it ic ot oc config p.start s.old (take row.number w.past) [] s.before (λ is. new_keys row.place p.start w row.number low)
-        (λ is. records_taken row.number w.past [] (records row.place p.start p.starts_so w is)) b.1) in
+        (λ is. give_back_taken row.number w.past [] (give_back row.place p.start w)) b.1) in
         let new : Stands config s.new (entry_of row ∷ history (list_of rows) row.place row.number)
         = subst (λ (h : List Entry). Stands config s.new h) (next_is row p)
         (stands_onto it ic ot oc config p.start s.new (take (suc row.number) w.past) [] s.after (λ is. new_keys row.place p.start w (suc row.number) high)
-        (λ is. records_taken (suc row.number) w.past [] (records row.place p.start p.starts_so w is)) b.1) in
+        (λ is. give_back_taken (suc row.number) w.past [] (give_back row.place p.start w)) b.1) in
         let keys : BringsNewKeys (filter_map cell_entry (entry_of row ∷ history (list_of rows) row.place row.number))
         = subst (λ (h : List Entry). BringsNewKeys (filter_map cell_entry h)) (next_is row p) (new_keys row.place p.start w (suc row.number) high) in
         step_right it ic ot oc config row.place s.old s.new row (history (list_of rows) row.place row.number) (λ is. keys)
-        (λ t. recorded row i t ∙ ap (λ (m : ℕ). filter_map board_entry (history (list_of rows) m row.number))
-        (sym (boards_placed config row.place row.event.moment row.event.event (row_placed row i) t))) s.step old new
+        (gives_back config rows orderly returned row i) s.step old new
         (past_placed row.place row.number) (kind_stays it ic ot oc config row.place p.start s.old (take row.number w.past) s.before b.0)
 
     -- below each row no number of its place is left out
@@ -310,7 +299,7 @@ module _ {T I O : Type 0} (it : I → EndTold InCall) (ic : I → ℕ) (ot : O �
           subst (λ (h : List Entry). Stands config w.last h) same
               (stands_onto it ic ot oc config a w.last w.past [] w.leaves
               (λ is. subst (λ (h : List Entry). BringsNewKeys (filter_map cell_entry h)) (sym same) (keys_once config (list_of rows) orderly k n))
-              (records k a q w)
+              (λ is. give_back k a w)
               (begins_stands config k a b)),
         )
 
@@ -328,12 +317,12 @@ module _ {T I O : Type 0} (it : I → EndTold InCall) (ic : I → ℕ) (ot : O �
       → (map told (filled_in config (list_of rows)) ≡ list_of rows) × Legal config (filled_in config (list_of rows)) × Safe config (filled_in config (list_of rows))
   sound_legal config are sound =
       let orderly = sound.orderly closed_numbered in
-      let recorded = sound.recorded closed_numbered in
-      closed_legal config are orderly recorded (sound.receiving closed_numbered (closed_takes config are orderly recorded)) (sound.handed closed_numbered)
+      let returned = sound.returned closed_numbered in
+      closed_legal config are orderly returned (sound.receiving closed_numbered (closed_takes config are orderly returned)) (sound.handed closed_numbered)
 
   -- and each row has the moment that its event makes of the one that it was handed
   pub sound_timed : (config : Config) → AreParts config starts → IsSound config rows → AreTimed rows
-  sound_timed config are sound row i = (row_right config are (sound.orderly closed_numbered) (sound.recorded closed_numbered) row i).1
+  sound_timed config are sound row i = (row_right config are (sound.orderly closed_numbered) (sound.returned closed_numbered) row i).1
 
 -- What the close returns says so of the rows.
 module _ {T I O : Type 0} (it : I → EndTold InCall) (ic : I → ℕ) (ot : O → EndTold OutCall) (oc : O → ℕ) where
@@ -350,13 +339,13 @@ module _ {T I O : Type 0} (it : I → EndTold InCall) (ic : I → ℕ) (ot : O �
 
   -- the parts that the close returns stand for all that the rows have of their places
   pub closed_parts : (config : Config) (starts : List (Part I O)) (rows : List (table.Entry Made T)) (states : List (Part I O)) → AreParts config starts
-      → InRange starts rows → AreClosed starts rows states → length states ≡ length starts → Orderly config (list_of rows) → IsRecorded rows
+      → InRange starts rows → AreClosed starts rows states → length states ≡ length starts → Orderly config (list_of rows) → AreReturned config rows
       → AreStanding config states (list_of rows)
-  closed_parts config starts rows states are range closed long orderly recorded k n x q above =
+  closed_parts config starts rows states are range closed long orderly returned k n x q above =
       let low = slice_get_within states k x q in
       let a = in_range starts k (omega (arith, low, long)) in
       let h = closed k a.0 a.1 in
       let w : IsWhole it ic ot oc rows k a.0 = record { past = h.0; last = h.1; leaves = h.3; is = h.4 } in
       let same : h.1 ≡ x = let e : Some h.1 ≡ Some x = sym h.2 ∙ q in cc in
       subst (λ (y : Part I O). IsAtPlace config k y × Stands config y (history (list_of rows) k n)) same
-      (closed_stands it ic ot oc starts rows range (whole_of starts rows states closed) config are orderly recorded k a.0 a.1 w n above)
+      (closed_stands it ic ot oc starts rows range (whole_of starts rows states closed) config are orderly returned k a.0 a.1 w n above)

@@ -15,12 +15,12 @@ use Rattle.turn_table.proofs.Lists.{get_in, in_get}
 use Rattle.histories.specs.Words.{In, here, there, Before, begins, goes_on}
 use Rattle.histories.proofs.Lists.{equal, equal_if, keeps}
 use Rattle.port_pool.specs.declared.boxes.Opened.{Opened}
-use Rattle.port_pool.specs.Boxes.{Open, Take, Close, holder}
+use Rattle.port_pool.specs.Boxes.{holder}
 use Rattle.port_pool.specs.PairBoxes.{ends_of, holder_of}
 use Rattle.port_pool.specs.Ports.{pair_count}
 use Rattle.relay_core.specs.declared.part.Part.{Part}
 use Rattle.relay_core.specs.declared.part.Part.TheVariants as part
-use Rattle.relay_core.specs.Entries.{Event, Board, Cell, Box, Entry, is_nested, is_at, history, box_event, box_history, box_of, front}
+use Rattle.relay_core.specs.Entries.{Entry, is_nested, is_at, history, box_event, box_history, box_of, front}
 use Rattle.relay_core.specs.Made.{Made, entry_of, list_of}
 use Rattle.relay_core.specs.Beginning.{AreParts, BeginsAs}
 use Rattle.relay_core.specs.Joining.{IsSound}
@@ -30,10 +30,11 @@ use Rattle.relay_core.specs.Told.{is_closing, in_left, ins_told, takes_of, takes
 use Rattle.relay_core.proofs.Histories.{both, is_there}
 use Rattle.relay_core.proofs.Boxes.{below_front}
 use Rattle.relay_core.proofs.Own.{rows_in}
+use Rattle.relay_core.proofs.Returning.{closing_nested}
 use Rattle.relay_core.proofs.Stays.{box_stays}
 use Rattle.relay_core.proofs.Given.{begins_as}
 use Rattle.relay_core.proofs.InsTold.{ins_of, calls_of, held, held_in, rows_tell, takes_are}
-use Rattle.relay_core.specs.Recorded.{IsRecorded}
+use Rattle.relay_core.specs.Recorded.{AreReturned}
 use Rattle.relay_core.specs.Legal.{Orderly}
 use Rattle.relay_core.proofs.Closed.{IsWhole, AreWhole, InRange, in_range, closed_numbered, whole_past, closed_stands}
 
@@ -100,13 +101,6 @@ rising_of (e ∷ es) numbered ordered = (
     rises f i en fn p (inl low) = low
     rises f i en fn p (inr (inl same)) = absurd (twice e es (numbered e (here refl)) f i p (sym same))
     rises f i en fn p (inr (inr low)) = absurd (not_before f low (ordered f e (there i) (here refl) fn en p low))
-
-closing_nested : (event : Event) → is_closing event ≡ true → is_nested event ≡ true
-closing_nested (Box Close) t = refl
-closing_nested (Box (Open leg)) t = refl
-closing_nested (Box (Take half taken)) t = absurd (let k : false ≡ true = t in cc)
-closing_nested (Cell c) t = absurd (let k : false ≡ true = t in cc)
-closing_nested (Board b) t = absurd (let k : false ≡ true = t in cc)
 
 -- The rows that shut the box of a place.
 
@@ -296,15 +290,15 @@ where_each (Some calls) P each = each calls refl
 
 module _ {T I O : Type 0} (it : I → EndTold InCall) (ic : I → ℕ) (ot : O → EndTold OutCall) (oc : O → ℕ)
     (starts : List (Part I O)) (rows : List (table.Entry Made T)) (range : InRange starts rows) (whole : AreWhole it ic ot oc starts rows) where
-  closed_box : (config : Config) → AreParts config starts → Orderly config (list_of rows) → IsRecorded rows → AreRising (list_of rows) → (k : ℕ) (half : Half)
+  closed_box : (config : Config) → AreParts config starts → Orderly config (list_of rows) → AreReturned config rows → AreRising (list_of rows) → (k : ℕ) (half : Half)
       → (a : Part I O) → slice_get starts k ≡ Some a → config.max_sessions < k → holder (box_history (list_of rows) k (front (list_of rows) k)) ≡ None
       → (calls : List InCall) → ins_told rows k half ≡ Some calls → calls ≡ takes_at (list_of rows) k half
-  closed_box config are orderly recorded rising k half a at above none calls q =
+  closed_box config are orderly returned rising k half a at above none calls q =
       let w : IsWhole it ic ot oc rows k a = whole k a at in
       let b : BeginsShut it ic ot oc config a = begins_shut it ic ot oc config k a above (begins_as config starts are k a at) in
       let high : IsAbove (list_of rows) k (front (list_of rows) k) = λ e i p. below_front (list_of rows) e k i p in
       let last : Stands config w.last (history (list_of rows) k (front (list_of rows) k))
-      = (closed_stands it ic ot oc starts rows range whole config are orderly recorded k a at w (front (list_of rows) k) high).1 in
+      = (closed_stands it ic ot oc starts rows range whole config are orderly returned k a at w (front (list_of rows) k) high).1 in
       let is_box : IsBoxPart config.max_sessions w.last = box_stays it ic ot oc config.max_sessions a w.last w.past w.leaves b.is_box in
       let shut : held_in it ic ot oc half w.last ≡ Some []
       = ends_shut it ic ot oc config config.max_sessions w.last (history (list_of rows) k (front (list_of rows) k)) is_box last none half in
@@ -318,7 +312,7 @@ module _ {T I O : Type 0} (it : I → EndTold InCall) (ic : I → ℕ) (ot : O �
       ∙ ap (λ (cs : List InCall). cs ++ calls_of half w.past) nothing
       ∙ sym (takes_are half w.past [])
       ∙ ap (λ (h : List Entry). takes_of half (filter_map box_event h))
-      (whole_past it ic ot oc starts rows range whole config are orderly recorded k a w (front (list_of rows) k) high)
+      (whole_past it ic ot oc starts rows range whole config are orderly returned k a w (front (list_of rows) k) high)
 
   -- at the close the in ends told what the list has of their takes
   pub sound_ins : (config : Config) → AreParts config starts → IsSound config rows → InOrder (list_of rows) → InsAreTold config rows
@@ -327,4 +321,4 @@ module _ {T I O : Type 0} (it : I → EndTold InCall) (ic : I → ℕ) (ot : O �
       let count = parts_count it ic ot oc config starts are in
       let a = in_range starts (box_of config pair) (omega (arith, count, within)) in
       where_each (ins_told rows (box_of config pair) half) (λ calls. calls ≡ takes_at (list_of rows) (box_of config pair) half)
-      (closed_box config are (sound.orderly numbered) (sound.recorded numbered) (rising_of (list_of rows) numbered ordered) (box_of config pair) half a.0 a.1 (omega arith) none)
+      (closed_box config are (sound.orderly numbered) (sound.returned numbered) (rising_of (list_of rows) numbered ordered) (box_of config pair) half a.0 a.1 (omega arith) none)

@@ -26,11 +26,13 @@ use Rattle.relay_core.specs.declared.part.Part.{Part}
 use Rattle.relay_core.specs.declared.part.Part.TheVariants as part
 use Rattle.relay_core.specs.Entries.{Event, Board, Cell, Box, Entry, is_at, history, board_at, cell_at, box_in, board_entry, cell_entry, box_event, board_history, cell_history, box_history}
 use Rattle.relay_core.specs.Made.{Made, entry_of, list_of}
-use Rattle.relay_core.specs.Recorded.{is_boards, IsRecorded}
+use Rattle.relay_core.specs.Legal.{Orderly}
+use Rattle.relay_core.specs.Recorded.{is_boards, AreReturned}
 use Rattle.relay_core.specs.Steps.{is_reserved, IsReserved}
 use Rattle.relay_core.specs.Beginning.{AreParts, AreCells, AreBoxes, IsCell, IsBox, BeginsAs}
 use Rattle.relay_core.specs.Standing.{told_entry, BringsNewKeys, Stands, IsBoardPart, IsCellPart, IsBoxPart, nested_of, BoardIs, BoxIs, CellIs}
-use Rattle.relay_core.proofs.Stays.{onto, Steps, RecordsOnto, records_from, stands_onto, board_stays, cell_stays, box_stays}
+use Rattle.relay_core.proofs.Recording.{gives_back}
+use Rattle.relay_core.proofs.Stays.{onto, Steps, GivesBack, GiveBackOnto, give_back_from, stands_onto, board_stays, cell_stays, box_stays}
 use Rattle.relay_core.proofs.Own.{IsOwn, own_history}
 
 -- What the places begin as.
@@ -302,6 +304,12 @@ reserved_boards (Board b) t = refl
 reserved_boards (Cell c) t = absurd (let k : false ≡ true = t in cc)
 reserved_boards (Box b) t = absurd (let k : false ≡ true = t in cc)
 
+-- only the board's own events give pairs back
+where_boards : (made : Made) (v : Event) (h : List BoardEntry) → (is_boards v ≡ true → GivesBack made v h) → GivesBack made v h
+where_boards made (Board b) h gives = gives refl
+where_boards made (Cell c) h gives = tt
+where_boards made (Box b) h gives = tt
+
 module _ {T I O : Type 0} (it : I → EndTold InCall) (ic : I → ℕ) (ot : O → EndTold OutCall) (oc : O → ℕ) where
   abbrev pub Gives : ℕ → View (Part I O) Made T → ℕ → Part I O → Type 0
   Gives k v n x = Given (Steps {T = T} it ic ot oc) IsReserved k v n x
@@ -353,27 +361,31 @@ module _ {T I O : Type 0} (it : I → EndTold InCall) (ic : I → ℕ) (ot : O �
       ∙ ap (λ (xs : List Entry). filter_map board_entry xs) (own_history keeps_event 0 v.entries g.history (is_own 0 v n x g main numbered) i within)
       ∙ sym (board_kept (history (list_of v.entries) 0 i))
 
-  -- so each of the board's steps that lead to the front records what stands before it
-  records_given : (v : View (Part I O) Made T) (n : ℕ) (x : Part I O) → (g : Gives 0 v n x) → v.main ≡ true → Numbered v.entries → IsRecorded v.entries
-      → RecordsOnto g.history []
-  records_given v n x g main numbered recorded =
-      records_from g.history [] (λ i row q boards.
+  -- so each of the board's steps that lead to the front records the pairs of the legs that it closes
+  give_back_given : (config : Config) (v : View (Part I O) Made T) (n : ℕ) (x : Part I O) → (g : Gives 0 v n x) → v.main ≡ true
+      → Orderly config (list_of v.entries) → AreReturned config v.entries → GiveBackOnto g.history []
+  give_back_given config v n x g main orderly returned =
+      give_back_from g.history [] (λ i row q.
+      where_boards row.event row.event.event (filter_map board_entry (onto (take i g.history) [])) (λ boards.
       let low = slice_get_within g.history i row q in
-      let number : row.number ≡ i = (g.named i row q).1 in
-      recorded row (g.main main i row q (reserved_boards row.event.event boards)) boards
-      ∙ ap (λ (m : ℕ). board_history (list_of v.entries) m) number
-      ∙ sym (board_before v n x g main numbered i (omega (arith, low))))
+      let named = g.named i row q in
+      subst (λ (h : List BoardEntry). GivesBack row.event row.event.event h)
+      (ap (λ (m : ℕ). filter_map board_entry (history (list_of v.entries) row.place m)) named.1
+      ∙ ap (λ (m : ℕ). filter_map board_entry (history (list_of v.entries) m i)) named.0
+      ∙ sym (board_before v n x g main orderly.numbered i (omega (arith, low))))
+      (gives_back config v.entries orderly returned row (g.main main i row q (reserved_boards row.event.event boards)))))
 
-  -- the board's turn gives the board of the list's own history, where each of its steps records what the list has before it
-  pub given_board : (config : Config) (v : View (Part I O) Made T) (n : ℕ) (x : Part I O) → AreParts config v.starts → Gives 0 v n x → v.main ≡ true → Numbered v.entries
-      → IsRecorded v.entries → BoardIs config x (board_history (list_of v.entries) n)
-  given_board config v n x are g main numbered recorded =
+  -- the board's turn gives the board of the list's own history, where each of its steps records the pairs of the legs that it closes
+  pub given_board : (config : Config) (v : View (Part I O) Made T) (n : ℕ) (x : Part I O) → AreParts config v.starts → Gives 0 v n x → v.main ≡ true
+      → Orderly config (list_of v.entries) → AreReturned config v.entries → BoardIs config x (board_history (list_of v.entries) n)
+  given_board config v n x are g main orderly returned =
       let b = board_begins config g.start (begins_as config v.starts are 0 g.start g.starts) in
       board_is config x (onto g.history []) (board_history (list_of v.entries) n)
       (board_stays it ic ot oc g.start x g.history g.leaves b.0)
-      (stands_onto it ic ot oc config g.start x g.history [] g.leaves (λ is. absurd (not_cell g.start b.0 is)) (λ is. records_given v n x g main numbered recorded) b.1)
+      (stands_onto it ic ot oc config g.start x g.history [] g.leaves (λ is. absurd (not_cell g.start b.0 is))
+      (λ is. give_back_given config v n x g main orderly returned) b.1)
       (board_kept (onto g.history [])
-      ∙ ap (λ (xs : List Entry). filter_map board_entry xs) (kept_history 0 v n x g main numbered)
+      ∙ ap (λ (xs : List Entry). filter_map board_entry xs) (kept_history 0 v n x g main orderly.numbered)
       ∙ sym (board_kept (history (list_of v.entries) 0 n)))
 
   -- a box's turn, taken by the main hand, gives a box with the holder of the list's own history

@@ -17,7 +17,7 @@ use Rattle.relay_core.specs.Joining.{TakesOwnPairs, IsLane, IsSound}
 use Rattle.relay_core.proofs.Histories.{same_at, is_there}
 use Rattle.relay_core.proofs.Turns.{filter_append, before_left, before_right, lanes_keep}
 use Rattle.relay_core.proofs.Own.{rows_in}
-use Rattle.relay_core.proofs.Recording.{lane_no_boards, recorded_behind}
+use Rattle.relay_core.proofs.Recording.{returned_behind}
 
 -- The parts of a numbered list.
 
@@ -179,10 +179,9 @@ module _ {T : Type 0} where
         let once = subst Numbered same numbered in
         let left = numbered_left (list_of rows) (list_of others) once in
         handed_joined config rows others (sound.orderly left) lane.of_lane once (sound.handed left);
-    recorded = λ numbered.
+    returned = λ numbered.
         let once = subst Numbered same numbered in
-        recorded_behind rows others (λ row i. lane_no_boards row.event.event (lane.of_lane row i))
-        (sound.recorded (numbered_left (list_of rows) (list_of others) once));
+        returned_behind config rows others lane.of_lane (sound.returned (numbered_left (list_of rows) (list_of others) once));
     receiving = λ numbered own.
         let once = subst Numbered same numbered in
         let owns = subst (λ (l : List Entry). TakesOwnPairs config l) same own in

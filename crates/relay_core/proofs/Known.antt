@@ -1,20 +1,21 @@
 -- A turn of the board keeps all that is known of the main hand's rows.
-use Rattle.std.proofs.Common.{◌≡◌, ◌∙◌, sym, ap, subst, List, [], ◌∷◌, ◌++◌}
-use Rattle.std.proofs.lemmas.List.{map-append}
+use Rattle.std.proofs.Common.{◌≡◌, sym, subst, List, [], ◌∷◌, ◌++◌, Some}
 use Rattle.relay_outside.specs.declared.settings.Config.{Config}
 use Rattle.turn_table.specs.declared.machine.Entry as table
 use Rattle.turn_table.specs.Histories as table_lists
 use Rattle.histories.proofs.Lists.{in_left}
-use Rattle.relay_core.specs.Entries.{Entry, board_history}
+use Rattle.call_board.specs.Acts.{BoardEntry}
+use Rattle.call_board.specs.Futures.{closed_pairs}
+use Rattle.relay_core.specs.Entries.{Entry, board_entry, board_history}
 use Rattle.relay_core.specs.Legal.{Orderly}
 use Rattle.relay_core.specs.Made.{Made, entry_of, list_of}
 use Rattle.relay_core.specs.Handed.{IsHanded}
-use Rattle.relay_core.specs.Recorded.{IsRecorded}
-use Rattle.relay_core.specs.Turning.{IsTurn, IsReceiving, with_turn}
+use Rattle.relay_core.specs.Recorded.{AreReturned}
+use Rattle.relay_core.specs.Turning.{IsTurn, IsReceiving}
 use Rattle.relay_core.specs.Joining.{TakesOwnPairs, IsSound}
 use Rattle.relay_core.proofs.Turns.{turn_keeps}
 use Rattle.relay_core.proofs.Handing.{handed_turn, receiving_turn}
-use Rattle.relay_core.proofs.Recording.{recorded_turn}
+use Rattle.relay_core.proofs.Recording.{turn_list, returned_turn}
 
 owns_less : (config : Config) (l ls : List Entry) → TakesOwnPairs config (l ++ ls) → TakesOwnPairs config l
 owns_less config l ls own e half leg source bytes i = own e half leg source bytes (in_left l ls i)
@@ -24,7 +25,7 @@ module _ {T : Type 0} where
   pub record IsKnown (config : Config) (rows : List (table.Entry Made T)) : Type 0 where
     pub orderly : Orderly config (list_of rows)
     pub handed : IsHanded rows
-    pub recorded : IsRecorded rows
+    pub returned : AreReturned config rows
     pub receiving : TakesOwnPairs config (list_of rows) → IsReceiving config (list_of rows)
 
   -- it is enough for the close
@@ -32,28 +33,24 @@ module _ {T : Type 0} where
   known_sound config rows known = record {
     orderly = λ numbered. known.orderly;
     handed = λ numbered. known.handed;
-    recorded = λ numbered. known.recorded;
+    returned = λ numbered. known.returned;
     receiving = λ numbered own. known.receiving own;
   }
 
-  pub turn_list : (rows ns : List (table.Entry Made T)) (b : table.Entry Made T)
-      → list_of ((rows ++ ns) ++ b ∷ []) ≡ with_turn (list_of rows) (list_of ns) (entry_of b)
-  turn_list rows ns b =
-      map-append entry_of (rows ++ ns) (b ∷ []) ∙ ap (λ (l : List Entry). l ++ entry_of b ∷ []) (map-append entry_of rows ns)
-
-  -- a whole turn, whose nested rows were handed the moment of its board entry, which records the history before it
+  -- a whole turn, whose nested rows were handed the moment of its board entry, which records the pairs of the legs that it closes
   pub known_turn : (config : Config) (rows ns : List (table.Entry Made T)) (b : table.Entry Made T) → IsKnown config rows
       → IsTurn config (list_of rows) (list_of ns) (entry_of b)
       → ((row : table.Entry Made T) → table_lists.In row ns → row.event.handed ≡ b.event.moment)
-      → b.event.before ≡ board_history (list_of rows) b.number → IsKnown config ((rows ++ ns) ++ b ∷ [])
-  known_turn config rows ns b known turn handed before =
+      → (e : BoardEntry) → board_entry (entry_of b) ≡ Some e → closed_pairs (board_history (list_of rows) b.number) e ≡ b.event.returned
+      → IsKnown config ((rows ++ ns) ++ b ∷ [])
+  known_turn config rows ns b known turn handed e is gives =
       let l = list_of rows in
       let ms = list_of ns in
       let same = turn_list rows ns b in
       record {
         orderly = subst (λ (k : List Entry). Orderly config k) (sym same) (turn_keeps config l ms (entry_of b) known.orderly turn);
         handed = handed_turn config rows ns b known.orderly turn known.handed handed;
-        recorded = recorded_turn config rows ns b known.orderly turn before known.recorded;
+        returned = returned_turn config rows ns b known.orderly turn e is gives known.returned;
         receiving = λ own.
             subst (λ (k : List Entry). IsReceiving config k) (sym same)
             (receiving_turn config l ms (entry_of b) known.orderly turn

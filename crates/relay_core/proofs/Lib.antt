@@ -22,7 +22,6 @@ pub mod Learned
 pub mod Elsewhere
 pub mod Turns
 pub mod Gains
-pub mod Recording
 pub mod Shut
 pub mod Shutting
 pub mod Plans
@@ -30,6 +29,9 @@ pub mod Counts
 pub mod Laid
 pub mod Stays
 pub mod Own
+pub mod Returning
+pub mod Recording
+pub mod Stepping
 pub mod Given
 pub mod Beginnings
 pub mod Rounded

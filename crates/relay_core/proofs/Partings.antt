@@ -15,7 +15,7 @@ use Rattle.relay_core.specs.declared.part.Part.TheVariants as part
 use Rattle.relay_core.specs.Entries.{Event, Board, Cell, Box, Entry, cell_at, cell_entry, history, cell_history}
 use Rattle.relay_core.specs.Legal.{Orderly, StandsAt}
 use Rattle.relay_core.specs.Made.{LegLeft, Made, entry_of, list_of}
-use Rattle.relay_core.specs.Recorded.{IsRecorded}
+use Rattle.relay_core.specs.Recorded.{AreReturned}
 use Rattle.relay_core.specs.Steps.{CellSteps, Relates}
 use Rattle.relay_core.specs.Beginning.{AreParts, BeginsAs}
 use Rattle.relay_core.specs.Joining.{IsSound}
@@ -90,23 +90,23 @@ module _ {I O : Type 0} (it : I → EndTold InCall) (ic : I → ℕ) (ot : O →
 
 module _ {T I O : Type 0} (it : I → EndTold InCall) (ic : I → ℕ) (ot : O → EndTold OutCall) (oc : O → ℕ)
     (starts : List (Part I O)) (rows : List (table.Entry Made T)) (range : InRange starts rows) (whole : AreWhole it ic ot oc starts rows) where
-  row_goes : (config : Config) → AreParts config starts → Orderly config (list_of rows) → IsRecorded rows → (row : table.Entry Made T) → table_lists.In row rows
+  row_goes : (config : Config) → AreParts config starts → Orderly config (list_of rows) → AreReturned config rows → (row : table.Entry Made T) → table_lists.In row rows
       → is_parting row.event.event ≡ true
       → GoesWith (since_end (fill_history config (cell_history (list_of rows) row.place row.number))) row.event.event row.event.left.legs
-  row_goes config are orderly recorded row i parts =
+  row_goes config are orderly returned row i parts =
       let p = place_of it ic ot oc starts rows range whole row i in
       let w = p.history_of in
       let within = p.within in
       let low : row.number ≤ length w.past = omega (arith, within) in
       let high : suc row.number ≤ length w.past = omega (arith, within) in
       let first = begins_as config starts are row.place p.start p.starts_so in
-      let at = parting_at config row.place row.event.event parts (row_placed it ic ot oc starts rows range whole config are orderly recorded row i).0 in
+      let at = parting_at config row.place row.event.event parts (row_placed it ic ot oc starts rows range whole config are orderly returned row i).0 in
       let begins = cell_begins config row.place p.start at.0 at.1 first in
       let s = step_at (Steps it ic ot oc) p.start w.last w.past w.leaves row.number row p.at in
       let keys : BringsNewKeys (filter_map cell_entry (onto (take row.number w.past) []))
-      = new_keys it ic ot oc starts rows range whole config are orderly recorded row.place p.start w row.number low in
+      = new_keys it ic ot oc starts rows range whole config are orderly returned row.place p.start w row.number low in
       let is : onto (take row.number w.past) [] ≡ history (list_of rows) row.place row.number
-      = past_is it ic ot oc starts rows range whole config are orderly recorded row.place p.start w row.number low in
+      = past_is it ic ot oc starts rows range whole config are orderly returned row.place p.start w row.number low in
       let told : IsTold it ic ot oc config s.old (history (list_of rows) row.place row.number)
       = subst (λ (h : List Entry). IsTold it ic ot oc config s.old h) is
       (rows_tell it ic ot oc config p.start s.old (take row.number w.past) [] begins.0 s.before keys begins.1 (begins_told it ic ot oc config row.place p.start first)) in
@@ -114,8 +114,8 @@ module _ {T I O : Type 0} (it : I → EndTold InCall) (ic : I → ℕ) (ot : O �
       = subst (λ (h : List Entry). Stands config s.old h) is
       (stands_onto it ic ot oc config p.start s.old (take row.number w.past) [] s.before (λ cell. keys) (λ board. absurd (not_both it ic ot oc p.start begins.0 board)) begins.1) in
       let fresh : BringsNewKeys (filter_map cell_entry (entry_of row ∷ history (list_of rows) row.place row.number))
-      = subst (λ (h : List Entry). BringsNewKeys (filter_map cell_entry h)) (next_is it ic ot oc starts rows range whole config are orderly recorded row p)
-      (new_keys it ic ot oc starts rows range whole config are orderly recorded row.place p.start w (suc row.number) high) in
+      = subst (λ (h : List Entry). BringsNewKeys (filter_map cell_entry h)) (next_is it ic ot oc starts rows range whole config are orderly returned row p)
+      (new_keys it ic ot oc starts rows range whole config are orderly returned row.place p.start w (suc row.number) high) in
       (row_event it ic ot oc config s.old s.new row (history (list_of rows) row.place row.number) (cell_stays it ic ot oc p.start s.old (take row.number w.past) s.before begins.0)
       fresh s.step stands told).1 parts
 
@@ -125,4 +125,4 @@ module _ {T I O : Type 0} (it : I → EndTold InCall) (ic : I → ℕ) (ot : O �
       let orderly = sound.orderly numbered in
       subst (λ (h : List CellEntry). GoesWith (since_end h) row.event.event row.event.left.legs)
       (sym (filled_history config (list_of rows) orderly.numbered row.place row.number))
-      (row_goes config are orderly (sound.recorded numbered) row i parts)
+      (row_goes config are orderly (sound.returned numbered) row i parts)

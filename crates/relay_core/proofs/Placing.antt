@@ -1,5 +1,5 @@
 -- Of each place: its steps are of its kind, are those that its history demands, and have the moments that they were handed.
-use Rattle.std.proofs.Common.{◌≡◌, ◌∙◌, sym, ap, subst, refl, ℕ, zero, suc, ◌<◌, ◌≤◌, true, List, [], ◌∷◌, Some, None, map, arith, slice_get, take}
+use Rattle.std.proofs.Common.{◌≡◌, ◌∙◌, sym, ap, subst, refl, ℕ, zero, suc, ◌<◌, ◌≤◌, List, [], ◌∷◌, Some, None, map, arith, slice_get, take}
 use Rattle.std.specs.List.{filter_map, cons_option}
 use Rattle.relay_outside.specs.declared.ports.InCall.{InCall}
 use Rattle.relay_outside.specs.declared.ports.OutCall.{OutCall}
@@ -19,19 +19,17 @@ use Rattle.call_cell.specs.CellStanding as cells
 use Rattle.call_board.specs.declared.board.Board as board
 use Rattle.call_board.specs.Acts.{BoardEntry}
 use Rattle.call_board.specs.Boards.{BoardFor}
-use Rattle.call_board.specs.Views as boards
 use Rattle.call_board.specs.Fits.{IsFitting}
 use Rattle.relay_core.specs.declared.part.Part.{Part}
 use Rattle.relay_core.specs.declared.part.Part.TheVariants as part
 use Rattle.relay_core.specs.Entries.{Event, Board, Cell, Box, Entry, board_at, cell_at, board_entry, cell_entry, box_event}
 use Rattle.relay_core.specs.Legal.{StandsAt}
 use Rattle.relay_core.specs.Made.{Made, entry_of, moment_of}
-use Rattle.relay_core.specs.Recorded.{is_boards}
 use Rattle.relay_core.specs.Steps.{BoardSteps, BoxSteps, CellStepsBy, CellSteps}
 use Rattle.relay_core.specs.Beginning.{BeginsAs}
 use Rattle.relay_core.specs.Joining.{IsAtPlace}
 use Rattle.relay_core.specs.Standing.{told_entry, CellStands, BringsNewKeys, Stands, IsCellPart}
-use Rattle.relay_core.proofs.Stays.{Steps, new_recorded, board_step_at}
+use Rattle.relay_core.proofs.Stays.{Steps, new_recorded, GivesBack, board_step_at}
 use Rattle.relay_core.proofs.Filling.{cell_fills}
 use Rattle.relay_core.proofs.Filled.{FitsTold}
 
@@ -148,18 +146,16 @@ told_moments (e ∷ h) = ap (λ (ms : List ℕ). e.moment ∷ ms) (told_moments 
 abbrev pub IsRight : Config → List Entry → Made → Event → Type 0
 IsRight config past made v = FitsTold config past made.moment v × (made.moment ≡ moment_of v made.handed (greatest (moments past)))
 
-board_right : (config : Config) (k : ℕ) (old new : board.Board) (made : Made) (v : Event) (past : List Entry) → (is_boards v ≡ true → made.before ≡ filter_map board_entry past)
+board_right : (config : Config) (k : ℕ) (old new : board.Board) (made : Made) (v : Event) (past : List Entry) → GivesBack made v (filter_map board_entry past)
     → BoardSteps old made v new → IsFitting config (filter_map board_entry past) × BoardFor config old (filter_map board_entry past) → ArePlaced config k past → k ≡ 0
     → IsRight config past made v
-board_right config k old new made (Board e) past records steps for placed is =
-    let was = subst (λ (h : List BoardEntry). IsFitting config h × BoardFor config old h) (sym (records refl)) for in
-    let s = board_step_at config old new made e steps was in (
-      tt,
-      s.moment_is ∙ ap (λ (h : List BoardEntry). moment_of (Board e) made.handed (boards.last_moment h)) (records refl)
-          ∙ ap (λ (ms : List ℕ). moment_of (Board e) made.handed (greatest ms)) (board_moments config k past placed is),
-    )
-board_right config k old new made (Cell e) past records steps for placed is = absurd steps
-board_right config k old new made (Box e) past records steps for placed is = absurd steps
+board_right config k old new made (Board e) past gives steps for placed is = (
+  tt,
+  (board_step_at config old new made e (filter_map board_entry past) steps for gives).moment_is
+      ∙ ap (λ (ms : List ℕ). moment_of (Board e) made.handed (greatest ms)) (board_moments config k past placed is),
+)
+board_right config k old new made (Cell e) past gives steps for placed is = absurd steps
+board_right config k old new made (Box e) past gives steps for placed is = absurd steps
 
 box_right : {I : Type 0} (it : I → EndTold InCall) (ic : I → ℕ) (config : Config) (k : ℕ) (old new : PairBox I) (made : Made) (v : Event) (past : List Entry)
     → BoxSteps it ic old made v new → BoxFor old (filter_map box_event past) → ArePlaced config k past → config.max_sessions < k → IsRight config past made v
@@ -225,13 +221,13 @@ module _ {T I O : Type 0} (it : I → EndTold InCall) (ic : I → ℕ) (ot : O �
 
   pub step_right : (config : Config) (k : ℕ) (old new : Part I O) (row : table.Entry Made T) (past : List Entry)
       → (IsCellPart old → BringsNewKeys (filter_map cell_entry (entry_of row ∷ past)))
-      → (is_boards row.event.event ≡ true → row.event.before ≡ filter_map board_entry past) → Steps it ic ot oc old row.event row.outcome new
+      → GivesBack row.event row.event.event (filter_map board_entry past) → Steps it ic ot oc old row.event row.outcome new
       → Stands config old past → Stands config new (entry_of row ∷ past) → ArePlaced config k past → IsAtPlace config k old
       → IsRight config past row.event row.event.event
-  step_right config k (part.Board old) (part.Board new) row past fresh records step for next placed is =
-      board_right config k old new row.event row.event.event past records step for placed is
-  step_right config k (part.Cell old) (part.Cell new) row past fresh records step for next placed is =
+  step_right config k (part.Board old) (part.Board new) row past fresh gives step for next placed is =
+      board_right config k old new row.event row.event.event past gives step for placed is
+  step_right config k (part.Cell old) (part.Cell new) row past fresh gives step for next placed is =
       cell_right ot oc config k old new row.event row.event.event past (fresh tt) step for next placed is
-  step_right config k (part.Pair old) (part.Pair new) row past fresh records step for next placed is =
+  step_right config k (part.Pair old) (part.Pair new) row past fresh gives step for next placed is =
       box_right it ic config k old new row.event row.event.event past step for.1 placed is
-  step_right config k _ _ row past fresh records step for next placed is = absurd step
+  step_right config k _ _ row past fresh gives step for next placed is = absurd step

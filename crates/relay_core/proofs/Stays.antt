@@ -1,5 +1,5 @@
 -- Each state of a place stands for what is recorded of the place.
-use Rattle.std.proofs.Common.{◌≡◌, refl, sym, ◌∙◌, ap, subst, ℕ, zero, suc, ◌==◌, true, List, [], ◌∷◌, ◌++◌, Option, Some, None, map, filter, take, slice_get}
+use Rattle.std.proofs.Common.{◌≡◌, refl, sym, ◌∙◌, ap, subst, ℕ, zero, suc, ◌==◌, List, [], ◌∷◌, ◌++◌, Option, Some, None, map, filter, take, slice_get}
 use Rattle.std.specs.List.{filter_map, cons_option}
 use Rattle.relay_outside.specs.declared.ports.InCall.{InCall}
 use Rattle.relay_outside.specs.declared.ports.OutCall.{OutCall}
@@ -34,12 +34,12 @@ use Rattle.call_board.specs.declared.board.Board as board
 use Rattle.call_board.specs.Acts.{BoardEvent, BoardEntry}
 use Rattle.call_board.specs.Boards.{BoardFor}
 use Rattle.call_board.specs.Fits.{IsFitting}
+use Rattle.call_board.specs.Futures.{closed_pairs}
 use Rattle.call_cell.proofs.NewKeys.{none_since}
 use Rattle.relay_core.specs.declared.part.Part.{Part}
 use Rattle.relay_core.specs.declared.part.Part.TheVariants as part
 use Rattle.relay_core.specs.Entries.{Event, Board, Cell, Box, Entry, board_at, cell_at, box_in, board_entry, cell_entry, box_event}
 use Rattle.relay_core.specs.Made.{Left, Made, entry_of, told_cell, told_relay}
-use Rattle.relay_core.specs.Recorded.{is_boards}
 use Rattle.relay_core.specs.Steps.{board_made, BoardStep, BoardSteps, BoxEnds, BoxSteps, CellStepsBy, CellSteps, Relates, AreNew}
 use Rattle.relay_core.specs.Standing.{told_entry, FittingBox, CellStands, BringsNewKeys, Stands, IsBoardPart, IsCellPart, IsBoxPart, AreHome, BoxHome}
 
@@ -68,25 +68,28 @@ new_recorded history recorded keys is new key i =
 
 -- One step.
 
--- a step of the board, at the history that it records
-pub board_step_at : (config : Config) (old new : board.Board) (made : Made) (e : BoardEvent) → BoardSteps old made (Board e) new
-    → IsFitting config made.before × BoardFor config old made.before → BoardStep config made.before made e new
-board_step_at config old new made e steps for =
-    let c : old.config ≡ config = for.1.config_is in
-    subst (λ (k : Config). BoardStep k made.before made e new) c
-    (steps (subst (λ (k : Config). IsFitting k made.before) (sym c) for.0) (subst (λ (k : Config). BoardFor k old made.before) (sym c) for.1))
+-- after the history an event of the board closes the legs of just the recorded pairs, in the recorded order
+abbrev pub GivesBack : Made → Event → List BoardEntry → Type 0
+GivesBack made (Board e) h = closed_pairs h (board_made made e) ≡ made.returned
+GivesBack made (Cell e) h = Unit {0}
+GivesBack made (Box e) h = Unit {0}
 
-after_board : (config : Config) (old new : board.Board) (made : Made) (ev : Event) (h : List BoardEntry) → (is_boards ev ≡ true → made.before ≡ h)
+-- a step of the board, at a history after which it closes these
+pub board_step_at : (config : Config) (old new : board.Board) (made : Made) (e : BoardEvent) (h : List BoardEntry) → BoardSteps old made (Board e) new
+    → IsFitting config h × BoardFor config old h → GivesBack made (Board e) h → BoardStep config h made e new
+board_step_at config old new made e h steps for gives =
+    let c : old.config ≡ config = for.1.config_is in
+    subst (λ (k : Config). BoardStep k h made e new) c
+    (steps h (subst (λ (k : Config). IsFitting k h) (sym c) for.0) (subst (λ (k : Config). BoardFor k old h) (sym c) for.1) gives)
+
+after_board : (config : Config) (old new : board.Board) (made : Made) (ev : Event) (h : List BoardEntry) → GivesBack made ev h
     → BoardSteps old made ev new → IsFitting config h × BoardFor config old h
     → IsFitting config (cons_option (board_at made.moment ev) h) × BoardFor config new (cons_option (board_at made.moment ev) h)
-after_board config old new made (Board e) h records steps for =
-    let was : IsFitting config made.before × BoardFor config old made.before
-    = subst (λ (k : List BoardEntry). IsFitting config k × BoardFor config old k) (sym (records refl)) for in
-    let s : BoardStep config made.before made e new = board_step_at config old new made e steps was in
-    subst (λ (k : List BoardEntry). IsFitting config (board_made made e ∷ k) × BoardFor config new (board_made made e ∷ k)) (records refl)
-    ((s.fits, was.0), s.stands)
-after_board config old new made (Cell e) h records steps for = absurd steps
-after_board config old new made (Box e) h records steps for = absurd steps
+after_board config old new made (Board e) h gives steps for =
+    let s : BoardStep config h made e new = board_step_at config old new made e h steps for gives in
+    ((s.fits, for.0), s.stands)
+after_board config old new made (Cell e) h gives steps for = absurd steps
+after_board config old new made (Box e) h gives steps for = absurd steps
 
 after_box : {I : Type 0} (it : I → EndTold InCall) (ic : I → ℕ) (old new : PairBox I) (made : Made) (ev : Event) (h : List BoxEvent)
     → BoxSteps it ic old made ev new → FittingBox h × BoxFor old h → FittingBox (cons_option (box_in ev) h) × BoxFor new (cons_option (box_in ev) h)
@@ -209,22 +212,22 @@ module _ {T : Type 0} where
   brings_onto [] h b = b
   brings_onto (row ∷ rows) h b = brings_option (cell_entry (entry_of row)) (filter_map cell_entry h) (brings_onto rows (entry_of row ∷ h) b)
 
-  -- each step of the board among these rows records the board's entries before it
-  abbrev pub RecordsOnto : List (table.Entry Made T) → List Entry → Type 0
-  RecordsOnto [] h = Unit {0}
-  RecordsOnto (row ∷ rows) h = (is_boards row.event.event ≡ true → row.event.before ≡ filter_map board_entry h) × RecordsOnto rows (entry_of row ∷ h)
+  -- each step of the board among these rows records the pairs of the legs that it closes after the board's entries before it
+  abbrev pub GiveBackOnto : List (table.Entry Made T) → List Entry → Type 0
+  GiveBackOnto [] h = Unit {0}
+  GiveBackOnto (row ∷ rows) h = GivesBack row.event row.event.event (filter_map board_entry h) × GiveBackOnto rows (entry_of row ∷ h)
 
-  pub records_from : (rows : List (table.Entry Made T)) (h : List Entry)
-      → ((i : ℕ) (row : table.Entry Made T) → slice_get rows i ≡ Some row → is_boards row.event.event ≡ true
-      → row.event.before ≡ filter_map board_entry (onto (take i rows) h)) → RecordsOnto rows h
-  records_from [] h each = tt
-  records_from (row ∷ rows) h each = (each 0 row refl, records_from rows (entry_of row ∷ h) (λ i r q. each (suc i) r q))
+  pub give_back_from : (rows : List (table.Entry Made T)) (h : List Entry)
+      → ((i : ℕ) (row : table.Entry Made T) → slice_get rows i ≡ Some row
+      → GivesBack row.event row.event.event (filter_map board_entry (onto (take i rows) h))) → GiveBackOnto rows h
+  give_back_from [] h each = tt
+  give_back_from (row ∷ rows) h each = (each 0 row refl, give_back_from rows (entry_of row ∷ h) (λ i r q. each (suc i) r q))
 
-  pub records_taken : (n : ℕ) (rows : List (table.Entry Made T)) (h : List Entry) → RecordsOnto rows h → RecordsOnto (take n rows) h
-  records_taken zero [] h r = tt
-  records_taken zero (row ∷ rows) h r = tt
-  records_taken (suc n) [] h r = tt
-  records_taken (suc n) (row ∷ rows) h r = (r.0, records_taken n rows (entry_of row ∷ h) r.1)
+  pub give_back_taken : (n : ℕ) (rows : List (table.Entry Made T)) (h : List Entry) → GiveBackOnto rows h → GiveBackOnto (take n rows) h
+  give_back_taken zero [] h r = tt
+  give_back_taken zero (row ∷ rows) h r = tt
+  give_back_taken (suc n) [] h r = tt
+  give_back_taken (suc n) (row ∷ rows) h r = (r.0, give_back_taken n rows (entry_of row ∷ h) r.1)
 
   module _ {I O : Type 0} (it : I → EndTold InCall) (ic : I → ℕ) (ot : O → EndTold OutCall) (oc : O → ℕ) where
     abbrev pub Steps : Part I O → Made → T → Part I O → Type 0
@@ -244,25 +247,25 @@ module _ {T : Type 0} where
 
     after : (config : Config) (old new : Part I O) (row : table.Entry Made T) (h : List Entry)
         → (IsCellPart old → BringsNewKeys (filter_map cell_entry (entry_of row ∷ h)))
-        → (IsBoardPart old → is_boards row.event.event ≡ true → row.event.before ≡ filter_map board_entry h)
+        → (IsBoardPart old → GivesBack row.event row.event.event (filter_map board_entry h))
         → Steps old row.event row.outcome new → Stands config old h → Stands config new (entry_of row ∷ h)
-    after config (part.Board old) (part.Board new) row h fresh records step for =
-        after_board config old new row.event row.event.event (filter_map board_entry h) (records tt) step for
-    after config (part.Cell old) (part.Cell new) row h fresh records step for =
+    after config (part.Board old) (part.Board new) row h fresh gives step for =
+        after_board config old new row.event row.event.event (filter_map board_entry h) (gives tt) step for
+    after config (part.Cell old) (part.Cell new) row h fresh gives step for =
         after_cell ot oc config old new row.event row.event.event (filter_map cell_entry h) (fresh tt) step for
-    after config (part.Pair old) (part.Pair new) row h fresh records step for =
+    after config (part.Pair old) (part.Pair new) row h fresh gives step for =
         after_box it ic old new row.event row.event.event (filter_map box_event h) step for
-    after config _ _ row h fresh records step for = absurd step
+    after config _ _ row h fresh gives step for = absurd step
 
     -- a state stands for the history with the rows that lead to it
     pub stands_onto : (config : Config) (a b : Part I O) (rows : List (table.Entry Made T)) (h : List Entry) → Leaves Steps a rows b
-        → (IsCellPart a → BringsNewKeys (filter_map cell_entry (onto rows h))) → (IsBoardPart a → RecordsOnto rows h)
+        → (IsCellPart a → BringsNewKeys (filter_map cell_entry (onto rows h))) → (IsBoardPart a → GiveBackOnto rows h)
         → Stands config a h → Stands config b (onto rows h)
-    stands_onto config a b [] h same fresh records for = subst (λ (x : Part I O). Stands config x h) same for
-    stands_onto config a b (row ∷ rows) h l fresh records for =
+    stands_onto config a b [] h same fresh give for = subst (λ (x : Part I O). Stands config x h) same for
+    stands_onto config a b (row ∷ rows) h l fresh give for =
         stands_onto config l.0 b rows (entry_of row ∷ h) l.2 (λ is. fresh (cell_back a l.0 row.event row.outcome l.1 is))
-        (λ is. (records (board_back a l.0 row.event row.outcome l.1 is)).1)
-        (after config a l.0 row h (λ is. brings_onto rows (entry_of row ∷ h) (fresh is)) (λ is. (records is).0) l.1 for)
+        (λ is. (give (board_back a l.0 row.event row.outcome l.1 is)).1)
+        (after config a l.0 row h (λ is. brings_onto rows (entry_of row ∷ h) (fresh is)) (λ is. (give is).0) l.1 for)
 
     -- a board stays a board, a cell a cell, and a box a box
     board_step : (a b : Part I O) (made : Made) (outcome : T) → Steps a made outcome b → IsBoardPart a → IsBoardPart b

@@ -16,7 +16,7 @@ use Rattle.relay_core.specs.Made.{Made, list_of}
 use Rattle.relay_core.specs.Standing.{Stands}
 use Rattle.relay_core.specs.Turning.{Numbered, IsAbove, IsOfLane, IsReceiving}
 use Rattle.relay_core.specs.Handed.{IsHanded}
-use Rattle.relay_core.specs.Recorded.{IsRecorded}
+use Rattle.relay_core.specs.Recorded.{AreReturned}
 
 -- each take of the list gave its datagram to a leg that holds the pair of its own box
 abbrev pub TakesOwnPairs : Config → List Entry → Type 0
@@ -35,7 +35,7 @@ module _ {T : Type 0} where
   pub record IsSound (config : Config) (rows : List (table.Entry Made T)) : Type 0 where
     pub orderly : Numbered (list_of rows) → Orderly config (list_of rows)
     pub handed : Numbered (list_of rows) → IsHanded rows
-    pub recorded : Numbered (list_of rows) → IsRecorded rows
+    pub returned : Numbered (list_of rows) → AreReturned config rows
     pub receiving : Numbered (list_of rows) → TakesOwnPairs config (list_of rows) → IsReceiving config (list_of rows)
 
 module _ {I O : Type 0} where

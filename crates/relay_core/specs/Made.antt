@@ -7,7 +7,6 @@ use Rattle.port_pool.specs.declared.pairs.Lease.{Lease}
 use Rattle.call_cell.specs.declared.outcome.Outcome.{Outcome}
 use Rattle.call_cell.specs.Cells.{CellEvent, Relay, Receipt, Relayed, Deed}
 use Rattle.call_cell.specs.Standing.{sent_ok}
-use Rattle.call_board.specs.Acts.{BoardEntry}
 use Rattle.relay_core.specs.Entries.{Event, Cell, Entry}
 use Rattle.relay_core.specs.Legal.{is_handed_own, is_handed_boards}
 
@@ -28,13 +27,13 @@ abbrev pub nothing_left : Left
 nothing_left = record { rtp = Some []; rtcp = Some []; legs = [] }
 
 -- A step as the table records it: the moment that it was handed, its moment, the number of the board entry that it belongs to, of a
--- step of the board the history before it, which its state does not tell in full, its event, and what leaves its place. Of a relay the
--- outcome is recorded: what it noted, protected and sent follows from the history of its cell.
+-- step of the board the pairs of the legs that it closes, in order, whose order its state does not tell, its event, and what leaves its
+-- place. Of a relay the outcome is recorded: what it noted, protected and sent follows from the history of its cell.
 pub record Made : Type 0 where
   pub handed : ℕ
   pub moment : ℕ
   pub board : ℕ
-  pub before : List BoardEntry
+  pub returned : List ℕ
   pub event : Event
   pub left : Left
 

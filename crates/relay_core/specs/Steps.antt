@@ -1,5 +1,5 @@
--- Which steps of the board, the cells and the boxes their events are: of a cell and of a box what their calls say for every history
--- that the old state stands for, of the board for the history that the step records.
+-- Which steps of the board, the cells and the boxes their events are: what their calls say for every history that the old state stands
+-- for, of the board for every one by which the step closes the legs of the pairs that it records.
 use Rattle.std.specs.Prelude.{◌≡◌, ℕ, Bool, true, List, [], ◌∷◌, Option, Some, None, map}
 use Rattle.relay_outside.specs.declared.ports.InCall.{InCall}
 use Rattle.relay_outside.specs.declared.ports.OutCall.{OutCall}
@@ -34,6 +34,7 @@ use Rattle.call_board.specs.Acts.{BoardEvent, BoardEntry}
 use Rattle.call_board.specs.Boards.{BoardFor}
 use Rattle.call_board.specs.Views.{last_moment}
 use Rattle.call_board.specs.Fits.{FitsBoard, IsFitting}
+use Rattle.call_board.specs.Futures.{closed_pairs}
 use Rattle.relay_core.specs.declared.part.Part.{Part}
 use Rattle.relay_core.specs.declared.part.Part.TheVariants as part
 use Rattle.relay_core.specs.Entries.{Event, Board, Cell, Box, is_nested_cell, is_nested_box}
@@ -50,10 +51,11 @@ pub record BoardStep (config : Config) (h : List BoardEntry) (made : Made) (even
   pub fits : FitsBoard config h (board_made made event)
   pub stands : BoardFor config new (board_made made event ∷ h)
 
--- the history is the one that the step records
+-- for each history that the old board stands for, and after which the entry closes the legs of the recorded pairs in the recorded order
 abbrev pub BoardSteps : board.Board → Made → Event → board.Board → Type 0
 BoardSteps old made (Board event) new =
-    IsFitting old.config made.before → BoardFor old.config old made.before → BoardStep old.config made.before made event new
+    (h : List BoardEntry) → IsFitting old.config h → BoardFor old.config old h → closed_pairs h (board_made made event) ≡ made.returned
+    → BoardStep old.config h made event new
 BoardSteps old made (Cell event) new = ⊥
 BoardSteps old made (Box event) new = ⊥
 

@@ -7,7 +7,7 @@ ghost use Rattle.relay_core.specs.Entries.{Entry};
 ghost use Rattle.relay_core.specs.Legal.{Orderly, Legal};
 ghost use Rattle.relay_core.specs.Safe.{Safe};
 ghost use Rattle.relay_core.specs.Made.{told};
-ghost use Rattle.relay_core.specs.Recorded.{IsRecorded};
+ghost use Rattle.relay_core.specs.Recorded.{AreReturned};
 ghost use Rattle.relay_core.specs.Beginning.{AreParts};
 ghost use Rattle.relay_core.specs.Timed.{AreTimed};
 ghost use Rattle.relay_core.specs.Told.{InOrder, InsAreTold, OutsAreTold};
@@ -34,7 +34,7 @@ pub fn close_relay<I: InEnd, O: OutEnd>(
     requires idle { HasNoTurn hand }
     ensures length { length result.items ≡ length (starts hand) }
     ensures numbered { Numbered (made_by hand) }
-    ensures states { (config : Config) → AreParts config (starts hand) → Orderly config (made_by hand) → IsRecorded (entries hand) → AreStanding config result.items (made_by hand) }
+    ensures states { (config : Config) → AreParts config (starts hand) → Orderly config (made_by hand) → AreReturned config (entries hand) → AreStanding config result.items (made_by hand) }
     ensures legal { (config : Config) → AreParts config (starts hand) → IsSound config (entries hand) → (l : List Entry) × (map told l ≡ made_by hand) × Legal config l × Safe config l × OutsAreTold (entries hand) l }
     ensures ins { (config : Config) → AreParts config (starts hand) → IsSound config (entries hand) → InOrder (made_by hand) → InsAreTold config (entries hand) }
     ensures timed { (config : Config) → AreParts config (starts hand) → IsSound config (entries hand) → AreTimed (entries hand) }

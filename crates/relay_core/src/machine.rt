@@ -22,7 +22,7 @@ impl Model for Happening {
 
     ghost coded = { Prim.hlevel (codes, entries_code) };
 
-    ghost view = { λ happening. record { handed = 0; moment = 0; board = 0; before = []; event = Box Close; left = nothing_left } };
+    ghost view = { λ happening. record { handed = 0; moment = 0; board = 0; returned = []; event = Box Close; left = nothing_left } };
 }
 
 /// The machine of the board, the cells and the boxes, whose in ends and out ends are of these types.
@@ -59,7 +59,7 @@ impl Says for Brand {
     ghost use Rattle.relay_core.specs.Made.{nothing_left};
     ghost use Rattle.port_pool.specs.Boxes.{Close};
 
-    ghost made = { record { handed = 0; moment = 0; board = 0; before = []; event = Box Close; left = nothing_left } };
+    ghost made = { record { handed = 0; moment = 0; board = 0; returned = []; event = Box Close; left = nothing_left } };
 }
 
 /// What X says, of this machine.

@@ -12,9 +12,9 @@ returns-clause-numbered g c =
     (whole_of g.I.InEnd.told g.I.InEnd.faults g.O.OutEnd.told g.O.OutEnd.faults (starts c.args.hand) (entries c.args.hand) c.close.result.items c.close.ensures.states)
 
 pub returns-clause-states : goal.returns-clause-states
-returns-clause-states g c = λ config are orderly recorded.
+returns-clause-states g c = λ config are orderly returned.
     closed_parts g.I.InEnd.told g.I.InEnd.faults g.O.OutEnd.told g.O.OutEnd.faults config (starts c.args.hand) (entries c.args.hand) c.close.result.items
-    are c.close.ensures.range c.close.ensures.states c.close.ensures.length orderly recorded
+    are c.close.ensures.range c.close.ensures.states c.close.ensures.length orderly returned
 
 pub returns-clause-legal : goal.returns-clause-legal
 returns-clause-legal g c = λ config are sound.
