@@ -1,12 +1,12 @@
 -- What an offer prepares for a cell, and what the cell makes of it.
-use Rattle.std.specs.Prelude.{◌≡◌, ◌<◌, ◌≤◌, ◌+◌, ◌-◌, ◌&&◌, ◌==◌, not, ℕ, Bool, true, false, min, max, List, [], ◌∷◌, ◌++◌, map, filter, count_by, Option, Some, None, Box, vec_len, vec_capacity, if◌then◌else◌}
+use Rattle.std.specs.Prelude.{◌≡◌, ◌<◌, ◌≤◌, ◌+◌, ◌-◌, ◌&&◌, ◌==◌, not, ℕ, Bool, true, false, min, max, List, [], ◌∷◌, ◌++◌, map, filter, count_by, Option, Some, None, Box, vec_len, vec_capacity, slice_index_or, if◌then◌else◌}
 use Rattle.std.specs.Global.{Global}
 use Rattle.std.specs.List.{AllPairs, AllZip}
 use Rattle.relay_outside.specs.declared.settings.Config.{Config}
 use Rattle.rtp_packet.specs.declared.head.Half.{Half}
 use Rattle.sdes_lines.specs.declared.crypto_line.Suite.{Suite}
 use Rattle.sdes_lines.specs.declared.crypto_line.Suite.TheVariants.{Tag80, Tag32}
-use Rattle.histories.specs.Words.{In, has}
+use Rattle.histories.specs.Words.{In, has, numbers}
 use Rattle.port_pool.specs.Ports.{half_port}
 use Rattle.port_pool.specs.declared.pairs.Lease.{Lease}
 use Rattle.port_pool.specs.declared.holder.Holder.{Holder}
@@ -35,7 +35,12 @@ abbrev pub IsOutboundAnew : NewKey → Option Outbound → Type 0
 IsOutboundAnew key None = ⊥
 IsOutboundAnew key (Some contexts) = OutboundFor key contexts []
 
+-- the key for which the place was prepared
+abbrev pub key_of : PreparedKey → NewKey
+key_of prepared = record { number = prepared.key.value.number; section = prepared.section; side = prepared.side; suite = prepared.suite; bytes = prepared.key.value.bytes }
+
 pub record IsPrepared (prepared : PreparedKey) (key : NewKey) : Type 0 where
+  pub key_is : key_of prepared ≡ key
   pub section : prepared.section ≡ key.section
   pub side : prepared.side ≡ key.side
   pub suite : prepared.suite ≡ key.suite
@@ -56,6 +61,14 @@ added {O} signal = map (λ (leg : Leg O). leg.holder) signal.legs.items
 
 abbrev pub parts_added : {O : Type 0} → prepared.Prepare O → List (Lease × O × O)
 parts_added {O} signal = map (λ (leg : Leg O). parts_of leg) signal.legs.items
+
+-- the new keys, in the order in which they were added
+abbrev pub keys_of : {O : Type 0} → prepared.Prepare O → List NewKey
+keys_of signal = map key_of signal.keys.items
+
+-- the sections whose legs are dropped, upwards
+abbrev pub drops_of : {O : Type 0} → prepared.Prepare O → List ℕ
+drops_of signal = filter (λ section. slice_index_or signal.dropped section false) (numbers 0 8)
 
 -- how many more legs and keys there is room for
 abbrev pub leg_room : {O : Type 0} → prepared.Prepare O → ℕ

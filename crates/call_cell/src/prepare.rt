@@ -9,6 +9,7 @@ use sdes_lines::Suite;
 use sdp_text::MOST_SECTIONS;
 use srtp_keys::DrawnKey;
 use std::alloc::{AllocError, Global};
+use std::snapshot::Snapshot;
 
 /// A drawn key's contexts, with the leg and the suite that the key is for.
 #[derive(Drop)]
@@ -16,6 +17,8 @@ pub(crate) struct PreparedKey {
     pub(crate) section: u8,
     pub(crate) side: Side,
     pub(crate) suite: Suite,
+    /// The key, as contracts see it.
+    pub(crate) key: Snapshot<DrawnKey>,
     pub(crate) contexts: Box<Option<Outbound>>,
 }
 
@@ -111,12 +114,14 @@ impl<O> Prepare<O> {
         ensures room { (key_room self.new + 1 ≡ key_room self.old) × (leg_room self.new ≡ leg_room self.old) }
         ensures ready { IsReady self.old → IsReady self.new }
     {
+        let drawn = Snapshot::of(&key);
         let mut contexts = self.spare.pop().unwrap();
         *contexts = Some(Outbound::new(key, suite));
         self.keys.push_reserved(PreparedKey {
             section,
             side,
             suite,
+            key: drawn,
             contexts,
         });
     }
