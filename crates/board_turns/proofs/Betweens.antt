@@ -20,6 +20,7 @@ use Rattle.call_board.specs.declared.board.Board as board
 use Rattle.call_board.specs.Acts.{BoardEvent, BoardEntry}
 use Rattle.call_board.specs.Boards.{Shows, BoardFor}
 use Rattle.call_board.specs.Fits.{FitsBoard}
+use Rattle.call_board.specs.Futures.{closed_pairs}
 use Rattle.call_board.specs.Pairs.{held}
 use Rattle.call_board.specs.Views.{View, view_of, at_moment, last_moment}
 use Rattle.relay_core.specs.declared.part.Part.{Part}
@@ -27,7 +28,7 @@ use Rattle.relay_core.specs.declared.part.Part.TheVariants as part
 use Rattle.relay_core.specs.Entries.{Event, Board, Entry, is_at, history, board_at, board_entry, board_history, front}
 use Rattle.relay_core.specs.Legal.{Orderly}
 use Rattle.relay_core.specs.Made.{Made, entry_of, list_of, moment_of}
-use Rattle.relay_core.specs.Steps.{board_made, BoardStep, BoardSteps, Relates, IsReserved}
+use Rattle.relay_core.specs.Steps.{board_made, BoardSteps, Relates, IsReserved}
 use Rattle.relay_core.specs.Beginning.{AreParts}
 use Rattle.relay_core.specs.Scripts.{Owed, owed_by, script}
 use Rattle.relay_core.specs.Standing.{BoardIs}
@@ -40,6 +41,7 @@ use Rattle.relay_core.proofs.Boards.{le_or_eq}
 use Rattle.relay_core.proofs.Given.{given_board}
 use Rattle.relay_core.proofs.Gains.{turn_made}
 use Rattle.relay_core.proofs.Known.{IsKnown, known_sound, known_turn}
+use Rattle.relay_core.proofs.Stepping.{steps_for_all}
 use Rattle.media_ports.specs.Held.{TellsHeld}
 use Rattle.board_turns.specs.declared.board_turn.BoardEntryId.{BoardEntryId}
 use Rattle.board_turns.specs.Nesting.{MayNest}
@@ -93,7 +95,7 @@ module _ {M I O T : Type 0} {g : _} where
   -- what is known of a hand between turns is known of its rows
   pub between_known : (config : Config) (turns : Turns M (Part I O) Made T) (hand : Hand M (Part I O) Made T g) → IsBetween config turns hand
       → IsKnown config (entries hand)
-  between_known config turns hand b = record { orderly = b.orderly; handed = b.handed; recorded = b.recorded; receiving = b.receiving }
+  between_known config turns hand b = record { orderly = b.orderly; handed = b.handed; returned = b.returned; receiving = b.receiving }
 
   pub between_sound : (config : Config) (turns : Turns M (Part I O) Made T) (hand : Hand M (Part I O) Made T g) → IsBetween config turns hand
       → IsSound config (entries hand)
@@ -140,7 +142,7 @@ module _ {M I O T : Type 0} {g : _} (it : I → EndTold InCall) (ic : I → ℕ)
     untouched = given.0.1;
     orderly = subst (λ (rows : List (table.Entry Made T)). Orderly config (list_of rows)) (sym same.1) b.orderly;
     board = subst (λ (rows : List (table.Entry Made T)). BoardIs config (state_of turn) (board_history (list_of rows) (front_of turn))) (sym same.1)
-        (given_board it ic ot oc config (view old) (front_of turn) (state_of turn) b.parts given.1 b.main b.numbered b.recorded);
+        (given_board it ic ot oc config (view old) (front_of turn) (state_of turn) b.parts given.1 b.main b.orderly b.returned);
   }
     where
       alone : (k : ℕ) (t : Bool) → eqb k 0 ≡ t → HasPlace mid k → k ≡ 0
@@ -216,26 +218,19 @@ module _ {M I O T : Type 0} {g : _} where
 
 -- The turn is put.
 
--- the step of the board that was taken, recorded with the history that it stands for
-pub step_put : (config : Config) (h : List BoardEntry) (old new : board.Board) (made : Made) (event : BoardEvent) → made.before ≡ h → BoardFor config old h
-    → made.moment ≡ moment_of (Board event) made.handed (last_moment h) → FitsBoard config h (board_made made event) → BoardFor config new (board_made made event ∷ h)
-    → BoardSteps old made (Board event) new
-step_put config h old new made event before for moment fits stands =
-    λ fitting was.
-    subst (λ (k : Config). BoardStep k made.before made event new) (sym for.config_is)
-    (subst (λ (k : List BoardEntry). BoardStep config k made event new) (sym before) (record { moment_is = moment; fits = fits; stands = stands }))
-
--- so the place's state relates to the new one
+-- The board that was taken relates to the new one by a step that is right after the history that it stands for, and that records the pairs
+-- of the legs which it closes then
 pub relates_put : {I O : Type 0} (it : I → EndTold InCall) (ic : I → ℕ) (ot : O → EndTold OutCall) (oc : O → ℕ)
-    (config : Config) (h : List BoardEntry) (old new : Part I O) (made : Made) (event : BoardEvent) → made.event ≡ Board event → made.before ≡ h
+    (config : Config) (h : List BoardEntry) (old new : Part I O) (made : Made) (event : BoardEvent) → made.event ≡ Board event → closed_pairs h (board_made made event) ≡ made.returned
     → BoardIs config old h → made.moment ≡ moment_of (Board event) made.handed (last_moment h) → FitsBoard config h (board_made made event)
     → BoardIs config new (board_made made event ∷ h) → Relates it ic ot oc old made new
-relates_put it ic ot oc config h (part.Board old) (part.Board new) made event is before was moment fits stands =
-    subst (λ (v : Event). BoardSteps old made v new) (sym is) (step_put config h old new made event before was.1 moment fits stands.1)
-relates_put it ic ot oc config h (part.Board old) (part.Cell new) made event is before was moment fits stands = absurd stands
-relates_put it ic ot oc config h (part.Board old) (part.Pair new) made event is before was moment fits stands = absurd stands
-relates_put it ic ot oc config h (part.Cell old) new made event is before was moment fits stands = absurd was
-relates_put it ic ot oc config h (part.Pair old) new made event is before was moment fits stands = absurd was
+relates_put it ic ot oc config h (part.Board old) (part.Board new) made event is gives was moment fits stands =
+    subst (λ (v : Event). BoardSteps old made v new) (sym is)
+    (steps_for_all config h old new made event was gives (record { moment_is = moment; fits = fits; stands = stands.1 }))
+relates_put it ic ot oc config h (part.Board old) (part.Cell new) made event is gives was moment fits stands = absurd stands
+relates_put it ic ot oc config h (part.Board old) (part.Pair new) made event is gives was moment fits stands = absurd stands
+relates_put it ic ot oc config h (part.Cell old) new made event is gives was moment fits stands = absurd was
+relates_put it ic ot oc config h (part.Pair old) new made event is gives was moment fits stands = absurd was
 
 module _ {M I O T : Type 0} {g : _} where
   -- the hand still has the turn when it has made nested steps
@@ -255,7 +250,7 @@ module _ {M I O T : Type 0} {g : _} where
       (b : IsBetween config turns old) (same : IsSameHand old mid × (entries mid ≡ entries old)) (turned : GainsTurn 0 turn old mid)
       (above : IsAbove (made_by mid) 0 (front_of turn)) (sames : IsSameHand mid nested × SameTurns mid nested)
       (gains : GainsNested (front_of turn) moment (script config (board_history (made_by mid) (front_of turn)) (board_made made event)) mid nested)
-      (is_event : made.event ≡ Board event) (before : made.before ≡ board_history (made_by mid) (front_of turn)) (is_moment : moment ≡ made.moment)
+      (is_event : made.event ≡ Board event) (gives : closed_pairs (board_history (made_by mid) (front_of turn)) (board_made made event) ≡ made.returned) (is_moment : moment ≡ made.moment)
       (fits : FitsBoard config (board_history (made_by mid) (front_of turn)) (board_made made event))
       (again : IsSameHand nested new) (ended : EndsTurn (place_of turn) (front_of turn) made outcome nested new) where
     row : table.Entry Made T
@@ -293,7 +288,7 @@ module _ {M I O T : Type 0} {g : _} where
     known =
         subst (λ (rows : List (table.Entry Made T)). IsKnown config rows) (sym list_is)
         (known_turn config (entries old) gains.rows row (between_known config turns old b) turn_is (λ r i. gains.handed r i ∙ is_moment)
-        (before ∙ ap (λ (l : List Entry). board_history l (front_of turn)) list_same))
+        (board_made made event) is (ap (λ (l : List Entry). closed_pairs (board_history l (front_of turn)) (board_made made event)) (sym list_same) ∙ gives))
 
     idle_case : (k : ℕ) (t : Bool) → eqb k 0 ≡ t → LacksPlace new k
     idle_case k true q =
@@ -314,7 +309,7 @@ module _ {M I O T : Type 0} {g : _} where
         numbered = known.orderly.numbered;
         orderly = known.orderly;
         handed = known.handed;
-        recorded = known.recorded;
+        returned = known.returned;
         receiving = known.receiving;
       };
       makes = record { rows = gains.rows; row = row; list_is = list_is; turn = turn_is; is = is };

@@ -23,7 +23,7 @@ nothing_known : {T : Type 0} (config : Config) → IsKnown {T = T} config []
 nothing_known config = record {
   orderly = nothing_is_orderly config;
   handed = λ row i. elim i [ ];
-  recorded = λ row i. elim i [ ];
+  returned = λ row i. elim i [ ];
   receiving = λ own. record { received = λ e x i. elim i [ ]; once = λ e f x y i. elim i [ ] };
 }
 
@@ -41,7 +41,7 @@ module _ {M I O T : Type 0} {g : _} where
         numbered = known.orderly.numbered;
         orderly = known.orderly;
         handed = known.handed;
-        recorded = known.recorded;
+        returned = known.returned;
         receiving = known.receiving;
       }
 

@@ -14,7 +14,7 @@ use Rattle.relay_core.specs.Legal.{Orderly}
 use Rattle.relay_core.specs.Made.{Made, entry_of, list_of}
 use Rattle.relay_core.specs.Turning.{IsTurn, IsAbove, made_by, with_turn}
 use Rattle.relay_core.proofs.Boards.{moment}
-use Rattle.relay_core.proofs.Known.{turn_list}
+use Rattle.relay_core.proofs.Recording.{turn_list}
 use Rattle.relay_core.proofs.Turns.{turn_elsewhere, turn_history}
 use Rattle.board_turns.specs.Between.{board_of, IsBetween, MakesTurn}
 use Rattle.board_turns.proofs.Betweens.{whole_board}

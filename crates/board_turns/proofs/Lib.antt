@@ -16,12 +16,13 @@ pub mod CloseAfter
 pub mod Deleted
 pub mod Stopped
 pub mod Betweens
-pub mod MainHand
+pub mod MainHands
 pub mod Unheld
 pub mod Firsts
 pub mod StopTurns
 pub mod Grown
 pub mod Tying
+pub mod Staying
 pub mod Answered
 pub mod Expiring
 pub mod Ticked

@@ -27,6 +27,7 @@ use Rattle.relay_core.specs.Made.{Left, Made}
 use Rattle.relay_core.specs.Standing.{CellIs, nested_of}
 use Rattle.relay_core.specs.Steps.{Relates}
 use Rattle.relay_core.specs.Turning.{IsAbove, made_by}
+use Rattle.board_turns.specs.Bringing.{brings}
 use Rattle.board_turns.specs.Nesting.{leaving, gone_left}
 use Rattle.board_turns.specs.InCells.{moment_in, HasSpace, OfferComes, AnswerComes, TakesOffer, TakesAnswer, PreparesPart, CommitsPart, Prepares, Commits, OpenedFor}
 use Rattle.board_turns.proofs.Boxing.{Gives}
@@ -182,11 +183,11 @@ module _ {I O : Type 0} (it : I → EndTold InCall) (ic : I → ℕ) (ot : O →
       })
 
   -- the step tells the legs of what was prepared
-  pub relates_legs : (x y : Part I O) (number moment last call : ℕ) (told signal : prepared.Prepare O) (keys : List NewKey) (dropped : List ℕ) (left : Left) → told ≡ signal
-      → Relates it ic ot oc x (leaving number moment last (Cell (Prepare call (added signal) keys dropped)) left) y
-      → Relates it ic ot oc x (leaving number moment last (Cell (Prepare call (added told) keys dropped)) left) y
-  relates_legs x y number moment last call told signal keys dropped left same steps =
-      subst (λ (s : prepared.Prepare O). Relates it ic ot oc x (leaving number moment last (Cell (Prepare call (added s) keys dropped)) left) y) (sym same) steps
+  pub relates_brought : (x y : Part I O) (number moment last call : ℕ) (told signal : prepared.Prepare O) (left : Left) → told ≡ signal
+      → Relates it ic ot oc x (leaving number moment last (Cell (brings call signal)) left) y
+      → Relates it ic ot oc x (leaving number moment last (Cell (brings call told)) left) y
+  relates_brought x y number moment last call told signal left same steps =
+      subst (λ (s : prepared.Prepare O). Relates it ic ot oc x (leaving number moment last (Cell (brings call s)) left) y) (sym same) steps
 
 module _ {M I O T : Type 0} {g : _} (it : I → EndTold InCall) (ic : I → ℕ) (ot : O → EndTold OutCall) (oc : O → ℕ) where
   pub prepares_by : (config : Config) (hand : Hand M (Part I O) Made T g) (place n : ℕ) (signal : prepared.Prepare O) (call : ℕ) (keys : List NewKey)
@@ -227,8 +228,8 @@ module _ {M I O T : Type 0} {g : _} (it : I → EndTold InCall) (ic : I → ℕ)
 
 module _ {M S T O : Type 0} {g : _} where
   -- the step tells the legs of what was prepared
-  pub tells_legs : (place n number moment last call : ℕ) (told signal : prepared.Prepare O) (keys : List NewKey) (dropped : List ℕ) (left : Left) (outcome : T) (old new : Hand M S Made T g)
-      → told ≡ signal → EndsTurn place n (leaving number moment last (Cell (Prepare call (added told) keys dropped)) left) outcome old new
-      → EndsTurn place n (leaving number moment last (Cell (Prepare call (added signal) keys dropped)) left) outcome old new
-  tells_legs place n number moment last call told signal keys dropped left outcome old new same ended =
-      subst (λ (s : prepared.Prepare O). EndsTurn place n (leaving number moment last (Cell (Prepare call (added s) keys dropped)) left) outcome old new) same ended
+  pub tells_brought : (place n number moment last call : ℕ) (told signal : prepared.Prepare O) (left : Left) (outcome : T) (old new : Hand M S Made T g)
+      → told ≡ signal → EndsTurn place n (leaving number moment last (Cell (brings call told)) left) outcome old new
+      → EndsTurn place n (leaving number moment last (Cell (brings call signal)) left) outcome old new
+  tells_brought place n number moment last call told signal left outcome old new same ended =
+      subst (λ (s : prepared.Prepare O). EndsTurn place n (leaving number moment last (Cell (brings call s)) left) outcome old new) same ended

@@ -9,15 +9,16 @@ use Rattle.turn_table.specs.declared.machine.Entry as table
 use Rattle.turn_table.specs.declared.hands.Turns.{Turns}
 use Rattle.turn_table.specs.declared.hands.Hand.{Hand}
 use Rattle.turn_table.specs.declared.hands.Turn.{Turn}
-use Rattle.turn_table.specs.Hands.{IsSameHand, SameTurns, GainsTurn, EndsTurn, place_of, front_of, entries}
+use Rattle.turn_table.specs.Hands.{IsSameHand, SameTurns, GainsTurn, EndsTurn, place_of, front_of, state_of, entries}
 use Rattle.histories.specs.Words.{In, has}
 use Rattle.histories.proofs.Lists.{keeps, filtered, maps, mapped, it_has, has_it}
+use Rattle.call_board.specs.declared.board.Board as board
 use Rattle.call_board.specs.declared.live_call.LiveCall.{LiveCall}
 use Rattle.call_board.specs.Acts.{Call, Tick, BoardEntry}
-use Rattle.call_board.specs.Boards.{CallsFor}
+use Rattle.call_board.specs.Boards.{BoardFor, CallsFor, Shows}
 use Rattle.call_board.specs.Calls.{live}
 use Rattle.call_board.specs.Fits.{IsFitting, named_live}
-use Rattle.call_board.specs.Views.{CallView, call_view, last_moment}
+use Rattle.call_board.specs.Views.{View, CallView, call_view, view_of, at_moment, last_moment}
 use Rattle.call_board.proofs.Calls.{live_numbers}
 use Rattle.call_board.proofs.Cells.{live_step}
 use Rattle.call_board.proofs.Sieves.{filter_alike}
@@ -31,9 +32,10 @@ use Rattle.relay_core.specs.Turning.{made_by}
 use Rattle.relay_core.proofs.Histories.{good_history}
 use Rattle.relay_core.proofs.Turns.{nothing_more}
 use Rattle.board_turns.specs.Between.{board_of, IsBetween}
-use Rattle.board_turns.specs.Ticking.{EndsDue, tick_entry, tick_made, AreDue, IsDueBy}
+use Rattle.board_turns.specs.Ticking.{EndsDue, tick_at, tick_entry, tick_made, AreDue, IsDueBy}
 use Rattle.board_turns.proofs.Stopped.{views_numbers}
 use Rattle.board_turns.proofs.Ticked.{same_truth}
+use Rattle.board_turns.proofs.StopTurns.{moved, stood}
 use Rattle.board_turns.proofs.Betweens.{Begins, Ended, begins_whole, nested_history, relates_put, turn_ends}
 
 -- Which calls ended, by the board that the turn leaves: the live ones that it no longer has.
@@ -127,16 +129,36 @@ module _ {M I O T : Type 0} {g : _} where
         (turn_ends config turns old mid nested new turn (tick_made h now calls) outcome (Tick calls) (max now (last_moment h)) b same turned begins.above sames ends.gained refl refl refl
         ends.named again (subst (λ (m : Made). EndsTurn (place_of turn) (front_of turn) m outcome nested new) made_is ended))
 
-  -- at the same number
-  pub at_front : (config : Config) (mid nested : Hand M (Part I O) Made T g) (number n now count : ℕ) (x : Part I O) (told : Option (List PortCall)) → number ≡ n
-      → (calls : List Call) × EndsDue config (board_history (made_by mid) number) number (max now (last_moment (board_history (made_by mid) number))) mid nested count told calls
-      × BoardIs config x (tick_entry (board_history (made_by mid) number) now calls ∷ board_history (made_by mid) number)
-      → (calls : List Call) × EndsDue config (board_history (made_by mid) n) n (max now (last_moment (board_history (made_by mid) n))) mid nested count told calls
-      × BoardIs config x (tick_entry (board_history (made_by mid) n) now calls ∷ board_history (made_by mid) n)
-  at_front config mid nested number n now count x told is ends =
-      subst (λ (k : ℕ). (calls : List Call)
-      × EndsDue config (board_history (made_by mid) k) k (max now (last_moment (board_history (made_by mid) k))) mid nested count told calls
-      × BoardIs config x (tick_entry (board_history (made_by mid) k) now calls ∷ board_history (made_by mid) k)) is ends
+  -- what is known when the board's turn was taken for a tick, which goes on with this number and moment
+  pub record TickBegins (config : Config) (mid : Hand M (Part I O) Made T g) (turn : Turn M (Part I O) Made T) (number moment now : ℕ) : Type 0 where
+    pub number_is : number ≡ front_of turn
+    pub moment_is : moment ≡ max now (last_moment (board_history (made_by mid) (front_of turn)))
+    pub fits : IsFitting config (board_history (made_by mid) (front_of turn))
+
+  pub tick_begins : (config : Config) (turns : Turns M (Part I O) Made T) (mid : Hand M (Part I O) Made T g) (turn : Turn M (Part I O) Made T) (number moment now : ℕ)
+      (x : Part I O) (was advanced : board.Board) → Begins config turns mid turn → number ≡ front_of turn → x ≡ state_of turn → x ≡ part.Board was
+      → ((config : Config) (v : View) → Shows config was v → Shows config advanced (at_moment v now) × (moment ≡ max now v.moment))
+      → TickBegins config mid turn number moment now
+  tick_begins config turns mid turn number moment now x was advanced begins number_is state_is is advances =
+      let h = board_history (made_by mid) (front_of turn) in
+      let stands = stood config h x was is (moved config h (state_of turn) x state_is begins.board) in
+      record { number_is = number_is; moment_is = (advances config (view_of config h) stands.1).1; fits = stands.0 }
+
+  -- the calls that were due have ended
+  pub tick_ended : (config : Config) (mid nested left : Hand M (Part I O) Made T g) (turn : Turn M (Part I O) Made T) (number moment now count : ℕ) (new : board.Board)
+      (told : Option (List PortCall)) → TickBegins config mid turn number moment now → nested ≡ left
+      → (calls : List Call) × EndsDue config (board_history (made_by mid) number) number moment mid nested count told calls
+      × BoardFor config new (tick_at moment calls ∷ board_history (made_by mid) number)
+      → (calls : List Call) × EndsDue config (board_history (made_by mid) (front_of turn)) (front_of turn) (max now (last_moment (board_history (made_by mid) (front_of turn)))) mid left
+      count told calls
+      × BoardIs {I = I} {O = O} config (part.Board new) (tick_entry (board_history (made_by mid) (front_of turn)) now calls ∷ board_history (made_by mid) (front_of turn))
+  tick_ended config mid nested left turn number moment now count new told b same ends =
+      let h = board_history (made_by mid) (front_of turn) in
+      let there = subst (λ (k : ℕ). (calls : List Call) × EndsDue config (board_history (made_by mid) k) k moment mid nested count told calls
+      × BoardFor config new (tick_at moment calls ∷ board_history (made_by mid) k)) b.number_is ends in
+      let at = subst (λ (m : ℕ). (calls : List Call) × EndsDue config h (front_of turn) m mid nested count told calls × BoardFor config new (tick_at m calls ∷ h)) b.moment_is there in
+      let owed = subst (λ (hand : Hand M (Part I O) Made T g). EndsDue config h (front_of turn) (max now (last_moment h)) mid hand count told at.0) same at.1 in
+      (at.0, owed, ((at.1.named, b.fits), at.2))
 
   -- which calls are due is said of the hand before its turn
   pub due_before_turn : (config : Config) (old mid : Hand M (Part I O) Made T g) (n now : ℕ) (calls : List Call) → IsSameHand old mid → entries mid ≡ entries old

@@ -1,5 +1,5 @@
 -- After a stop no pair is held.
-use Rattle.std.proofs.Common.{◌≡◌, sym, ap, subst, ℕ, Bool, true, not, List, [], map}
+use Rattle.std.proofs.Common.{◌≡◌, ◌∙◌, sym, ap, subst, ℕ, Bool, true, not, List, [], ◌∷◌, map, filter}
 use Rattle.std.specs.Prelude.{if◌then◌else◌}
 use Rattle.std.specs.List.{flat_map}
 use Rattle.relay_outside.specs.declared.settings.Config.{Config}
@@ -11,7 +11,7 @@ use Rattle.call_board.specs.Calls.{live}
 use Rattle.call_board.specs.Fits.{IsFitting}
 use Rattle.call_board.specs.Pairs.{held, closed_of, closes_leg, closes_leg_act}
 use Rattle.call_board.proofs.Held.{held_live, closes_held}
-use Rattle.relay_core.proofs.Turns.{filter_none}
+use Rattle.relay_core.proofs.Turns.{filter_none, nothing_more}
 use Rattle.board_turns.specs.Ending.{leg_pairs}
 use Rattle.board_turns.specs.Stopping.{stop_entry, still_held}
 
@@ -38,3 +38,10 @@ none_held config h fits =
     let among : In pair gone = subst (λ (p : ℕ). In p gone) m.makes
     (maps (λ (leg : Holder). leg.pair) (flat_map (closed_of h (stop_entry h)) (live h)) (closed_by_stop config h m.from fits m.is_in)) in
     ap not (it_has pair gone among))
+
+-- so no leg is held after it
+pub stop_holds_none : (config : Config) (h : List BoardEntry) → IsFitting config h → held (stop_entry h ∷ h) ≡ []
+stop_holds_none config h fits =
+    let e = stop_entry h in
+    nothing_more (filter (λ (leg : Holder). not (closes_leg e leg)) (held h))
+    ∙ filter_none (λ (leg : Holder). not (closes_leg e leg)) (held h) (λ leg i. ap not (stop_closes config h leg fits i))

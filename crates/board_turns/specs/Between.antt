@@ -11,7 +11,7 @@ use Rattle.relay_core.specs.Entries.{Entry, board_entry, board_history, front}
 use Rattle.relay_core.specs.Legal.{Orderly}
 use Rattle.relay_core.specs.Made.{Made, entry_of, list_of}
 use Rattle.relay_core.specs.Handed.{IsHanded}
-use Rattle.relay_core.specs.Recorded.{IsRecorded}
+use Rattle.relay_core.specs.Recorded.{AreReturned}
 use Rattle.relay_core.specs.Beginning.{AreParts}
 use Rattle.relay_core.specs.Joining.{TakesOwnPairs}
 use Rattle.relay_core.specs.Turning.{Numbered, IsTurn, IsReceiving, made_by}
@@ -31,7 +31,7 @@ module _ {M I O T : Type 0} {g : _} where
     pub numbered : Numbered (made_by hand)
     pub orderly : Orderly config (made_by hand)
     pub handed : IsHanded (entries hand)
-    pub recorded : IsRecorded (entries hand)
+    pub returned : AreReturned config (entries hand)
     pub receiving : TakesOwnPairs config (made_by hand) → IsReceiving config (made_by hand)
 
   -- The hand's list gained one whole turn of the board: the nested entries that this entry owes, and then the entry, which fits

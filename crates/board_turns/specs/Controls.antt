@@ -7,6 +7,7 @@ use Rattle.ng_bencode.specs.Tree.{Entries}
 use Rattle.sdes_lines.specs.declared.crypto_line.CryptoLine.{CryptoLine}
 use Rattle.call_board.specs.Acts.{Given, Told, Control, Turn, BoardEntry}
 use Rattle.call_board.specs.Answers.{Answered, answering_unless}
+use Rattle.call_board.specs.Futures.{closed_pairs}
 use Rattle.call_board.specs.Kept.{kept}
 use Rattle.call_board.specs.Views.{last_moment}
 use Rattle.relay_core.specs.Entries.{Board}
@@ -71,7 +72,7 @@ control_made config h now x = record {
   handed = now;
   moment = moment_at h now;
   board = 0;
-  before = h;
+  returned = closed_pairs h (entry_at config h (moment_at h now) x);
   event = Board (Turn (control_of config h (moment_at h now) x));
   left = nothing_left;
 }

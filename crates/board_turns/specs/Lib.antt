@@ -15,3 +15,4 @@ pub mod Controls
 pub mod Giving
 pub mod Telling
 pub mod Carrying
+pub mod BoardTurns

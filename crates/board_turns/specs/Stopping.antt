@@ -3,6 +3,7 @@ use Rattle.std.specs.Prelude.{ℕ, List}
 use Rattle.std.specs.List.{flat_map}
 use Rattle.call_board.specs.Acts.{Call, Stop, BoardEntry}
 use Rattle.call_board.specs.Calls.{live}
+use Rattle.call_board.specs.Futures.{closed_pairs}
 use Rattle.call_board.specs.Pairs.{held, closed_of}
 use Rattle.call_board.specs.Views.{last_moment}
 use Rattle.relay_core.specs.Entries.{Board}
@@ -20,4 +21,11 @@ still_held h e calls = pairs_left (leg_pairs (flat_map (closed_of h e) calls)) (
 
 -- as the table records it
 abbrev pub stop_made : List BoardEntry → Made
-stop_made h = record { handed = last_moment h; moment = last_moment h; board = 0; before = h; event = Board (Stop (live h)); left = nothing_left }
+stop_made h = record {
+  handed = last_moment h;
+  moment = last_moment h;
+  board = 0;
+  returned = closed_pairs h (stop_entry h);
+  event = Board (Stop (live h));
+  left = nothing_left;
+}

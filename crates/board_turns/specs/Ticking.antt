@@ -14,6 +14,7 @@ use Rattle.call_board.specs.Calls.{live}
 use Rattle.call_board.specs.Acts.{Call, Tick, BoardEntry}
 use Rattle.call_board.specs.declared.board.Board.{Board}
 use Rattle.call_board.specs.Fits.{named_live}
+use Rattle.call_board.specs.Futures.{closed_pairs}
 use Rattle.call_board.specs.Pairs.{held}
 use Rattle.call_board.specs.Boards.{Shows}
 use Rattle.call_board.specs.Views.{View, CallView, last_moment}
@@ -38,7 +39,14 @@ tick_entry h now calls = tick_at (max now (last_moment h)) calls
 
 -- as the table records it
 abbrev pub tick_made : List BoardEntry → ℕ → List Call → Made
-tick_made h now calls = record { handed = now; moment = max now (last_moment h); board = 0; before = h; event = event.Board (Tick calls); left = nothing_left }
+tick_made h now calls = record {
+  handed = now;
+  moment = max now (last_moment h);
+  board = 0;
+  returned = closed_pairs h (tick_entry h now calls);
+  event = event.Board (Tick calls);
+  left = nothing_left;
+}
 
 -- One call.
 

@@ -1,4 +1,5 @@
 //! A command as a datagram asks it.
+ghost use Rattle.std.specs.Prelude.{◌≡◌};
 
 use control_messages::Request;
 use std::alloc::Global;
@@ -12,4 +13,18 @@ pub struct AskedCommand<'a, T> {
     pub input: &'a T,
     /// Where memory for it and for its reply comes from.
     pub alloc: Global,
+}
+
+impl<'a, T> AskedCommand<'a, T> {
+    /// The same datagram's command, whose input is this.
+    pub fn with<U>(&self, input: &'a U) -> AskedCommand<'a, U>
+        ensures request { result.request ≡ self.now.request }
+        ensures input { result.input.now ≡ input.now }
+    {
+        AskedCommand {
+            request: self.request,
+            input,
+            alloc: self.alloc,
+        }
+    }
 }

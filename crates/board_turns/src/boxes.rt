@@ -2,24 +2,22 @@
 ghost use Rattle.std.specs.Prelude.{◌≡◌, ◌≤◌, ◌<◌, ℕ, [], ◌∷◌};
 ghost use Rattle.relay_outside.specs.Told.{IsOpenedFor};
 ghost use Rattle.rtp_packet.specs.declared.head.Half.TheVariants.{Rtp, Rtcp};
-ghost use Rattle.turn_table.specs.Hands.{IsSameHand, SameTurns};
+ghost use Rattle.board_turns.specs.BoardTurns.{CanNest, Makes, Nests, list_in};
 ghost use Rattle.port_pool.specs.Boxes.{Open, Close};
 ghost use Rattle.port_pool.specs.Ports.{pair_count, port_address, AreOfPair};
 ghost use Rattle.relay_core.specs.Entries.{Box, box_of};
 ghost use Rattle.relay_core.specs.Scripts.{opening};
 ghost use Rattle.relay_core.specs.Steps.{Relates};
-ghost use Rattle.relay_core.specs.Turning.{GainsNested, made_by};
-ghost use Rattle.board_turns.specs.Nesting.{MayNest, nested, leaving, ends_left, AddsRow, IsShut, IsOpen, closing_of, Opens, Shuts};
+ghost use Rattle.board_turns.specs.Nesting.{nested, leaving, ends_left, AddsRow, IsShut, IsOpen, closing_of, Opens, Shuts};
 ghost use Rattle.board_turns.specs.Taken.{CanShut, HasEnds};
 
-use crate::board_turn::BoardTurn;
+use crate::board_turn::MainHand;
 use crate::puts::put_step;
 use port_pool::Holder;
 use relay_core::{Part, Relay};
 use relay_outside::{Config, InEnd, OutEnd};
 use std::marker::Brand;
 use std::sync::Wait;
-use turn_table::Hand;
 
 /// The place of a pair's box, after the board and the cells.
 fn box_place(config: &Config, pair: u32) -> usize
@@ -44,53 +42,49 @@ fn shut_part<I: InEnd, O: OutEnd>(part: &mut Part<I, O>) -> (I, I)
 /// called since. The box is shut.
 pub fn open_box<I: InEnd, O: OutEnd, R: Wait>(
     rt: &R,
-    turn: &BoardTurn<I, O>,
-    hand: &mut Hand<Relay<I, O>>,
+    main: &mut MainHand<I, O>,
     holder: Holder,
     rtp_end: I,
     rtcp_end: I,
 )
-    requires may { MayNest turn.now.config.now turn.now.turns.now hand.old }
-    requires pair { holder.pair < pair_count turn.now.config.now }
-    requires cell { (1 ≤ holder.cell) × (holder.cell ≤ turn.now.config.now.max_sessions) }
-    requires shut { IsShut (made_by hand.old) (box_of turn.now.config.now holder.pair) }
-    requires ends { IsOpenedFor (port_address turn.now.config.now holder.pair Rtp) (I.told rtp_end) × IsOpenedFor (port_address turn.now.config.now holder.pair Rtcp) (I.told rtcp_end) }
-    ensures same { IsSameHand hand.old hand.new × SameTurns hand.old hand.new }
-    ensures may { MayNest turn.now.config.now turn.now.turns.now hand.new }
-    ensures gained { GainsNested turn.now.entry_id.number turn.now.entry_id.moment (opening turn.now.config.now holder ∷ []) hand.old hand.new }
-    ensures ends { Opens I.told I.faults O.told O.faults hand.old (box_of turn.now.config.now holder.pair) (nested turn.now.entry_id.number turn.now.entry_id.moment 0 (Box (Open holder))) (rtp_end, rtcp_end) }
+    requires may { CanNest main.old }
+    requires pair { holder.pair < pair_count main.old.config.now }
+    requires cell { (1 ≤ holder.cell) × (holder.cell ≤ main.old.config.now.max_sessions) }
+    requires shut { IsShut (list_in main.old) (box_of main.old.config.now holder.pair) }
+    requires ends { IsOpenedFor (port_address main.old.config.now holder.pair Rtp) (I.told rtp_end) × IsOpenedFor (port_address main.old.config.now holder.pair Rtcp) (I.told rtcp_end) }
+    ensures nests { Nests main.old main.new }
+    ensures gained { Makes (opening main.old.config.now holder ∷ []) main.old main.new }
+    ensures ends { Opens I.told I.faults O.told O.faults main.old.hand.now (box_of main.old.config.now holder.pair) (nested main.old.entry_id.number main.old.entry_id.moment 0 (Box (Open holder))) (rtp_end, rtcp_end) }
 {
-    let mut step = turn
+    let mut step = main
         .turns
-        .turn(rt, hand, box_place(turn.config, holder.pair));
+        .turn(rt, main.hand, box_place(main.config, holder.pair));
     let held = match step.state() {
         Part::Pair(held) => held,
         Part::Board(_) => unreachable!(),
         Part::Cell(_) => unreachable!(),
     };
     held.put_in(holder, rtp_end, rtcp_end);
-    put_step::<I, O, Holder, (), Brand>(turn.turns, hand, step, turn.entry_id, &holder, &());
+    put_step::<I, O, Holder, (), Brand>(main.turns, main.hand, step, main.entry_id, &holder, &());
 }
 
 /// Shuts the box of a pair and gives its ends back, that for RTP first: those that were opened for the pair's ports. The box is open.
 pub fn shut_box<I: InEnd, O: OutEnd, R: Wait>(
     rt: &R,
-    turn: &BoardTurn<I, O>,
-    hand: &mut Hand<Relay<I, O>>,
+    main: &mut MainHand<I, O>,
     pair: u32,
 ) -> (I, I)
-    requires may { MayNest turn.now.config.now turn.now.turns.now hand.old }
-    requires pair { pair < pair_count turn.now.config.now }
-    requires open { IsOpen (made_by hand.old) (box_of turn.now.config.now pair) }
-    ensures same { IsSameHand hand.old hand.new × SameTurns hand.old hand.new }
-    ensures may { MayNest turn.now.config.now turn.now.turns.now hand.new }
-    ensures gained { GainsNested turn.now.entry_id.number turn.now.entry_id.moment (closing_of turn.now.config.now pair ∷ []) hand.old hand.new }
-    ensures row { AddsRow (box_of turn.now.config.now pair) (Box Close) (ends_left I.told result) hand.old hand.new }
-    ensures home { AreOfPair I.told (port_address turn.now.config.now pair Rtp) result.0 result.1 }
-    ensures ends { Shuts I.told I.faults O.told O.faults hand.old (box_of turn.now.config.now pair) (leaving turn.now.entry_id.number turn.now.entry_id.moment 0 (Box Close) (ends_left I.told result)) result }
+    requires may { CanNest main.old }
+    requires pair { pair < pair_count main.old.config.now }
+    requires open { IsOpen (list_in main.old) (box_of main.old.config.now pair) }
+    ensures nests { Nests main.old main.new }
+    ensures gained { Makes (closing_of main.old.config.now pair ∷ []) main.old main.new }
+    ensures row { AddsRow (box_of main.old.config.now pair) (Box Close) (ends_left I.told result) main.old.hand.now main.new.hand.now }
+    ensures home { AreOfPair I.told (port_address main.old.config.now pair Rtp) result.0 result.1 }
+    ensures ends { Shuts I.told I.faults O.told O.faults main.old.hand.now (box_of main.old.config.now pair) (leaving main.old.entry_id.number main.old.entry_id.moment 0 (Box Close) (ends_left I.told result)) result }
 {
-    let mut step = turn.turns.turn(rt, hand, box_place(turn.config, pair));
+    let mut step = main.turns.turn(rt, main.hand, box_place(main.config, pair));
     let ends = shut_part(step.state());
-    put_step::<I, O, (), (I, I), Brand>(turn.turns, hand, step, turn.entry_id, &(), &ends);
+    put_step::<I, O, (), (I, I), Brand>(main.turns, main.hand, step, main.entry_id, &(), &ends);
     ends
 }

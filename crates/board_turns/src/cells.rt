@@ -1,25 +1,23 @@
 //! The cell of a call: asked whether its call is due, asked what is told of its legs, and ended.
 ghost use Rattle.std.specs.Prelude.{◌≡◌, ◌≤◌, [], ◌∷◌};
-ghost use Rattle.turn_table.specs.Hands.{IsSameHand, SameTurns};
+ghost use Rattle.board_turns.specs.BoardTurns.{CanNest, Makes, Nests, list_in};
 ghost use Rattle.histories.specs.Words.{In};
 ghost use Rattle.port_pool.specs.declared.reports.LegReport.{LegReport};
 ghost use Rattle.port_pool.specs.Reports.{CountsFit};
 ghost use Rattle.call_cell.specs.Cells.{Expire, Read, End};
 ghost use Rattle.relay_core.specs.Entries.{Cell};
 ghost use Rattle.relay_core.specs.Standing.{GoneHome};
-ghost use Rattle.relay_core.specs.Turning.{GainsNested, made_by};
-ghost use Rattle.board_turns.specs.Nesting.{MayNest, gone_left, AddsRow};
+ghost use Rattle.board_turns.specs.Nesting.{gone_left, AddsRow};
 ghost use Rattle.board_turns.specs.InCells.{HasNewKeys, in_cell_of, Ends, Expires, Reads};
 ghost use Rattle.board_turns.specs.Leaving.{AllWent};
 
-use crate::board_turn::BoardTurn;
+use crate::board_turn::MainHand;
 use crate::puts::put_step;
 use call_cell::{Gone, LegReports};
 use relay_core::{Part, Relay};
 use relay_outside::{Config, InEnd, OutEnd};
 use std::marker::Brand;
 use std::sync::Wait;
-use turn_table::Hand;
 
 /// The place of a cell, after the board.
 pub(crate) fn cell_place(config: &Config, cell: u32) -> usize
@@ -33,57 +31,57 @@ pub(crate) fn cell_place(config: &Config, cell: u32) -> usize
 /// Ends the call of a cell: the legs that it had go to `gone`, which is empty. Cells are numbered from 1.
 pub fn end_cell<I: InEnd, O: OutEnd, R: Wait>(
     rt: &R,
-    turn: &BoardTurn<I, O>,
-    hand: &mut Hand<Relay<I, O>>,
+    main: &mut MainHand<I, O>,
     cell: u32,
     gone: &mut Gone<O>,
 )
-    requires may { MayNest turn.now.config.now turn.now.turns.now hand.old }
-    requires cell { (1 ≤ cell) × (cell ≤ turn.now.config.now.max_sessions) }
-    requires keys { HasNewKeys (made_by hand.old) cell }
+    requires may { CanNest main.old }
+    requires cell { (1 ≤ cell) × (cell ≤ main.old.config.now.max_sessions) }
+    requires keys { HasNewKeys (list_in main.old) cell }
     requires empty { gone.old ≡ [] }
-    ensures same { IsSameHand hand.old hand.new × SameTurns hand.old hand.new }
-    ensures may { MayNest turn.now.config.now turn.now.turns.now hand.new }
-    ensures gained { GainsNested turn.now.entry_id.number turn.now.entry_id.moment (in_cell_of cell End ∷ []) hand.old hand.new }
-    ensures row { AddsRow cell (Cell End) (gone_left O.told gone.new) hand.old hand.new }
-    ensures ended { Ends I.told I.faults O.told O.faults turn.now.config.now hand.old cell gone.new }
-    ensures went { AllWent turn.now.config.now (made_by hand.old) cell gone.new }
-    ensures home { GoneHome O.told turn.now.config.now gone.new }
+    ensures nests { Nests main.old main.new }
+    ensures gained { Makes (in_cell_of cell End ∷ []) main.old main.new }
+    ensures row { AddsRow cell (Cell End) (gone_left O.told gone.new) main.old.hand.now main.new.hand.now }
+    ensures ended { Ends I.told I.faults O.told O.faults main.old.config.now main.old.hand.now cell gone.new }
+    ensures went { AllWent main.old.config.now (list_in main.old) cell gone.new }
+    ensures home { GoneHome O.told main.old.config.now gone.new }
 {
-    let mut step = turn.turns.turn(rt, hand, cell_place(turn.config, cell));
+    let mut step = main
+        .turns
+        .turn(rt, main.hand, cell_place(main.config, cell));
     let held = match step.state() {
         Part::Cell(held) => held,
         Part::Board(_) => unreachable!(),
         Part::Pair(_) => unreachable!(),
     };
     held.end(gone);
-    put_step::<I, O, (), Gone<O>, Brand>(turn.turns, hand, step, turn.entry_id, &(), gone);
+    put_step::<I, O, (), Gone<O>, Brand>(main.turns, main.hand, step, main.entry_id, &(), gone);
 }
 
 /// Whether the call of a cell is due to end at the moment of the board's entry. Nothing changes but the cell's last moment.
 /// Cells are numbered from 1.
 pub fn expire_cell<I: InEnd, O: OutEnd, R: Wait>(
     rt: &R,
-    turn: &BoardTurn<I, O>,
-    hand: &mut Hand<Relay<I, O>>,
+    main: &mut MainHand<I, O>,
     cell: u32,
 ) -> bool
-    requires may { MayNest turn.now.config.now turn.now.turns.now hand.old }
-    requires cell { (1 ≤ cell) × (cell ≤ turn.now.config.now.max_sessions) }
-    requires keys { HasNewKeys (made_by hand.old) cell }
-    ensures same { IsSameHand hand.old hand.new × SameTurns hand.old hand.new }
-    ensures may { MayNest turn.now.config.now turn.now.turns.now hand.new }
-    ensures gained { GainsNested turn.now.entry_id.number turn.now.entry_id.moment (in_cell_of cell (Expire result) ∷ []) hand.old hand.new }
-    ensures asked { Expires I.told I.faults O.told O.faults turn.now.config.now hand.old cell turn.now.entry_id.moment result }
+    requires may { CanNest main.old }
+    requires cell { (1 ≤ cell) × (cell ≤ main.old.config.now.max_sessions) }
+    requires keys { HasNewKeys (list_in main.old) cell }
+    ensures nests { Nests main.old main.new }
+    ensures gained { Makes (in_cell_of cell (Expire result) ∷ []) main.old main.new }
+    ensures asked { Expires I.told I.faults O.told O.faults main.old.config.now main.old.hand.now cell main.old.entry_id.moment result }
 {
-    let mut step = turn.turns.turn(rt, hand, cell_place(turn.config, cell));
+    let mut step = main
+        .turns
+        .turn(rt, main.hand, cell_place(main.config, cell));
     let held = match step.state() {
         Part::Cell(held) => held,
         Part::Board(_) => unreachable!(),
         Part::Pair(_) => unreachable!(),
     };
-    let due = held.expire(turn.entry_id.moment);
-    put_step::<I, O, bool, (), Brand>(turn.turns, hand, step, turn.entry_id, &due, &());
+    let due = held.expire(main.entry_id.moment);
+    put_step::<I, O, bool, (), Brand>(main.turns, main.hand, step, main.entry_id, &due, &());
     due
 }
 
@@ -91,26 +89,26 @@ pub fn expire_cell<I: InEnd, O: OutEnd, R: Wait>(
 /// Nothing else changes. Cells are numbered from 1.
 pub fn read_cell<I: InEnd, O: OutEnd, R: Wait>(
     rt: &R,
-    turn: &BoardTurn<I, O>,
-    hand: &mut Hand<Relay<I, O>>,
+    main: &mut MainHand<I, O>,
     cell: u32,
     out: &mut LegReports,
 )
-    requires may { MayNest turn.now.config.now turn.now.turns.now hand.old }
-    requires cell { (1 ≤ cell) × (cell ≤ turn.now.config.now.max_sessions) }
-    requires keys { HasNewKeys (made_by hand.old) cell }
-    ensures same { IsSameHand hand.old hand.new × SameTurns hand.old hand.new }
-    ensures may { MayNest turn.now.config.now turn.now.turns.now hand.new }
-    ensures gained { GainsNested turn.now.entry_id.number turn.now.entry_id.moment (in_cell_of cell (Read out.new) ∷ []) hand.old hand.new }
-    ensures told { Reads I.told I.faults O.told O.faults turn.now.config.now hand.old cell out.new }
+    requires may { CanNest main.old }
+    requires cell { (1 ≤ cell) × (cell ≤ main.old.config.now.max_sessions) }
+    requires keys { HasNewKeys (list_in main.old) cell }
+    ensures nests { Nests main.old main.new }
+    ensures gained { Makes (in_cell_of cell (Read out.new) ∷ []) main.old main.new }
+    ensures told { Reads I.told I.faults O.told O.faults main.old.config.now main.old.hand.now cell out.new }
     ensures counts { (report : LegReport) → In report out.new → CountsFit report }
 {
-    let mut step = turn.turns.turn(rt, hand, cell_place(turn.config, cell));
+    let mut step = main
+        .turns
+        .turn(rt, main.hand, cell_place(main.config, cell));
     let held = match step.state() {
         Part::Cell(held) => held,
         Part::Board(_) => unreachable!(),
         Part::Pair(_) => unreachable!(),
     };
     held.read_legs(out);
-    put_step::<I, O, LegReports, (), Brand>(turn.turns, hand, step, turn.entry_id, out, &());
+    put_step::<I, O, LegReports, (), Brand>(main.turns, main.hand, step, main.entry_id, out, &());
 }

@@ -2,10 +2,13 @@
 //!
 //! A nested step is one turn of its own place, made while the hand holds the board's turn, and adds one entry to the hand's list,
 //! which belongs to the board's entry. Module `boxes` opens and shuts the box of a port pair, `cells` ends the call of a cell and
-//! asks it whether it is due and what is told of its legs, `signals` prepares a cell by an offer and commits it by an answer;
-//! `offered_changes` has what an offer brings besides its legs. `puts` puts a turn back with the step that ends it. `board_turn` has
-//! the board's turn in which the steps are made, and its entry, to which they belong. `specs/Nesting.antt` says who may make such
-//! steps and what a step tells.
+//! asks it whether it is due and what is told of its legs, `signals` prepares a cell by an offer and commits it by an answer. `puts`
+//! puts a turn back with the step that ends it. `specs/Nesting.antt` says who may make such steps and what a step tells.
+//!
+//! Module `board_turn` has what these functions are handed: `MainHand` is the main hand in a turn of the board, with which nested steps
+//! are made, and the entry to which they belong; `BoardTurn` is that with the turn's board, its port maker and the legs that go; and
+//! `Between` is the main hand before a turn and after it. `specs/BoardTurns.antt` says when each of them may be used, and what every
+//! function leaves as it was.
 //!
 //! Module `closing` closes the legs that went from a cell: the box of each pair, its ports, and its lease. `ending` ends a call:
 //! its cell, its place among the live calls, and its legs; `deleting` does so by a delete. `querying` reads the cell of a call that is asked
@@ -35,7 +38,6 @@ mod device_answers;
 mod ending;
 mod faulty;
 mod laws;
-mod offered_changes;
 mod puts;
 mod putting;
 mod querying;
@@ -45,7 +47,7 @@ mod stopping;
 mod ticking;
 
 pub use asked_command::AskedCommand;
-pub use board_turn::{BoardEntryId, BoardTurn};
+pub use board_turn::{Between, BoardEntryId, BoardTurn, MainHand};
 pub use boxes::{open_box, shut_box};
 pub use cells::{end_cell, expire_cell, read_cell};
 pub use closing::close_legs;
@@ -54,7 +56,6 @@ pub use deleting::delete_call;
 pub use device_answers::DeviceAnswers;
 pub use faulty::{misdescribed, unplanned};
 pub use laws::main_hand_stays;
-pub use offered_changes::OfferedChanges;
 pub use querying::query_call;
 pub use refusing::{missing, refused, short, told};
 pub use signals::{commit_cell, prepare_cell};

@@ -3,11 +3,8 @@ ghost use Rattle.turn_table.specs.Hands.{IsHandOf, HasTurn, IsSameHand, IsMain, 
 ghost use Rattle.relay_core.specs.Steps.{Relates};
 
 use crate::board_turn::BoardEntryId;
-use crate::offered_changes::OfferedChanges;
-use call_cell::{Gone, Prepare};
 use relay_core::{Relay, Says, Told};
 use relay_outside::{InEnd, OutEnd};
-use std::snapshot::Snapshot;
 use turn_table::{Hand, Turn, Turns};
 
 /// Ends a turn of the main hand with the step that X says. `told` is what the step's event tells, and `left` what left the place by it.
@@ -18,26 +15,6 @@ pub(crate) fn put_step<I: InEnd, O: OutEnd, D, L, X: Says>(
     entry_id: BoardEntryId,
     told: &D,
     left: &L,
-)
-    requires table { IsHandOf turns.now hand.old × IsMain hand.old }
-    requires turn { HasTurn hand.old turn }
-    requires step { Relates I.told I.faults O.told O.faults (taken_of turn) X.made (state_of turn) }
-    ensures same { IsSameHand hand.old hand.new }
-    ensures entry { EndsTurn (place_of turn) (front_of turn) X.made tt hand.old hand.new }
-{
-    turns.put::<Told<X>>(hand, turn);
-}
-
-/// The same of a cell that was prepared by an offer to a call, with these legs, and from which these went.
-pub(crate) fn put_prepare<I: InEnd, O: OutEnd, X: Says>(
-    turns: &Turns<Relay<I, O>>,
-    hand: &mut Hand<Relay<I, O>>,
-    turn: Turn<Relay<I, O>>,
-    entry_id: BoardEntryId,
-    call: u64,
-    legs: &Snapshot<Prepare<O>>,
-    changes: &OfferedChanges,
-    gone: &Gone<O>,
 )
     requires table { IsHandOf turns.now hand.old × IsMain hand.old }
     requires turn { HasTurn hand.old turn }

@@ -7,8 +7,8 @@ use relay_core::{Relay, Says, Told};
 use relay_outside::{InEnd, OutEnd};
 use turn_table::{Hand, Turn, Turns};
 
-/// Ends a turn of the main hand with the step that X says. Of the board's turn that is the board's entry, with the history
-/// before it.
+/// Ends a turn of the main hand with the step that X says. Of the board's turn that is the board's entry, with the pairs of the
+/// legs that it closes.
 pub fn put_entry<I: InEnd, O: OutEnd, X: Says>(
     turns: &Turns<Relay<I, O>>,
     hand: &mut Hand<Relay<I, O>>,

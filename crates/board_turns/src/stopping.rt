@@ -1,148 +1,84 @@
 //! All live calls, ended in order, and the turn of the board in which a stop does so.
-ghost use Rattle.std.specs.Prelude.{◌≡◌, ◌≤◌, [], ◌∷◌, length};
+ghost use Rattle.std.specs.Prelude.{◌≡◌, [], ◌∷◌, length};
 ghost use Rattle.relay_outside.specs.Told.{Gained, WhereTold};
-ghost use Rattle.turn_table.specs.Hands.{IsSameHand, SameTurns, entries};
-ghost use Rattle.call_board.specs.Boards.{BoardFor, KeepsReplies};
+ghost use Rattle.call_board.specs.Boards.{BoardFor};
 ghost use Rattle.call_board.specs.Calls.{live};
 ghost use Rattle.call_board.specs.Pairs.{held};
-ghost use Rattle.relay_core.specs.Entries.{board_history};
 ghost use Rattle.relay_core.specs.Legal.{Orderly};
 ghost use Rattle.relay_core.specs.Scripts.{script};
-ghost use Rattle.relay_core.specs.Turning.{GainsNested, IsAbove, made_by};
-ghost use Rattle.call_board.specs.Views.{last_moment};
-ghost use Rattle.relay_core.specs.Standing.{BoardIs};
+ghost use Rattle.relay_core.specs.Turning.{IsAbove, made_by};
 ghost use Rattle.media_ports.specs.Asked.{OpensNone};
 ghost use Rattle.media_ports.specs.Held.{OpensHeld, TellsHeld};
-ghost use Rattle.board_turns.specs.Nesting.{MayNest};
-ghost use Rattle.board_turns.specs.Between.{board_of, IsBetween, MakesTurn};
+ghost use Rattle.board_turns.specs.Between.{MakesTurn, board_of};
+ghost use Rattle.board_turns.specs.BoardTurns.{CanNest, Makes, Rests, RestsAgain, Works, list_in, past_of};
 ghost use Rattle.board_turns.specs.Ending.{leg_pairs};
 ghost use Rattle.board_turns.specs.Stopping.{stop_entry, still_held};
-ghost use Rattle.board_turns.specs.Ties.{Ties};
 
-use crate::board_turn::{BoardEntryId, BoardTurn};
+use crate::board_turn::{Between, BoardEntryId, BoardTurn, MainHand};
 use crate::ending::end_call;
 use crate::putting::put_entry;
-use call_board::Board;
-use call_cell::Gone;
-use relay_core::{Part, Relay};
-use relay_outside::{Config, PortMaker};
+use relay_core::Part;
+use relay_outside::PortMaker;
 use std::marker::Brand;
 use std::sync::Wait;
-use turn_table::{Hand, Turns};
 
 /// Ends all live calls in order of their creation, in the turn of the board that stops the relay, and returns how many: the
-/// board then stands for its history with the stop, which has the moment of the last entry. `gone` is empty before and after.
-/// It takes no memory.
-pub fn end_live<P: PortMaker, R: Wait>(
-    rt: &R,
-    turn: &BoardTurn<P::In, P::Out>,
-    hand: &mut Hand<Relay<P::In, P::Out>>,
-    board: &mut Board,
-    ports: &mut P,
-    gone: &mut Gone<P::Out>,
-) -> usize
-    requires may { MayNest turn.now.config.now turn.now.turns.now hand.old }
-    requires above { IsAbove (made_by hand.old) 0 turn.now.entry_id.number }
-    requires orderly { Orderly turn.now.config.now (made_by hand.old) }
-    requires board { BoardFor turn.now.config.now board.old (board_history (made_by hand.old) turn.now.entry_id.number) }
-    requires open { WhereTold (P.told ports.old) (λ calls. OpensHeld turn.now.config.now calls (leg_pairs (held (board_history (made_by hand.old) turn.now.entry_id.number)))) }
-    requires empty { gone.old ≡ [] }
-    ensures same { IsSameHand hand.old hand.new × SameTurns hand.old hand.new }
-    ensures may { MayNest turn.now.config.now turn.now.turns.now hand.new }
-    ensures gained { let h = board_history (made_by hand.old) turn.now.entry_id.number in
-        GainsNested turn.now.entry_id.number turn.now.entry_id.moment (script turn.now.config.now h (stop_entry h)) hand.old hand.new }
-    ensures board { let h = board_history (made_by hand.old) turn.now.entry_id.number in BoardFor turn.now.config.now board.new (stop_entry h ∷ h) }
-    ensures count { result ≡ length (live (board_history (made_by hand.old) turn.now.entry_id.number)) }
-    ensures replies { KeepsReplies board.old board.new }
-    ensures open { let h = board_history (made_by hand.old) turn.now.entry_id.number in
-        WhereTold (P.told ports.new) (λ calls. OpensHeld turn.now.config.now calls (still_held h (stop_entry h) (live h))) }
-    ensures closes { Gained (P.told ports.old) (P.told ports.new) OpensNone }
-    ensures ties { Ties turn.now.config.now (P.told ports.old) (P.told ports.new) (entries hand.old) (entries hand.new) }
-    ensures later { P.faults ports.old ≤ P.faults ports.new }
-    ensures empty { gone.new ≡ [] }
+/// board then stands for its history with the stop, which has the moment of the last entry. It takes no memory.
+pub fn end_live<P: PortMaker, R: Wait>(rt: &R, turn: &mut BoardTurn<P>) -> usize
+    requires may { CanNest turn.old.main }
+    requires above { IsAbove (list_in turn.old.main) 0 turn.old.main.entry_id.number }
+    requires orderly { Orderly turn.old.main.config.now (list_in turn.old.main) }
+    requires board { BoardFor turn.old.main.config.now turn.old.board.now (past_of turn.old.main) }
+    requires open { WhereTold (P.told turn.old.ports.now) (λ calls. OpensHeld turn.old.main.config.now calls (leg_pairs (held (past_of turn.old.main)))) }
+    requires empty { turn.old.gone.now ≡ [] }
+    ensures works { Works P.told P.faults turn.old turn.new }
+    ensures gained { let h = past_of turn.old.main in Makes (script turn.old.main.config.now h (stop_entry h)) turn.old.main turn.new.main }
+    ensures board { let h = past_of turn.old.main in BoardFor turn.old.main.config.now turn.new.board.now (stop_entry h ∷ h) }
+    ensures count { result ≡ length (live (past_of turn.old.main)) }
+    ensures open { let h = past_of turn.old.main in
+        WhereTold (P.told turn.new.ports.now) (λ calls. OpensHeld turn.old.main.config.now calls (still_held h (stop_entry h) (live h))) }
+    ensures closes { Gained (P.told turn.old.ports.now) (P.told turn.new.ports.now) OpensNone }
 {
-    let count = board.live_count();
+    let count = turn.board.live_count();
     for ended in 0..count {
         prove!(ended < count);
-        let call = board.call_at(0);
-        end_call(rt, turn, hand, board, ports, gone, call);
+        let call = turn.board.call_at(0);
+        end_call(rt, turn, call);
     }
     count
 }
 
-/// Ends all live calls on the board of the place, in the turn of the board with this number.
-fn stop_part<P: PortMaker, R: Wait>(
-    rt: &R,
-    turns: &Turns<Relay<P::In, P::Out>>,
-    hand: &mut Hand<Relay<P::In, P::Out>>,
-    config: &Config,
-    number: u64,
-    part: &mut Part<P::In, P::Out>,
-    ports: &mut P,
-    gone: &mut Gone<P::Out>,
-) -> usize
-    requires may { MayNest config.now turns.now hand.old }
-    requires above { IsAbove (made_by hand.old) 0 number }
-    requires orderly { Orderly config.now (made_by hand.old) }
-    requires board { BoardIs config.now part.old (board_history (made_by hand.old) number) }
-    requires open { TellsHeld config.now (P.told ports.old) (leg_pairs (held (board_history (made_by hand.old) number))) }
-    requires empty { gone.old ≡ [] }
-    ensures same { IsSameHand hand.old hand.new × SameTurns hand.old hand.new }
-    ensures may { MayNest config.now turns.now hand.new }
-    ensures gained { let h = board_history (made_by hand.old) number in
-        GainsNested number (last_moment h) (script config.now h (stop_entry h)) hand.old hand.new }
-    ensures board { let h = board_history (made_by hand.old) number in BoardIs config.now part.new (stop_entry h ∷ h) }
-    ensures count { result ≡ length (live (board_history (made_by hand.old) number)) }
-    ensures shut { TellsHeld config.now (P.told ports.new) [] }
-    ensures closes { Gained (P.told ports.old) (P.told ports.new) OpensNone }
-    ensures ties { Ties config.now (P.told ports.old) (P.told ports.new) (entries hand.old) (entries hand.new) }
-    ensures later { P.faults ports.old ≤ P.faults ports.new }
-    ensures empty { gone.new ≡ [] }
-{
-    match part {
-        Part::Board(board) => {
-            let turn = BoardTurn {
-                turns,
-                config,
-                entry_id: BoardEntryId {
-                    number,
-                    moment: board.advance(0),
-                },
-            };
-            end_live(rt, &turn, hand, board, ports, gone)
-        }
-        Part::Cell(_) => unreachable!(),
-        Part::Pair(_) => unreachable!(),
-    }
-}
-
 /// Stops the relay in a turn of the board: all live calls end, in order of their creation, and the board's entry of the stop is
 /// made, with the moment of the last one. It returns how many calls ended. Then no port of a pair is open, where just those of the
-/// held pairs were. `gone` is empty before and after. Between its steps the main hand waits for lanes; it takes no memory.
-pub fn stop_turn<P: PortMaker, R: Wait>(
-    rt: &R,
-    turns: &Turns<Relay<P::In, P::Out>>,
-    hand: &mut Hand<Relay<P::In, P::Out>>,
-    config: &Config,
-    ports: &mut P,
-    gone: &mut Gone<P::Out>,
-) -> usize
-    requires between { IsBetween config.now turns.now hand.old }
-    requires open { TellsHeld config.now (P.told ports.old) (leg_pairs (held (board_of (made_by hand.old)))) }
-    requires empty { gone.old ≡ [] }
-    ensures same { IsSameHand hand.old hand.new }
-    ensures between { IsBetween config.now turns.now hand.new }
-    ensures makes { MakesTurn config.now hand.old hand.new (stop_entry (board_of (made_by hand.old))) }
-    ensures count { result ≡ length (live (board_of (made_by hand.old))) }
-    ensures shut { TellsHeld config.now (P.told ports.new) [] }
-    ensures closes { Gained (P.told ports.old) (P.told ports.new) OpensNone }
-    ensures ties { Ties config.now (P.told ports.old) (P.told ports.new) (entries hand.old) (entries hand.new) }
-    ensures later { P.faults ports.old ≤ P.faults ports.new }
-    ensures empty { gone.new ≡ [] }
+/// held pairs were. Between its steps the main hand waits for lanes; it takes no memory.
+pub fn stop_turn<P: PortMaker, R: Wait>(rt: &R, at: &mut Between<P>) -> usize
+    requires rests { Rests P.told at.old }
+    ensures rests { RestsAgain P.told P.faults at.old at.new }
+    ensures makes { MakesTurn at.old.config.now at.old.hand.now at.new.hand.now (stop_entry (board_of (made_by at.old.hand.now))) }
+    ensures count { result ≡ length (live (board_of (made_by at.old.hand.now))) }
+    ensures shut { TellsHeld at.old.config.now (P.told at.new.ports.now) [] }
+    ensures closes { Gained (P.told at.old.ports.now) (P.told at.new.ports.now) OpensNone }
 {
-    let mut turn = turns.turn(rt, hand, 0);
-    let number = turn.front();
-    let count = stop_part(rt, turns, hand, config, number, turn.state(), ports, gone);
-    put_entry::<P::In, P::Out, Brand>(turns, hand, turn);
+    let mut step = at.turns.turn(rt, at.hand, 0);
+    let number = step.front();
+    let board = match step.state() {
+        Part::Board(board) => board,
+        Part::Cell(_) => unreachable!(),
+        Part::Pair(_) => unreachable!(),
+    };
+    let moment = board.advance(0);
+    let mut turn = BoardTurn {
+        main: MainHand {
+            turns: at.turns,
+            config: at.config,
+            hand: &mut *at.hand,
+            entry_id: BoardEntryId { number, moment },
+        },
+        board,
+        ports: &mut *at.ports,
+        gone: &mut *at.gone,
+    };
+    let count = end_live(rt, &mut turn);
+    put_entry::<P::In, P::Out, Brand>(at.turns, at.hand, step);
     count
 }

@@ -19,46 +19,58 @@ use Rattle.board_turns.proofs.deleting.delete_call.Goals as goal
 
 pub end_call-requires-clause-can : goal.end_call-requires-clause-can
 end_call-requires-clause-can g c =
-    let config = c.args.turn.now.config.now in
-    let h = board_history (made_by c.args.hand.now) c.args.turn.now.entry_id.number in
+    let config = c.args.turn.now.main.config.now in
+    let h = board_history (made_by c.args.turn.now.main.hand.now) c.args.turn.now.main.entry_id.number in
     let of : Call = c.requires.live.0 in
-    let told = g.P.PortMaker.told c.args.ports.now in
+    let told = g.P.PortMaker.told c.args.turn.now.ports.now in
     let legs = closed_of h (stop_entry h) of in (
       of,
       legs,
-      subst (λ (k : ℕ). CanEnd config (made_by c.args.hand.now) c.args.board.now told k of legs) c.requires.live.2
-          (may_delete config c.args.turn.now.turns.now c.args.hand.now c.args.turn.now.entry_id c.args.board.now told (stop_entry h) of c.requires.turn c.requires.live.1 c.requires.live.1),
+      subst (λ (k : ℕ). CanEnd config (made_by c.args.turn.now.main.hand.now) c.args.turn.now.board.now told k of legs) c.requires.live.2
+          (may_delete config c.args.turn.now.main.turns.now c.args.turn.now.main.hand.now c.args.turn.now.main.entry_id c.args.turn.now.board.now told (stop_entry h) of c.requires.begins.in_turn c.requires.live.1 c.requires.live.1),
     )
 
 pub returns-clause-closes : goal.returns-clause-closes
 returns-clause-closes g c =
-    let config = c.args.turn.now.config.now in
-    let h = board_history (made_by c.args.hand.now) c.args.turn.now.entry_id.number in
+    let config = c.args.turn.now.main.config.now in
+    let h = board_history (made_by c.args.turn.now.main.hand.now) c.args.turn.now.main.entry_id.number in
     let of : Call = c.requires.live.0 in
-    let told = g.P.PortMaker.told c.args.ports.now in
+    let told = g.P.PortMaker.told c.args.turn.now.ports.now in
     let legs = closed_of h (stop_entry h) of in
-    let can = subst (λ (k : ℕ). CanEnd config (made_by c.args.hand.now) c.args.board.now told k of legs) c.requires.live.2
-    (may_delete config c.args.turn.now.turns.now c.args.hand.now c.args.turn.now.entry_id c.args.board.now told (stop_entry h) of c.requires.turn c.requires.live.1 c.requires.live.1) in
-    theirs_open_none g.P.Out.OutEnd.told config legs told (g.P.PortMaker.told c.end_call.new.ports) (c.end_call.ensures.closes of legs can)
+    let can = subst (λ (k : ℕ). CanEnd config (made_by c.args.turn.now.main.hand.now) c.args.turn.now.board.now told k of legs) c.requires.live.2
+    (may_delete config c.args.turn.now.main.turns.now c.args.turn.now.main.hand.now c.args.turn.now.main.entry_id c.args.turn.now.board.now told (stop_entry h) of c.requires.begins.in_turn c.requires.live.1 c.requires.live.1) in
+    theirs_open_none g.P.Out.OutEnd.told config legs told (g.P.PortMaker.told c.end_call.new.turn.ports.now) (c.end_call.ensures.closes of legs can)
 
 pub returns-clause-does : goal.returns-clause-does
 returns-clause-does g c e of is number alive moment =
-    let config = c.args.turn.now.config.now in
-    let h = board_history (made_by c.args.hand.now) c.args.turn.now.entry_id.number in
-    let v = at_moment (view_of config h) c.args.turn.now.entry_id.moment in
-    let told = g.P.PortMaker.told c.args.ports.now in
+    let config = c.args.turn.now.main.config.now in
+    let h = board_history (made_by c.args.turn.now.main.hand.now) c.args.turn.now.main.entry_id.number in
+    let v = at_moment (view_of config h) c.args.turn.now.main.entry_id.moment in
+    let told = g.P.PortMaker.told c.args.turn.now.ports.now in
     let legs = closed_of h e of in
     let ends = subst (λ (calls : List Call). In of calls) (sym (ends_one e of is).ends) (here (refl {a = of})) in
-    let can = may_delete config c.args.turn.now.turns.now c.args.hand.now c.args.turn.now.entry_id c.args.board.now told e of c.requires.turn alive ends in
-    let can_call = subst (λ (k : ℕ). CanEnd config (made_by c.args.hand.now) c.args.board.now told k of legs) number can in
-    let fits = good_history config (made_by c.args.hand.now) c.requires.turn.orderly c.args.turn.now.entry_id.number in
+    let can = may_delete config c.args.turn.now.main.turns.now c.args.turn.now.main.hand.now c.args.turn.now.main.entry_id c.args.turn.now.board.now told e of c.requires.begins.in_turn alive ends in
+    let can_call = subst (λ (k : ℕ). CanEnd config (made_by c.args.turn.now.main.hand.now) c.args.turn.now.board.now told k of legs) number can in
+    let fits = good_history config (made_by c.args.turn.now.main.hand.now) c.requires.begins.in_turn.orderly c.args.turn.now.main.entry_id.number in
     record {
-      gained = subst (λ (owed : List Owed). GainsNested c.args.turn.now.entry_id.number c.args.turn.now.entry_id.moment owed c.args.hand.now c.end_call.new.hand) (sym (deleted_owes config h e of is))
+      gained = subst (λ (owed : List Owed). GainsNested c.args.turn.now.main.entry_id.number c.args.turn.now.main.entry_id.moment owed c.args.turn.now.main.hand.now c.end_call.new.turn.main.hand.now) (sym (deleted_owes config h e of is))
           (c.end_call.ensures.gained of legs can_call);
-      shows = subst (λ (w : View). Shows config c.end_call.new.board w)
+      shows = subst (λ (w : View). Shows config c.end_call.new.turn.board.now w)
           (ap (λ (k : ℕ). with_end v k legs) (sym number) ∙ sym (deleted_acts h e of v is))
-          (c.end_call.ensures.ended of legs can_call config v c.requires.turn.shows (live_cells_apart config h fits));
-      opens = told_alike config (g.P.PortMaker.told c.end_call.new.ports) (pairs_left (leg_pairs legs) (leg_pairs (held h))) (leg_pairs (held (e ∷ h)))
+          (c.end_call.ensures.ended of legs can_call config v c.requires.begins.in_turn.shows (live_cells_apart config h fits));
+      opens = told_alike config (g.P.PortMaker.told c.end_call.new.turn.ports.now) (pairs_left (leg_pairs legs) (leg_pairs (held h))) (leg_pairs (held (e ∷ h)))
           (deleted_held config h e of fits is)
-          (c.end_call.ensures.«open» of legs can_call (leg_pairs (held h)) c.requires.turn.opens);
+          (c.end_call.ensures.«open» of legs can_call (leg_pairs (held h)) c.requires.begins.in_turn.opens);
     }
+
+pub end_call-requires-clause-may : goal.end_call-requires-clause-may
+end_call-requires-clause-may g c =
+    c.requires.begins.in_turn.may
+
+pub end_call-requires-clause-empty : goal.end_call-requires-clause-empty
+end_call-requires-clause-empty g c =
+    c.requires.begins.empty
+
+pub returns-clause-works : goal.returns-clause-works
+returns-clause-works g c =
+    c.end_call.ensures.works

@@ -1,4 +1,4 @@
-use Rattle.board_turns.proofs.MainHand.{split_between, begun_joins, joined_joins, surveyed_between, joined_history}
+use Rattle.board_turns.proofs.MainHands.{split_between, begun_joins, joined_joins, surveyed_between, joined_history}
 use Rattle.board_turns.proofs.laws.main_hand_stays.Goals as goal
 
 pub returns-clause-split : goal.returns-clause-split

@@ -18,7 +18,7 @@ use Rattle.relay_core.specs.Handed.{IsHanded}
 use Rattle.relay_core.specs.Joining.{TakesOwnPairs, IsLane, IsSound}
 use Rattle.relay_core.specs.Legal.{Orderly}
 use Rattle.relay_core.specs.Made.{Made, entry_of, list_of}
-use Rattle.relay_core.specs.Recorded.{IsRecorded, is_boards}
+use Rattle.relay_core.specs.Recorded.{AreReturned, is_boards}
 use Rattle.relay_core.specs.Turning.{Numbered, IsAbove, IsReceiving, made_by}
 use Rattle.relay_core.proofs.Joins.{joined}
 use Rattle.relay_core.proofs.Recording.{lane_no_boards, unseen_rows}
@@ -61,7 +61,7 @@ module _ {M I O T : Type 0} {g : _} (config : Config) (turns : Turns M (Part I O
     numbered = subst (λ (rows : List (table.Entry Made T)). Numbered (list_of rows)) (sym left.2) b.numbered;
     orderly = subst (λ (rows : List (table.Entry Made T)). Orderly config (list_of rows)) (sym left.2) b.orderly;
     handed = subst (λ (rows : List (table.Entry Made T)). IsHanded rows) (sym left.2) b.handed;
-    recorded = subst (λ (rows : List (table.Entry Made T)). IsRecorded rows) (sym left.2) b.recorded;
+    returned = subst (λ (rows : List (table.Entry Made T)). AreReturned config rows) (sym left.2) b.returned;
     receiving = subst (λ (rows : List (table.Entry Made T)). TakesOwnPairs config (list_of rows) → IsReceiving config (list_of rows)) (sym left.2) b.receiving;
   }
 
@@ -90,7 +90,7 @@ module _ {M I O T : Type 0} {g : _} (config : Config) (turns : Turns M (Part I O
         numbered = numbered;
         orderly = sound.orderly numbered;
         handed = sound.handed numbered;
-        recorded = sound.recorded numbered;
+        returned = sound.returned numbered;
         receiving = sound.receiving numbered;
       }
 
