@@ -26,9 +26,7 @@ fn list_datagram(
     ensures { (config : Config) (v : View) → Shows config board.now v →
         IfOk result (λ text. text.list ≡ reply_datagram config request.now.cookie.now request.now.body.now (Listed (take limit (map (λ (c : CallView). c.of.id) v.calls)))) }
 {
-    let Ok(value) = call_report::list(alloc, board, limit) else {
-        return Err(OutOfMemory);
-    };
+    let value = call_report::list(alloc, board, limit)?;
     value_datagram(alloc, request, &value)
 }
 

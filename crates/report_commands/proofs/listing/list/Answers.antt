@@ -1,7 +1,7 @@
 use Rattle.std.proofs.Common.{subst, List, Option, map, take}
 use Rattle.sdes_lines.specs.declared.crypto_line.CryptoLine.{CryptoLine}
 use Rattle.call_board.specs.Replies.{Listed, reply_datagram}
-use Rattle.call_board.specs.Views.{View, CallView}
+use Rattle.call_board.specs.Views.{CallView}
 use Rattle.board_turns.specs.Telling.{Tells}
 use Rattle.report_commands.proofs.listing.list.Goals as goal
 

@@ -14,11 +14,11 @@ unfolding ids_in
 value_datagram-requires c =
     let shown = c.requires.shown in
     let v : View = shown.1 in
-    subst (λ (tree : Tree). depth tree ≤ 16) (sym (c.in-Ok.ensures shown.0 v shown.2)) (listing_shallow (ids_in c.args.limit v))
+    subst (λ (tree : Tree). depth tree ≤ 16) (sym (c.in_ok-value.ensures shown.0 v shown.2)) (listing_shallow (ids_in c.args.limit v))
 
 pub returns : goal.returns
 unfolding ids_in
 returns c config v shows =
     same_text c.value_datagram.result _ _ c.value_datagram.ensures
-    (ap (value_datagram c.args.request.now.cookie.now c.args.request.now.body.now) (c.in-Ok.ensures config v shows)
+    (ap (value_datagram c.args.request.now.cookie.now c.args.request.now.body.now) (c.in_ok-value.ensures config v shows)
     ∙ listed_is config c.args.request.now.cookie.now c.args.request.now.body.now (ids_in c.args.limit v))

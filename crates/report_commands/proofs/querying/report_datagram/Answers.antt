@@ -16,10 +16,10 @@ pub value_datagram-requires : goal.value_datagram-requires
 value_datagram-requires c =
     let shown = c.requires.shown in
     let of : CallView = shown.2 in
-    subst (λ (tree : Tree). depth tree ≤ 16) (sym (c.in-Ok.ensures shown.0 shown.1 of shown.3 shown.4)) (report_shallow shown.0 (view_report of c.args.reports.now))
+    subst (λ (tree : Tree). depth tree ≤ 16) (sym (c.in_ok-value.ensures shown.0 shown.1 of shown.3 shown.4)) (report_shallow shown.0 (view_report of c.args.reports.now))
 
 pub returns : goal.returns
 returns c config v of shows found =
     same_text c.value_datagram.result _ _ c.value_datagram.ensures
-    (ap (value_datagram c.args.request.now.cookie.now c.args.request.now.body.now) (c.in-Ok.ensures config v of shows found)
+    (ap (value_datagram c.args.request.now.cookie.now c.args.request.now.body.now) (c.in_ok-value.ensures config v of shows found)
     ∙ reported_is config c.args.request.now.cookie.now c.args.request.now.body.now (view_report of c.args.reports.now))
