@@ -50,8 +50,8 @@ use Rattle.board_turns.proofs.Tellings.{tells_carries, is_short_carries}
 use Rattle.control_messages.specs.Bodies.{IsErrorOf}
 use Rattle.control_messages.specs.declared.description.DescriptionFault.{DescriptionFault}
 use Rattle.control_messages.specs.declared.description.DescriptionFault.TheVariants as faults
-use Rattle.offer_command.specs.declared.fault.LeaseFault.{LeaseFault}
-use Rattle.offer_command.specs.declared.fault.LeaseFault.TheVariants.{Port, Key}
+use Rattle.offer_command.specs.declared.lease.LeaseFault.{LeaseFault}
+use Rattle.offer_command.specs.declared.lease.LeaseFault.TheVariants.{Port, Key}
 use Rattle.offer_command.specs.Leasing.{pairs_of_plan, keys_of_plan}
 use Rattle.offer_command.specs.Undoing.{ComesEarly, keys_before}
 use Rattle.offer_command.specs.Offers.{offer_of, demand_of, target_of, pairs_for, text_of, undone_leases}

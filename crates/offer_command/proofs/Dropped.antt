@@ -35,7 +35,7 @@ use Rattle.relay_core.proofs.Turns.{filter_none}
 use Rattle.board_turns.specs.Leaving.{legs_in, AreLeasesOf, DroppedWent}
 use Rattle.board_turns.proofs.After.{still}
 use Rattle.offer_command.specs.Offers.{IsDue, target_of, offer_of, dropped_legs, bringing_of}
-use Rattle.offer_command.proofs.OfferedChanges.{cell_elsewhere}
+use Rattle.offer_command.proofs.Preparing.{cell_elsewhere}
 
 -- The entry is the turn of a datagram.
 

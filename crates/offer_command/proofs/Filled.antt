@@ -1,6 +1,7 @@
 -- One key and one section more.
-use Rattle.std.proofs.Common.{◌≡◌, refl, sym, ◌∙◌, ap, ℕ, zero, suc, ◌+◌, ◌<◌, ◌≤◌, ◌++◌, ◌==◌, List, [], ◌∷◌, length, Bool, true, false, cond, filter, get_or, take, Some, None, arith, append_assoc}
-use Rattle.std.specs.Prelude.{slice_get}
+use Rattle.std.proofs.Common.{◌≡◌, refl, sym, ◌∙◌, ap, subst, ℕ, zero, suc, ◌+◌, ◌<◌, ◌≤◌, ◌++◌, ◌==◌, List, [], ◌∷◌, length, Bool, true, false, cond, map, filter, get_or, take, Some, None, arith, append_assoc}
+use Rattle.std.specs.Prelude.{slice_get, slice_index_or}
+use Rattle.std.specs.List.{AllZip}
 use Rattle.histories.specs.Words.{In, here, there, has, numbers}
 use Rattle.histories.proofs.Lists.{filtered, keeps, it_has, has_it}
 use Rattle.port_pool.specs.Signals.{NewKey}
@@ -9,8 +10,9 @@ use Rattle.offer_answer.specs.Demands.{is_dropped}
 use Rattle.offer_answer.specs.Plan.{demand}
 use Rattle.call_board.specs.Pairs.{new_keys}
 use Rattle.call_cell.specs.declared.prepare.Prepare as prepared
-use Rattle.call_cell.specs.Preparing.{PrepareFor}
-use Rattle.relay_core.proofs.Turns.{filter_append}
+use Rattle.call_cell.specs.declared.prepare.PreparedKey.{PreparedKey}
+use Rattle.call_cell.specs.Preparing.{PrepareFor, IsPrepared, key_of, keys_of, drops_of}
+use Rattle.relay_core.proofs.Turns.{filter_append, nothing_more}
 use Rattle.offer_command.specs.Filling.{SameLegs, SectionsFor}
 
 -- Keys.
@@ -72,6 +74,17 @@ drops_last signal keys xs s stands = record {
   fresh = stands.fresh;
 }
 
+-- a wanted section is dropped, and one that is not wanted is not
+pub drops_wanted : {O : Type 0} (signal : prepared.Prepare O) (keys : List NewKey) (xs wanted : List ℕ) (s : ℕ) → has wanted s ≡ true → PrepareFor signal keys (s ∷ xs)
+    → PrepareFor signal keys (xs ++ filter (has wanted) (s ∷ []))
+drops_wanted signal keys xs wanted s is stands =
+    subst (λ (b : Bool). PrepareFor signal keys (xs ++ cond b (s ∷ []) [])) (sym is) (drops_last signal keys xs s stands)
+
+pub drops_unwanted : {O : Type 0} (signal : prepared.Prepare O) (keys : List NewKey) (xs wanted : List ℕ) (s : ℕ) → has wanted s ≡ false → PrepareFor signal keys xs
+    → PrepareFor signal keys (xs ++ filter (has wanted) (s ∷ []))
+drops_unwanted signal keys xs wanted s is stands =
+    subst (λ (b : Bool). PrepareFor signal keys (xs ++ cond b (s ∷ []) [])) (sym is) (subst (λ (ys : List ℕ). PrepareFor signal keys ys) (sym (nothing_more xs)) stands)
+
 numbers_push : (n count : ℕ) → numbers n (suc count) ≡ numbers n count ++ (n + count) ∷ []
 numbers_push n zero = let z : n ≡ n + 0 = omega arith in ap (λ (m : ℕ). m ∷ []) z
 numbers_push n (suc count) =
@@ -123,3 +136,28 @@ pub got_at : (draws : List (List ℕ)) (i : ℕ) → i < length draws → slice_
 got_at [] i low = absurd (omega (arith, low))
 got_at (d ∷ draws) zero low = refl
 got_at (d ∷ draws) (suc i) low = got_at draws i (omega (arith, low))
+
+-- What was prepared.
+
+filter_numbers : (p q : ℕ → Bool) (n count : ℕ) → ((x : ℕ) → x < n + count → p x ≡ q x) → filter p (numbers n count) ≡ filter q (numbers n count)
+filter_numbers p q n zero same = refl
+filter_numbers p q n (suc count) same =
+    ap (λ (b : Bool). cond b (n ∷ filter p (numbers (suc n) count)) (filter p (numbers (suc n) count))) (same n (omega arith))
+    ∙ ap (λ (ys : List ℕ). cond (q n) (n ∷ ys) ys) (filter_numbers p q (suc n) count (λ x low. same x (omega (arith, low))))
+
+zip_keys : (ps : List PreparedKey) (ks : List NewKey) → AllZip IsPrepared ps ks → map key_of ps ≡ ks
+zip_keys [] [] all = refl
+zip_keys [] (k ∷ ks) all = elim all [ ]
+zip_keys (p ∷ ps) [] all = elim all [ ]
+zip_keys (p ∷ ps) (k ∷ ks) all = ap (λ (x : NewKey). x ∷ map key_of ps) all.0.key_is ∙ ap (λ (xs : List NewKey). k ∷ xs) (zip_keys ps ks all.1)
+
+-- what was prepared tells its keys, and its dropped sections upwards
+pub keys_told : {O : Type 0} (signal : prepared.Prepare O) (keys : List NewKey) (dropped : List ℕ) → PrepareFor signal keys dropped → keys_of signal ≡ keys
+keys_told signal keys dropped stands = zip_keys signal.keys.items keys stands.keys_are
+
+pub drops_upwards : {O : Type 0} (signal : prepared.Prepare O) (keys : List NewKey) (dropped : List ℕ) → PrepareFor signal keys dropped → drops_of signal ≡ filter (has dropped) (numbers 0 8)
+drops_upwards signal keys dropped stands = filter_numbers (λ section. slice_index_or signal.dropped section false) (has dropped) 0 8 stands.drops
+
+pub drops_told : {O : Type 0} (signal : prepared.Prepare O) (keys : List NewKey) (rounds : List Round) (ask : OfferAsk) → PrepareFor signal keys (demand rounds ask).dropped
+    → drops_of signal ≡ (demand rounds ask).dropped
+drops_told signal keys rounds ask stands = drops_upwards signal keys (demand rounds ask).dropped stands ∙ demanded_are rounds ask (filter (has (demand rounds ask).dropped) (numbers 0 8)) refl

@@ -5,8 +5,8 @@ use Rattle.relay_outside.specs.declared.ports.PortCall.{PortCall}
 use Rattle.relay_outside.specs.declared.settings.Config.{Config}
 use Rattle.relay_outside.specs.Told.{Gained}
 use Rattle.media_ports.specs.Asked.{OpensAt}
-use Rattle.offer_command.specs.declared.fault.LeaseFault.{LeaseFault}
-use Rattle.offer_command.specs.declared.fault.LeaseFault.TheVariants.{Port, Key}
+use Rattle.offer_command.specs.declared.lease.LeaseFault.{LeaseFault}
+use Rattle.offer_command.specs.declared.lease.LeaseFault.TheVariants.{Port, Key}
 use Rattle.offer_command.specs.Undoing.{DrawsBefore, HasRisen, opens_before}
 use Rattle.board_turns.specs.Giving.{given_by, IsGivenBy}
 use Rattle.board_turns.proofs.Givings.{ports_given, keys_given}

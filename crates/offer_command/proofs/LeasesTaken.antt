@@ -16,8 +16,8 @@ use Rattle.call_board.specs.declared.board_plan.BoardPlan.{BoardPlan}
 use Rattle.call_board.specs.Views.{View, with_leases, with_returned}
 use Rattle.call_board.specs.Boards.{Shows, leases_of, pairs_in, AreOut}
 use Rattle.call_board.proofs.Outs.{lease_pairs}
-use Rattle.offer_command.specs.declared.fault.LeaseFault.{LeaseFault}
-use Rattle.offer_command.specs.declared.fault.LeaseFault.TheVariants.{Port, Key}
+use Rattle.offer_command.specs.declared.lease.LeaseFault.{LeaseFault}
+use Rattle.offer_command.specs.declared.lease.LeaseFault.TheVariants.{Port, Key}
 use Rattle.offer_command.specs.Leasing.{CanLease, pairs_of_plan, keys_of_plan, with_taken}
 use Rattle.offer_command.specs.Undoing.{ComesEarly, keys_before, with_undone}
 use Rattle.offer_command.proofs.Fronts.{front_leased, front_count, front_others, front_out, generations_low}

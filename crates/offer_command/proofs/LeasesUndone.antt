@@ -19,8 +19,8 @@ use Rattle.media_ports.proofs.Closed.{closes_uncalled, still_open, open_among, o
 use Rattle.media_ports.proofs.Leased.{all_from_pairs}
 use Rattle.media_ports.proofs.Held.{held_same}
 use Rattle.media_ports.proofs.Given.{AreOfPairs, leased_of_pairs, uncalled_both, opened_uncalled, closed_uncalled, pairs_uncalled, upto_uncalled}
-use Rattle.offer_command.specs.declared.fault.LeaseFault.{LeaseFault}
-use Rattle.offer_command.specs.declared.fault.LeaseFault.TheVariants.{Port, Key}
+use Rattle.offer_command.specs.declared.lease.LeaseFault.{LeaseFault}
+use Rattle.offer_command.specs.declared.lease.LeaseFault.TheVariants.{Port, Key}
 use Rattle.offer_command.specs.Undoing.{OpensAndCloses, UndoesPorts}
 
 pub gained_closed : (interface : Ip) (leases : List Lease) (old mid new : Option (List PortCall)) → Gained old mid (OpensPairs interface leases) →

@@ -234,10 +234,3 @@ pub holder_same : (call cell : ℕ) (lease : Lease) (leg : ℕ × Side) (pair ge
     → holder_read call cell leg pair generation ≡ holder_for call cell lease leg
 holder_same call cell lease leg pair generation p q =
     ap (λ (n : ℕ). holder_read call cell leg n generation) p ∙ ap (λ (n : ℕ). holder_read call cell leg lease.pair n) q
-
-pub added_more : (before now after legs more : List Holder) (leg : Holder) → now ≡ before ++ legs → after ≡ now ++ leg ∷ [] → more ≡ legs ++ leg ∷ [] → after ≡ before ++ more
-added_more before now after legs more leg first second is =
-    second ∙ ap (λ (xs : List Holder). xs ++ leg ∷ []) first ∙ append_assoc before legs (leg ∷ []) ∙ ap (λ (xs : List Holder). before ++ xs) (sym is)
-
-pub added_none : (before legs : List Holder) → legs ≡ [] → before ≡ before ++ legs
-added_none before legs none = sym (nothing_more before) ∙ ap (λ (xs : List Holder). before ++ xs) (sym none)

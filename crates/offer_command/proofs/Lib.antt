@@ -8,7 +8,7 @@ pub mod LegsOpened
 pub mod Filled
 pub mod Targets
 pub mod Leased
-pub mod OfferedChanges
+pub mod Preparing
 pub mod Dropped
 pub mod Kept
 pub mod Taken

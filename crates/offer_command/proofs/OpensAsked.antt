@@ -11,8 +11,8 @@ use Rattle.media_ports.specs.Asked.{OpensNone, OpensAt}
 use Rattle.media_ports.specs.Calls.{openings, OpensPairs}
 use Rattle.media_ports.proofs.Asked.{opens_front, uncalled_opens_none}
 use Rattle.media_ports.proofs.Leased.{length-addresses_of}
-use Rattle.offer_command.specs.declared.fault.LeaseFault.{LeaseFault}
-use Rattle.offer_command.specs.declared.fault.LeaseFault.TheVariants.{Port, Key}
+use Rattle.offer_command.specs.declared.lease.LeaseFault.{LeaseFault}
+use Rattle.offer_command.specs.declared.lease.LeaseFault.TheVariants.{Port, Key}
 use Rattle.offer_command.specs.Undoing.{ComesEarly, UndoesPorts, opens_before}
 
 -- the leases of that many pairs in front of these

@@ -13,8 +13,8 @@ use Rattle.call_board.specs.Acts.{BoardEntry}
 use Rattle.call_board.specs.Answers.{offer_ask}
 use Rattle.call_board.specs.Asked.{sdp_error}
 use Rattle.call_board.specs.Replies.{Reply, reply_datagram}
-use Rattle.offer_command.specs.declared.fault.LeaseFault.{LeaseFault}
-use Rattle.offer_command.specs.declared.fault.LeaseFault.TheVariants.{Port, Key}
+use Rattle.offer_command.specs.declared.lease.LeaseFault.{LeaseFault}
+use Rattle.offer_command.specs.declared.lease.LeaseFault.TheVariants.{Port, Key}
 use Rattle.board_turns.specs.declared.command_outcome.CommandOutcome.{CommandOutcome}
 use Rattle.board_turns.specs.declared.device_answers.DeviceAnswers.{DeviceAnswers}
 use Rattle.board_turns.specs.declared.device_answers.DeviceAnswers.TheVariants.{PortFault, KeyFault}

@@ -1,5 +1,5 @@
 -- The new legs of an offer, in the order of leases.
-use Rattle.std.specs.Prelude.{◌≡◌, ℕ, List, ◌++◌, [], ◌∷◌}
+use Rattle.std.specs.Prelude.{◌≡◌, ℕ, List}
 use Rattle.port_pool.specs.declared.holder.Holder.{Holder}
 use Rattle.port_pool.specs.declared.pairs.Lease.{Lease}
 use Rattle.offer_answer.specs.Rounds.{Demand}
@@ -7,15 +7,6 @@ use Rattle.offer_answer.specs.Offering.{PlanFor}
 use Rattle.offer_answer.specs.declared.plan.Plan.{Plan}
 use Rattle.call_board.specs.Acts.{Call}
 use Rattle.call_board.specs.Whole.{legs_of}
-
--- the legs, and for how many there is room in all
-pub record LegList : Type 0 where
-  pub list : List Holder
-  pub room : ℕ
-
--- one more, at the end
-abbrev pub with_leg : LegList → Holder → LegList
-with_leg legs leg = record { list = legs.list ++ leg ∷ []; room = legs.room }
 
 -- whatever the plan demands: the legs of a call with this number and this cell, a lease for each leg that is demanded, in order
 abbrev pub LegsFor : Plan → (call cell : ℕ) → List Lease → List Holder → Type 0

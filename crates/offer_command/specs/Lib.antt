@@ -5,4 +5,5 @@ pub mod Opening
 pub mod Filling
 pub mod Offers
 pub mod Brings
+pub mod Doings
 pub mod Commands

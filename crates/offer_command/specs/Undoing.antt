@@ -8,8 +8,8 @@ use Rattle.relay_outside.specs.Told.{Gained, Rose}
 use Rattle.media_ports.specs.Calls.{openings, OpensUpTo, ClosesUncalled}
 use Rattle.media_ports.specs.Draws.{DrawsUpTo}
 use Rattle.call_board.specs.Views.{View, with_returned}
-use Rattle.offer_command.specs.declared.fault.LeaseFault.{LeaseFault}
-use Rattle.offer_command.specs.declared.fault.LeaseFault.TheVariants.{Port, Key}
+use Rattle.offer_command.specs.declared.lease.LeaseFault.{LeaseFault}
+use Rattle.offer_command.specs.declared.lease.LeaseFault.TheVariants.{Port, Key}
 use Rattle.offer_command.specs.Leasing.{with_taken}
 
 -- the keys that were drawn before the fault
