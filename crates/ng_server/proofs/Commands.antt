@@ -58,6 +58,12 @@ is_asking request pairs says reads is =
     let short = not_long request.too_long pairs says is in
     record { short = short; reads = reads short; command = subst (λ (long : Bool). command_in long pairs ≡ Ok says) short is }
 
+-- what it asks is told with its input
+pub is_asking_with : {A : Type 0} (says : A → said.Said) (request given : Request) (input handed : A) (pairs : Option Entries) → given ≡ request → handed ≡ input
+    → IsAsking request pairs (says input) → IsAsking given pairs (says handed)
+is_asking_with says request given input handed pairs same alike asks =
+    subst (λ (r : Request). IsAsking r pairs (says handed)) (sym same) (subst (λ a. IsAsking request pairs (says a)) (sym alike) asks)
+
 -- its description is shorter than any that memory is had for
 description_small : (request : Request) (command : Result Command ErrorCode) (says : said.Said) → length request.body.now ≤ 16384
     → IfOk command (λ (asks : Command). length (description_in (said.said asks)) ≤ length request.body.now) → said_by command ≡ Ok says → length (description_in says) < 2 ^ 31

@@ -4,3 +4,4 @@ pub mod Taken
 pub mod Turns
 pub mod Tellings
 mod Errors
+pub mod Resting

@@ -1,4 +1,3 @@
-pub mod Devices
 pub mod Sending
 pub mod Dealing
 pub mod Turning

@@ -1,7 +1,8 @@
 //! A datagram, dealt with in the board's turn.
 ghost use Rattle.std.specs.Prelude.{◌≡◌, ◌≤◌, [], None, false, IfOk, OnOk, length};
 ghost use Rattle.relay_outside.specs.Told.{HasCause};
-ghost use Rattle.turn_table.specs.Hands.{IsSameHand, SameTurns, entries};
+ghost use Rattle.turn_table.specs.Hands.{entries};
+ghost use Rattle.board_turns.specs.BoardTurns.{Begins, IsSameBoard, Nests, past_of};
 ghost use Rattle.ng_command.specs.Said.{said};
 ghost use Rattle.cookie_cache.specs.Keepings.{IsCookie};
 ghost use Rattle.cookie_cache.specs.Caches.{HasSparePlace};
@@ -10,22 +11,16 @@ ghost use Rattle.call_board.specs.Asked.{Reads, command_in};
 ghost use Rattle.call_board.specs.Boards.{Shows};
 ghost use Rattle.call_board.specs.Views.{View};
 ghost use Rattle.relay_outside.specs.declared.settings.Config.{Config};
-ghost use Rattle.relay_core.specs.Entries.{board_history};
-ghost use Rattle.relay_core.specs.Turning.{made_by};
-ghost use Rattle.board_turns.specs.Nesting.{MayNest};
-ghost use Rattle.board_turns.specs.Acting.{InTurn};
 ghost use Rattle.board_turns.specs.Controls.{control_of};
 ghost use Rattle.call_board.specs.Pairs.{free};
 ghost use Rattle.call_board.specs.Replies.{fault_datagram};
 ghost use Rattle.board_turns.specs.Giving.{given_by, IsGivenBy, IsUnasked};
-ghost use Rattle.ng_server.specs.Devices.{AreSame};
 ghost use Rattle.ng_server.specs.Sending.{Sends};
 ghost use Rattle.ng_server.specs.Turning.{IsRequest};
 ghost use Rattle.ng_server.specs.Dealing.{hearing_of, Deals};
 ghost use Rattle.board_turns.specs.Ties.{Ties};
 
 use crate::carrying::{carry_out, read_request};
-use crate::devices::Devices;
 use crate::replying::reply_to;
 use crate::sending::{send, send_shortage};
 use crate::turn_record::TurnRecord;
@@ -35,11 +30,9 @@ use control_messages::{Body, Request};
 use ng_bencode::{Pairs, Text};
 use ng_reply::ErrorCode;
 use offer_answer::ChosenLines;
-use relay_core::Relay;
 use relay_outside::{ControlLink, Failed, KeySource, OutOfMemory, PortMaker};
 use std::alloc::Global;
 use std::sync::Wait;
-use turn_table::Hand;
 
 /// What was made of a datagram.
 #[derive(Drop)]
@@ -120,33 +113,34 @@ fn dictionary_of(asked: Body) -> Option<Pairs>
 pub(crate) fn deal<N: ControlLink, P: PortMaker, K: KeySource, R: Wait>(
     rt: &R,
     alloc: Global,
-    turn: &BoardTurn<P::In, P::Out>,
-    hand: &mut Hand<Relay<P::In, P::Out>>,
-    board: &mut Board,
-    devices: &mut Devices<'_, '_, '_, '_, N, P, K, P::Out>,
+    turn: &mut BoardTurn<P>,
+    link: &mut N,
+    keys: &mut K,
     request: &Request,
 ) -> Answered
-    requires turn { InTurn turn.now.config.now turn.now.turns.now hand.old turn.now.entry_id board.old (P.told devices.old.ports.now) }
+    requires begins { Begins P.told turn.old }
     requires request { IsRequest request.now }
-    requires empty { devices.old.gone.now ≡ [] }
-    ensures devices { AreSame devices.old devices.new }
-    ensures same { IsSameHand hand.old hand.new × SameTurns hand.old hand.new }
-    ensures may { MayNest turn.now.config.now turn.now.turns.now hand.new }
-    ensures deals { Deals turn.now.config.now hand.old hand.new turn.now.entry_id (hearing_of request.now result.turn_record) board.new (P.told devices.new.ports.now) }
-    ensures sent { Sends request.now.source (control_of turn.now.config.now (board_history (made_by hand.old) turn.now.entry_id.number) turn.now.entry_id.moment (hearing_of request.now result.turn_record)).reply
-        result.sent (N.told devices.old.link.now) (N.told devices.new.link.now) }
-    ensures cause { HasCause (N.faults devices.old.link.now) (N.faults devices.new.link.now) result.sent }
-    ensures empty { devices.new.gone.now ≡ [] }
-    ensures ties { Ties turn.now.config.now (P.told devices.old.ports.now) (P.told devices.new.ports.now) (entries hand.old) (entries hand.new) }
-    ensures later { (P.faults devices.old.ports.now ≤ P.faults devices.new.ports.now) × (K.faults devices.old.keys.now ≤ K.faults devices.new.keys.now) }
-    ensures given { let h = board_history (made_by hand.old) turn.now.entry_id.number in
-        IsGivenBy turn.now.config.now (free turn.now.config.now h) (given_by result.turn_record.device_answers) (P.faults devices.old.ports.now) (P.faults devices.new.ports.now) (K.faults devices.old.keys.now) (K.faults devices.new.keys.now) (P.told devices.old.ports.now) (P.told devices.new.ports.now) (K.told devices.old.keys.now) (K.told devices.new.keys.now) }
+    ensures nests { Nests turn.old.main turn.new.main }
+    ensures devices { IsSameBoard turn.old turn.new }
+    ensures deals { Deals turn.old.main.config.now turn.old.main.hand.now turn.new.main.hand.now turn.old.main.entry_id (hearing_of request.now result.turn_record) turn.new.board.now (P.told turn.new.ports.now) }
+    ensures sent { Sends request.now.source (control_of turn.old.main.config.now (past_of turn.old.main) turn.old.main.entry_id.moment (hearing_of request.now result.turn_record)).reply
+        result.sent (N.told link.old) (N.told link.new) }
+    ensures cause { HasCause (N.faults link.old) (N.faults link.new) result.sent }
+    ensures empty { turn.new.gone.now ≡ [] }
+    ensures ties { Ties turn.old.main.config.now (P.told turn.old.ports.now) (P.told turn.new.ports.now) (entries turn.old.main.hand.now) (entries turn.new.main.hand.now) }
+    ensures later { (P.faults turn.old.ports.now ≤ P.faults turn.new.ports.now) × (K.faults keys.old ≤ K.faults keys.new) }
+    ensures given { IsGivenBy turn.old.main.config.now (free turn.old.main.config.now (past_of turn.old.main)) (given_by result.turn_record.device_answers) (P.faults turn.old.ports.now) (P.faults turn.new.ports.now)
+        (K.faults keys.old) (K.faults keys.new) (P.told turn.old.ports.now) (P.told turn.new.ports.now) (K.told keys.old) (K.told keys.new) }
 {
-    if let Some(kept) = board.find_reply(request.source, request.cookie, turn.entry_id.moment) {
-        return repeat(devices.link, request, kept);
+    let moment = turn.main.entry_id.moment;
+    if let Some(kept) = turn
+        .board
+        .find_reply(request.source, request.cookie, moment)
+    {
+        return repeat(link, request, kept);
     }
-    let Ok(prepared) = prepare(alloc, board, request) else {
-        return answer_short(devices.link, request);
+    let Ok(prepared) = prepare(alloc, turn.board, request) else {
+        return answer_short(link, request);
     };
     let Prepared { cookie, asked } = prepared;
     let CommandOutcome {
@@ -156,25 +150,14 @@ pub(crate) fn deal<N: ControlLink, P: PortMaker, K: KeySource, R: Wait>(
     } = carry_out(
         rt,
         turn,
-        hand,
-        board,
-        devices.ports,
-        devices.keys,
-        devices.gone,
+        keys,
         &AskedCommand {
             request: &*request,
             input: &asked.command,
             alloc,
         },
     );
-    let sent = reply_to(
-        board,
-        devices.link,
-        request,
-        turn.entry_id.moment,
-        cookie,
-        reply,
-    );
+    let sent = reply_to(turn.board, link, request, moment, cookie, reply);
     let turn_record = TurnRecord {
         dictionary: dictionary_of(asked),
         chosen_lines,

@@ -14,7 +14,6 @@
 mod carrying;
 mod dealing;
 mod desk;
-mod devices;
 mod law;
 mod putting;
 mod replying;

@@ -7,8 +7,8 @@ ghost use Rattle.relay_core.specs.Turning.{made_by};
 ghost use Rattle.board_turns.specs.Controls.{control_made};
 ghost use Rattle.ng_server.specs.Dealing.{hearing_of};
 
+use crate::turn::Arrived;
 use crate::turn_record::TurnRecord;
-use control_messages::Request;
 use relay_core::{Relay, Says, Told};
 use relay_outside::{Config, InEnd, OutEnd};
 use turn_table::{Hand, Turn, Turns};
@@ -19,16 +19,15 @@ pub(crate) fn put_control<I: InEnd, O: OutEnd, X: Says>(
     hand: &mut Hand<Relay<I, O>>,
     turn: Turn<Relay<I, O>>,
     config: &Config,
-    now: u64,
-    request: &Request,
+    arrived: &Arrived,
     turn_record: &TurnRecord,
 )
     requires table { IsHandOf turns.now hand.old × IsMain hand.old }
     requires turn { HasTurn hand.old turn }
-    requires step { Relates I.told I.faults O.told O.faults (taken_of turn) (control_made config.now (board_history (made_by hand.old) (front_of turn)) now (hearing_of request.now turn_record.now)) (state_of turn) }
-    requires said { X.made ≡ control_made config.now (board_history (made_by hand.old) (front_of turn)) now (hearing_of request.now turn_record.now) }
+    requires step { Relates I.told I.faults O.told O.faults (taken_of turn) (control_made config.now (board_history (made_by hand.old) (front_of turn)) arrived.now.moment (hearing_of arrived.now.request turn_record.now)) (state_of turn) }
+    requires said { X.made ≡ control_made config.now (board_history (made_by hand.old) (front_of turn)) arrived.now.moment (hearing_of arrived.now.request turn_record.now) }
     ensures same { IsSameHand hand.old hand.new }
-    ensures entry { EndsTurn (place_of turn) (front_of turn) (control_made config.now (board_history (made_by hand.old) (front_of turn)) now (hearing_of request.now turn_record.now)) tt hand.old hand.new }
+    ensures entry { EndsTurn (place_of turn) (front_of turn) (control_made config.now (board_history (made_by hand.old) (front_of turn)) arrived.now.moment (hearing_of arrived.now.request turn_record.now)) tt hand.old hand.new }
 {
     turns.put::<Told<X>>(hand, turn);
 }

@@ -22,10 +22,9 @@ ghost use Rattle.ng_server.specs.Servers.{OpensJust, history_of};
 ghost use Rattle.board_turns.specs.Ties.{Ties};
 
 use crate::desk::{DATAGRAM_ROOM, Desk};
-use crate::devices::Devices;
 use crate::taking::ControlTurn;
-use crate::turn::answer_datagram;
-use board_turns::{stop_turn, tick_turn};
+use crate::turn::{Arrived, answer_datagram};
+use board_turns::{Between, stop_turn, tick_turn};
 use control_messages::Request;
 use ng_frame::split;
 use relay_core::{Part, Relay, close_relay, parts};
@@ -162,23 +161,19 @@ impl<P: PortMaker> Server<P> {
             body,
             too_long: datagram.len() > LONGEST,
         };
-        let mut devices = Devices {
-            link,
+        let arrived = Arrived {
+            request,
+            moment: now,
+            alloc,
+        };
+        let mut at = Between {
+            turns: &self.turns,
+            config: &self.config,
+            hand,
             ports,
-            keys,
             gone: &mut desk.gone,
         };
-        let sent = answer_datagram(
-            rt,
-            alloc,
-            &self.turns,
-            hand,
-            &self.config,
-            &mut devices,
-            &request,
-            now,
-        );
-        turn_after(sent)
+        turn_after(answer_datagram(rt, &mut at, link, keys, &arrived))
     }
 
     /// Ends all live calls, in order of their creation, and returns how many. Then no port of a pair is open. It may wait for turns;
@@ -201,7 +196,14 @@ impl<P: PortMaker> Server<P> {
         ensures ties { Ties self.now.config (P.told ports.old) (P.told ports.new) (entries hand.old) (entries hand.new) }
         ensures later { P.faults ports.old ≤ P.faults ports.new }
     {
-        stop_turn(rt, &self.turns, hand, &self.config, ports, &mut desk.gone)
+        let mut at = Between {
+            turns: &self.turns,
+            config: &self.config,
+            hand,
+            ports,
+            gone: &mut desk.gone,
+        };
+        stop_turn(rt, &mut at)
     }
 
     /// Makes a tick in one turn of the board: asks each live call, in order of their creation, whether it is due, ends each that is, and returns
@@ -229,15 +231,14 @@ impl<P: PortMaker> Server<P> {
         ensures ties { Ties self.now.config (P.told ports.old) (P.told ports.new) (entries hand.old) (entries hand.new) }
         ensures later { P.faults ports.old ≤ P.faults ports.new }
     {
-        tick_turn(
-            rt,
-            &self.turns,
+        let mut at = Between {
+            turns: &self.turns,
+            config: &self.config,
             hand,
-            &self.config,
             ports,
-            &mut desk.gone,
-            now,
-        )
+            gone: &mut desk.gone,
+        };
+        tick_turn(rt, &mut at, now)
     }
 
     /// Closes the table by the hand that has all its parts, and returns what its places hold, in order. It takes no memory.

@@ -7,4 +7,4 @@ use Rattle.ng_server.proofs.turn.answer_datagram.Given as goal
 
 abbrev pub ghosts-put_control : goal.ghosts-put_control
 ghosts-put_control g a =
-    record { made = control_made a.config.now (board_history (made_by a.hand.now) (front_of a.turn)) a.now (hearing_of a.request.now a.turn_record.now) }
+    record { made = control_made a.config.now (board_history (made_by a.hand.now) (front_of a.turn)) a.arrived.now.moment (hearing_of a.arrived.now.request a.turn_record.now) }

@@ -3,7 +3,7 @@ use Rattle.ng_server.proofs.server.Server.close.Goals as goal
 pub returns-clause-states : goal.returns-clause-states
 returns-clause-states g c =
     c.close_relay.ensures.states c.args.self.config c.requires.starts (c.requires.sound.orderly c.close_relay.ensures.numbered)
-    (c.requires.sound.recorded c.close_relay.ensures.numbered)
+    (c.requires.sound.returned c.close_relay.ensures.numbered)
 
 pub returns-clause-legal : goal.returns-clause-legal
 returns-clause-legal g c = c.close_relay.ensures.legal c.args.self.config c.requires.starts c.requires.sound

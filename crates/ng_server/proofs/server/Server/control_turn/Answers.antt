@@ -1,9 +1,14 @@
-use Rattle.std.proofs.lemmas.Grind.{common_steps}
-use Rattle.std.proofs.Common.{arith, ◌∙◌, refl, sym, ap, length, le_refl}
+use Rattle.std.proofs.Common.{◌≡◌, ◌∙◌, refl, sym, subst, ap, length, le_refl}
 use Rattle.relay_outside.specs.Told.{is_done}
-use Rattle.turn_table.specs.Hands.{entries}
+use Rattle.turn_table.specs.Hands.{IsSameHand, entries}
 use Rattle.relay_core.specs.Turning.{made_by}
+use Rattle.relay_core.specs.Safe.{BoardSafe}
 use Rattle.relay_core.proofs.Safety.{board_is_safe}
+use Rattle.board_turns.specs.Between.{IsBetween}
+use Rattle.board_turns.specs.Ties.{Ties}
+use Rattle.ng_server.specs.Servers.{OpensJust, history_of}
+use Rattle.ng_server.specs.Taking.{Turned}
+use Rattle.ng_server.proofs.Resting.{rested_between, rested_opens}
 use Rattle.board_turns.proofs.Tying.{ties_none}
 use Rattle.ng_server.specs.declared.taking.ControlTurn.TheVariants as turn
 use Rattle.ng_server.proofs.Taken.{is_request, none_replies, reply_reads, reply_rose, responded, silent, took_none, took_seen}
@@ -65,48 +70,79 @@ returns-in_default-clause-turned g c =
     (c.take_datagram.auto.room ∙ ap length c.as_mut_slice.ensures.value ∙ sym c.desk.inside.datagram.ok.0) c.in-Ok.ensures.taken
     (silent c.args.self.now.config c.args.hand.now c.args.now c.in-Ok.from _ _ _ _ _ _ _ (g.N.ControlLink.told c.take_datagram.new.link) c.in_default.ensures.frame)
 
-pub answer_datagram-sent-requires-clause-between : goal.answer_datagram-sent-requires-clause-between
-answer_datagram-sent-requires-clause-between g c = c.requires.between
+pub answer_datagram-requires-clause-rests : goal.answer_datagram-requires-clause-rests
+answer_datagram-requires-clause-rests g c = record { between = c.requires.between; opens = c.requires.«open»; empty = c.desk.invariant.1 }
 
-pub answer_datagram-sent-requires-clause-open : goal.answer_datagram-sent-requires-clause-open
-answer_datagram-sent-requires-clause-open g c = c.requires.«open»
-
-pub answer_datagram-sent-requires-clause-request : goal.answer_datagram-sent-requires-clause-request
-answer_datagram-sent-requires-clause-request g c = is_request _ _ c.in-Some.ensures.found c.in-Some.ensures.frame refl
-
-pub answer_datagram-sent-requires-clause-empty : goal.answer_datagram-sent-requires-clause-empty
-answer_datagram-sent-requires-clause-empty g c = c.desk.invariant.1
+pub answer_datagram-requires-clause-request : goal.answer_datagram-requires-clause-request
+answer_datagram-requires-clause-request g c = is_request _ _ c.in-Some.ensures.found c.in-Some.ensures.frame refl
 
 pub returns-clause-same : goal.returns-clause-same
-returns-clause-same g c = c.answer_datagram-sent.ensures.same
+returns-clause-same g c =
+    let rests = c.answer_datagram.ensures.rests in
+    let new = c.answer_datagram.new.at in
+    let left : new.hand.now ≡ c.hand-1.given.0 = sym (c.hand-1.given.1 (sym rests.hand_is)) in
+    let ports : new.ports.now ≡ c.ports-1.given.0 = sym (c.ports-1.given.1 (sym rests.ports_are)) in
+    subst (λ hand. IsSameHand c.args.hand.now hand) left rests.same
 
 pub returns-clause-between : goal.returns-clause-between
-returns-clause-between g c = c.answer_datagram-sent.ensures.between
+returns-clause-between g c =
+    let rests = c.answer_datagram.ensures.rests in
+    let new = c.answer_datagram.new.at in
+    let left : new.hand.now ≡ c.hand-1.given.0 = sym (c.hand-1.given.1 (sym rests.hand_is)) in
+    let ports : new.ports.now ≡ c.ports-1.given.0 = sym (c.ports-1.given.1 (sym rests.ports_are)) in
+    subst (λ hand. IsBetween c.args.self.now.config c.args.self.now.turns hand) left (rested_between g.P.PortMaker.told g.P.PortMaker.faults _ new rests)
 
 pub returns-clause-safe : goal.returns-clause-safe
-returns-clause-safe g c = board_is_safe c.args.self.now.config (made_by c.answer_datagram-sent.new.hand) c.answer_datagram-sent.ensures.between.orderly
+returns-clause-safe g c =
+    let rests = c.answer_datagram.ensures.rests in
+    let new = c.answer_datagram.new.at in
+    let left : new.hand.now ≡ c.hand-1.given.0 = sym (c.hand-1.given.1 (sym rests.hand_is)) in
+    let ports : new.ports.now ≡ c.ports-1.given.0 = sym (c.ports-1.given.1 (sym rests.ports_are)) in
+    subst (λ hand. BoardSafe c.args.self.now.config (made_by hand)) left
+    (board_is_safe c.args.self.now.config (made_by new.hand.now) (rested_between g.P.PortMaker.told g.P.PortMaker.faults _ new rests).orderly)
 
 pub returns-clause-open : goal.returns-clause-open
-returns-clause-open g c = let opens = c.answer_datagram-sent.ensures.«open» in grind (arith, common_steps, opens)
+returns-clause-open g c =
+    let rests = c.answer_datagram.ensures.rests in
+    let new = c.answer_datagram.new.at in
+    let left : new.hand.now ≡ c.hand-1.given.0 = sym (c.hand-1.given.1 (sym rests.hand_is)) in
+    let ports : new.ports.now ≡ c.ports-1.given.0 = sym (c.ports-1.given.1 (sym rests.ports_are)) in
+    let config = c.args.self.now.config in
+    subst (λ hand. OpensJust config (history_of hand) (g.P.PortMaker.told c.ports-1.given.0)) left
+    (subst (λ p. OpensJust config (history_of new.hand.now) (g.P.PortMaker.told p)) ports (rested_opens g.P.PortMaker.told g.P.PortMaker.faults _ new rests))
 
 pub returns-clause-ties : goal.returns-clause-ties
-returns-clause-ties g c = let ties = c.answer_datagram-sent.ensures.ties in grind (arith, common_steps, ties)
+returns-clause-ties g c =
+    let rests = c.answer_datagram.ensures.rests in
+    let new = c.answer_datagram.new.at in
+    let left : new.hand.now ≡ c.hand-1.given.0 = sym (c.hand-1.given.1 (sym rests.hand_is)) in
+    let ports : new.ports.now ≡ c.ports-1.given.0 = sym (c.ports-1.given.1 (sym rests.ports_are)) in
+    let config = c.args.self.now.config in
+    subst (λ hand. Ties config (g.P.PortMaker.told c.args.ports.now) (g.P.PortMaker.told c.ports-1.given.0) (entries c.args.hand.now) (entries hand)) left
+    (subst (λ p. Ties config (g.P.PortMaker.told c.args.ports.now) (g.P.PortMaker.told p) (entries c.args.hand.now) (entries new.hand.now)) ports rests.ties)
 
 pub returns-clause-turned : goal.returns-clause-turned
 returns-clause-turned g c =
+    let rests = c.answer_datagram.ensures.rests in
+    let new = c.answer_datagram.new.at in
+    let left : new.hand.now ≡ c.hand-1.given.0 = sym (c.hand-1.given.1 (sym rests.hand_is)) in
+    let ports : new.ports.now ≡ c.ports-1.given.0 = sym (c.ports-1.given.1 (sym rests.ports_are)) in
     let turned =
-    took_seen c.args.self.now.config c.args.hand.now c.answer_datagram-sent.new.hand c.args.now c.turn_after.result _ _ _ _ _ _ _ _ _ _ _ c.take_datagram.new.room _ _ _ c.in-Ok.from c.in-Ok.len c.as_slice.ensures.value
+    took_seen c.args.self.now.config c.args.hand.now new.hand.now c.args.now c.turn_after.result _ _ _ _ _ _ _ _ _ _ _ c.take_datagram.new.room _ _ _ c.in-Ok.from c.in-Ok.len c.as_slice.ensures.value
     (c.take_datagram.auto.room ∙ ap length c.as_mut_slice.ensures.value ∙ sym c.desk.inside.datagram.ok.0) c.in-Ok.ensures.taken
-    (responded c.args.self.now.config c.args.hand.now c.answer_datagram-sent.new.hand c.args.now c.in-Ok.from _ _ c.turn_after.result c.answer_datagram-sent.result _ _ _ _ _ _ _ _
-    (g.N.ControlLink.told c.take_datagram.new.link) (g.N.ControlLink.told c.answer_datagram-sent.new.devices.link.now) c.in-Some.ensures.frame refl refl c.turn_after.ensures c.answer_datagram-sent.ensures.answers) in
-    grind (arith, common_steps, turned)
+    (responded c.args.self.now.config c.args.hand.now new.hand.now c.args.now c.in-Ok.from _ _ c.turn_after.result c.answer_datagram.result _ _ _ _ _ _ _ _
+    (g.N.ControlLink.told c.take_datagram.new.link) (g.N.ControlLink.told c.answer_datagram.new.link) c.in-Some.ensures.frame refl refl c.turn_after.ensures c.answer_datagram.ensures.answers) in
+    subst (λ hand. Turned c.args.self.now.config c.args.hand.now hand c.args.now c.turn_after.result (g.P.PortMaker.faults c.args.ports.now) (g.P.PortMaker.faults c.ports-1.given.0)
+    (g.K.KeySource.faults c.args.keys.now) (g.K.KeySource.faults c.answer_datagram.new.keys) (g.P.PortMaker.told c.args.ports.now) (g.P.PortMaker.told c.ports-1.given.0)
+    (g.K.KeySource.told c.args.keys.now) (g.K.KeySource.told c.answer_datagram.new.keys) (g.N.ControlLink.told c.args.link.now) (g.N.ControlLink.told c.answer_datagram.new.link)) left
+    (subst (λ p. Turned c.args.self.now.config c.args.hand.now new.hand.now c.args.now c.turn_after.result (g.P.PortMaker.faults c.args.ports.now) (g.P.PortMaker.faults p)
+    (g.K.KeySource.faults c.args.keys.now) (g.K.KeySource.faults c.answer_datagram.new.keys) (g.P.PortMaker.told c.args.ports.now) (g.P.PortMaker.told p)
+    (g.K.KeySource.told c.args.keys.now) (g.K.KeySource.told c.answer_datagram.new.keys) (g.N.ControlLink.told c.args.link.now) (g.N.ControlLink.told c.answer_datagram.new.link)) ports turned)
 
 pub returns-clause-read_fault : goal.returns-clause-read_fault
-returns-clause-read_fault g c is = reply_reads (is_done c.answer_datagram-sent.result) c.turn_after.result c.turn_after.ensures is
+returns-clause-read_fault g c is = reply_reads (is_done c.answer_datagram.result) c.turn_after.result c.turn_after.ensures is
 
 pub returns-clause-reply_fault : goal.returns-clause-reply_fault
 returns-clause-reply_fault g c =
-    let rose =
-    reply_rose (g.N.ControlLink.faults c.args.link.now) (g.N.ControlLink.faults c.take_datagram.new.link) (g.N.ControlLink.faults c.answer_datagram-sent.new.devices.link.now) c.answer_datagram-sent.result c.turn_after.result
-    c.take_datagram.ensures.later c.answer_datagram-sent.ensures.cause c.turn_after.ensures in
-    grind (arith, common_steps, rose)
+    reply_rose (g.N.ControlLink.faults c.args.link.now) (g.N.ControlLink.faults c.take_datagram.new.link) (g.N.ControlLink.faults c.answer_datagram.new.link) c.answer_datagram.result c.turn_after.result
+    c.take_datagram.ensures.later c.answer_datagram.ensures.cause c.turn_after.ensures
