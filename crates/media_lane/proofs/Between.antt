@@ -15,13 +15,13 @@ use Rattle.relay_core.specs.Made.{Made, entry_of, list_of}
 use Rattle.relay_core.specs.Beginning.{AreParts}
 use Rattle.relay_core.specs.Handed.{IsHanded}
 use Rattle.relay_core.specs.Joining.{TakesOwnPairs}
-use Rattle.relay_core.specs.Recorded.{IsRecorded, is_boards}
+use Rattle.relay_core.specs.Recorded.{AreReturned, is_boards}
 use Rattle.relay_core.specs.Turning.{Numbered, IsOfLane, made_by}
 use Rattle.relay_core.proofs.Joins.{handed_joined}
-use Rattle.relay_core.proofs.Recording.{lane_no_boards, recorded_behind}
+use Rattle.relay_core.proofs.Recording.{lane_no_boards, returned_behind}
 use Rattle.media_lane.specs.Receipts.{KeepsList}
 use Rattle.board_turns.specs.Between.{board_of, IsBetween}
-use Rattle.board_turns.proofs.MainHand.{history_stays}
+use Rattle.board_turns.proofs.MainHands.{history_stays}
 
 -- the board's whole history is the same with rows after it that are none of its own
 pub lanes_board : {T : Type 0} (rows others : List (table.Entry Made T)) → ((row : table.Entry Made T) → table_lists.In row others → is_boards row.event.event ≡ false)
@@ -63,7 +63,7 @@ module _ {M I O T : Type 0} {g : _} where
           orderly = s.list.orderly b.orderly;
           handed = subst (λ (xs : List (table.Entry Made T)). IsHanded xs) (sym s.rows_are)
               (handed_joined config (entries old) rows b.orderly s.of_lane (subst Numbered list_is numbered) b.handed);
-          recorded = subst (λ (xs : List (table.Entry Made T)). IsRecorded xs) (sym s.rows_are) (recorded_behind (entries old) rows no_boards b.recorded);
+          returned = subst (λ (xs : List (table.Entry Made T)). AreReturned config xs) (sym s.rows_are) (returned_behind config (entries old) rows s.of_lane b.returned);
           receiving = λ own. s.list.receiving own (b.receiving (own_before own));
         }
 

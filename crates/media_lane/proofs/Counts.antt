@@ -15,7 +15,7 @@ use Rattle.relay_core.specs.Entries.{Event, Board, Cell, Box, Entry, is_nested, 
 use Rattle.relay_core.specs.Legal.{Orderly}
 use Rattle.relay_core.specs.Made.{Made, entry_of, list_of, told, told_event}
 use Rattle.relay_core.specs.Turning.{IsTurn, with_turn, made_by}
-use Rattle.relay_core.proofs.Known.{turn_list}
+use Rattle.relay_core.proofs.Recording.{turn_list}
 use Rattle.relay_core.proofs.Turns.{turn_elsewhere}
 use Rattle.media_lane.specs.declared.answers.Totals.{Totals}
 use Rattle.media_lane.specs.Visits.{is_sent, is_refused, is_lost}

@@ -29,7 +29,7 @@ use Rattle.media_lane.specs.Receipts.{IsReceiptOf}
 
 -- a take as the table records it
 abbrev pub take_made : Half → Taken → Made
-take_made half taken = record { handed = 0; moment = 0; board = 0; before = []; event = Box (box.Take half taken); left = nothing_left }
+take_made half taken = record { handed = 0; moment = 0; board = 0; returned = []; event = Box (box.Take half taken); left = nothing_left }
 
 -- the same by the result of a take of a box and the bytes of the buffer after it
 abbrev pub box_take_made : Half → BoxTake → List ℕ → Made

@@ -13,7 +13,7 @@ use Rattle.relay_core.specs.Entries.{Event, Cell, Entry, is_nested, board_at}
 use Rattle.relay_core.specs.Legal.{Orderly}
 use Rattle.relay_core.specs.Made.{Made, entry_of, list_of, told, told_event, told_relay}
 use Rattle.relay_core.specs.Turning.{IsTurn, with_turn, made_by}
-use Rattle.relay_core.proofs.Known.{turn_list}
+use Rattle.relay_core.proofs.Recording.{turn_list}
 use Rattle.relay_core.proofs.Turns.{turn_elsewhere}
 use Rattle.media_lane.specs.Gated.{AreGated, GainsGated}
 use Rattle.media_lane.specs.Visits.{Row}

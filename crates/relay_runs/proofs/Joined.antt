@@ -14,7 +14,7 @@ use Rattle.relay_core.specs.Handed.{IsHanded}
 use Rattle.relay_core.specs.Joining.{TakesOwnPairs, IsSound}
 use Rattle.relay_core.specs.Legal.{Orderly}
 use Rattle.relay_core.specs.Made.{Made, list_of}
-use Rattle.relay_core.specs.Recorded.{IsRecorded}
+use Rattle.relay_core.specs.Recorded.{AreReturned}
 use Rattle.relay_core.specs.Turning.{Numbered, IsReceiving, made_by}
 use Rattle.relay_core.proofs.Recording.{lane_no_boards}
 use Rattle.media_lane.specs.declared.answers.Totals.{Totals}
@@ -44,7 +44,7 @@ module _ {M I O T : Type 0} {g : _} (config : Config) (turns : Turns M (Part I O
     numbered = subst (λ (v : View (Part I O) Made T). Numbered (list_of v.entries)) (sym same.1) b.numbered;
     orderly = subst (λ (v : View (Part I O) Made T). Orderly config (list_of v.entries)) (sym same.1) b.orderly;
     handed = subst (λ (v : View (Part I O) Made T). IsHanded v.entries) (sym same.1) b.handed;
-    recorded = subst (λ (v : View (Part I O) Made T). IsRecorded v.entries) (sym same.1) b.recorded;
+    returned = subst (λ (v : View (Part I O) Made T). AreReturned config v.entries) (sym same.1) b.returned;
     receiving = subst (λ (v : View (Part I O) Made T). TakesOwnPairs config (list_of v.entries) → IsReceiving config (list_of v.entries)) (sym same.1) b.receiving;
   }
 
@@ -60,7 +60,7 @@ module _ {M I O T : Type 0} {g : _} (config : Config) (turns : Turns M (Part I O
     numbered = numbered;
     orderly = sound.orderly numbered;
     handed = sound.handed numbered;
-    recorded = sound.recorded numbered;
+    returned = sound.returned numbered;
     receiving = λ own. sound.receiving numbered own;
   }
 

@@ -17,7 +17,7 @@ use Rattle.relay_core.specs.Beginning.{AreParts}
 use Rattle.relay_core.specs.Handed.{IsHanded}
 use Rattle.relay_core.specs.Joining.{TakesOwnPairs, IsLane as IsLaneRows, IsSound}
 use Rattle.relay_core.specs.Legal.{Orderly}
-use Rattle.relay_core.specs.Recorded.{IsRecorded}
+use Rattle.relay_core.specs.Recorded.{AreReturned}
 use Rattle.relay_core.specs.Made.{Made, entry_of, list_of}
 use Rattle.relay_core.specs.Turning.{Numbered, IsOfLane, IsReceiving}
 use Rattle.relay_core.proofs.Joins.{joined, row_append}
@@ -279,7 +279,7 @@ left_between {M} {I} {O} {T} {g} config turns old new left b = record {
   numbered = subst (λ (rows : List (table.Entry Made T)). Numbered (list_of rows)) (sym left.2) b.numbered;
   orderly = subst (λ (rows : List (table.Entry Made T)). Orderly config (list_of rows)) (sym left.2) b.orderly;
   handed = subst (λ (rows : List (table.Entry Made T)). IsHanded rows) (sym left.2) b.handed;
-  recorded = subst (λ (rows : List (table.Entry Made T)). IsRecorded rows) (sym left.2) b.recorded;
+  returned = subst (λ (rows : List (table.Entry Made T)). AreReturned config rows) (sym left.2) b.returned;
   receiving = subst (λ (rows : List (table.Entry Made T)). TakesOwnPairs config (list_of rows) → IsReceiving config (list_of rows)) (sym left.2) b.receiving;
 }
 

@@ -23,7 +23,7 @@ use Rattle.call_board.specs.Acts.{BoardEntry}
 use Rattle.relay_core.specs.declared.part.Part.{Part}
 use Rattle.relay_core.specs.Made.{Made, entry_of, list_of}
 use Rattle.relay_core.specs.Turning.{made_by}
-use Rattle.relay_core.proofs.Known.{turn_list}
+use Rattle.relay_core.proofs.Recording.{turn_list}
 use Rattle.board_turns.specs.Between.{board_of, MakesTurn}
 use Rattle.board_turns.specs.Controls.{Hearing, control_of, entry_at, moment_at}
 use Rattle.ng_server.specs.declared.taking.ControlTurn.{ControlTurn}

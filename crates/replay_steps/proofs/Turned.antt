@@ -15,7 +15,7 @@ use Rattle.relay_core.specs.Entries.{Event, Cell, Entry, is_nested, board_at}
 use Rattle.relay_core.specs.Legal.{Orderly}
 use Rattle.relay_core.specs.Made.{Made, entry_of, list_of}
 use Rattle.relay_core.specs.Turning.{IsTurn, IsReceiving, with_turn, made_by}
-use Rattle.relay_core.proofs.Known.{turn_list}
+use Rattle.relay_core.proofs.Recording.{turn_list}
 use Rattle.relay_core.proofs.Turns.{turn_elsewhere}
 use Rattle.relay_core.specs.Joining.{TakesOwnPairs}
 use Rattle.media_lane.specs.Receipts.{IsReceiptOf}

@@ -1,13 +1,11 @@
 ghost use Rattle.std.specs.Prelude.{◌≡◌, ◌∷◌, [], IfOk};
 ghost use Rattle.port_pool.specs.Signals.{NewKey};
-ghost use Rattle.call_cell.specs.Preparing.{IsReady, PrepareFor, added};
-ghost use Rattle.board_turns.specs.Bringing.{offered_keys, offered_drops};
+ghost use Rattle.call_cell.specs.Preparing.{IsReady, PrepareFor, added, keys_of, drops_of};
 
 use crate::first_relay::{CONFIG, begin};
 use crate::quiet_devices::Mute;
 use board_turns::{
-    BoardEntryId, BoardTurn, OfferedChanges, commit_cell, end_cell, expire_cell, prepare_cell,
-    read_cell,
+    BoardEntryId, MainHand, commit_cell, end_cell, expire_cell, prepare_cell, read_cell,
 };
 use call_cell::{Gone, InContexts, LegReports, Prepare};
 use port_pool::{Side, Signal};
@@ -17,19 +15,16 @@ use srtp_keys::DrawnKey;
 use std::alloc::Global;
 
 // An offer without a leg: a key, and a section that is dropped.
-fn offer(alloc: Global) -> Result<(Prepare<Mute>, OfferedChanges), OutOfMemory>
-    ensures tells { IfOk result (λ both. PrepareFor both.0 (offered_keys both.1) (offered_drops both.1)) }
-    ensures ready { IfOk result (λ both. IsReady both.0 × (added both.0 ≡ [])) }
-    ensures keys { IfOk result (λ both. (key : NewKey) × (offered_keys both.1 ≡ key ∷ [])) }
+fn offer(alloc: Global) -> Result<Prepare<Mute>, OutOfMemory>
+    ensures tells { IfOk result (λ signal. PrepareFor signal (keys_of signal) (drops_of signal)) }
+    ensures ready { IfOk result (λ signal. IsReady signal × (added signal ≡ [])) }
+    ensures keys { IfOk result (λ signal. (key : NewKey) × (keys_of signal ≡ key ∷ [])) }
 {
     let mut signal = Prepare::reserve(alloc, 0, 1)?;
-    let mut changes = OfferedChanges::reserve(alloc, 1, 1)?;
     let key = DrawnKey::from_draw(7, [9; 30]);
-    changes.add_key(0, Side::A, &key, Suite::Tag80);
     signal.add_key(0, Side::A, key, Suite::Tag80);
-    changes.drop_section(3);
     signal.drop_section(3);
-    Ok((signal, changes))
+    Ok(signal)
 }
 
 fn at(number: u64, moment: u64) -> BoardEntryId {
@@ -39,7 +34,7 @@ fn at(number: u64, moment: u64) -> BoardEntryId {
 #[test]
 fn a_call_is_prepared_asked_and_ended(rt: HostRuntime) {
     let alloc = rt.alloc();
-    let Ok((signal, changes)) = offer(alloc) else {
+    let Ok(signal) = offer(alloc) else {
         panic!(rt; "no memory");
     };
     let Ok(mut dropped) = Gone::new(alloc) else {
@@ -51,61 +46,41 @@ fn a_call_is_prepared_asked_and_ended(rt: HostRuntime) {
     let Some((turns, mut hand)) = begin(alloc) else {
         panic!(rt; "no memory");
     };
-    prepare_cell(
-        &rt,
-        &BoardTurn {
-            turns: &turns,
-            config: &CONFIG,
-            entry_id: at(0, 5),
-        },
-        &mut hand,
-        1,
-        0,
-        signal,
-        &changes,
-        &mut dropped,
-    );
-    let young = expire_cell(
-        &rt,
-        &BoardTurn {
-            turns: &turns,
-            config: &CONFIG,
-            entry_id: at(1, 120_004),
-        },
-        &mut hand,
-        1,
-    );
-    let old = expire_cell(
-        &rt,
-        &BoardTurn {
-            turns: &turns,
-            config: &CONFIG,
-            entry_id: at(2, 120_005),
-        },
-        &mut hand,
-        1,
-    );
-    end_cell(
-        &rt,
-        &BoardTurn {
-            turns: &turns,
-            config: &CONFIG,
-            entry_id: at(3, 120_006),
-        },
-        &mut hand,
-        1,
-        &mut ended,
-    );
-    let gone = expire_cell(
-        &rt,
-        &BoardTurn {
-            turns: &turns,
-            config: &CONFIG,
-            entry_id: at(4, 999_999),
-        },
-        &mut hand,
-        1,
-    );
+    let mut main = MainHand {
+        turns: &turns,
+        config: &CONFIG,
+        hand: &mut hand,
+        entry_id: at(0, 5),
+    };
+    prepare_cell(&rt, &mut main, 1, 0, signal, &mut dropped);
+    let mut main = MainHand {
+        turns: &turns,
+        config: &CONFIG,
+        hand: &mut hand,
+        entry_id: at(1, 120_004),
+    };
+    let young = expire_cell(&rt, &mut main, 1);
+    let mut main = MainHand {
+        turns: &turns,
+        config: &CONFIG,
+        hand: &mut hand,
+        entry_id: at(2, 120_005),
+    };
+    let old = expire_cell(&rt, &mut main, 1);
+    let mut main = MainHand {
+        turns: &turns,
+        config: &CONFIG,
+        hand: &mut hand,
+        entry_id: at(3, 120_006),
+    };
+    end_cell(&rt, &mut main, 1, &mut ended);
+    let mut main = MainHand {
+        turns: &turns,
+        config: &CONFIG,
+        hand: &mut hand,
+        entry_id: at(4, 999_999),
+    };
+    let gone = expire_cell(&rt, &mut main, 1);
     drop(turns.close(hand));
     assert!(rt;
         !young && old,
@@ -133,39 +108,27 @@ fn a_committed_call_is_due_by_its_last_answer(rt: HostRuntime) {
     let Some((turns, mut hand)) = begin(alloc) else {
         panic!(rt; "no memory");
     };
-    commit_cell(
-        &rt,
-        &BoardTurn {
-            turns: &turns,
-            config: &CONFIG,
-            entry_id: at(0, 200_000),
-        },
-        &mut hand,
-        2,
-        &signal,
-        contexts,
-        &mut rejected,
-    );
-    let young = expire_cell(
-        &rt,
-        &BoardTurn {
-            turns: &turns,
-            config: &CONFIG,
-            entry_id: at(1, 259_999),
-        },
-        &mut hand,
-        2,
-    );
-    let old = expire_cell(
-        &rt,
-        &BoardTurn {
-            turns: &turns,
-            config: &CONFIG,
-            entry_id: at(2, 260_000),
-        },
-        &mut hand,
-        2,
-    );
+    let mut main = MainHand {
+        turns: &turns,
+        config: &CONFIG,
+        hand: &mut hand,
+        entry_id: at(0, 200_000),
+    };
+    commit_cell(&rt, &mut main, 2, &signal, contexts, &mut rejected);
+    let mut main = MainHand {
+        turns: &turns,
+        config: &CONFIG,
+        hand: &mut hand,
+        entry_id: at(1, 259_999),
+    };
+    let young = expire_cell(&rt, &mut main, 2);
+    let mut main = MainHand {
+        turns: &turns,
+        config: &CONFIG,
+        hand: &mut hand,
+        entry_id: at(2, 260_000),
+    };
+    let old = expire_cell(&rt, &mut main, 2);
     drop(turns.close(hand));
     assert!(rt; !young && old && rejected.pop().is_none());
 }
@@ -179,17 +142,13 @@ fn a_cell_without_a_leg_tells_of_none(rt: HostRuntime) {
     let Some((turns, mut hand)) = begin(alloc) else {
         panic!(rt; "no memory");
     };
-    read_cell(
-        &rt,
-        &BoardTurn {
-            turns: &turns,
-            config: &CONFIG,
-            entry_id: at(0, 5),
-        },
-        &mut hand,
-        1,
-        &mut told,
-    );
+    let mut main = MainHand {
+        turns: &turns,
+        config: &CONFIG,
+        hand: &mut hand,
+        entry_id: at(0, 5),
+    };
+    read_cell(&rt, &mut main, 1, &mut told);
     drop(turns.close(hand));
     assert!(rt; told.len() == 0);
 }
