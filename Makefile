@@ -52,7 +52,7 @@ install:
 	$(INSTALL) -d $(DOC)/reference && $(INSTALL) -m 644 reference/*.md $(DOC)/reference
 	$(INSTALL) -m 644 bench/offer.py $(DOC)/bench
 	$(INSTALL) -m 644 examples/README.md $(DOC)/examples
-	$(INSTALL) -m 644 examples/kamailio/kamailio.cfg $(DOC)/examples/kamailio
+	$(INSTALL) -m 644 examples/kamailio/kamailio.cfg examples/kamailio/two-nodes.cfg $(DOC)/examples/kamailio
 	$(INSTALL) -m 755 examples/kamailio/call.py examples/kamailio/run.sh $(DOC)/examples/kamailio
 	sed 's|/usr/local/|$(PREFIX)/|; s|/etc/default/|$(SYSCONFDIR)/default/|' packaging/rtpengine.service >$(UNITS)/rtpengine.service
 	chmod 644 $(UNITS)/rtpengine.service

@@ -148,4 +148,5 @@ def main():
     sys.exit(min(caller.worst, callee.worst) < 0.9 * PACKETS)
 
 
-main()
+if __name__ == "__main__":
+    main()
