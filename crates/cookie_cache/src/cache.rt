@@ -19,6 +19,9 @@ const FIRST_ROOM: usize = 64;
 ///
 /// Contracts see it as a list of all replies that it was ever given, the latest first: it stands for that list, and
 /// what its calls return follows from it.
+///
+/// Its map hashes with the kit's fixed seed, as `new` is handed no runtime from which a seed could come: keys that were picked to
+/// collide make a look-up linear in the entries, at most 4,096.
 #[derive(Drop)]
 pub struct CookieCache {
     /// The latest reply for each source and cookie of the last 4,096, in the order in which they were kept.
@@ -42,15 +45,12 @@ impl CookieCache {
     pub fn new(alloc: Global) -> Result<CookieCache, OutOfMemory>
         ensures { IfOk result (λ cache. StandsFor cache []) }
     {
-        match IndexMap::with_capacity(alloc, FIRST_ROOM) {
-            Ok(entries) => Ok(CookieCache {
-                entries,
-                next_key: Vec::new(alloc),
-                count: 0,
-                last_moment: 0,
-            }),
-            Err(_) => Err(OutOfMemory),
-        }
+        Ok(CookieCache {
+            entries: IndexMap::with_capacity(alloc, FIRST_ROOM)?,
+            next_key: Vec::new(alloc),
+            count: 0,
+            last_moment: 0,
+        })
     }
 
     /// The bytes of the reply that is kept for a command from this source with this cookie, which has 1 to 255 bytes: of
@@ -78,18 +78,14 @@ impl CookieCache {
         ensures place { OnOk result (HasSparePlace self.new) }
         ensures place_stays { HasSparePlace self.old → HasSparePlace self.new }
     {
-        let Ok(()) = self.next_key.reserve(LONGEST_KEY) else {
-            return Err(OutOfMemory);
-        };
-        match self.entries.reserve(1) {
-            Ok(()) => Ok(()),
-            Err(_) => Err(OutOfMemory),
-        }
+        self.next_key.reserve(LONGEST_KEY)?;
+        Ok(self.entries.reserve(1)?)
     }
 
     /// Keeps the reply to a command from this source with this cookie, which has 1 to 255 bytes, in the spare place. It is
     /// kept at the moment `now`, in milliseconds, or at the moment of the last `keep`, where that is greater. An earlier reply for
     /// both goes, and one that is not of the last 4,096 any more.
+    /// One more reply for both counts as one more of the 4,096.
     pub fn keep(&mut self, source: Addr, cookie: Text, reply: Text, now: u64)
         requires cookie { IsCookie cookie.list }
         requires place { HasSparePlace self.old }

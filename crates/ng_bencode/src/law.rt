@@ -5,7 +5,7 @@ ghost use Rattle.ng_bencode.specs.Spells.{Spells};
 /// No spelling begins another, so what was written is read again whatever follows it: where two texts that
 /// begin with spellings are the same, these are spellings of the same tree.
 ///
-/// A slice holds fewer than 2^64 bytes.
+/// It stops at 2^64 bytes, as std's laws of decimal numbers do; a slice holds fewer.
 pub fn one_reading()
     ensures { (a b : Tree) (m n x y : List ℕ) →
         Spells m a → Spells n b → length m < 2 ^ 64 → length n < 2 ^ 64 →

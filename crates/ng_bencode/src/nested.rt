@@ -5,7 +5,7 @@ ghost use Rattle.ng_bencode.specs.Tree.{Tree, Trees, Entries, tree_of, trees_of,
 ghost use Rattle.ng_bencode.specs.Spells.{spelling, spellings, entry_spellings, Spells};
 ghost use Rattle.ng_bencode.specs.Fits.{Fits, ItemsFit, EntriesFit};
 
-use crate::errors::{Bad, OutOfMemory};
+use crate::errors::Bad;
 use crate::row::Row;
 use crate::scan::{read_end, read_head, read_int, read_string};
 use crate::text::Text;
@@ -34,15 +34,11 @@ pub fn decode(alloc: Global, bytes: &[u8]) -> Result<Value, Bad>
     ensures cause { IfErr result (λ bad. bad ≡ Bad.NotBencode →
         (tree : Tree) → Spells bytes.now tree → ⊥) }
 {
-    match read_value(alloc, bytes, MAX_DEPTH) {
-        Ok((value, rest)) => {
-            if rest.is_empty() {
-                Ok(value)
-            } else {
-                Err(Bad::NotBencode)
-            }
-        }
-        Err(bad) => Err(bad),
+    let (value, rest) = read_value(alloc, bytes, MAX_DEPTH)?;
+    if rest.is_empty() {
+        Ok(value)
+    } else {
+        Err(Bad::NotBencode)
     }
 }
 
@@ -68,25 +64,18 @@ fn read_value(alloc: Global, bytes: &[u8], depth: usize) -> Result<(Value, &[u8]
         if depth == 0 {
             return Err(Bad::NotBencode);
         }
-        return match read_items(alloc, body, depth - 1) {
-            Ok((items, rest)) => Ok((Value::List(items), rest)),
-            Err(bad) => Err(bad),
-        };
+        let (items, rest) = read_items(alloc, body, depth - 1)?;
+        return Ok((Value::List(items), rest));
     }
     if head == DICT {
         if depth == 0 {
             return Err(Bad::NotBencode);
         }
-        return match read_pairs(alloc, body, depth - 1) {
-            Ok((pairs, rest)) => Ok((Value::Dict(pairs), rest)),
-            Err(bad) => Err(bad),
-        };
+        let (pairs, rest) = read_pairs(alloc, body, depth - 1)?;
+        return Ok((Value::Dict(pairs), rest));
     }
     match read_string(bytes) {
-        Some((text, rest)) => match Text::copy_of(alloc, text) {
-            Ok(own) => Ok((Value::Bytes(own), rest)),
-            Err(OutOfMemory) => Err(Bad::OutOfMemory),
-        },
+        Some((text, rest)) => Ok((Value::Bytes(Text::copy_of(alloc, text)?), rest)),
         None => Err(Bad::NotBencode),
     }
 }
@@ -107,13 +96,8 @@ fn read_items(alloc: Global, bytes: &[u8], depth: usize) -> Result<(Values, &[u8
         if let Some(after) = read_end(rest) {
             return Ok((found, after));
         }
-        let (item, after) = match read_value(alloc, rest, depth) {
-            Ok(parts) => parts,
-            Err(bad) => return Err(bad),
-        };
-        let Ok(()) = found.reserve(1) else {
-            return Err(Bad::OutOfMemory);
-        };
+        let (item, after) = read_value(alloc, rest, depth)?;
+        found.reserve(1)?;
         found.push(item);
         rest = after;
     }
@@ -138,16 +122,9 @@ fn read_pairs(alloc: Global, bytes: &[u8], depth: usize) -> Result<(Pairs, &[u8]
         let Some((key, behind)) = read_string(rest) else {
             return Err(Bad::NotBencode);
         };
-        let Ok(own) = Text::copy_of(alloc, key) else {
-            return Err(Bad::OutOfMemory);
-        };
-        let (value, after) = match read_value(alloc, behind, depth) {
-            Ok(parts) => parts,
-            Err(bad) => return Err(bad),
-        };
-        let Ok(()) = found.reserve(1) else {
-            return Err(Bad::OutOfMemory);
-        };
+        let own = Text::copy_of(alloc, key)?;
+        let (value, after) = read_value(alloc, behind, depth)?;
+        found.reserve(1)?;
         found.push((own, value));
         rest = after;
     }

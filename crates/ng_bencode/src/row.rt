@@ -6,6 +6,7 @@ use std::alloc::Global;
 /// A list of items that grows where room was reserved.
 ///
 /// Contracts see it as its items, `list_in`, and the number of items that it has room for, `spare_in`.
+/// They are no model, since a model of a type that holds itself can't name it.
 #[derive(Drop)]
 pub struct Row<T> {
     items: Vec<T>,
@@ -23,16 +24,13 @@ impl<T> Row<T> {
         }
     }
 
-    /// Makes room for `more` items. Its items stay, also when it fails.
+    /// Makes room for `more` items. Its items and the room that was there stay, also when it fails.
     pub fn reserve(&mut self, more: usize) -> Result<(), OutOfMemory>
         ensures list { list_in self.new ≡ list_in self.old }
         ensures room { OnOk result (more ≤ spare_in self.new) }
         ensures kept { spare_in self.old ≤ spare_in self.new }
     {
-        match self.items.reserve(more) {
-            Ok(()) => Ok(()),
-            Err(_) => Err(OutOfMemory),
-        }
+        Ok(self.items.reserve(more)?)
     }
 
     /// Puts an item at the end.

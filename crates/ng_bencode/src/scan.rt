@@ -76,6 +76,10 @@ fn read_signed(digits: &[u8]) -> Option<i64>
 }
 
 /// The number that these bytes write, where they write one below 2^64 in decimal without a leading zero.
+///
+/// For lengths and scripts. Ports, octets and options may have leading zeros
+/// (`sdp_text::read_number_up_to`), and `sdes_lines` reads tags itself, so as not to stand above
+/// bencode.
 pub fn read_decimal(digits: &[u8]) -> Option<u64>
     ensures { MatchOption result
         ((n : ℕ) → n < 2 ^ 64 → digits.now ≡ decimal n → ⊥)

@@ -34,23 +34,18 @@ impl Text {
         ensures { IfOk result (λ text. text.list ≡ bytes.now) }
     {
         let mut text = Text::new(alloc);
-        let Ok(()) = text.reserve(bytes.len()) else {
-            return Err(OutOfMemory);
-        };
+        text.reserve(bytes.len())?;
         text.extend(bytes);
         Ok(text)
     }
 
-    /// Makes room for `more` bytes. Its bytes stay, also when it fails.
+    /// Makes room for `more` bytes. Its bytes and the room that was there stay, also when it fails.
     pub fn reserve(&mut self, more: usize) -> Result<(), OutOfMemory>
         ensures list { self.new.list ≡ self.old.list }
         ensures room { OnOk result (more ≤ self.new.spare) }
         ensures kept { self.old.spare ≤ self.new.spare }
     {
-        match self.bytes.reserve(more) {
-            Ok(()) => Ok(()),
-            Err(_) => Err(OutOfMemory),
-        }
+        Ok(self.bytes.reserve(more)?)
     }
 
     /// Puts a byte at the end.

@@ -17,9 +17,7 @@ pub fn encode(alloc: Global, value: &Value) -> Result<Text, OutOfMemory>
     ensures { IfOk result (λ text. text.list ≡ spelling (tree_of value.now)) }
 {
     let mut out = Text::new(alloc);
-    let Ok(()) = write_value(&mut out, value) else {
-        return Err(OutOfMemory);
-    };
+    write_value(&mut out, value)?;
     Ok(out)
 }
 
@@ -40,13 +38,9 @@ fn write_items(out: &mut Text, values: &Values) -> Result<(), OutOfMemory>
     ensures { OnOk result (out.new.list ≡ out.old.list
         ++ 108 ∷ spellings (trees_of (list_in values.now)) ++ 101 ∷ []) }
 {
-    let Ok(()) = put(out, b"l") else {
-        return Err(OutOfMemory);
-    };
+    put(out, b"l")?;
     for item in values.as_slice() {
-        let Ok(()) = write_value(out, item) else {
-            return Err(OutOfMemory);
-        };
+        write_value(out, item)?;
     }
     put(out, b"e")
 }
@@ -56,16 +50,10 @@ fn write_pairs(out: &mut Text, pairs: &Pairs) -> Result<(), OutOfMemory>
     ensures { OnOk result (out.new.list ≡ out.old.list
         ++ 100 ∷ entry_spellings (pairs_of (list_in pairs.now)) ++ 101 ∷ []) }
 {
-    let Ok(()) = put(out, b"d") else {
-        return Err(OutOfMemory);
-    };
+    put(out, b"d")?;
     for pair in pairs.as_slice() {
-        let Ok(()) = put_string(out, pair.0.as_slice()) else {
-            return Err(OutOfMemory);
-        };
-        let Ok(()) = write_value(out, &pair.1) else {
-            return Err(OutOfMemory);
-        };
+        put_string(out, pair.0.as_slice())?;
+        write_value(out, &pair.1)?;
     }
     put(out, b"e")
 }
@@ -75,12 +63,8 @@ fn put_int(out: &mut Text, number: i64) -> Result<(), OutOfMemory>
 {
     let mut buffer = Buffer::new();
     let digits = buffer.format(number).as_bytes();
-    let Ok(()) = put(out, b"i") else {
-        return Err(OutOfMemory);
-    };
-    let Ok(()) = put(out, digits) else {
-        return Err(OutOfMemory);
-    };
+    put(out, b"i")?;
+    put(out, digits)?;
     put(out, b"e")
 }
 
@@ -89,12 +73,8 @@ fn put_string(out: &mut Text, bytes: &[u8]) -> Result<(), OutOfMemory>
 {
     let mut buffer = Buffer::new();
     let digits = buffer.format(bytes.len()).as_bytes();
-    let Ok(()) = put(out, digits) else {
-        return Err(OutOfMemory);
-    };
-    let Ok(()) = put(out, b":") else {
-        return Err(OutOfMemory);
-    };
+    put(out, digits)?;
+    put(out, b":")?;
     put(out, bytes)
 }
 
@@ -102,9 +82,7 @@ fn put_string(out: &mut Text, bytes: &[u8]) -> Result<(), OutOfMemory>
 fn put(out: &mut Text, bytes: &[u8]) -> Result<(), OutOfMemory>
     ensures { OnOk result (out.new.list ≡ out.old.list ++ bytes.now) }
 {
-    let Ok(()) = out.reserve(bytes.len()) else {
-        return Err(OutOfMemory);
-    };
+    out.reserve(bytes.len())?;
     out.extend(bytes);
     Ok(())
 }

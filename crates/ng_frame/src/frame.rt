@@ -39,16 +39,10 @@ fn first_space(datagram: &[u8]) -> Option<usize>
 pub fn join(alloc: Global, cookie: &[u8], body: &[u8]) -> Result<Text, OutOfMemory>
     ensures { IfOk result (λ datagram. datagram.list ≡ cookie.now ++ 32 ∷ body.now) }
 {
-    let Some(len) = cookie.len().checked_add(body.len()) else {
-        return Err(OutOfMemory);
-    };
-    let Some(len) = len.checked_add(1) else {
-        return Err(OutOfMemory);
-    };
+    let parts = cookie.len().checked_add(body.len()).ok_or(OutOfMemory)?;
+    let len = parts.checked_add(1).ok_or(OutOfMemory)?;
     let mut datagram = Text::new(alloc);
-    let Ok(()) = datagram.reserve(len) else {
-        return Err(OutOfMemory);
-    };
+    datagram.reserve(len)?;
     datagram.extend(cookie);
     datagram.push(b' ');
     datagram.extend(body);

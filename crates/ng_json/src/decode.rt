@@ -20,7 +20,7 @@ use std::cmp::Ordering;
 const MAX_DEPTH: usize = 16;
 
 /// Reads the whole of a text as JSON, as the bencoded value that says the same. Of a key that is written twice in one object the
-/// last value counts.
+/// last value counts. What a text says is what the kit's `serde_json` makes of it: more than 127 levels are no JSON there.
 ///
 /// # Errors
 ///
@@ -57,27 +57,18 @@ fn value_in(alloc: Global, json: &Json, room: usize) -> Result<Value, JsonFault>
             Some(number) => Ok(Value::int(number)),
             None => Err(JsonFault::NoTwin),
         },
-        Json::String(text) => match bytes_of_string(alloc, text.as_bytes()) {
-            Ok(bytes) => Ok(Value::bytes(bytes)),
-            Err(OutOfMemory) => Err(JsonFault::OutOfMemory),
-        },
+        Json::String(text) => Ok(Value::bytes(bytes_of_string(alloc, text.as_bytes())?)),
         Json::Array(items) => {
             if room == 0 {
                 return Err(JsonFault::NoTwin);
             }
-            match values_in(alloc, items, room - 1) {
-                Ok(values) => Ok(Value::list(values)),
-                Err(fault) => Err(fault),
-            }
+            Ok(Value::list(values_in(alloc, items, room - 1)?))
         }
         Json::Object(members) => {
             if room == 0 {
                 return Err(JsonFault::NoTwin);
             }
-            match pairs_in(alloc, members, room - 1) {
-                Ok(pairs) => Ok(Value::dict(pairs)),
-                Err(fault) => Err(fault),
-            }
+            Ok(Value::dict(pairs_in(alloc, members, room - 1)?))
         }
     }
 }
@@ -93,13 +84,8 @@ fn values_in(alloc: Global, items: &Vec<Json>, room: usize) -> Result<Values, Js
 {
     let mut found: Values = Row::new(alloc);
     for item in items {
-        let value = match value_in(alloc, item, room) {
-            Ok(value) => value,
-            Err(fault) => return Err(fault),
-        };
-        let Ok(()) = found.reserve(1) else {
-            return Err(JsonFault::OutOfMemory);
-        };
+        let value = value_in(alloc, item, room)?;
+        found.reserve(1)?;
         found.push(value);
     }
     Ok(found)
@@ -116,27 +102,18 @@ fn pairs_in(alloc: Global, members: &Map<String, Json>, room: usize) -> Result<P
 {
     let mut found = Vec::new(alloc);
     for (text, member) in members.iter() {
-        let Ok(key) = bytes_of_string(alloc, text.as_bytes()) else {
-            return Err(JsonFault::OutOfMemory);
-        };
+        let key = bytes_of_string(alloc, text.as_bytes())?;
         let Some(at) = place_of(&found, key.as_slice()) else {
             return Err(JsonFault::NoTwin);
         };
-        let value = match value_in(alloc, member, room) {
-            Ok(value) => value,
-            Err(fault) => return Err(fault),
-        };
-        let Ok(()) = found.insert(at, (key, value)) else {
-            return Err(JsonFault::OutOfMemory);
-        };
+        let value = value_in(alloc, member, room)?;
+        found.insert(at, (key, value))?;
     }
-    match row_of(alloc, found) {
-        Ok(pairs) => Ok(pairs),
-        Err(OutOfMemory) => Err(JsonFault::OutOfMemory),
-    }
+    Ok(row_of(alloc, found)?)
 }
 
 /// How many pairs stand before the place of a key. `None`: the key is there.
+/// It searches from the front: a body of 16,384 bytes has a few thousand keys at most.
 fn place_of(pairs: &[(Text, Value)], key: &[u8]) -> Option<usize>
     ensures within { IfSome result (λ at. at ≤ length pairs.now) }
     ensures place { MatchOption result
@@ -159,9 +136,7 @@ fn row_of(alloc: Global, found: Vec<(Text, Value)>) -> Result<Pairs, OutOfMemory
     ensures { IfOk result (λ pairs. list_in pairs ≡ found.items) }
 {
     let mut pairs: Pairs = Row::new(alloc);
-    let Ok(()) = pairs.reserve(found.len()) else {
-        return Err(OutOfMemory);
-    };
+    pairs.reserve(found.len())?;
     for pair in found {
         pairs.push(pair);
     }

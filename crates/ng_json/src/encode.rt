@@ -26,9 +26,7 @@ pub fn write(alloc: Global, value: &Value) -> Result<Text, OutOfMemory>
     ensures { IfOk result (λ text. text.list ≡ json_text (tree_of value.now)) }
 {
     let mut out = Text::new(alloc);
-    let Ok(()) = write_value(alloc, &mut out, value) else {
-        return Err(OutOfMemory);
-    };
+    write_value(alloc, &mut out, value)?;
     Ok(out)
 }
 
@@ -48,17 +46,11 @@ fn write_value(alloc: Global, out: &mut Text, value: &Value) -> Result<(), OutOf
 fn write_items(alloc: Global, out: &mut Text, values: &Values) -> Result<(), OutOfMemory>
     ensures { OnOk result (out.new.list ≡ out.old.list ++ 91 ∷ items_text false (items_data (trees_of (list_in values.now)))) }
 {
-    let Ok(()) = put(out, b"[") else {
-        return Err(OutOfMemory);
-    };
+    put(out, b"[")?;
     let mut later = false;
     for item in values.as_slice() {
-        let Ok(()) = put_comma(out, later) else {
-            return Err(OutOfMemory);
-        };
-        let Ok(()) = write_value(alloc, out, item) else {
-            return Err(OutOfMemory);
-        };
+        put_comma(out, later)?;
+        write_value(alloc, out, item)?;
         later = true;
     }
     put(out, b"]")
@@ -68,20 +60,12 @@ fn write_items(alloc: Global, out: &mut Text, values: &Values) -> Result<(), Out
 fn write_pairs(alloc: Global, out: &mut Text, pairs: &Pairs) -> Result<(), OutOfMemory>
     ensures { OnOk result (out.new.list ≡ out.old.list ++ 123 ∷ members_text false (members_data (pairs_of (list_in pairs.now)) no_members)) }
 {
-    let Ok(members) = sorted(alloc, pairs) else {
-        return Err(OutOfMemory);
-    };
-    let Ok(()) = put(out, b"{") else {
-        return Err(OutOfMemory);
-    };
+    let members = sorted(alloc, pairs)?;
+    put(out, b"{")?;
     let mut later = false;
     for member in members.as_slice() {
-        let Ok(()) = put_key(out, later, member.0.as_slice()) else {
-            return Err(OutOfMemory);
-        };
-        let Ok(()) = write_value(alloc, out, member.1) else {
-            return Err(OutOfMemory);
-        };
+        put_key(out, later, member.0.as_slice())?;
+        write_value(alloc, out, member.1)?;
         later = true;
     }
     put(out, b"}")
@@ -93,18 +77,15 @@ fn sorted<'a>(alloc: Global, pairs: &'a Pairs) -> Result<Vec<(Text, &'a Value)>,
 {
     let mut members = Vec::new(alloc);
     for pair in pairs.as_slice() {
-        let Ok(key) = string_of_bytes(alloc, pair.0.as_slice()) else {
-            return Err(OutOfMemory);
-        };
+        let key = string_of_bytes(alloc, pair.0.as_slice())?;
         let at = place_of(&members, key.as_slice());
-        let Ok(()) = members.insert(at, (key, &pair.1)) else {
-            return Err(OutOfMemory);
-        };
+        members.insert(at, (key, &pair.1))?;
     }
     Ok(members)
 }
 
 /// How many members stand before the first whose key is greater.
+/// It searches from the front: a body of 16,384 bytes has a few thousand keys at most.
 fn place_of(members: &[(Text, &Value)], key: &[u8]) -> usize
     ensures within { result ≤ length members.now }
     ensures place { (name : Room _) (value : Bor SpecValue) → name.list ≡ key.now →
@@ -130,12 +111,8 @@ fn put_number(out: &mut Text, number: i64) -> Result<(), OutOfMemory>
 fn put_string(out: &mut Text, bytes: &[u8]) -> Result<(), OutOfMemory>
     ensures { OnOk result (out.new.list ≡ out.old.list ++ quoted (string_of_bytes bytes.now)) }
 {
-    let Some(len) = quoted_len(bytes.len()) else {
-        return Err(OutOfMemory);
-    };
-    let Ok(()) = out.reserve(len) else {
-        return Err(OutOfMemory);
-    };
+    let len = quoted_len(bytes.len()).ok_or(OutOfMemory)?;
+    out.reserve(len)?;
     put_bytes(out, bytes);
     Ok(())
 }
@@ -144,15 +121,9 @@ fn put_string(out: &mut Text, bytes: &[u8]) -> Result<(), OutOfMemory>
 fn put_key(out: &mut Text, later: bool, key: &[u8]) -> Result<(), OutOfMemory>
     ensures { OnOk result (out.new.list ≡ out.old.list ++ (comma_if later ++ (quoted key.now ++ 58 ∷ []))) }
 {
-    let Ok(()) = put_comma(out, later) else {
-        return Err(OutOfMemory);
-    };
-    let Some(len) = quoted_len(key.len()) else {
-        return Err(OutOfMemory);
-    };
-    let Ok(()) = out.reserve(len) else {
-        return Err(OutOfMemory);
-    };
+    put_comma(out, later)?;
+    let len = quoted_len(key.len()).ok_or(OutOfMemory)?;
+    out.reserve(len)?;
     put_quoted(out, key);
     put(out, b":")
 }
@@ -174,9 +145,7 @@ fn put_comma(out: &mut Text, later: bool) -> Result<(), OutOfMemory>
 fn put(out: &mut Text, bytes: &[u8]) -> Result<(), OutOfMemory>
     ensures { OnOk result (out.new.list ≡ out.old.list ++ bytes.now) }
 {
-    let Ok(()) = out.reserve(bytes.len()) else {
-        return Err(OutOfMemory);
-    };
+    out.reserve(bytes.len())?;
     out.extend(bytes);
     Ok(())
 }

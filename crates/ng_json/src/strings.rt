@@ -53,9 +53,7 @@ fn bytes_in_hex(alloc: Global, digits: &[u8]) -> Result<Option<Text>, OutOfMemor
         (λ bytes. bytes_in_hex digits.now ≡ Some bytes.list)) }
 {
     let mut bytes = Text::new(alloc);
-    let Ok(()) = bytes.reserve(digits.len() / 2) else {
-        return Err(OutOfMemory);
-    };
+    bytes.reserve(digits.len() / 2)?;
     let mut rest = digits;
     'digits: loop {
         let Some((high, more)) = read_head(rest) else {
@@ -79,10 +77,9 @@ pub(crate) fn bytes_of_string(alloc: Global, text: &[u8]) -> Result<Text, OutOfM
     if !is_marked(text) {
         return Text::copy_of(alloc, text);
     }
-    match bytes_in_hex(alloc, &text[2..]) {
-        Ok(Some(bytes)) => Ok(bytes),
-        Ok(None) => Text::copy_of(alloc, text),
-        Err(OutOfMemory) => Err(OutOfMemory),
+    match bytes_in_hex(alloc, &text[2..])? {
+        Some(bytes) => Ok(bytes),
+        None => Text::copy_of(alloc, text),
     }
 }
 
@@ -123,16 +120,10 @@ pub(crate) fn string_of_bytes(alloc: Global, bytes: &[u8]) -> Result<Text, OutOf
     if is_plain(bytes) {
         return Text::copy_of(alloc, bytes);
     }
-    let Some(len) = bytes.len().checked_mul(2) else {
-        return Err(OutOfMemory);
-    };
-    let Some(len) = len.checked_add(2) else {
-        return Err(OutOfMemory);
-    };
+    let digits = bytes.len().checked_mul(2).ok_or(OutOfMemory)?;
+    let len = digits.checked_add(2).ok_or(OutOfMemory)?;
     let mut text = Text::new(alloc);
-    let Ok(()) = text.reserve(len) else {
-        return Err(OutOfMemory);
-    };
+    text.reserve(len)?;
     text.extend(b"x:");
     put_hex(&mut text, bytes);
     Ok(text)

@@ -6,6 +6,19 @@ pub struct Failed;
 #[derive(Clone, Copy, PartialEq, Eq, Debug)]
 pub struct OutOfMemory;
 
+impl From<AllocError> for OutOfMemory {
+    fn from(_refused: AllocError) -> OutOfMemory {
+        OutOfMemory
+    }
+}
+
+/// Of what a call gives back with the value that found no memory; the value is dropped.
+impl<T: Drop> From<AllocFailed<T>> for OutOfMemory {
+    fn from(_refused: AllocFailed<T>) -> OutOfMemory {
+        OutOfMemory
+    }
+}
+
 /// The result of a take of the control link.
 #[derive(Clone, Copy, PartialEq, Eq, Debug)]
 pub enum Taken {
@@ -35,3 +48,4 @@ pub enum LineRead {
 }
 
 use crate::address::Addr;
+use std::alloc::{AllocError, AllocFailed};

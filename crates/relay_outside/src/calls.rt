@@ -5,6 +5,7 @@ use std::alloc::Global;
 use std::marker::Model;
 
 /// Bytes of a datagram or a line that a device keeps in its list of calls. Contracts see them as a list.
+/// Public, as are `CallList` and `Failing`, so that devices can be made of them outside this crate.
 #[derive(Drop)]
 pub struct Copied {
     bytes: Vec<u8>,

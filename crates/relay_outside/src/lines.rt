@@ -40,6 +40,9 @@ pub enum WriteCall {
 }
 
 /// Where a script's lines come from.
+///
+/// It isn't asked to give lines without a line feed; to the grammar of scripts a line with one is
+/// outside it, or a comment.
 pub trait LineSource {
     ghost use Rattle.std.specs.Prelude.{ℕ, Option, List, length};
     ghost use Rattle.relay_outside.specs.Told.{Gains, HasCause};
@@ -74,7 +77,7 @@ pub trait LineSink {
     /// The count of faults.
     ghost faults: { Self → ℕ };
 
-    /// Writes one line, which ends in its line feed.
+    /// Writes one line. Its callers give it lines that end in their line feed; it isn't promised that.
     fn write(&mut self, line: &[u8]) -> Result<(), Failed>
         ensures told { Gains (told self.old) (told self.new) (Write line.now (is_done result)) }
         ensures cause { HasCause (faults self.old) (faults self.new) result };

@@ -71,6 +71,9 @@ pub trait ControlLink {
         ensures cause { HasCause (faults self.old) (faults self.new) result };
 
     /// Takes one datagram into the front of the buffer, cut at the buffer's length.
+    /// What stands behind that, and in the whole buffer where nothing was taken, is left open:
+    /// callers read the front alone. A link may give more after its end; the program takes nothing
+    /// after it.
     fn take(&mut self, buf: &mut [u8]) -> Result<Taken, Failed>
         requires { 0 < length buf.old }
         ensures within { FitsRoom result (length buf.old) }

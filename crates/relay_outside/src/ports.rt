@@ -60,6 +60,8 @@ pub trait InEnd {
 
     /// Takes one datagram into the front of the buffer, cut at the buffer's length: its source and how
     /// many bytes it filled. `None`: nothing was there at this call.
+    /// What stands behind that, and in the whole buffer where nothing was taken, is left open: callers
+    /// read the front alone.
     fn take(&mut self, buf: &mut [u8]) -> Result<Option<(Addr, usize)>, Failed>
         requires { 0 < length buf.old }
         ensures within { FitsTake result (length buf.old) }
@@ -97,6 +99,7 @@ pub enum PortCall {
         done: bool,
     },
     /// A port was closed and its ends were given back.
+    /// It carries what both ends told, so the joined lists of an address need no store of their own.
     Close {
         /// Its local address.
         at: Addr,
@@ -137,6 +140,8 @@ pub trait PortMaker {
         ensures cause { HasCause (faults self.old) (faults self.new) result };
 
     /// Closes an open address and takes its ends back: those that were opened for it. It can't fail.
+    /// Ends that were never called, as after an offer that was undone, add nothing to the joined lists
+    /// of the address.
     fn close(&mut self, at: Addr, receiving: Self::In, sending: Self::Out)
         requires open { WhereTold (told self.old) (λ calls. IsOpen calls at) }
         requires ends { ((Self.In.told receiving).at ≡ at) × ((Self.Out.told sending).at ≡ at) }

@@ -8,12 +8,6 @@ use Rattle.turn_table.specs.Layout.{rows_of, spot_of, place_at}
 pub rows_hold : (n : ℕ) → n ≤ 960 * rows_of n
 rows_hold n = omega arith
 
-pub rows_low : (n : ℕ) → n < 2 ^ 59 → rows_of n ≤ 2 ^ 50
-rows_low n low = omega arith
-
-pub rows_some : (n : ℕ) → 0 < n → 0 < rows_of n
-rows_some n some_place = omega arith
-
 pub spot_low : (rows k : ℕ) → k < 960 * rows → spot_of rows k < 960 * rows
 spot_low rows k low =
     let c : k % 960 * rows ≤ 959 * rows = mul-le-mul_right rows (omega arith) in

@@ -41,10 +41,8 @@ impl<S> Cased<S> {
         ensures { IfOk result (λ cased. cased ≡ value) }
     {
         let spare = [0; 8];
-        match Box::new(alloc, Spaced { value, spare }) {
-            Ok(inner) => Ok(Cased { inner }),
-            Err(_) => Err(AllocError),
-        }
+        let inner = Box::new(alloc, Spaced { value, spare })?;
+        Ok(Cased { inner })
     }
 
     pub(crate) fn get(&self) -> &S

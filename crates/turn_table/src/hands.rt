@@ -6,8 +6,8 @@ use crate::cased::{Cased, Slot};
 use crate::machine::Machine;
 use crate::room::Room;
 use crate::view::{Rule, View};
-use atomic_table::{Seat, Table};
-use std::alloc::Global;
+use atomic_table::{Refused, Seat, Table};
+use std::alloc::{AllocError, Global};
 use std::snapshot::Snapshot;
 
 /// Numbered places, each with a state that changes only under its place's own turn.
@@ -57,13 +57,25 @@ pub struct Turn<M: Machine> {
 /// The turn was another hand's, or the place's numbers are spent.
 #[derive(Clone, Copy, Debug, PartialEq, Eq)]
 pub struct Busy {
-    /// The place's front, as it was seen just after. It is at most 2^56.
+    /// The place's front, as it was seen just after. It is at most 2^56. Where the mark was taken, the other hand may have raised it in between.
     pub front: u64,
 }
 
 /// There was no memory for a table.
 #[derive(Clone, Copy, Debug, PartialEq, Eq)]
 pub struct OutOfMemory;
+
+impl From<AllocError> for OutOfMemory {
+    fn from(_refused: AllocError) -> OutOfMemory {
+        OutOfMemory
+    }
+}
+
+impl<S: Drop> From<Refused<S, Global>> for OutOfMemory {
+    fn from(_refused: Refused<S, Global>) -> OutOfMemory {
+        OutOfMemory
+    }
+}
 
 impl<M: Machine> Hand<M> {
     pub(crate) fn into_seat(self) -> Seat<Slot<M::State>, View<M::State, M::Event, M::Outcome>>

@@ -40,21 +40,11 @@ impl<M: Machine> Turns<M> {
         }
         let rows = layout::row_count(places);
         let key = Snapshot::of(&states);
-        let Ok(words) = clear_words(alloc, 3840 * rows) else {
-            return Err(OutOfMemory);
-        };
-        let Ok(aside) = set_aside(alloc, states) else {
-            return Err(OutOfMemory);
-        };
-        let Ok(slots) = case_all(alloc, aside, rows) else {
-            return Err(OutOfMemory);
-        };
-        let Ok((table, seat)) = Table::new(alloc, words.as_slice(), slots, &key) else {
-            return Err(OutOfMemory);
-        };
-        let Ok(room) = Room::new(alloc, places) else {
-            return Err(OutOfMemory);
-        };
+        let words = clear_words(alloc, 3840 * rows)?;
+        let aside = set_aside(alloc, states)?;
+        let slots = case_all(alloc, aside, rows)?;
+        let (table, seat) = Table::new(alloc, words.as_slice(), slots, &key)?;
+        let room = Room::new(alloc, places)?;
         let turns = Turns {
             table,
             room,
@@ -89,6 +79,7 @@ impl<M: Machine> Turns<M> {
     }
 
     /// Looks at the table by the hand that has all parts: its list has the whole history of each place, as at the close.
+    /// It is one load: the rule says so at any moment, but contracts are told of the rule only at an atomic step.
     pub fn survey(&self, hand: &mut Hand<M>)
         requires table { IsHandOf self.now hand.old }
         requires all { parts hand.old ≡ 1024 }

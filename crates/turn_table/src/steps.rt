@@ -2,6 +2,9 @@
 //!
 //! The mark of a place at the spot `spot` (`layout`) is the word `4 * spot`, and its count the next one. The two words up
 //! to the next spot's are spare.
+//!
+//! The loads by `Empty` and `Reach` go beyond a plain design: a state moves in or out of its slot only at a step on a
+//! word. So turns may be put back in any order.
 ghost use Rattle.std.specs.Prelude.{◌≡◌, ℕ, ◌+◌, ◌^◌, IfErr, MatchResult};
 
 use crate::hands::{Busy, Hand, Turn, Turns};
@@ -54,6 +57,8 @@ impl<M: Machine> Turns<M> {
     }
 
     /// Puts a turn back, by which its event is made. It returns the event's number at its place.
+    /// That no other hand has an entry with that place and number stands in the rule (`specs/Kept.antt`, `once`), and is
+    /// told at `close`.
     pub fn put<X: Said<M>>(&self, hand: &mut Hand<M>, turn: Turn<M>) -> u64
         requires table { IsHandOf self.now hand.old }
         requires turn { HasTurn hand.old turn }

@@ -12,6 +12,7 @@ impl<M: Machine> Turns<M> {
     /// Takes the turn of a place, and tries again until it has it.
     ///
     /// At a place that has made 2^56 events it waits forever.
+    /// Between tries it spins a little longer each time, and then yields the processor.
     pub fn turn<R: Wait>(&self, rt: &R, hand: &mut Hand<M>, place: usize) -> Turn<M>
         requires table { IsHandOf self.now hand.old }
         requires place { MayTurn hand.old place }

@@ -76,6 +76,7 @@ impl KeySource for SteadyKeys {
 /// numbers, from 1, it was given fail, and so does every draw once no key is left.
 ///
 /// A failing draw gives no key and uses none up. Keys for tests and replayed scripts, never for calls.
+/// A draw that fails both by its number and since no key is left counts one fault.
 #[derive(Drop)]
 pub struct KeyList {
     told: CallList<KeyCall>,

@@ -8,10 +8,10 @@ use Rattle.ng_json.specs.Twins.{trees_in, pairs_in, with_pair}
 use Rattle.ng_json.proofs.Trees.{next_item, items_more, items_end, stuck_pair}
 use Rattle.ng_json.proofs.decode.+twin.Goals as goal
 
-pub pairs_in-returns-in_default-place_of-clause-no_twin : goal.pairs_in-returns-in_default-place_of-clause-no_twin
-pairs_in-returns-in_default-place_of-clause-no_twin t c is deep =
-    let key : c.as_slice.result.now ≡ bytes_of_string (string_bytes c.in-Some.text.now) = c.as_slice.ensures ∙ c.in-Ok.ensures ∙ ap bytes_of_string c.as_bytes.ensures.value in
-    let there = λ (tree : Tree). ap (λ (k : _). with_pair k tree (pairs_of c.loop-text.found.items)) (sym key) ∙ ap (λ (ps : _). with_pair c.as_slice.result.now tree (pairs_of ps)) (sym c.deref.ensures.value) ∙ c.in_default-place_of.ensures.place tree in
+pub pairs_in-returns-in_default-clause-no_twin : goal.pairs_in-returns-in_default-clause-no_twin
+pairs_in-returns-in_default-clause-no_twin t c is deep =
+    let key : c.as_slice.result.now ≡ bytes_of_string (string_bytes c.in-Some.text.now) = c.as_slice.ensures ∙ c.in_ok-key.ensures ∙ ap bytes_of_string c.as_bytes.ensures.value in
+    let there = λ (tree : Tree). ap (λ (k : _). with_pair k tree (pairs_of c.loop-text.found.items)) (sym key) ∙ ap (λ (ps : _). with_pair c.as_slice.result.now tree (pairs_of ps)) (sym c.deref.ensures.value) ∙ c.in_default.ensures.place tree in
     c.loop-text.invariant.found ∙ ap (λ (es : _). pairs_in (members_view es) (pairs_of c.loop-text.found.items)) c.in-Some.ensures.steps
     ∙ stuck_pair (string_bytes c.in-Some.text.now) (view c.in-Some.member.now) (members_view c.next.new.self) (pairs_of c.loop-text.found.items) there
 
@@ -23,10 +23,10 @@ values_in-loop-item-preserved t c =
     let here = next_item xs i x (omega arith) c.item-item.is in
     let depths = ap items_depth here in
     record {
-      deep = λ h. c.loop-item.invariant.deep (omega (arith, h, depths, c.in-Ok.ensures.deep));
+      deep = λ h. c.loop-item.invariant.deep (omega (arith, h, depths, c.in_ok-value.ensures.deep));
       left = λ h. omega (arith, c.loop-item.invariant.left h, depths);
-      found = items_more (items_view xs) (items_view (drop i xs)) (view x) (items_view (drop (i + 1) xs)) (list_in c.loop-item.found) (list_in c.reserve.new.self) (list_in c.push.new.self) c.in-Ok.value here c.in-Ok.ensures.value
-          c.in-Ok-reserve.ensures.list c.push.ensures.list c.loop-item.invariant.found;
+      found = items_more (items_view xs) (items_view (drop i xs)) (view x) (items_view (drop (i + 1) xs)) (list_in c.loop-item.found) (list_in c.reserve.new.self) (list_in c.push.new.self) c.in_ok-value.value here c.in_ok-value.ensures.value
+          c.in_ok-reserve.ensures.list c.push.ensures.list c.loop-item.invariant.found;
     }
 
 pub values_in-returns-clause-values : goal.values_in-returns-clause-values

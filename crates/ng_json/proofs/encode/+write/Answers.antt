@@ -16,5 +16,5 @@ pub write_pairs-write_value-requires : goal.write_pairs-write_value-requires
 write_pairs-write_value-requires t c =
     let deep = member_depth c.as_slice-member-items.result.now c.loop-member.member-index c.member-item.result (omega arith) c.member-item.is in
     let items = ap (λ ms. json.members_depth (members_in ms)) c.as_slice-member-items.ensures.value in
-    let all = ap json.members_depth c.in-Ok.ensures in
+    let all = ap json.members_depth c.in_ok-members.ensures in
     (omega (arith, c.decreases, deep, items, all), tt)

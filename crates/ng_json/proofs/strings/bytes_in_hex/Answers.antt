@@ -3,12 +3,12 @@ use Rattle.ng_json.specs.Strings.{byte_of_digits}
 use Rattle.ng_json.proofs.Texts.{hex_end, hex_odd, hex_no, hex_more}
 use Rattle.ng_json.proofs.strings.bytes_in_hex.Goals as goal
 
-pub returns-in_default-read_head : goal.returns-in_default-read_head
-returns-in_default-read_head c = hex_end c.args.digits.now c.digits.rest.now c.digits.bytes.list c.in_default-read_head.ensures c.digits.invariant.read
+pub returns-in_default : goal.returns-in_default
+returns-in_default c = hex_end c.args.digits.now c.digits.rest.now c.digits.bytes.list c.in_default.ensures c.digits.invariant.read
 
-pub returns-in_default-read_head-2 : goal.returns-in_default-read_head-2
-returns-in_default-read_head-2 c =
-    hex_odd c.args.digits.now c.digits.rest.now c.digits.bytes.list c.in-Some.more.now c.in-Some.high c.in-Some.ensures c.in_default-read_head-2.ensures c.digits.invariant.read
+pub returns-in_default-read_head : goal.returns-in_default-read_head
+returns-in_default-read_head c =
+    hex_odd c.args.digits.now c.digits.rest.now c.digits.bytes.list c.in-Some.more.now c.in-Some.high c.in-Some.ensures c.in_default-read_head.ensures c.digits.invariant.read
 
 pub returns-in_default-byte_of_digits : goal.returns-in_default-byte_of_digits
 returns-in_default-byte_of_digits c =

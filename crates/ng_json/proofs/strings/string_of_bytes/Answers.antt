@@ -9,5 +9,5 @@ returns-then-is_plain c = IfOk-weaker c.copy_of.result _ _ (λ text e. e ∙ sym
 
 pub returns : goal.returns
 returns c =
-    c.put_hex.ensures.list ∙ ap (λ t. t ++ hex_text c.args.bytes.now) (c.extend.ensures.list ∙ ap (λ t. t ++ codes "x:") (c.in-Ok.ensures.list ∙ c.new-text.ensures))
+    c.put_hex.ensures.list ∙ ap (λ t. t ++ hex_text c.args.bytes.now) (c.extend.ensures.list ∙ ap (λ t. t ++ codes "x:") (c.in_ok-reserve.ensures.list ∙ c.new-text.ensures))
     ∙ sym (marked_string c.args.bytes.now (sym c.is_plain.ensures ∙ c.if-is_plain.false))
