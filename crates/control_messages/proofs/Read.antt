@@ -1,16 +1,13 @@
 -- What is read of a body, by its dictionary.
-use Rattle.std.proofs.Common.{◌≡◌, ◌≤◌, ℕ, Bool, false, List, length, Option, Some, None, Result, Ok, Err, refl, sym, subst, arith}
+use Rattle.std.proofs.Common.{◌≡◌, ◌≤◌, ℕ, Bool, false, List, length, Option, Some, None, Result, Ok, Err, refl, sym, subst}
 use Rattle.std.specs.Prelude.{◌≢◌, IfOk, MatchOption}
 use Rattle.ng_bencode.specs.Room.{Room}
 use Rattle.ng_bencode.specs.Row.{list_in}
 use Rattle.ng_bencode.specs.Tree.{Tree, Dict, Entries, tree_of, pairs_of}
 use Rattle.ng_bencode.specs.declared.row.Row.{Row}
 use Rattle.ng_bencode.specs.declared.value.Value.{Value}
-use Rattle.ng_command.specs.Said.{Said, said}
-use Rattle.ng_command.specs.Reading.{Agrees}
+use Rattle.ng_command.specs.Said.{said}
 use Rattle.ng_command.specs.declared.command.Command.{Command}
-use Rattle.ng_command.specs.declared.fault.CommandFault.{CommandFault}
-use Rattle.ng_command.specs.declared.fault.CommandFault.TheVariants as faults
 use Rattle.ng_reply.specs.declared.code.ErrorCode.{ErrorCode}
 use Rattle.relay_outside.specs.declared.answers.OutOfMemory.{OutOfMemory}
 use Rattle.call_board.specs.Dialects.{is_json, SaysIn}
@@ -18,15 +15,6 @@ use Rattle.call_board.specs.Asked.{ReadsIn, Reads, command_in}
 use Rattle.control_messages.specs.Bodies.{pairs_if, pairs_in, said_by, description_in}
 use Rattle.control_messages.specs.declared.body.Body.{Body}
 use Rattle.control_messages.proofs.Sizes.{description_small}
-
--- a fault other than out of memory is the one that is told
-pub agrees_err : (expected : Result Said CommandFault) (fault : CommandFault) → fault ≢ faults.OutOfMemory → Agrees expected (Err fault) → expected ≡ Err fault
-agrees_err expected faults.Malformed n a = a
-agrees_err expected faults.NoCommand n a = a
-agrees_err expected faults.Unrecognized n a = a
-agrees_err expected (faults.Key name) n a = a
-agrees_err expected (faults.Unsupported name) n a = a
-agrees_err expected faults.OutOfMemory n a = absurd (n refl)
 
 -- the body reads so
 pub reads_so : (body : List ℕ) (pairs : Entries) (r : Result Body OutOfMemory) → Reads body (Some pairs) → IfOk r (λ read. pairs_in read ≡ Some pairs) →

@@ -1,5 +1,5 @@
 -- The byte strings of a value that a JSON text says are no longer than the text.
-use Rattle.std.proofs.Common.{◌≡◌, ℕ, zero, suc, ◌+◌, ◌≤◌, Bool, true, false, cond, ◌&&◌, ◌==◌, nat_lt, List, [], ◌∷◌, ◌++◌, drop, length, nat_le, Option, Some, None, option_map, option_and_then, unwrap_or, if◌then◌else◌, IfSome, refl, sym, ap, ◌∙◌, subst, arith}
+use Rattle.std.proofs.Common.{◌≡◌, ℕ, zero, suc, ◌+◌, ◌≤◌, Bool, true, false, cond, ◌&&◌, ◌==◌, nat_lt, List, [], ◌∷◌, drop, length, nat_le, Option, Some, None, option_map, option_and_then, unwrap_or, if◌then◌else◌, IfSome, subst, arith}
 use Rattle.std.proofs.lemmas.List.{length-append, length-drop}
 use Rattle.std.specs.Prelude.{⊤}
 use Rattle.std.specs.Char.{encode_utf8}
@@ -9,7 +9,7 @@ use Rattle.std.specs.declared.cmp.Ordering.{Ordering}
 use Rattle.std.specs.declared.cmp.Ordering.TheVariants.{Less, Equal, Greater}
 use Rattle.json.specs.Token.{Token}
 use Rattle.json.specs.Text.{code_unit, short_escape, is_high_surrogate, is_low_surrogate, surrogate_pair, Within, plain, after_backslash, after_u, after_high, prepend, content}
-use Rattle.json.specs.Word.{word, number_before, ends_word, head, literal, after_number}
+use Rattle.json.specs.Word.{word, number_before}
 use Rattle.json.specs.Lex.{Lexeme, token, comma, colon, Class, quote, backslash, operator, space, other, class, operator_lexeme, string_token, Mode, between, in_word, in_string, in_escape, lex_byte, lex, Place, fresh, after_value, after_comma, after_key, may_begin, may_close, begins_colon, if_allowed, place_token, punctuate, tokens}
 use Rattle.json.specs.Json as tree
 use Rattle.json.specs.Json.{Parse, parse_map, after_end_array, read_key, items_step, members_step, items, members, value_with, value, if_last}
@@ -17,7 +17,7 @@ use Rattle.serde_json.specs.Data as json
 use Rattle.serde_json.specs.Data.{Num, put}
 use Rattle.serde_json.specs.Find.{as_i64}
 use Rattle.serde_json.specs.Read.{number_of, of_json, of_items, of_members, max_depth, read}
-use Rattle.ng_bencode.specs.Tree.{Tree, Int, Bytes, Items, Dict, Trees, no_items, item, Entries, no_entries, entry}
+use Rattle.ng_bencode.specs.Tree.{Tree, Int, Items, Dict, item, Entries, no_entries, entry}
 use Rattle.ng_command.proofs.Sizes.{TreeIsShort, TreesAreShort, PairsAreShort}
 use Rattle.ng_json.specs.Strings.{is_marked, byte_of_digits, bytes_in_hex, bytes_of_string}
 use Rattle.ng_json.specs.Twins.{tree_in, trees_in, pairs_in, with_pair, twin, Says}

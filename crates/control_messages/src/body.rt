@@ -101,28 +101,28 @@ fn body_of(alloc: Global, pairs: Pairs) -> Result<Body, OutOfMemory>
     ensures dictionary { IfOk result (λ read. pairs_in read ≡ Some (pairs_of (list_in pairs))) }
     ensures command { IfOk result (λ read. command_in false (pairs_in read) ≡ said_by read.command) }
 {
-    match command_of(alloc, &pairs) {
-        Ok(command) => Ok(Body {
-            dictionary: Some(pairs),
-            command,
-        }),
-        Err(OutOfMemory) => Err(OutOfMemory),
-    }
+    let command = command_of(alloc, &pairs)?;
+    Ok(Body {
+        dictionary: Some(pairs),
+        command,
+    })
 }
 
 /// Reads the body of a control datagram, of at most 16,384 bytes, in its dialect.
+///
+/// A description is shorter than 2^31 bytes in either dialect, as room for the reply needs: no JSON
+/// string has more bytes than its text.
 pub fn read_body(alloc: Global, body: &[u8]) -> Result<Body, OutOfMemory>
     ensures reads { IfOk result (λ read. Reads body.now (pairs_in read)) }
     ensures command { IfOk result (λ read. command_in false (pairs_in read) ≡ said_by read.command) }
     // A description is no longer than the body.
     ensures small { IfOk result (λ read. IfOk read.command (λ command. length (description_in (said command)) ≤ length body.now)) }
 {
-    match dictionary_in(alloc, body) {
-        Ok(Some(pairs)) => body_of(alloc, pairs),
-        Ok(None) => Ok(Body {
+    match dictionary_in(alloc, body)? {
+        Some(pairs) => body_of(alloc, pairs),
+        None => Ok(Body {
             dictionary: None,
             command: Err(ErrorCode::E1),
         }),
-        Err(OutOfMemory) => Err(OutOfMemory),
     }
 }

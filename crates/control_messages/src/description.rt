@@ -3,6 +3,7 @@
 ghost use Rattle.std.specs.Prelude.{◌≡◌, ◌≢◌, ◌≤◌, ◌<◌, ◌^◌, length, None, Some, Option, IfOk, IfErr, OnOk};
 ghost use Rattle.sdp_text.specs.Lines.{lines_of};
 ghost use Rattle.sdp_text.specs.Reading.{sections_in};
+ghost use Rattle.sdp_text.specs.declared.fault.SdpFault.TheVariants.{OutOfMemory as out_of_memory};
 ghost use Rattle.call_board.specs.Asked.{sdp_code, v6_error, sdp_error};
 ghost use Rattle.control_messages.specs.Bodies.{IsErrorOf};
 
@@ -34,13 +35,14 @@ fn sdp_code(fault: SdpFault) -> ErrorCode
     }
 }
 
-/// The fault of a description that was not read.
-fn fault_of(fault: SdpFault) -> DescriptionFault
-    ensures { (error : Option _) → (fault ≢ SdpFault.OutOfMemory → error ≡ Some (sdp_code fault)) → IsErrorOf error result }
-{
-    match fault {
-        SdpFault::OutOfMemory => DescriptionFault::OutOfMemory,
-        other => DescriptionFault::Error(sdp_code(other)),
+impl From<SdpFault> for DescriptionFault {
+    ghost from_gives = { λ read fault. (error : Option _) → (read ≢ out_of_memory → error ≡ Some (sdp_code read)) → IsErrorOf error fault };
+
+    fn from(fault: SdpFault) -> DescriptionFault {
+        match fault {
+            SdpFault::OutOfMemory => DescriptionFault::OutOfMemory,
+            other => DescriptionFault::Error(sdp_code(other)),
+        }
     }
 }
 
@@ -71,11 +73,9 @@ pub fn read_description<'a>(
     ensures sound { OnOk result (sdp_error config.now text.now ≡ None) }
     ensures error { IfErr result (λ fault. IsErrorOf (sdp_error config.now text.now) fault) }
 {
-    match read(alloc, text) {
-        Ok(sdp) => match v6_error(config.interface6, sdp.first_v6()) {
-            Some(code) => Err(DescriptionFault::Error(code)),
-            None => Ok(sdp),
-        },
-        Err(fault) => Err(fault_of(fault)),
+    let sdp = read(alloc, text)?;
+    match v6_error(config.interface6, sdp.first_v6()) {
+        Some(code) => Err(DescriptionFault::Error(code)),
+        None => Ok(sdp),
     }
 }

@@ -17,9 +17,7 @@ use std::alloc::Global;
 pub fn pong_datagram(alloc: Global, request: &Request) -> Result<Text, OutOfMemory>
     ensures { (config : Config) → IfOk result (λ text. text.list ≡ reply_datagram config request.now.cookie.now request.now.body.now Pong) }
 {
-    let Ok(value) = pong(alloc) else {
-        return Err(OutOfMemory);
-    };
+    let value = pong(alloc)?;
     value_datagram(alloc, request, &value)
 }
 
@@ -27,9 +25,7 @@ pub fn pong_datagram(alloc: Global, request: &Request) -> Result<Text, OutOfMemo
 pub fn done_datagram(alloc: Global, request: &Request) -> Result<Text, OutOfMemory>
     ensures { (config : Config) → IfOk result (λ text. text.list ≡ reply_datagram config request.now.cookie.now request.now.body.now Done) }
 {
-    let Ok(value) = done(alloc) else {
-        return Err(OutOfMemory);
-    };
+    let value = done(alloc)?;
     value_datagram(alloc, request, &value)
 }
 
@@ -41,9 +37,7 @@ pub fn warned_datagram(
 ) -> Result<Text, OutOfMemory>
     ensures { (config : Config) → IfOk result (λ text. text.list ≡ reply_datagram config request.now.cookie.now request.now.body.now (Warned code)) }
 {
-    let Ok(value) = warned(alloc, code) else {
-        return Err(OutOfMemory);
-    };
+    let value = warned(alloc, code)?;
     value_datagram(alloc, request, &value)
 }
 

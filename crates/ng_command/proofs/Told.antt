@@ -1,12 +1,14 @@
--- A dictionary never tells that the body is none, and what it tells is how the body is read.
-use Rattle.std.proofs.Common.{◌≡◌, ℕ, List, Option, Some, None, Result, Ok, Err, codes}
-use Rattle.ng_bencode.specs.Tree.{Dict, Entries}
+-- A dictionary never tells that the body is none, what it tells is how the body is read, and a body that is not decoded has no dictionary.
+use Rattle.std.proofs.Common.{◌≡◌, refl, ℕ, List, Option, Some, None, Result, Ok, Err, codes}
+use Rattle.ng_bencode.specs.Tree.{Tree, Dict, Entries}
 use Rattle.ng_bencode.specs.Spells.{Spells}
+use Rattle.ng_bencode.specs.declared.errors.Bad.{Bad}
+use Rattle.ng_bencode.specs.declared.errors.Bad.TheVariants as bads
 use Rattle.ng_command.specs.Values.{text_at}
 use Rattle.ng_command.specs.Effects.{kind_of}
 use Rattle.ng_command.specs.Faults.{first_wrong, first_unsupported, fault_by}
 use Rattle.ng_command.specs.Said.{Said, meaning}
-use Rattle.ng_command.specs.Reading.{kind_or_fault, kind_named, or_fault, told_by, told, Agrees, IsRead}
+use Rattle.ng_command.specs.Reading.{fault_of_bad, kind_or_fault, kind_named, or_fault, told_by, told, Agrees, IsRead}
 use Rattle.ng_command.specs.declared.kind.Kind.{Kind}
 use Rattle.ng_command.specs.declared.fault.KeyName.{KeyName}
 use Rattle.ng_command.specs.declared.fault.CommandFault.{CommandFault}
@@ -34,3 +36,7 @@ read_so body pairs (Err Unrecognized) spells agrees = (pairs, spells, agrees)
 read_so body pairs (Err (Key key)) spells agrees = (pairs, spells, agrees)
 read_so body pairs (Err (Unsupported key)) spells agrees = (pairs, spells, agrees)
 read_so body pairs (Err OutOfMemory) spells agrees = tt
+
+pub undecoded : (body : List ℕ) (bad : Bad) → (bad ≡ bads.NotBencode → (tree : Tree) → Spells body tree → ⊥) → IsRead body (Err (fault_of_bad bad))
+undecoded body bads.NotBencode none = λ pairs spells. none refl (Dict pairs) spells
+undecoded body bads.OutOfMemory none = tt

@@ -1,6 +1,8 @@
 -- How the body of a control datagram is read.
 use Rattle.std.specs.Prelude.{◌≡◌, ℕ, List, Option, Some, None, Result, Ok, Err, codes}
 use Rattle.ng_bencode.specs.Tree.{Dict, Entries}
+use Rattle.ng_bencode.specs.declared.errors.Bad.{Bad}
+use Rattle.ng_bencode.specs.declared.errors.Bad.TheVariants as bads
 use Rattle.ng_bencode.specs.Spells.{Spells}
 use Rattle.ng_command.specs.Values.{text_at}
 use Rattle.ng_command.specs.Effects.{kind_of}
@@ -10,6 +12,11 @@ use Rattle.ng_command.specs.declared.kind.Kind.{Kind}
 use Rattle.ng_command.specs.declared.fault.CommandFault.{CommandFault}
 use Rattle.ng_command.specs.declared.fault.CommandFault.TheVariants.{Malformed, NoCommand, Unrecognized, Key, Unsupported, OutOfMemory}
 use Rattle.ng_command.specs.declared.command.Command.{Command}
+
+-- the fault of a body that is not decoded
+abbrev pub fault_of_bad : Bad → CommandFault
+fault_of_bad bads.NotBencode = Malformed
+fault_of_bad bads.OutOfMemory = OutOfMemory
 
 abbrev pub kind_or_fault : Option Kind → Result Kind CommandFault
 kind_or_fault None = Err Unrecognized

@@ -1,3 +1,10 @@
+ghost use Rattle.std.specs.Prelude.{◌≡◌};
+ghost use Rattle.ng_command.specs.Reading.{fault_of_bad};
+ghost use Rattle.ng_command.specs.declared.fault.CommandFault.TheVariants.{OutOfMemory as out_of_memory};
+
+use ng_bencode::Bad;
+use relay_outside::OutOfMemory;
+
 /// A key of a command, as faults name it.
 #[derive(Clone, Copy, Debug, PartialEq, Eq)]
 pub enum KeyName {
@@ -46,4 +53,23 @@ pub enum CommandFault {
     Unsupported(KeyName),
     /// There was no memory for the command.
     OutOfMemory,
+}
+
+impl From<OutOfMemory> for CommandFault {
+    ghost from_gives = { λ _ fault. fault ≡ out_of_memory };
+
+    fn from(_refused: OutOfMemory) -> CommandFault {
+        CommandFault::OutOfMemory
+    }
+}
+
+impl From<Bad> for CommandFault {
+    ghost from_gives = { λ bad fault. fault ≡ fault_of_bad bad };
+
+    fn from(bad: Bad) -> CommandFault {
+        match bad {
+            Bad::NotBencode => CommandFault::Malformed,
+            Bad::OutOfMemory => CommandFault::OutOfMemory,
+        }
+    }
 }

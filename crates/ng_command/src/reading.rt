@@ -11,7 +11,7 @@ use crate::kind::{Kind, kind_of};
 use crate::options::{DEFAULT_LIMIT, has_flag, limit_of, options_of};
 use crate::values::text_at;
 use crate::verdict::fault_of;
-use ng_bencode::{Bad, Pairs, Text, decode};
+use ng_bencode::{Pairs, Text, decode};
 use relay_outside::OutOfMemory;
 use std::alloc::Global;
 
@@ -26,11 +26,7 @@ use std::alloc::Global;
 pub fn read(alloc: Global, body: &[u8]) -> Result<Command, CommandFault>
     ensures { IsRead body.now result }
 {
-    let value = match decode(alloc, body) {
-        Ok(value) => value,
-        Err(Bad::NotBencode) => return Err(CommandFault::Malformed),
-        Err(Bad::OutOfMemory) => return Err(CommandFault::OutOfMemory),
-    };
+    let value = decode(alloc, body)?;
     match value.as_dict() {
         Some(pairs) => read_pairs(alloc, pairs),
         None => Err(CommandFault::Malformed),
@@ -46,17 +42,12 @@ pub fn read(alloc: Global, body: &[u8]) -> Result<Command, CommandFault>
 pub fn read_pairs(alloc: Global, pairs: &Pairs) -> Result<Command, CommandFault>
     ensures { Agrees (told (pairs_of (list_in pairs.now))) result }
 {
-    let kind = match kind_named(pairs) {
-        Ok(kind) => kind,
-        Err(fault) => return Err(fault),
-    };
+    let kind = kind_named(pairs)?;
     if let Some(fault) = fault_of(kind, pairs) {
         return Err(fault);
     }
-    match command_of(alloc, kind, pairs) {
-        Ok(command) => Ok(command),
-        Err(OutOfMemory) => Err(CommandFault::OutOfMemory),
-    }
+    let command = command_of(alloc, kind, pairs)?;
+    Ok(command)
 }
 
 /// The command that is named.
@@ -89,15 +80,9 @@ fn command_of(alloc: Global, kind: Kind, pairs: &Pairs) -> Result<Command, OutOf
 fn offer_of(alloc: Global, pairs: &Pairs) -> Result<Command, OutOfMemory>
     ensures { IfOk result (λ command. said command ≡ meaning Kind.Offer (pairs_of (list_in pairs.now))) }
 {
-    let Ok(call_id) = copy_at(alloc, pairs, b"call-id") else {
-        return Err(OutOfMemory);
-    };
-    let Ok(from_tag) = copy_at(alloc, pairs, b"from-tag") else {
-        return Err(OutOfMemory);
-    };
-    let Ok(sdp) = copy_at(alloc, pairs, b"sdp") else {
-        return Err(OutOfMemory);
-    };
+    let call_id = copy_at(alloc, pairs, b"call-id")?;
+    let from_tag = copy_at(alloc, pairs, b"from-tag")?;
+    let sdp = copy_at(alloc, pairs, b"sdp")?;
     let options = options_of(pairs, text_at(pairs, b"transport protocol"));
     Ok(Command::Offer(OfferIn {
         call_id,
@@ -110,18 +95,10 @@ fn offer_of(alloc: Global, pairs: &Pairs) -> Result<Command, OutOfMemory>
 fn answer_of(alloc: Global, pairs: &Pairs) -> Result<Command, OutOfMemory>
     ensures { IfOk result (λ command. said command ≡ meaning Kind.Answer (pairs_of (list_in pairs.now))) }
 {
-    let Ok(call_id) = copy_at(alloc, pairs, b"call-id") else {
-        return Err(OutOfMemory);
-    };
-    let Ok(from_tag) = copy_at(alloc, pairs, b"from-tag") else {
-        return Err(OutOfMemory);
-    };
-    let Ok(to_tag) = copy_at(alloc, pairs, b"to-tag") else {
-        return Err(OutOfMemory);
-    };
-    let Ok(sdp) = copy_at(alloc, pairs, b"sdp") else {
-        return Err(OutOfMemory);
-    };
+    let call_id = copy_at(alloc, pairs, b"call-id")?;
+    let from_tag = copy_at(alloc, pairs, b"from-tag")?;
+    let to_tag = copy_at(alloc, pairs, b"to-tag")?;
+    let sdp = copy_at(alloc, pairs, b"sdp")?;
     let options = options_of(pairs, None);
     Ok(Command::Answer(AnswerIn {
         call_id,
@@ -135,12 +112,8 @@ fn answer_of(alloc: Global, pairs: &Pairs) -> Result<Command, OutOfMemory>
 fn delete_of(alloc: Global, pairs: &Pairs) -> Result<Command, OutOfMemory>
     ensures { IfOk result (λ command. said command ≡ meaning Kind.Delete (pairs_of (list_in pairs.now))) }
 {
-    let Ok(call_id) = copy_at(alloc, pairs, b"call-id") else {
-        return Err(OutOfMemory);
-    };
-    let Ok(from_tag) = copy_if_there(alloc, pairs, b"from-tag") else {
-        return Err(OutOfMemory);
-    };
+    let call_id = copy_at(alloc, pairs, b"call-id")?;
+    let from_tag = copy_if_there(alloc, pairs, b"from-tag")?;
     let fatal = has_flag(pairs, b"fatal");
     Ok(Command::Delete(DeleteIn {
         call_id,
@@ -152,9 +125,7 @@ fn delete_of(alloc: Global, pairs: &Pairs) -> Result<Command, OutOfMemory>
 fn query_of(alloc: Global, pairs: &Pairs) -> Result<Command, OutOfMemory>
     ensures { IfOk result (λ command. said command ≡ meaning Kind.Query (pairs_of (list_in pairs.now))) }
 {
-    let Ok(call_id) = copy_at(alloc, pairs, b"call-id") else {
-        return Err(OutOfMemory);
-    };
+    let call_id = copy_at(alloc, pairs, b"call-id")?;
     Ok(Command::Query(QueryIn { call_id }))
 }
 
@@ -162,10 +133,9 @@ fn query_of(alloc: Global, pairs: &Pairs) -> Result<Command, OutOfMemory>
 fn copy_at(alloc: Global, pairs: &Pairs, key: &[u8]) -> Result<Text, OutOfMemory>
     ensures { IfOk result (λ text. text.list ≡ text_in (pairs_of (list_in pairs.now)) key.now) }
 {
-    match copy_if_there(alloc, pairs, key) {
-        Ok(Some(text)) => Ok(text),
-        Ok(None) => Ok(Text::new(alloc)),
-        Err(OutOfMemory) => Err(OutOfMemory),
+    match copy_if_there(alloc, pairs, key)? {
+        Some(text) => Ok(text),
+        None => Ok(Text::new(alloc)),
     }
 }
 
@@ -176,8 +146,8 @@ fn copy_if_there(alloc: Global, pairs: &Pairs, key: &[u8]) -> Result<Option<Text
     let Some(text) = text_at(pairs, key) else {
         return Ok(None);
     };
-    match Text::copy_of(alloc, text) {
-        Ok(own) => Ok(Some(own)),
-        Err(_) => Err(OutOfMemory),
-    }
+    let Ok(own) = Text::copy_of(alloc, text) else {
+        return Err(OutOfMemory);
+    };
+    Ok(Some(own))
 }

@@ -20,9 +20,7 @@ pub fn pong(alloc: Global) -> Result<Value, OutOfMemory>
     ensures { IfOk result (λ value. tree_of value ≡ pong_reply) }
 {
     let mut pairs = Pairs::new(alloc);
-    let Ok(()) = put_text(alloc, &mut pairs, b"result", b"pong") else {
-        return Err(OutOfMemory);
-    };
+    put_text(alloc, &mut pairs, b"result", b"pong")?;
     Ok(Value::dict(pairs))
 }
 
@@ -31,9 +29,7 @@ pub fn done(alloc: Global) -> Result<Value, OutOfMemory>
     ensures { IfOk result (λ value. tree_of value ≡ ok_reply) }
 {
     let mut pairs = Pairs::new(alloc);
-    let Ok(()) = put_text(alloc, &mut pairs, b"result", b"ok") else {
-        return Err(OutOfMemory);
-    };
+    put_text(alloc, &mut pairs, b"result", b"ok")?;
     Ok(Value::dict(pairs))
 }
 
@@ -43,12 +39,8 @@ pub fn warned(alloc: Global, code: ErrorCode) -> Result<Value, OutOfMemory>
 {
     let words = code_text(code);
     let mut pairs = Pairs::new(alloc);
-    let Ok(()) = put_text(alloc, &mut pairs, b"result", b"ok") else {
-        return Err(OutOfMemory);
-    };
-    let Ok(()) = put_text(alloc, &mut pairs, b"warning", words.as_slice()) else {
-        return Err(OutOfMemory);
-    };
+    put_text(alloc, &mut pairs, b"result", b"ok")?;
+    put_text(alloc, &mut pairs, b"warning", words.as_slice())?;
     Ok(Value::dict(pairs))
 }
 

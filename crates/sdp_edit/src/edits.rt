@@ -66,10 +66,8 @@ impl SectionEdits {
         ensures list { self.new.list ≡ self.old.list }
         ensures kept { self.old.spare ≤ self.new.spare }
     {
-        match self.items.reserve(more) {
-            Ok(()) => Ok(()),
-            Err(_) => Err(OutOfMemory),
-        }
+        self.items.reserve(more)?;
+        Ok(())
     }
 
     /// Adds an edit at the end.

@@ -7,7 +7,7 @@ use Rattle.std.specs.List.{position_or_len}
 use Rattle.std.specs.Option.{option_copied, option_map, IfSome}
 use Rattle.std.specs.Borrow.{Bor}
 use Rattle.std.proofs.lemmas.Bool.{ne_eqb, false≢true}
-use Rattle.sdp_text.specs.Pieces.{pieces, pieces_after, fields, are_filled, is_filled, port_number}
+use Rattle.sdp_text.specs.Pieces.{pieces, pieces_after, fields, are_filled, port_number}
 use Rattle.sdp_text.specs.Hosts.{all_some, exactly, octet, ipv4_bytes}
 use Rattle.sdp_text.specs.Roles.{three, media_port, media_port_pieces, rtcp, rtcp_fields, with_port, with_rest, with_address}
 use Rattle.std.proofs.Common.{map, is_some}
@@ -23,16 +23,6 @@ cut_nowhere stop text at e h = slice_split_none (λ b. eqb b stop) text (λ k d 
 -- how many fields there are after n others, where none is empty
 abbrev pub counted : ℕ → List (List ℕ) → Option ℕ
 counted n texts = cond (are_filled texts) (Some (n + length texts)) None
-
-pub counted_more : (n : ℕ) (text : List ℕ) (texts : List (List ℕ)) → is_filled text ≡ true → counted n (text ∷ texts) ≡ counted (n + 1) texts
-counted_more n text texts filled = rw filled (ap (λ x. cond (are_filled texts) (Some x) None) (let e : n + length (text ∷ texts) ≡ (n + 1) + length texts = omega arith in e))
-
-pub counted_one : (n : ℕ) (text : List ℕ) → is_filled text ≡ true → counted n (text ∷ []) ≡ Some (n + 1)
-counted_one n text filled = rw filled refl
-
-pub counted_empty : (n : ℕ) (text : List ℕ) (texts : List (List ℕ)) → length text ≡ 0 → counted n (text ∷ texts) ≡ None
-counted_empty n [] texts none = refl
-counted_empty n (x ∷ xs) texts none = absurd (omega arith)
 
 -- there is always a first piece
 pieces_open_at : (ps : List (List ℕ)) → 0 < length ps → (first : List ℕ) × (more : List (List ℕ)) × (ps ≡ first ∷ more)

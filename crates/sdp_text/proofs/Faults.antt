@@ -1,5 +1,5 @@
 -- The fault that is named is the first one, and so is the IPv6 line.
-use Rattle.std.proofs.Common.{◌≡◌, ℕ, zero, suc, ◌<◌, ◌≤◌, Bool, true, false, cond, List, [], ◌∷◌, length, get_or, Option, Some, None, Contains, refl, sym, ap, ◌∙◌, subst, arith, inl, inr, ◌⊎◌}
+use Rattle.std.proofs.Common.{◌≡◌, ℕ, zero, suc, ◌<◌, ◌≤◌, true, false, cond, List, [], ◌∷◌, length, get_or, Option, Some, None, Contains, refl, sym, ap, ◌∙◌, subst, arith, inl, inr, ◌⊎◌}
 use Rattle.std.proofs.lemmas.Bool.{true≢false}
 use Rattle.sdp_text.specs.Hosts.{is_v6}
 use Rattle.sdp_text.specs.Parts.{is_active, line_of, earlier, count_fault, address_fault, connection_fault, given_fault, rtcp_fault, part_fault, served_fault, lower, v6_address, v6_connection, v6_given, v6_rtcp, v6_part, v6_line, known}

@@ -1,7 +1,7 @@
 -- Texts joined by a byte, and how long they are.
 use Rattle.std.proofs.Common.{◌≡◌, ℕ, ◌+◌, ◌-◌, ◌*◌, ◌<◌, ◌≤◌, eqb, ltb, leb, cond, true, false, Bool, inl, inr, ◌/◌, ◌%◌, List, [], ◌∷◌, ◌++◌, length, take, drop, get_or, map, sym, ap, ◌∙◌, subst, arith, append_assoc, append-nil, length-append, length-take, length-drop}
 use Rattle.std.specs.List.{join_with_byte, flat_map, prefix_len}
-use Rattle.std.proofs.lemmas.List.{drop_more, drop_all, take_all}
+use Rattle.std.proofs.lemmas.List.{drop_more, take_all}
 use Rattle.std.proofs.lemmas.List.Sums.{prefix_len-le-length}
 use Rattle.std.proofs.lemmas.Bool.{cases_lt, le-ltb, lt-ltb}
 use Rattle.sdp_text.specs.Hosts.{joined_groups, group_text, octet_text, digit_from, digit_byte, groups_of_bytes, longest_run, longer, around_run}
@@ -75,9 +75,6 @@ pair_more bytes i h =
 
 pub pairs_are : (bytes gs : List ℕ) (i : ℕ) → 2 * i + 1 < length bytes → gs ++ groups_of_bytes (drop (2 * i) bytes) ≡ groups_of_bytes bytes → (gs ++ (256 * get_or bytes (2 * i) 0 + get_or bytes (2 * i + 1) 0) ∷ []) ++ groups_of_bytes (drop (2 * (i + 1)) bytes) ≡ groups_of_bytes bytes
 pairs_are bytes gs i h known = append_assoc gs (_ ∷ []) (groups_of_bytes (drop (2 * (i + 1)) bytes)) ∙ ap (λ x. gs ++ x) (sym (pair_more bytes i h)) ∙ known
-
-pub pairs_end : (bytes gs : List ℕ) → length bytes ≡ 16 → gs ++ groups_of_bytes (drop 16 bytes) ≡ groups_of_bytes bytes → gs ≡ groups_of_bytes bytes
-pairs_end bytes gs e known = sym (append-nil gs) ∙ ap (λ x. gs ++ groups_of_bytes x) (sym (drop_all 16 bytes (omega arith))) ∙ known
 
 -- one more group from the end on
 back_one : (gs : List ℕ) (i : ℕ) → 0 < i → i ≤ length gs → drop (i - 1) gs ≡ get_or gs (i - 1) 0 ∷ drop i gs

@@ -1,11 +1,10 @@
 -- The lines that sections keep are lines of the description.
-use Rattle.std.proofs.Common.{◌≡◌, ℕ, zero, suc, ◌+◌, ◌-◌, ◌<◌, ◌≤◌, List, [], ◌∷◌, map, slice_get, All, Option, Some, None, refl, sym, ap, ◌∙◌, subst, arith}
+use Rattle.std.proofs.Common.{◌≡◌, ℕ, suc, ◌+◌, ◌-◌, List, [], ◌∷◌, map, slice_get, All, Option, Some, None, refl, ap, ◌∙◌, subst, arith}
 use Rattle.std.specs.Option.{IfSome}
 use Rattle.sdp_text.specs.Parts.{first_connection, first_rtcp, or_else, parts, parts_from}
 use Rattle.sdp_text.specs.Roles.{role}
 use Rattle.sdp_text.specs.declared.part.Part.{Part}
 use Rattle.sdp_text.specs.declared.role.Address.{Address}
-use Rattle.sdp_text.specs.declared.role.MediaLine.{MediaLine}
 use Rattle.sdp_text.specs.declared.role.RtcpLine.{RtcpLine}
 use Rattle.sdp_text.specs.declared.role.Role.{Role}
 use Rattle.sdp_text.specs.declared.role.Role.TheVariants.{Media, Connection, Rtcp, Plain}

@@ -1,3 +1,8 @@
+ghost use Rattle.std.specs.Prelude.{◌≡◌};
+ghost use Rattle.sdp_text.specs.declared.fault.SdpFault.TheVariants.{OutOfMemory as out_of_memory};
+
+use crate::bytes::OutOfMemory;
+
 /// Why a description is refused. Lines count from 1.
 #[derive(Clone, Copy, Debug, PartialEq, Eq)]
 pub enum SdpFault {
@@ -14,4 +19,12 @@ pub enum SdpFault {
     Dtls,
     /// Out of memory.
     OutOfMemory,
+}
+
+impl From<OutOfMemory> for SdpFault {
+    ghost from_gives = { λ _ fault. fault ≡ out_of_memory };
+
+    fn from(_refused: OutOfMemory) -> SdpFault {
+        SdpFault::OutOfMemory
+    }
 }

@@ -34,15 +34,11 @@ fn all_lines(alloc: Global, text: &[u8]) -> Result<Vec<&[u8]>, OutOfMemory>
         let (line, after) = cut(rest, b'\n');
         let Some(more) = after else {
             if !line.is_empty() {
-                let Ok(()) = found.push(line) else {
-                    return Err(OutOfMemory);
-                };
+                found.push(line)?;
             }
             return Ok(found);
         };
-        let Ok(()) = found.push(without_cr(line)) else {
-            return Err(OutOfMemory);
-        };
+        found.push(without_cr(line))?;
         rest = more;
     }
 }
@@ -154,9 +150,7 @@ pub(crate) fn roles_of(alloc: Global, lines: &[&[u8]]) -> Result<Vec<Role>, OutO
 {
     let mut roles = Vec::new(alloc);
     for line in lines {
-        let Ok(()) = roles.push(role_of(*line)) else {
-            return Err(OutOfMemory);
-        };
+        roles.push(role_of(*line))?;
     }
     Ok(roles)
 }

@@ -63,9 +63,7 @@ pub(crate) fn parts_of(alloc: Global, roles: &[Role]) -> Result<Vec<Part>, OutOf
                     connection: connection.or(session),
                     rtcp,
                 };
-                let Ok(()) = parts.push(part) else {
-                    return Err(OutOfMemory);
-                };
+                parts.push(part)?;
                 connection = None;
                 rtcp = None;
             }

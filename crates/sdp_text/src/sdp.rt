@@ -51,24 +51,16 @@ pub fn read(alloc: Global, text: &[u8]) -> Result<Sdp, SdpFault>
     ensures sound { OnOk result (fault_in (lines_of text.now) ≡ None) }
     ensures fault { IfErr result (λ fault. fault ≢ SdpFault.OutOfMemory → fault_in (lines_of text.now) ≡ Some fault) }
 {
-    let Ok(lines) = split_lines(alloc, text) else {
-        return Err(SdpFault::OutOfMemory);
-    };
+    let lines = split_lines(alloc, text)?;
     if let Some(number) = faulty_line(lines.as_slice()) {
         return Err(SdpFault::Line(number));
     }
-    let Ok(roles) = roles_of(alloc, lines.as_slice()) else {
-        return Err(SdpFault::OutOfMemory);
-    };
-    let Ok(parts) = parts_of(alloc, roles.as_slice()) else {
-        return Err(SdpFault::OutOfMemory);
-    };
+    let roles = roles_of(alloc, lines.as_slice())?;
+    let parts = parts_of(alloc, roles.as_slice())?;
     if let Some(fault) = sections_fault(parts.as_slice()) {
         return Err(fault);
     }
-    let Ok(sections) = sections_of(alloc, parts.as_slice()) else {
-        return Err(SdpFault::OutOfMemory);
-    };
+    let sections = sections_of(alloc, parts.as_slice())?;
     let v6_line = v6_line(parts.as_slice());
     Ok(Sdp {
         lines,

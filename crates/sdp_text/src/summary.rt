@@ -161,9 +161,7 @@ pub(crate) fn sections_of(alloc: Global, parts: &[Part]) -> Result<Vec<Section>,
 {
     let mut sections = Vec::new(alloc);
     for part in parts {
-        let Ok(()) = sections.push(section_of(part)) else {
-            return Err(OutOfMemory);
-        };
+        sections.push(section_of(part))?;
     }
     Ok(sections)
 }

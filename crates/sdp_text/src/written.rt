@@ -230,6 +230,9 @@ fn push_v4(out: &mut HostText, bytes: &[u8])
 /// The text of an address: an IPv4 address as four decimal numbers, an IPv6 address in lower case without
 /// leading zeros, with the longest run of two or more groups of zero, the first at a tie, as `::`
 /// (RFC 5952 section 4).
+///
+/// Lower case and no leading zeros are what its definition says alone, with tests beside it; `sdp_laws`
+/// says that it is read as itself and which run is `::`.
 pub fn host_text(host: &Host) -> HostText
     ensures text { result ≡ text_of host.now }
     ensures short { length result ≤ 39 }

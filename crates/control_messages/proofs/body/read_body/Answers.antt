@@ -9,13 +9,13 @@ use Rattle.control_messages.specs.Bodies.{pairs_if}
 use Rattle.control_messages.proofs.Read.{reads_so, is_small}
 use Rattle.control_messages.proofs.body.read_body.Goals as goal
 
-pub returns-in-Ok-Some-clause-reads : goal.returns-in-Ok-Some-clause-reads
-returns-in-Ok-Some-clause-reads c =
-    let reads = subst (λ (d : Option (Row (Room ℕ × Value))). Reads c.args.body.now (pairs_if d)) c.in-Ok-Some.field-0-is c.in-Ok-Some.ensures in
-    reads_so c.args.body.now (pairs_of (list_in c.in-Ok-Some.pairs)) c.body_of.result reads c.body_of.ensures.dictionary
+pub returns-in-Some-clause-reads : goal.returns-in-Some-clause-reads
+returns-in-Some-clause-reads c =
+    let reads = subst (λ (d : Option (Row (Room ℕ × Value))). Reads c.args.body.now (pairs_if d)) c.in-Some.is c.in_ok-pairs.ensures in
+    reads_so c.args.body.now (pairs_of (list_in c.in-Some.pairs)) c.body_of.result reads c.body_of.ensures.dictionary
 
-pub returns-in-Ok-Some-clause-small : goal.returns-in-Ok-Some-clause-small
-returns-in-Ok-Some-clause-small c =
-    let reads = subst (λ (d : Option (Row (Room ℕ × Value))). Reads c.args.body.now (pairs_if d)) c.in-Ok-Some.field-0-is c.in-Ok-Some.ensures in
+pub returns-in-Some-clause-small : goal.returns-in-Some-clause-small
+returns-in-Some-clause-small c =
+    let reads = subst (λ (d : Option (Row (Room ℕ × Value))). Reads c.args.body.now (pairs_if d)) c.in-Some.is c.in_ok-pairs.ensures in
     is_small c.args.body.now c.body_of.result
-    (reads_so c.args.body.now (pairs_of (list_in c.in-Ok-Some.pairs)) c.body_of.result reads c.body_of.ensures.dictionary) c.body_of.ensures.command
+    (reads_so c.args.body.now (pairs_of (list_in c.in-Some.pairs)) c.body_of.result reads c.body_of.ensures.dictionary) c.body_of.ensures.command

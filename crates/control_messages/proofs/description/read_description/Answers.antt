@@ -1,4 +1,5 @@
 use Rattle.std.proofs.Common.{◌∙◌, sym, ap}
+use Rattle.std.proofs.lemmas.Result.{err_from_is_err_and}
 use Rattle.sdp_text.specs.Lines.{lines_of}
 use Rattle.sdp_text.proofs.Served.{sections_few}
 use Rattle.call_board.specs.Asked.{v6_error}
@@ -7,17 +8,18 @@ use Rattle.control_messages.proofs.description.read_description.Goals as goal
 
 pub returns-in-Some-clause-error : goal.returns-in-Some-clause-error
 returns-in-Some-clause-error c =
-    sym (error-sound c.args.config.now c.args.text.now c.in-Ok.sdp c.in-Ok.ensures.lines c.in-Ok.ensures.sound)
+    sym (error-sound c.args.config.now c.args.text.now c.in_ok-sdp.sdp c.in_ok-sdp.ensures.lines c.in_ok-sdp.ensures.sound)
     ∙ sym (ap (v6_error c.args.config.now.interface6) c.first_v6.ensures) ∙ sym c.v6_error.ensures ∙ c.in-Some.is
 
-pub returns-in-Ok-clause-few : goal.returns-in-Ok-clause-few
-returns-in-Ok-clause-few c = sections_few (lines_of c.args.text.now) c.in-Ok.ensures.sound
+pub returns-clause-few : goal.returns-clause-few
+returns-clause-few c = sections_few (lines_of c.args.text.now) c.in_ok-sdp.ensures.sound
 
-pub returns-in-Ok-clause-sound : goal.returns-in-Ok-clause-sound
-returns-in-Ok-clause-sound c =
-    sym (error-sound c.args.config.now c.args.text.now c.in-Ok.sdp c.in-Ok.ensures.lines c.in-Ok.ensures.sound)
+pub returns-clause-sound : goal.returns-clause-sound
+returns-clause-sound c =
+    sym (error-sound c.args.config.now c.args.text.now c.in_ok-sdp.sdp c.in_ok-sdp.ensures.lines c.in_ok-sdp.ensures.sound)
     ∙ sym (ap (v6_error c.args.config.now.interface6) c.first_v6.ensures) ∙ sym c.v6_error.ensures ∙ c.in-None.is
 
-pub returns-clause-error : goal.returns-clause-error
-returns-clause-error c =
-    c.fault_of.ensures _ (λ memory. error-faulty c.args.config.now c.args.text.now c.in-Err.fault (c.in-Err.ensures.fault memory))
+pub returns-in_err-sdp-clause-error : goal.returns-in_err-sdp-clause-error
+returns-in_err-sdp-clause-error c =
+    let p = err_from_is_err_and c.from_residual.result c.from_residual.ensures.1 in
+    rw p.1 (p.2 _ (λ memory. error-faulty c.args.config.now c.args.text.now c.in_err-sdp.field-0.0 (c.in_err-sdp.ensures.fault memory)))

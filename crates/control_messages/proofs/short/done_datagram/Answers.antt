@@ -5,4 +5,4 @@ use Rattle.std.proofs.Common.{ap, ◌∙◌}
 pub returns : goal.returns
 returns c config =
     same_text c.value_datagram.result _ _ c.value_datagram.ensures
-    (ap (value_datagram c.args.request.now.cookie.now c.args.request.now.body.now) c.in-Ok.ensures ∙ done_is config c.args.request.now.cookie.now c.args.request.now.body.now)
+    (ap (value_datagram c.args.request.now.cookie.now c.args.request.now.body.now) c.in_ok-value.ensures ∙ done_is config c.args.request.now.cookie.now c.args.request.now.body.now)

@@ -5,7 +5,7 @@ use Rattle.sdp_text.proofs.line.all_lines.Goals as goal
 
 pub loop-more-preserved : goal.loop-more-preserved
 loop-more-preserved c =
-    let pushed = c.in-Ok-push.ensures.items in
+    let pushed = c.in_ok-push-2.ensures.items in
     let shorter : length c.in-Some.more.now < length c.loop-more.rest.now = rw c.in-Some.is at c.cut.ensures.shorter in
     let sizes : length c.cut.result.0.now + 1 + length c.in-Some.more.now ≡ length c.loop-more.rest.now = rw c.in-Some.is at c.cut.ensures.sizes in
     record {
