@@ -69,6 +69,8 @@ fn inbound_keys(signal: &Signal) -> usize
 }
 
 /// The memory of an answer to this request that commits this, and whose description has at most this many bytes. There is none for 2^40 bytes.
+/// It has as many inbound contexts as the answer names keys, which is enough whatever the cell holds (`due_named`), since no two of its legs
+/// have one section and side. A box for a key in force stays empty and goes with the answer.
 pub(crate) fn answer_room(
     alloc: Global,
     request: &Request,

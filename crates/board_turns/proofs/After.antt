@@ -10,10 +10,8 @@ use Rattle.turn_table.specs.declared.machine.Entry as table
 use Rattle.port_pool.specs.declared.holder.Holder.{Holder}
 use Rattle.port_pool.specs.Signals.{NewKey}
 use Rattle.port_pool.specs.Boxes.{Open, Close, holder}
-use Rattle.port_pool.specs.declared.signal.SectionSignal.{SectionSignal}
 use Rattle.call_cell.specs.declared.prepare.Prepare as prepared
 use Rattle.call_cell.specs.Preparing.{CanCome}
-use Rattle.call_cell.specs.Committing.{NamesKeys, contexts_due_after}
 use Rattle.call_cell.specs.Cells.{since_end, CellEvent, keys_of, key_numbered}
 use Rattle.relay_core.specs.Entries.{Event, Box, Entry, is_at, history, cell_at, box_in, cell_entry, box_event, cell_history, box_history}
 use Rattle.relay_core.specs.Scripts.{Owed, owed_by}
@@ -25,7 +23,7 @@ use Rattle.relay_core.proofs.Histories.{at_place, is_there}
 use Rattle.relay_core.proofs.Shut.{same_history}
 use Rattle.relay_core.proofs.Turns.{filter_append, filter_none, filter_every, false_if, nothing_more}
 use Rattle.board_turns.specs.Nesting.{IsShut, IsOpen}
-use Rattle.board_turns.specs.InCells.{HasNewKeys, CanPrepare, CanCommit, HasRoom, in_cell_of}
+use Rattle.board_turns.specs.InCells.{HasNewKeys, CanPrepare, in_cell_of}
 use Rattle.board_turns.proofs.Nesting.{map_rows}
 
 -- Histories.
@@ -205,14 +203,6 @@ pub still_comes : {O : Type 0} (config : Config) (l longer : List Entry) (place 
     → IsElsewhere l place longer → CanPrepare config l place signal call keys dropped → CanPrepare config longer place signal call keys dropped
 still_comes config l longer place signal call keys dropped s comes =
     still (λ (es : List Entry). CanCome config (since_end (filter_map cell_entry es)) signal call keys dropped) l longer place s comes
-
-pub still_names : (l longer : List Entry) (place : ℕ) (signal : List SectionSignal) → IsElsewhere l place longer → CanCommit l place signal → CanCommit longer place signal
-still_names l longer place signal s names = still (λ (es : List Entry). NamesKeys (since_end (filter_map cell_entry es)) signal) l longer place s names
-
-pub still_room : (l longer : List Entry) (place : ℕ) (signal : List SectionSignal) (contexts : ℕ) → IsElsewhere l place longer → HasRoom l place signal contexts
-    → HasRoom longer place signal contexts
-still_room l longer place signal contexts s room =
-    still (λ (es : List Entry). contexts_due_after (since_end (filter_map cell_entry es)) signal ≤ contexts) l longer place s room
 
 -- Steps of cells, by the hand's list.
 

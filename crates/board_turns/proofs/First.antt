@@ -91,6 +91,3 @@ pub tells_same : {O : Type 0} (signal : prepared.Prepare O) (keys others : List 
     → PrepareFor signal keys dropped → PrepareFor signal others more
 tells_same signal keys others dropped more same again tells =
     subst (λ (ks : List NewKey). PrepareFor signal ks more) (sym same) (subst (λ (ds : List ℕ). PrepareFor signal keys ds) (sym again) tells)
-
-pub one_added : {A : Type 0} {x : A} {a b c : List A} → a ≡ [] → b ≡ a ++ x ∷ [] → c ≡ b → c ≡ x ∷ []
-one_added {A} {x} none one same = same ∙ one ∙ ap (λ (l : List A). l ++ x ∷ []) none

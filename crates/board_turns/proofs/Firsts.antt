@@ -1,12 +1,11 @@
 -- The main hand before the board's first turn.
-use Rattle.std.proofs.Common.{◌≡◌, sym, subst, ap, List, [], ◌∷◌, ◌++◌, length, length-append, Option, Some, arith, false, true}
+use Rattle.std.proofs.Common.{◌≡◌, sym, subst, ap, List, [], ◌∷◌, ◌++◌, length, length-append, arith, false, true}
 use Rattle.relay_outside.specs.declared.ports.PortCall.{PortCall}
 use Rattle.relay_outside.specs.declared.settings.Config.{Config}
 use Rattle.turn_table.specs.declared.machine.Entry as table
 use Rattle.turn_table.specs.declared.hands.Turns.{Turns}
 use Rattle.turn_table.specs.declared.hands.Hand.{Hand}
 use Rattle.turn_table.specs.Hands.{IsHandOf, IsFirstHand, entries}
-use Rattle.call_board.specs.Acts.{BoardEntry}
 use Rattle.call_board.specs.Pairs.{held}
 use Rattle.relay_core.specs.declared.part.Part.{Part}
 use Rattle.relay_core.specs.Entries.{Entry}
@@ -15,9 +14,8 @@ use Rattle.relay_core.specs.Beginning.{AreParts}
 use Rattle.relay_core.specs.Turning.{made_by}
 use Rattle.relay_core.proofs.Known.{IsKnown}
 use Rattle.relay_core.proofs.Turns.{nothing_is_orderly}
-use Rattle.media_ports.specs.Held.{OpensHeld, TellsHeld}
+use Rattle.media_ports.specs.Held.{OpensHeld}
 use Rattle.board_turns.specs.Between.{board_of, IsBetween}
-use Rattle.board_turns.specs.Ending.{leg_pairs}
 
 nothing_known : {T : Type 0} (config : Config) → IsKnown {T = T} config []
 nothing_known config = record {
@@ -64,9 +62,3 @@ none_open config pair half low = (
   λ is_open. absurd (not_opened is_open.before is_open.after _ is_open.opened),
   λ held. absurd (let q : false ≡ true = held in cc),
 )
-
--- so just the ports of the held pairs are open
-pub first_opens : (config : Config) (l : List Entry) (told : Option (List PortCall)) → told ≡ Some [] → l ≡ [] → TellsHeld config told (leg_pairs (held (board_of l)))
-first_opens config l told nothing none =
-    subst (λ (t : Option (List PortCall)). TellsHeld config t (leg_pairs (held (board_of l)))) (sym nothing)
-    (subst (λ (h : List BoardEntry). OpensHeld config [] (leg_pairs (held h))) (sym (first_board l none)) (none_open config))

@@ -117,9 +117,6 @@ asked_once : (config : Config) (h : List BoardEntry) (answers : List (Call × Bo
 asked_once config h answers i fits are =
     subst Once (sym (ap numbers_of are ∙ sym (take-map (λ (c : Call). c.number) i (live h)))) (once_taken i (numbers_of (live h)) (live_once config h fits))
 
-due_alive : {c : Call} (h : List BoardEntry) (answers : List (Call × Bool)) (i : ℕ) → asked_of answers ≡ take i (live h) → In c (due_of answers) → In c (live h)
-due_alive {c} h answers i are k = in_taken i (live h) (subst (λ (cs : List Call). In c cs) are (is_asked answers k))
-
 asked_alive : {a : Call × Bool} (h : List BoardEntry) (answers : List (Call × Bool)) (i : ℕ) → asked_of answers ≡ take i (live h) → In a answers → In a.0 (live h)
 asked_alive {a} h answers i are k = in_taken i (live h) (subst (λ (cs : List Call). In a.0 cs) are (maps (λ (b : Call × Bool). b.0) answers k))
 

@@ -5,6 +5,9 @@ use control_messages::Request;
 use std::alloc::Global;
 
 /// A command that is to be carried out.
+///
+/// Memory is a field here and not in `BoardTurn`: that a tick and a stop take none follows from
+/// their types.
 #[derive(Drop)]
 pub struct AskedCommand<'a, T> {
     /// The datagram that asks it.

@@ -40,6 +40,7 @@ fn shut_part<I: InEnd, O: OutEnd>(part: &mut Part<I, O>) -> (I, I)
 
 /// Opens the box of a leg's pair for the leg, with the in ends that were opened for the pair's ports for RTP and for RTCP, and not
 /// called since. The box is shut.
+/// Ends that were called could have lists that begin with calls that are no take's, or stand at another port.
 pub fn open_box<I: InEnd, O: OutEnd, R: Wait>(
     rt: &R,
     main: &mut MainHand<I, O>,

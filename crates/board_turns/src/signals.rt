@@ -24,6 +24,7 @@ use std::sync::Wait;
 
 /// Takes into a cell what an offer brings to the call with this number. The legs of the sections that it drops go to `gone`, which
 /// is empty. The out ends of its legs were opened for the ports of their pairs, and not called since. Cells are numbered from 1.
+/// Ends that were called could have lists that begin with sends that are no relay's, or stand at another port.
 pub fn prepare_cell<I: InEnd, O: OutEnd, R: Wait>(
     rt: &R,
     main: &mut MainHand<I, O>,

@@ -40,7 +40,6 @@ use Rattle.call_board.specs.Answers.{offer_ask}
 use Rattle.call_board.specs.Fits.{FitsAt, IsFitting, GivesFor, GivesUndone, demanded, demanded_by}
 use Rattle.call_board.specs.Views.{View, times_leased}
 use Rattle.call_board.specs.Boards.{Shows}
-use Rattle.call_board.specs.Whole.{with_draws}
 use Rattle.call_board.specs.declared.board.Board.{Board}
 use Rattle.call_board.proofs.Once.{Once, filter_less}
 use Rattle.call_board.proofs.Sieves.{is_out}
@@ -48,7 +47,6 @@ use Rattle.call_board.proofs.Lowest.{length_numbers}
 use Rattle.call_board.proofs.Leased.{count-none}
 use Rattle.call_board.proofs.Draws.{entry_draws}
 use Rattle.call_board.proofs.FreeAfter.{leases_once}
-use Rattle.call_board.proofs.Entries.{draws_are}
 
 -- Leases.
 
@@ -252,15 +250,6 @@ may_lease config h board v count pair fits s leases short few =
     let same : v.leases pair ≡ times_leased h pair = ap (λ (f : ℕ → ℕ). f pair) leases in
     let bound = generation_case config board v pair (length h) s (omega (arith, most, same)) (low_or_high pair (pair_count config)) in
     omega (arith, bound, short, few)
-
--- nor do the draws reach the end of theirs
-pub may_draw : (config : Config) (h : List BoardEntry) (board : Board) (v : View) (count : ℕ) → IsFitting config h → Shows config board (with_draws v count) → v.drawn ≡ length (drawn h) → length h < 2 ^ 56 → count ≤ 24 →
-    board.drawn < 2 ^ 63
-may_draw config h board v count fits s drawn_is short few =
-    let most = few_drawn config h fits in
-    let here = s.drawn_is in
-    let more : (with_draws v count).drawn ≡ v.drawn + count = ap (λ (w : View). w.drawn) (draws_are v count) in
-    omega (arith, most, here, more, drawn_is, short, few)
 
 -- nor do the calls that began
 pub may_begin : (config : Config) (h : List BoardEntry) (board : Board) (v : View) → Shows config board v → v.begun ≡ length (begun h) → length h < 2 ^ 56 → board.begun < 2 ^ 63

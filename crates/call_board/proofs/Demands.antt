@@ -11,7 +11,7 @@ use Rattle.port_pool.specs.declared.holder.Holder.{Holder}
 use Rattle.port_pool.specs.Signals.{NewKey}
 use Rattle.offer_answer.specs.Rounds.{NewLeg, KeyPlace}
 use Rattle.call_board.specs.Acts.{Call, Offer, BoardEntry}
-use Rattle.call_board.specs.Pairs.{family_eq, first_of, without_front, fronts, is_short, is_short_of, free_in, new_legs, new_keys, drawn}
+use Rattle.call_board.specs.Pairs.{family_eq, first_of, without_front, fronts, is_short, is_short_of, free_in, new_legs, new_keys}
 use Rattle.call_board.proofs.Told.{IsOffer}
 
 abbrev as_one : Bool → ℕ
@@ -105,10 +105,6 @@ legs_demanded config h e o told =
     ap (map of_leg) told.legs_are
     ∙ legs_places h o.of (fronts (free_in config h) told.demand.pairs) told.demand.pairs
     (fronts_length (free_in config h) told.demand.pairs (enough_of (free_in config h) told.demand.pairs told.enough))
-
--- the new keys of an offer are for those that its plan demands, in order
-pub keys_demanded : (config : Config) (h : List BoardEntry) (e : BoardEntry) (o : Offer) → (told : IsOffer config h e o) → map of_key o.keys ≡ map of_new_key told.demand.keys
-keys_demanded config h e o told = ap (map of_key) told.keys_are ∙ keys_places (length (drawn h)) told.draws told.demand.keys told.as_many
 
 legs_length : (h : List BoardEntry) (c : Call) (pairs : List ℕ) (legs : List NewLeg) → length pairs ≡ length legs → length (new_legs h c pairs legs) ≡ length legs
 legs_length h c [] [] same = refl

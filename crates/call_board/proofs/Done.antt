@@ -1,6 +1,6 @@
 -- Which reply a datagram gets and what it does, case by case: each gives the act and the datagram of the reply together.
 use Rattle.std.proofs.Common.{◌≡◌, ◌∙◌, sym, ap, subst, refl, ℕ, List, [], ◌∷◌, ◌++◌, map, length, take, Bool, true, false, cond, not, Option, Some, None, Result, Ok, Err}
-use Rattle.std.specs.Prelude.{nat_le, nat_lt}
+use Rattle.std.specs.Prelude.{nat_lt}
 use Rattle.std.specs.List.{list_any}
 use Rattle.relay_outside.specs.declared.settings.Config.{Config}
 use Rattle.ng_frame.specs.Frame.{frame}
@@ -14,13 +14,13 @@ use Rattle.offer_answer.specs.Rounds.{Round, OfferAsk, AnswerAsk}
 use Rattle.offer_answer.specs.Plan as plan
 use Rattle.call_board.specs.Acts as act
 use Rattle.call_board.specs.Acts.{Act, Call, Control, BoardEntry}
-use Rattle.call_board.specs.Calls.{live, find_call, new_call, rounds, rounds_of_call, first_moment, latest_moment}
-use Rattle.call_board.specs.Pairs.{free, free_in, is_short, lease_of}
+use Rattle.call_board.specs.Calls.{live, find_call, rounds, first_moment, latest_moment}
+use Rattle.call_board.specs.Pairs.{free, lease_of}
 use Rattle.call_board.specs.Kept.{kept}
 use Rattle.call_board.specs.Asked.{Reads, asked}
 use Rattle.call_board.specs.Replies.{Reply, Pong, Done, Warned, Described, Reported, Listed, Fault, reply_datagram}
 use Rattle.call_board.specs.Reports.{Report}
-use Rattle.call_board.specs.Answers.{Answering, Answered, failing, telling, offering, leased_pairs, offer_ask, answer_ask, offer_leased, offer_unless, offer_to, answer_unless, answer_to, delete_of, missing, names_side, legs_told, query_of, answering, answering_asked, answering_unless, spelled}
+use Rattle.call_board.specs.Answers.{Answering, Answered, failing, telling, offering, leased_pairs, offer_ask, answer_ask, offer_leased, offer_to, answer_to, delete_of, missing, names_side, legs_told, query_of, answering, answering_asked, answering_unless, spelled}
 use Rattle.call_board.specs.Fits.{FitsControl, GivesFor, Hears, asks_after, demanded, demanded_by, is_read, is_heard}
 use Rattle.call_board.specs.Views.{view_of}
 use Rattle.call_board.specs.Planned.{PlansOffer, target}
@@ -214,24 +214,6 @@ due_of_answer config h now c id ask due asks heard is =
     ∙ ap (λ (chosen : List (Option CryptoLine)). spelled config c.cookie c.body (answer_to config h (answer_ask ask.from_tag ask.to_tag ask.sdp ask.options chosen) (find_call h id))) (sym heard)
     ∙ ap (spelled config c.cookie c.body) is
 
-pub answer_unknown_due : (config : Config) (h : List BoardEntry) (now : ℕ) (c : Control) (id : List ℕ) (ask : AnswerAsk)
-    → Asks config h now c (Ok (says_answer id ask)) → ask.chosen ≡ c.chosen → find_call h id ≡ None → IsDue config h now c (with_reply config c (Fault E9) (act.Failed E9))
-answer_unknown_due config h now c id ask asks heard none = due_of_answer config h now c id ask (failing E9) asks heard (ap (answer_to config h ask) none)
-
-pub answer_fault_due : (config : Config) (h : List BoardEntry) (now : ℕ) (c : Control) (id : List ℕ) (ask : AnswerAsk) (of : Call) (code : ErrorCode)
-    → Asks config h now c (Ok (says_answer id ask)) → ask.chosen ≡ c.chosen → find_call h id ≡ Some of → plan.answer_fault (rounds h of.number) ask ≡ Some code
-    → IsDue config h now c (with_reply config c (Fault code) (act.Failed code))
-answer_fault_due config h now c id ask of code asks heard found fault =
-    due_of_answer config h now c id ask (failing code) asks heard (ap (answer_to config h ask) found ∙ ap (answer_unless config ask of (rounds h of.number)) fault)
-
-pub answered_due : (config : Config) (h : List BoardEntry) (now : ℕ) (c : Control) (id : List ℕ) (ask : AnswerAsk) (of : Call)
-    → Asks config h now c (Ok (says_answer id ask)) → ask.chosen ≡ c.chosen → find_call h id ≡ Some of → plan.answer_fault (rounds h of.number) ask ≡ None
-    → IsDue config h now c (with_reply config c (Described (plan.answer_text config (rounds h of.number) ask))
-    (act.Answered (record { of = of; ask = ask; signal = plan.signal (rounds h of.number) ask })))
-answered_due config h now c id ask of asks heard found fault =
-    due_of_answer config h now c id ask (answer_unless config ask of (rounds h of.number) None) asks heard
-    (ap (answer_to config h ask) found ∙ ap (answer_unless config ask of (rounds h of.number)) fault)
-
 -- by the board's plan of it (`Dues.answer_due`)
 pub answer_plan_due : (config : Config) (h : List BoardEntry) (now : ℕ) (c : Control) (id : List ℕ) (ask : AnswerAsk) (lines : List (List ℕ)) (p : BoardPlan)
     → Asks config h now c (Ok (says_answer id ask)) → ask.chosen ≡ c.chosen → (due : IsAnswerDue config h lines ask p (find_call h id))
@@ -307,53 +289,7 @@ offered_due config h now c id ask of begins before pairs asks heard leased opene
 
 -- The faults and shortages of an offer, by the board's history.
 
-pub offer_fault_is : (config : Config) (h : List BoardEntry) (c : Control) (id : List ℕ) (ask : OfferAsk) (code : ErrorCode) (found : Option Call)
-    → plan.offer_fault (rounds_of_call h found) ask ≡ Some code → offer_to config h c.given id ask found ≡ failing code
-offer_fault_is config h c id ask code None fault = ap (offer_unless config h c.given ask (new_call h id) true []) fault
-offer_fault_is config h c id ask code (Some of) fault = ap (offer_unless config h c.given ask of false (rounds h of.number)) fault
-
 -- the reply to an offer without a fault, by what it lacks
 abbrev planned_case : Config → List BoardEntry → Control → OfferAsk → Call → Bool → List Round → (over short : Bool) → Answering
 planned_case config h c ask of begins before over short =
     cond over (failing E14) (cond short (failing E13) (offer_leased config h c.given ask of begins before (leased_pairs config h (plan.demand before ask))))
-
-new_planned : (config : Config) (h : List BoardEntry) (c : Control) (id : List ℕ) (ask : OfferAsk) (over short : Bool) → find_call h id ≡ None → plan.offer_fault [] ask ≡ None
-    → nat_le config.max_sessions (length (live h)) ≡ over → is_short (free_in config h) (plan.demand [] ask).pairs ≡ short
-    → offer_to config h c.given id ask (find_call h id) ≡ planned_case config h c ask (new_call h id) true [] over short
-new_planned config h c id ask over short none fine limit pairs =
-    ap (offer_to config h c.given id ask) none ∙ ap (offer_unless config h c.given ask (new_call h id) true []) fine
-    ∙ ap (λ b. planned_case config h c ask (new_call h id) true [] b (is_short (free_in config h) (plan.demand [] ask).pairs)) limit
-    ∙ ap (planned_case config h c ask (new_call h id) true [] over) pairs
-
-live_planned : (config : Config) (h : List BoardEntry) (c : Control) (id : List ℕ) (ask : OfferAsk) (of : Call) (short : Bool) → find_call h id ≡ Some of
-    → plan.offer_fault (rounds h of.number) ask ≡ None → is_short (free_in config h) (plan.demand (rounds h of.number) ask).pairs ≡ short
-    → offer_to config h c.given id ask (find_call h id) ≡ planned_case config h c ask of false (rounds h of.number) false short
-live_planned config h c id ask of short found fine pairs =
-    ap (offer_to config h c.given id ask) found ∙ ap (offer_unless config h c.given ask of false (rounds h of.number)) fine
-    ∙ ap (planned_case config h c ask of false (rounds h of.number) false) pairs
-
--- a call more than the limit
-pub session_limit_is : (config : Config) (h : List BoardEntry) (c : Control) (id : List ℕ) (ask : OfferAsk) → find_call h id ≡ None → plan.offer_fault [] ask ≡ None
-    → nat_le config.max_sessions (length (live h)) ≡ true → offer_to config h c.given id ask (find_call h id) ≡ failing E14
-session_limit_is config h c id ask none fine limit = new_planned config h c id ask true (is_short (free_in config h) (plan.demand [] ask).pairs) none fine limit refl
-
--- too few pairs for a new call, or for a live one
-pub no_pair_for_new : (config : Config) (h : List BoardEntry) (c : Control) (id : List ℕ) (ask : OfferAsk) → find_call h id ≡ None → plan.offer_fault [] ask ≡ None
-    → nat_le config.max_sessions (length (live h)) ≡ false → is_short (free_in config h) (plan.demand [] ask).pairs ≡ true → offer_to config h c.given id ask (find_call h id) ≡ failing E13
-no_pair_for_new config h c id ask none fine limit pairs = new_planned config h c id ask false true none fine limit pairs
-
-pub no_pair_for_live : (config : Config) (h : List BoardEntry) (c : Control) (id : List ℕ) (ask : OfferAsk) (of : Call) → find_call h id ≡ Some of
-    → plan.offer_fault (rounds h of.number) ask ≡ None → is_short (free_in config h) (plan.demand (rounds h of.number) ask).pairs ≡ true
-    → offer_to config h c.given id ask (find_call h id) ≡ failing E13
-no_pair_for_live config h c id ask of found fine pairs = live_planned config h c id ask of true found fine pairs
-
--- an offer that begins a call leases its pairs, and so does one to a live call
-pub new_leases : (config : Config) (h : List BoardEntry) (c : Control) (id : List ℕ) (ask : OfferAsk) → find_call h id ≡ None → plan.offer_fault [] ask ≡ None
-    → nat_le config.max_sessions (length (live h)) ≡ false → is_short (free_in config h) (plan.demand [] ask).pairs ≡ false
-    → IsLeasing config h c id ask (new_call h id) true [] (leased_pairs config h (plan.demand [] ask))
-new_leases config h c id ask none fine limit pairs = record { is = new_planned config h c id ask false false none fine limit pairs }
-
-pub live_leases : (config : Config) (h : List BoardEntry) (c : Control) (id : List ℕ) (ask : OfferAsk) (of : Call) → find_call h id ≡ Some of
-    → plan.offer_fault (rounds h of.number) ask ≡ None → is_short (free_in config h) (plan.demand (rounds h of.number) ask).pairs ≡ false
-    → IsLeasing config h c id ask of false (rounds h of.number) (leased_pairs config h (plan.demand (rounds h of.number) ask))
-live_leases config h c id ask of found fine pairs = record { is = live_planned config h c id ask of false found fine pairs }

@@ -19,11 +19,11 @@ use Rattle.offer_answer.specs.Answering.{AsksAnswer}
 use Rattle.call_board.specs.Acts as act
 use Rattle.call_board.specs.Acts.{Call, BoardEntry, Given}
 use Rattle.call_board.specs.Calls.{begun, live, find_call, new_call, rounds, lowest_but}
-use Rattle.call_board.specs.Pairs.{family_eq, free, free_in, is_short, is_short_of, lease_of, new_legs}
+use Rattle.call_board.specs.Pairs.{family_eq, free, free_in, is_short, is_short_of, new_legs}
 use Rattle.call_board.specs.Replies.{Described}
 use Rattle.call_board.specs.Answers.{Answering, failing, leased_pairs, offer_leased, offer_planned, offer_unless, offer_to, answer_unless, answer_to}
 use Rattle.call_board.specs.Views.{View, CallView, call_view, view_of, times_leased, is_of_id, call_of_id, with_calls, goes_on}
-use Rattle.call_board.specs.Boards.{lease_at, leases_of, pairs_in}
+use Rattle.call_board.specs.Boards.{lease_at, leases_of}
 use Rattle.call_board.specs.Planned.{Target, target, target_by, shortage, refusal, fault_or, code_of, BeginsFor, PlansOffer, PlansAnswer, AnswerPlanFor}
 use Rattle.call_board.specs.Applied.{IsNext, taken_in}
 use Rattle.call_board.specs.Whole.{legs_of, with_first, with_more}
@@ -34,9 +34,8 @@ use Rattle.call_board.specs.declared.board_plan.NewCall.{NewCall}
 use Rattle.call_board.proofs.Lowest.{lowest_is, lowest_bound}
 use Rattle.call_board.proofs.Calls.{found_live}
 use Rattle.call_board.proofs.Demands.{count_of, count_next}
-use Rattle.call_board.proofs.FreeAfter.{AreV4, fronts_are, free_v4, pairs_leased}
+use Rattle.call_board.proofs.FreeAfter.{AreV4, fronts_are, free_v4}
 use Rattle.call_board.proofs.Found.{found_by_id}
-use Rattle.call_board.proofs.Outs.{lease_pairs}
 
 -- The pairs of an offer.
 
@@ -234,11 +233,6 @@ legs_by config h of (p ∷ pairs) (leg ∷ legs) =
 pub legs_leased_are : (config : Config) (h : List BoardEntry) (of : Call) (count : ℕ) (legs : List NewLeg) →
     new_legs h of (take count (free config h)) legs ≡ legs_of of (leases_of config (view_of config h) count) legs
 legs_leased_are config h of count legs = legs_by config h of (take count (free config h)) legs
-
--- the pairs that an offer that is undone gives back are those of its leases
-pub undone_pairs_are : (config : Config) (h : List BoardEntry) (count : ℕ) →
-    map (λ (lease : act.Lease). lease.pair) (map (lease_of h) (take count (free config h))) ≡ pairs_in (leases_of config (view_of config h) count)
-undone_pairs_are config h count = pairs_leased h (take count (free config h)) ∙ sym (lease_pairs config (times_leased h) (take count (free config h)))
 
 -- Taking a plan in.
 

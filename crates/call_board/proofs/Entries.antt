@@ -423,10 +423,6 @@ happened config h now (Stop calls) old fits timely = stopped config h now calls 
 pub whole : (config : Config) (h : List BoardEntry) (e : BoardEntry) → IsFitting config h → FitsBoard config h e → IsTimely h e → view_of config (e ∷ h) ≡ after h e (view_of config h)
 whole config h e old fits timely = happened config h e.moment e.event old fits timely
 
--- a moment that was handed in, raised to the last one where it is earlier
-pub raised_is_late : (h : List BoardEntry) (now moment : ℕ) → moment ≡ max now (last_moment h) → last_moment h ≤ moment
-raised_is_late h now moment is = omega (arith, is)
-
 -- a board that keeps what the entry makes stands for the history with it
 pub entry_stands : (config : Config) (board : Board) (h : List BoardEntry) (e : BoardEntry) → IsFitting config h → FitsBoard config h e → IsTimely h e → Shows config board (after h e (view_of config h)) → BoardFor config board (e ∷ h)
 entry_stands config board h e old fits timely s = subst (Shows config board) (sym (whole config h e old fits timely)) s

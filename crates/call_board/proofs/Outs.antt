@@ -9,16 +9,15 @@ use Rattle.histories.proofs.Lists.{in_append, maps, it_has, equal_if}
 use Rattle.port_pool.specs.Ports.{pair_count}
 use Rattle.port_pool.specs.Pools.{AreFree}
 use Rattle.port_pool.specs.declared.holder.Holder.{Holder}
-use Rattle.port_pool.specs.Signals.{is_rejected}
 use Rattle.port_pool.specs.declared.pairs.Lease.{Lease}
 use Rattle.call_board.specs.declared.board.Board.{Board}
 use Rattle.call_board.specs.Acts as act
-use Rattle.call_board.specs.Acts.{Call, Offer, Answer, Act, Control, BoardEvent, Turn, BoardEntry, act}
+use Rattle.call_board.specs.Acts.{Call, Offer, Act, Control, Turn, BoardEntry, act}
 use Rattle.call_board.specs.Calls.{ended_by}
 use Rattle.call_board.specs.Pairs.{held, legs_of_act, closes_leg, closes_leg_act, closed_of, leased, leased_by_act, free, next_generation}
 use Rattle.call_board.specs.Fits.{FitsBoard, IsFitting}
 use Rattle.call_board.specs.Views.{View, view_of, times_leased, with_leases, with_returned, without_call}
-use Rattle.call_board.specs.Boards.{Shows, IsOut, AreOut, lease_at, leases_of, pairs_in}
+use Rattle.call_board.specs.Boards.{Shows, IsOut, AreOut, lease_at, pairs_in}
 use Rattle.call_board.specs.Whole.{with_closed, with_ended}
 use Rattle.call_board.specs.Returns.{leg_lease, MayReturn, MayReturnAll}
 use Rattle.call_board.proofs.Once.{Once, once_filtered}
@@ -27,7 +26,7 @@ use Rattle.call_board.proofs.Held.{held_split, closed_of_held}
 use Rattle.call_board.proofs.Leases.{leg_generation, counted as present}
 use Rattle.call_board.proofs.Leased.{count-none}
 use Rattle.call_board.proofs.Free.{legs_leased, leased_free, free_once, free_below, free_not_held, held_once, held_below}
-use Rattle.call_board.proofs.FreeAfter.{leases_once, taken_in, once_taken, closed_apart}
+use Rattle.call_board.proofs.FreeAfter.{leases_once, taken_in, closed_apart}
 use Rattle.call_board.proofs.Bounds.{once_count}
 use Rattle.call_board.proofs.Given.{has-behind, differs, later}
 use Rattle.call_board.proofs.CallsAfter.{eq_swap}
@@ -133,16 +132,6 @@ legs_return config h v (leg ∷ legs) fits held_ once = (
 closed_pairs_once : (config : Config) (h : List BoardEntry) (e : BoardEntry) (of : Call) → IsFitting config h → Once (map pair_of (closed_of h e of))
 closed_pairs_once config h e of fits = once_filtered pair_of (λ (leg : Holder). (leg.call == of.number) && closes_leg e leg) (held h) (held_once config h fits)
 
--- the pairs of the legs that an answer or a delete closes may be given back: nothing was leased or given back before
-pub closed_return : (config : Config) (h : List BoardEntry) (e : BoardEntry) (of : Call) (v : View) → IsFitting config h → v.free ≡ free config h → v.leases ≡ times_leased h →
-    MayReturnAll config v (map (leg_lease config) (closed_of h e of))
-closed_return config h e of v fits free_is leases_are =
-    legs_return config h v (closed_of h e of) fits (record {
-      are_held = λ a i. (closed_of_held h e of a i).0;
-      not_free = λ a i j. free_not_held config h a.pair a (subst (λ (ps : List ℕ). In a.pair ps) free_is j) (closed_of_held h e of a i).0 refl;
-      same_leases = λ a i. ap (λ (f : ℕ → ℕ). f a.pair) leases_are;
-    }) (closed_pairs_once config h e of fits)
-
 dropped_in : (p k : ℕ) (xs : List ℕ) → In p (drop k xs) → In p xs
 dropped_in p zero [] i = i
 dropped_in p zero (x ∷ xs) i = i
@@ -205,18 +194,6 @@ leases_return config v f (p ∷ pairs) once below out last = (
   leases_return config v f pairs once.1 (λ q i. below q (there i)) (λ q i. out q (there i)) (λ q i. last q (there i)),
 )
 
--- the leases of an offer may all be given back: nothing was given back since
-pub undone_return : (config : Config) (h : List BoardEntry) (v : View) (count : ℕ) → IsFitting config h → v.free ≡ drop count (free config h) →
-    v.leases ≡ (with_leases (view_of config h) count).leases → MayReturnAll config v (leases_of config (view_of config h) count)
-undone_return config h v count fits free_is leases_are =
-    let pairs = take count (free config h) in
-    let once = once_taken count (free config h) (free_once config h) in
-    leases_return config v (times_leased h) pairs once (λ p i. free_below config h p fits (taken_in p count (free config h) i))
-    (λ p i j. apart_taken p count (free config h) (free_once config h) i (subst (λ (ps : List ℕ). In p ps) free_is j))
-    (λ p i. let one = counted p pairs once i in
-    let same : v.leases p ≡ times_leased h p + count_by (λ q. q == p) pairs = ap (λ (f : ℕ → ℕ). f p) leases_are in
-    omega (arith, one, same))
-
 -- What is free.
 
 free_each : (count : ℕ) (xs : List ℕ) → Once xs → ((p : ℕ) → In p xs → p < count) → AreFree count xs
@@ -258,14 +235,6 @@ closed_of_offer h now c o is =
     ap (λ (a : Act). closed_of h (turn now c a) o.of) is
     ∙ filter_alike (λ (leg : Holder). (leg.call == o.of.number) && ((o.of.number == leg.call) && has o.dropped leg.section)) (λ (leg : Holder). (leg.call == o.of.number) && has o.dropped leg.section) (held h)
     (λ leg i. swap_case (leg.call == o.of.number) (o.of.number == leg.call) (has o.dropped leg.section) (eq_swap leg.call o.of.number))
-
--- of its call an answer closes the legs of the sections that it rejects
-pub closed_of_answer : (h : List BoardEntry) (now : ℕ) (c : Control) (a : Answer) → c.act ≡ act.Answered a →
-    closed_of h (record { moment = now; event = Turn c }) a.of ≡ filter (λ leg. (leg.call == a.of.number) && is_rejected a.signal leg.section) (held h)
-closed_of_answer h now c a is =
-    ap (λ (x : Act). closed_of h (turn now c x) a.of) is
-    ∙ filter_alike (λ (leg : Holder). (leg.call == a.of.number) && ((a.of.number == leg.call) && is_rejected a.signal leg.section)) (λ (leg : Holder). (leg.call == a.of.number) && is_rejected a.signal leg.section) (held h)
-    (λ leg i. swap_case (leg.call == a.of.number) (a.of.number == leg.call) (is_rejected a.signal leg.section) (eq_swap leg.call a.of.number))
 
 -- which entry ends the calls makes no difference
 pub ended_alike : (h : List BoardEntry) (e f : BoardEntry) (calls : List Call) (v : View) → ((of : Call) → In of calls → In of (ended_by e)) → ((of : Call) → In of calls → In of (ended_by f)) →

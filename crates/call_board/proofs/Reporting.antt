@@ -1,17 +1,13 @@
 -- Worked reports, as equations that compute.
-use Rattle.std.proofs.Common.{◌≡◌, ℕ, List, [], ◌∷◌, false, None, codes, refl}
-use Rattle.std.specs.Fmt.{digits}
+use Rattle.std.proofs.Common.{◌≡◌, ℕ, List, [], ◌∷◌, false, None, codes}
 use Rattle.relay_outside.specs.declared.address.Ip.TheVariants as ips
 use Rattle.relay_outside.specs.declared.settings.Config.{Config}
-use Rattle.ng_bencode.specs.Spells.{spelling}
 use Rattle.ng_command.specs.declared.command.Options.{Options}
 use Rattle.port_pool.specs.declared.holder.Side.{Side}
 use Rattle.port_pool.specs.declared.holder.Side.TheVariants.{A, B}
 use Rattle.port_pool.specs.declared.holder.Holder.{Holder}
 use Rattle.port_pool.specs.declared.reports.LegReport.{LegReport}
 use Rattle.offer_answer.specs.Rounds.{Round, Offered, Answered}
-use Rattle.offer_answer.specs.Plan.{tag, protocol}
-use Rattle.call_board.specs.Reports.{report_tree, listing_tree}
 
 abbrev config : Config
 config = record {
@@ -56,20 +52,3 @@ told side port = record {
   rtcp_accepted = 0;
   rtcp_sent = 12;
 }
-
--- a list of call-ids
-listed_text : spelling (listing_tree (codes "c1" ∷ codes "c2" ∷ [])) ≡ codes "d5:callsl2:c12:c2e6:result2:oke"
-unfolding listing_tree digits
-listed_text = refl
-
--- a call that was never answered has one tag, without committed sections
-offered_report : spelling (report_tree config (record { created = 0; last_signal = 0; rounds = offered; legs = [] }))
-    ≡ codes "d7:createdi0e11:last signali0e6:result2:ok4:tagsd1:ad6:mediasleeee"
-unfolding report_tree digits tag
-offered_report = refl
-
--- an answered one has both tags in byte order, each with its committed section; moments end at 2 ^ 63 - 1
-answered_report : spelling (report_tree config (record { created = 5; last_signal = 18446744073709551615; rounds = answered; legs = told B 30000 ∷ told A 30002 ∷ [] }))
-    ≡ codes "d7:createdi5e11:last signali9223372036854775807e6:result2:ok4:tagsd1:Bd6:mediasld4:RTCPd8:acceptedi0e4:senti12ee3:RTPd8:acceptedi7e4:senti0ee8:endpointd7:address10:192.0.2.104:porti6000ee5:indexi1e10:local porti30000e8:protocol7:RTP/AVPeee1:ad6:mediasld4:RTCPd8:acceptedi0e4:senti12ee3:RTPd8:acceptedi7e4:senti0ee8:endpointd7:address10:192.0.2.104:porti6000ee5:indexi1e10:local porti30002e8:protocol7:RTP/AVPeeeee"
-unfolding report_tree digits tag protocol
-answered_report = refl

@@ -14,7 +14,6 @@ ghost use Rattle.call_board.specs.Planned.{PlansAnswer};
 use crate::board::Board;
 use crate::board_plan::BoardPlan;
 use crate::fault::BoardFault;
-use crate::planning::fault_by;
 use ng_command::AnswerIn;
 use offer_answer::{ChosenLines, answer};
 use sdp_text::Sdp;
@@ -36,16 +35,14 @@ impl Board {
         ensures writes { IfOk result (λ p. WritesFrom p.plan sdp.now) }
     {
         let call = self.calls.at(place);
-        match answer(alloc, &self.config, &*call.dialog, input, sdp) {
-            Ok(plan) => Ok(BoardPlan {
-                plan,
-                call: call.number,
-                cell: call.cell,
-                begun: None,
-                leases: None,
-            }),
-            Err(fault) => Err(fault_by(fault)),
-        }
+        let plan = answer(alloc, &self.config, &*call.dialog, input, sdp)?;
+        Ok(BoardPlan {
+            plan,
+            call: call.number,
+            cell: call.cell,
+            begun: None,
+            leases: None,
+        })
     }
 
     /// The plan of an answer, or its first fault. It takes all memory that the answer needs of the board, and demands no pair and

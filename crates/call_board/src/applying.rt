@@ -58,6 +58,9 @@ impl Board {
     /// Takes in a plan at the moment `now`, in milliseconds: that of an offer once its pairs are leased and it is filled, that of
     /// an answer. It takes no memory. Since the plan was made nothing changed the board but its leases, draws and kept replies,
     /// and fewer than 2^63 calls were begun.
+    ///
+    /// The board numbers a call that begins by its own count of calls: the order of numbers is its invariant, and that the plan's
+    /// number is that one is known only by the history.
     pub fn apply(&mut self, plan: BoardPlan, now: u64)
         requires { MayApply self.old plan plan.begun }
         ensures replies { KeepsReplies self.old self.new }

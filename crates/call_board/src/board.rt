@@ -57,9 +57,7 @@ impl Board {
     {
         let pool = Pool::new(alloc, config.port_min, config.port_max)?;
         let replies = CookieCache::new(alloc)?;
-        let Ok(taken) = Vec::from_elem(alloc, false, config.max_sessions as usize) else {
-            return Err(OutOfMemory);
-        };
+        let taken = Vec::from_elem(alloc, false, config.max_sessions as usize)?;
         Ok(Board {
             config: *config,
             moment: 0,

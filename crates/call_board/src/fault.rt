@@ -1,3 +1,12 @@
+//! Why the board refuses an offer or an answer, and what a plan's fault and out of memory become.
+
+ghost use Rattle.std.specs.Prelude.{◌≡◌};
+ghost use Rattle.call_board.specs.declared.fault.BoardFault.TheVariants.{OutOfMemory as out_of_memory};
+ghost use Rattle.call_board.specs.Planned.{board_fault};
+
+use offer_answer::OaFault;
+use relay_outside::OutOfMemory;
+
 /// Why the board refuses an offer or an answer. Nothing has changed then.
 #[derive(Clone, Copy, Debug, PartialEq, Eq)]
 pub enum BoardFault {
@@ -17,4 +26,26 @@ pub enum BoardFault {
     NoPair,
     /// Out of memory.
     OutOfMemory,
+}
+
+impl From<OaFault> for BoardFault {
+    ghost from_gives = { λ fault refused. refused ≡ board_fault fault };
+
+    fn from(fault: OaFault) -> BoardFault {
+        match fault {
+            OaFault::UnknownTag => BoardFault::UnknownTag,
+            OaFault::OtherSide => BoardFault::OtherSide,
+            OaFault::MediaCount => BoardFault::MediaCount,
+            OaFault::NoCrypto => BoardFault::NoCrypto,
+            OaFault::OutOfMemory => BoardFault::OutOfMemory,
+        }
+    }
+}
+
+impl From<OutOfMemory> for BoardFault {
+    ghost from_gives = { λ _ refused. refused ≡ out_of_memory };
+
+    fn from(_refused: OutOfMemory) -> BoardFault {
+        BoardFault::OutOfMemory
+    }
 }

@@ -14,6 +14,10 @@ use std::marker::Model;
 /// The live calls of a board, in order of creation, each under the bytes of its call-id.
 ///
 /// Contracts see them as a list, and for how many more calls there is room, `spare`.
+///
+/// Each call has its call-id beside its key, so that what is said of a call is said of one value: that both are the same bytes is an
+/// invariant, and that the numbers rise. As in `CookieCache`, call-ids that were picked to collide make a look-up linear in the
+/// calls, at most 2,048.
 #[derive(Drop)]
 pub(crate) struct LiveCalls {
     calls: IndexMap<Vec<u8>, LiveCall>,
@@ -104,10 +108,8 @@ impl LiveCalls {
         ensures list { self.new.list ≡ self.old.list }
         ensures room { OnOk result (0 < self.new.spare) }
     {
-        match self.calls.reserve(1) {
-            Ok(()) => Ok(()),
-            Err(_) => Err(OutOfMemory),
-        }
+        self.calls.reserve(1)?;
+        Ok(())
     }
 
     /// Adds a call after the others, under the bytes of its call-id, where none of them has that call-id. It takes no memory.

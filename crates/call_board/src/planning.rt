@@ -9,31 +9,18 @@ ghost use Rattle.offer_answer.specs.Offering.{AsksOffer, pair_count};
 ghost use Rattle.call_board.specs.Calls.{lowest_but};
 ghost use Rattle.call_board.specs.Views.{View, CallView};
 ghost use Rattle.call_board.specs.Boards.{Shows, KeepsReplies};
-ghost use Rattle.call_board.specs.Planned.{RoomFor, PlansOffer, PlansFor, HasRoom, NewFor, target_by, board_fault};
+ghost use Rattle.call_board.specs.Planned.{RoomFor, PlansOffer, PlansFor, HasRoom, NewFor, target_by};
 
 use crate::board::Board;
 use crate::board_plan::{BoardPlan, NewCall};
 use crate::fault::BoardFault;
 use ng_bencode::Text;
 use ng_command::OfferIn;
-use offer_answer::{Dialog, OaFault, Plan, offer};
+use offer_answer::{Dialog, Plan, offer};
 use port_pool::Leases;
 use relay_outside::OutOfMemory;
 use sdp_text::Sdp;
 use std::alloc::Global;
-
-/// The board's fault for that of a plan.
-pub(crate) fn fault_by(fault: OaFault) -> BoardFault
-    ensures { result ≡ board_fault fault }
-{
-    match fault {
-        OaFault::UnknownTag => BoardFault::UnknownTag,
-        OaFault::OtherSide => BoardFault::OtherSide,
-        OaFault::MediaCount => BoardFault::MediaCount,
-        OaFault::NoCrypto => BoardFault::NoCrypto,
-        OaFault::OutOfMemory => BoardFault::OutOfMemory,
-    }
-}
 
 /// Room for the leases that a plan demands.
 pub(crate) fn room_for(alloc: Global, plan: &Plan) -> Result<Option<Leases>, OutOfMemory>
@@ -52,15 +39,11 @@ pub(crate) fn new_call(
     ensures { (config : Config) → IfOk result (NewFor config call_id.now.list from_tag.now.list) }
 {
     let fresh = Dialog::new(alloc, from_tag)?;
-    let Ok(dialog) = Box::new(alloc, fresh) else {
-        return Err(OutOfMemory);
-    };
+    let dialog = Box::new(alloc, fresh)?;
     let Ok(id) = Text::copy_of(alloc, call_id.as_slice()) else {
         return Err(OutOfMemory);
     };
-    let Ok(key) = Vec::from_slice(alloc, id.as_slice()) else {
-        return Err(OutOfMemory);
-    };
+    let key = Vec::from_slice(alloc, id.as_slice())?;
     Ok(NewCall { id, key, dialog })
 }
 
@@ -99,6 +82,8 @@ impl Board {
     }
 
     /// The lowest cell that no live call has, from 1. `None`: each cell is taken.
+    /// That one is free below the limit of sessions is proved of a board that stands for a history; of any other view an
+    /// offer gets `SessionLimit`.
     fn lowest_cell(&self) -> Option<u32>
         ensures { (config : Config) (v : View) → Shows config self.now v → length v.calls < config.max_sessions →
             result ≡ Some (lowest_but (map (λ (c : CallView). c.of.cell) v.calls)) }
@@ -133,16 +118,11 @@ impl Board {
         ensures writes { IfOk result (λ p. WritesFrom p.plan sdp.now) }
     {
         let call = self.calls.at(place);
-        let plan = match offer(alloc, &self.config, &*call.dialog, input, sdp) {
-            Ok(plan) => plan,
-            Err(fault) => return Err(fault_by(fault)),
-        };
+        let plan = offer(alloc, &self.config, &*call.dialog, input, sdp)?;
         if self.lacks_pairs(&plan) {
             return Err(BoardFault::NoPair);
         }
-        let Ok(leases) = room_for(alloc, &plan) else {
-            return Err(BoardFault::OutOfMemory);
-        };
+        let leases = room_for(alloc, &plan)?;
         Ok(BoardPlan {
             plan,
             call: call.number,
@@ -169,28 +149,19 @@ impl Board {
         ensures room { IfOk result (HasRoom self.new) }
         ensures writes { IfOk result (λ p. WritesFrom p.plan sdp.now) }
     {
-        let Ok(begun) = new_call(alloc, &input.call_id, &input.from_tag) else {
-            return Err(BoardFault::OutOfMemory);
-        };
-        let plan = match offer(alloc, &self.config, &*begun.dialog, input, sdp) {
-            Ok(plan) => plan,
-            Err(fault) => return Err(fault_by(fault)),
-        };
+        let begun = new_call(alloc, &input.call_id, &input.from_tag)?;
+        let plan = offer(alloc, &self.config, &*begun.dialog, input, sdp)?;
         if self.is_full() {
             return Err(BoardFault::SessionLimit);
         }
         if self.lacks_pairs(&plan) {
             return Err(BoardFault::NoPair);
         }
-        let Ok(leases) = room_for(alloc, &plan) else {
-            return Err(BoardFault::OutOfMemory);
-        };
+        let leases = room_for(alloc, &plan)?;
         let Some(cell) = self.lowest_cell() else {
             return Err(BoardFault::SessionLimit);
         };
-        if self.calls.reserve().is_err() {
-            return Err(BoardFault::OutOfMemory);
-        }
+        self.calls.reserve()?;
         Ok(BoardPlan {
             plan,
             call: self.begun,

@@ -1,16 +1,12 @@
 -- The first turn of the board of a relay.
-use Rattle.std.proofs.Common.{◌≡◌, refl, sym, subst, ap, ℕ, ◌≤◌, List, [], Bool, false, Option, Some, None, Ok, arith}
+use Rattle.std.proofs.Common.{◌≡◌, refl, sym, subst, ℕ, ◌≤◌, List, [], Option, Some, None, arith}
 use Rattle.relay_outside.specs.declared.ports.PortCall.{PortCall}
 use Rattle.relay_outside.specs.declared.settings.Config.{Config}
 use Rattle.turn_table.specs.declared.hands.Turns.{Turns}
 use Rattle.turn_table.specs.declared.hands.Hand.{Hand}
 use Rattle.relay_outside.specs.declared.address.Addr.{Addr}
 use Rattle.cookie_cache.specs.Keepings.{kept}
-use Rattle.ng_bencode.specs.Tree.{Entries}
-use Rattle.ng_command.specs.Said.{Delete}
-use Rattle.ng_command.specs.Reading.{told}
 use Rattle.call_board.specs.declared.board.Board.{Board}
-use Rattle.call_board.specs.Asked.{Reads, or_code}
 use Rattle.call_board.specs.Boards.{Shows, BoardFor}
 use Rattle.call_board.specs.Pairs.{held}
 use Rattle.call_board.specs.Views.{view_of, at_moment, last_moment}
@@ -24,8 +20,6 @@ use Rattle.board_turns.specs.Acting.{InTurn}
 use Rattle.board_turns.specs.Between.{IsBetween}
 use Rattle.board_turns.specs.Ending.{leg_pairs}
 use Rattle.board_turns.proofs.Firsts.{none_open}
-use Rattle.control_messages.specs.declared.request.Request.{Request}
-use Rattle.board_turns.specs.Telling.{IsAsking}
 
 abbrev pub at_first : BoardEntryId
 at_first = record { number = 0; moment = 0 }
@@ -46,11 +40,6 @@ module _ {M I O T : Type 0} {g : _} where
     opens = subst (λ (l : List Entry). TellsHeld config calls (leg_pairs (held (board_history l 0)))) (sym none)
         (subst (λ (t : Option (List PortCall)). TellsHeld config t []) (sym nothing) (none_open config));
   }
-
--- what a body says, a datagram asks
-pub asking_so : (request : Request) (pairs : Entries) (id : List ℕ) (tag : Option (List ℕ)) (fatal : Bool) → request.too_long ≡ false
-    → Reads request.body.now (Some pairs) → told pairs ≡ Ok (Delete id tag fatal) → IsAsking request (Some pairs) (Delete id tag fatal)
-asking_so request pairs id tag fatal short reads says = record { short = short; reads = reads; command = ap or_code says }
 
 -- nothing is kept before the first datagram
 pub none_kept : (source : Addr) (cookie : List ℕ) (now : ℕ) → kept [] source cookie now ≡ None

@@ -33,9 +33,7 @@ impl<O> Desk<O> {
     pub fn new(alloc: Global) -> Result<Desk<O>, OutOfMemory>
         ensures { IfOk result (λ desk. length desk ≡ DATAGRAM_ROOM) }
     {
-        let Ok(datagram) = vec![in alloc; 0; DATAGRAM_ROOM] else {
-            return Err(OutOfMemory);
-        };
+        let datagram = vec![in alloc; 0; DATAGRAM_ROOM]?;
         let gone = Gone::new(alloc)?;
         Ok(Desk { datagram, gone })
     }

@@ -124,6 +124,8 @@ impl<P: PortMaker> Server<P> {
     /// all of it is undone after a fault; what ends closes its ports. Where memory runs out, the reply says so, and nothing is done.
     /// `now` is in milliseconds; a moment before that of the board's last entry counts as that one. It may wait for the board's turn, and
     /// for those of boxes and cells.
+    ///
+    /// A datagram without a frame, and a take that gave none, make no entry, so the board's last moment stays; a repeat raises it.
     pub fn control_turn<N: ControlLink, K: KeySource, R: Wait>(
         &self,
         rt: &R,
@@ -178,6 +180,7 @@ impl<P: PortMaker> Server<P> {
 
     /// Ends all live calls, in order of their creation, and returns how many. Then no port of a pair is open. It may wait for turns;
     /// it takes no memory.
+    /// It makes its entry where no call is live, too, and ends no history: entries may follow it.
     pub fn stop<R: Wait>(
         &self,
         rt: &R,

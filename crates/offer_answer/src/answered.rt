@@ -105,6 +105,8 @@ impl AnsweredSection {
 
     /// The crypto line by which the answer commits a side's leg, where the side `maker` made the offer: the one that the leg's
     /// side chose. None where the leg's profile isn't SRTP.
+    /// A line in a section whose profile isn't SRTP asks for no key and commits none: for an answer that is the profile
+    /// written to its side, whatever its own section says.
     pub(crate) fn committed_line(&self, maker: Side, side: Side) -> Option<CryptoLine>
         ensures { result ≡ line_committed self.now maker side }
     {

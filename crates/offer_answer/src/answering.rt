@@ -54,6 +54,7 @@ fn are_known(dialog: &Dialog, from_tag: &[u8], to_tag: &[u8]) -> bool
 }
 
 /// Whether the last offer has this from-tag.
+/// A side's tag is settled once it has offered, so this asks whether the last offer is its side's.
 fn is_offerers(last: &LastOffer, from_tag: &[u8]) -> bool
     ensures { (offer : MadeOffer) (ask : AnswerAsk) → LastFor offer last.now → ask.from_tag ≡ from_tag.now →
         result ≡ bytes_eq ask.from_tag offer.ask.from_tag }
@@ -70,6 +71,7 @@ fn has_as_many(last: &LastOffer, sdp: &Sdp) -> bool
 }
 
 /// Whether some section that was offered with SRTP takes up none of the offered crypto lines.
+/// It is asked of each section that is active in offer and answer, also where its pairs have gone.
 fn takes_no_line(dialog: &Dialog, last: &LastOffer, sdp: &Sdp) -> bool
     ensures { (config : Config) (rounds : List Round) (offer : MadeOffer) (ask : AnswerAsk) → DialogFor config dialog.now rounds →
         IsLast rounds offer last.now → HearsAnswer sdp.now rounds ask →
@@ -144,19 +146,10 @@ pub fn answer(
         AnswerAnswered config.now rounds ask sdp.now result }
     ensures writes { IfOk result (λ plan. WritesFrom plan sdp.now) }
 {
-    let last = match answered_offer(dialog, input, sdp) {
-        Ok(last) => last,
-        Err(fault) => return Err(fault),
-    };
-    let Ok(next) = next_of_answer(alloc, dialog, last, input, sdp) else {
-        return Err(OaFault::OutOfMemory);
-    };
-    let Ok(signal) = answer_signal(alloc, dialog, last, &input.options, sdp) else {
-        return Err(OaFault::OutOfMemory);
-    };
-    let Ok(edit) = answer_sections(alloc, config, dialog, last, &input.options, sdp) else {
-        return Err(OaFault::OutOfMemory);
-    };
+    let last = answered_offer(dialog, input, sdp)?;
+    let next = next_of_answer(alloc, dialog, last, input, sdp)?;
+    let signal = answer_signal(alloc, dialog, last, &input.options, sdp)?;
+    let edit = answer_sections(alloc, config, dialog, last, &input.options, sdp)?;
     let reply_len = edit_len(sdp, &edit);
     Ok(Plan {
         legs: Vec::new(alloc),

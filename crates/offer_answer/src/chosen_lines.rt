@@ -19,6 +19,9 @@ use std::marker::Model;
 /// at most 8.
 ///
 /// Contracts see it as the list of them.
+///
+/// They stand in a round for every section, whatever its protocol, so that they are a function of the description; a section has
+/// one first usable line at most.
 #[derive(Drop)]
 pub struct ChosenLines {
     /// The lines that are chosen, section by section, and `None` after them.

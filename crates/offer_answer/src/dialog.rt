@@ -25,6 +25,7 @@ use std::alloc::Global;
 /// The state that the accepted offers and answers of a call lead to: all that the next one is judged by.
 ///
 /// Contracts see it as a summary of lists of rounds: it stands for each list that leads to this state.
+/// Its rounds are under one configuration, since a port follows from the number of its pair and the range.
 #[derive(Drop)]
 pub struct Dialog {
     /// The tag of the side that makes the first offer.

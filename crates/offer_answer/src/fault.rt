@@ -1,3 +1,10 @@
+//! Why an offer or an answer is refused, and how out of memory becomes it.
+
+ghost use Rattle.std.specs.Prelude.{◌≡◌};
+ghost use Rattle.offer_answer.specs.declared.fault.OaFault.TheVariants.{OutOfMemory as out_of_memory};
+
+use relay_outside::OutOfMemory;
+
 /// Why an offer or an answer is refused.
 #[derive(Clone, Copy, Debug, PartialEq, Eq)]
 pub enum OaFault {
@@ -11,4 +18,12 @@ pub enum OaFault {
     NoCrypto,
     /// Out of memory. The dialog is as before.
     OutOfMemory,
+}
+
+impl From<OutOfMemory> for OaFault {
+    ghost from_gives = { λ _ fault. fault ≡ out_of_memory };
+
+    fn from(_refused: OutOfMemory) -> OaFault {
+        OaFault::OutOfMemory
+    }
 }

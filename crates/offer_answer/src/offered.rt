@@ -64,6 +64,7 @@ pub(crate) fn other_side(side: Side) -> Side
 }
 
 /// The profile that is written over a section's own.
+/// A section that isn't active follows the same rule; its port is 0.
 pub(crate) fn written_over(transport: Option<Proto>, in_force: Option<Proto>, own: Proto) -> Proto
     ensures { result ≡ written_over transport in_force own }
 {
@@ -164,6 +165,9 @@ impl OfferedSection {
     }
 
     /// Adds the keys that the section demands, in the order of draws, for an offer that comes from `side`.
+    /// No key is in force on a leg that isn't committed, or whose last commit has a profile without SRTP.
+    /// Where it is offered SRTP again, both lines are written and only what is missing is drawn: one key
+    /// alone, where the leg had been the offerer's with the other suite.
     pub(crate) fn push_keys(
         &self,
         keys: &mut Vec<(u8, Side, Suite)>,
@@ -193,10 +197,8 @@ fn push_missing(
     if leg.key_for(suite).is_some() {
         return Ok(());
     }
-    match keys.push((section, side, suite)) {
-        Ok(()) => Ok(()),
-        Err(_) => Err(OutOfMemory),
-    }
+    keys.push((section, side, suite))?;
+    Ok(())
 }
 
 fn push_both_missing(

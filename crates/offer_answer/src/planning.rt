@@ -108,13 +108,9 @@ fn push_legs(
     if !is_new {
         return Ok(());
     }
-    if legs.push((section, other_side(side))).is_err() {
-        return Err(OutOfMemory);
-    }
-    match legs.push((section, side)) {
-        Ok(()) => Ok(()),
-        Err(_) => Err(OutOfMemory),
-    }
+    legs.push((section, other_side(side)))?;
+    legs.push((section, side))?;
+    Ok(())
 }
 
 /// The legs that pairs are demanded for, by an offer from `side`.
@@ -209,21 +205,11 @@ pub fn offer(
         return Err(fault);
     }
     let side = offerer(dialog, input.from_tag.as_slice());
-    let Ok(legs) = demanded_legs(alloc, dialog, sdp, side) else {
-        return Err(OaFault::OutOfMemory);
-    };
-    let Ok(key_places) = demanded_keys(alloc, dialog, sdp, input.options.transport, side) else {
-        return Err(OaFault::OutOfMemory);
-    };
-    let Ok(next) = next_of_offer(alloc, dialog, input, sdp, side) else {
-        return Err(OaFault::OutOfMemory);
-    };
-    let Ok((edit, reply_len)) = offer_writing(alloc, config.interface, &next.last, sdp) else {
-        return Err(OaFault::OutOfMemory);
-    };
-    let Ok(signal) = Signal::new(alloc) else {
-        return Err(OaFault::OutOfMemory);
-    };
+    let legs = demanded_legs(alloc, dialog, sdp, side)?;
+    let key_places = demanded_keys(alloc, dialog, sdp, input.options.transport, side)?;
+    let next = next_of_offer(alloc, dialog, input, sdp, side)?;
+    let (edit, reply_len) = offer_writing(alloc, config.interface, &next.last, sdp)?;
+    let signal = Signal::new(alloc)?;
     Ok(Plan {
         legs,
         key_places,

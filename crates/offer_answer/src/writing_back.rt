@@ -83,6 +83,7 @@ fn makers_leg(dialog: &Dialog, last: &LastOffer, section: usize) -> Leg
     dialog.section(section).leg(last.maker)
 }
 
+/// A rejected section gets the offerer's protocol, too; where that is none of the four, the answer's own text stays.
 fn answered_section(
     config: &Config,
     dialog: &Dialog,

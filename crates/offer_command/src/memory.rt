@@ -34,9 +34,7 @@ fn reserve_text(alloc: Global, pairs: usize, len: usize) -> Result<(Vec<u16>, By
     ensures numbers { IfOk result (λ both. (both.0.items ≡ []) × (pairs ≤ vec_capacity both.0)) }
     ensures text { IfOk result (λ both. (both.1.list ≡ []) × (len ≤ both.1.spare)) }
 {
-    let Ok(numbers) = Vec::with_capacity(alloc, pairs) else {
-        return Err(OutOfMemory);
-    };
+    let numbers = Vec::with_capacity(alloc, pairs)?;
     let mut text = Bytes::new(alloc);
     if text.reserve(len).is_err() {
         return Err(OutOfMemory);

@@ -1,12 +1,11 @@
 -- What a pool stands for after each of its calls.
-use Rattle.std.proofs.Common.{◌≡◌, ◌∙◌, sym, ap, subst, ℕ, ◌+◌, ◌*◌, ◌<◌, List, [], ◌∷◌, ◌++◌, length, slice_index_or, slice_set, Bool, true, false, cond, ◌==◌, refl, arith, eqb, eqb-true}
+use Rattle.std.proofs.Common.{◌≡◌, ◌∙◌, sym, ap, subst, ℕ, ◌+◌, ◌*◌, ◌<◌, List, [], ◌∷◌, ◌++◌, length, slice_index_or, slice_set, Bool, true, false, cond, ◌==◌, eqb, eqb-true}
 use Rattle.std.proofs.lemmas.Bool.{eqb-false}
 use Rattle.std.proofs.lemmas.List.{get_or-set_same, get_or-set_other, get_or-replicate, length-set, length-replicate}
 use Rattle.relay_outside.specs.declared.settings.Config.{Config}
 use Rattle.histories.specs.Words.{numbers}
-use Rattle.port_pool.specs.Ports.{pair_count, pair_port}
-use Rattle.port_pool.specs.Pools.{Pairs, IsFresh, StandsFor, generation, after_lease, after_return, one_more}
-use Rattle.port_pool.specs.Leases.{lease_of}
+use Rattle.port_pool.specs.Ports.{pair_count}
+use Rattle.port_pool.specs.Pools.{Pairs, IsFresh, StandsFor, after_return}
 
 -- a new pool: all pairs are free, upwards, and none was leased
 pub fresh_stands : (config : Config) (pool : Pairs) → IsFresh config pool → StandsFor config (numbers 0 (pair_count config)) (λ pair. 0) pool
@@ -17,14 +16,6 @@ fresh_stands config pool fresh = record {
   leases_are = λ pair within. ap (λ generations. slice_index_or generations pair 0) fresh.none_leased ∙ get_or-replicate (pair_count config) pair 0 0 within;
 }
 
--- the lease of a pair, by what the pool stands for
-pub lease_is : (config : Config) (free : List ℕ) (leases : ℕ → ℕ) (pool : Pairs) (pair : ℕ) → StandsFor config free leases pool → pair < pair_count config
-    → lease_of pool pair ≡ record { pair = pair; rtp_port = pair_port config pair; generation = leases pair + 1 }
-lease_is config free leases pool pair stands within =
-    let port = stands.first_is in
-    let last = stands.leases_are pair within in
-    λ i. record { pair = pair; rtp_port = port i + 2 * pair; generation = last i + 1 }
-
 leased_by : (generations : List ℕ) (leases : ℕ → ℕ) (pair other : ℕ) (b : Bool) → eqb pair other ≡ b → pair < length generations
     → slice_index_or generations pair 0 ≡ leases pair → slice_index_or generations other 0 ≡ leases other
     → slice_index_or (slice_set generations pair (slice_index_or generations pair 0 + 1)) other 0 ≡ cond b (leases other + 1) (leases other)
@@ -34,18 +25,6 @@ leased_by generations leases pair other true is within last there =
     (get_or-set_same generations pair (slice_index_or generations pair 0 + 1) 0 within ∙ ap (λ n. n + 1) last)
 leased_by generations leases pair other false is within last there =
     get_or-set_other generations pair other (slice_index_or generations pair 0 + 1) 0 (λ e. eqb-false pair other is (sym e)) ∙ there
-
--- a lease: the front leaves the queue, and was leased once more
-pub leased_stands : (config : Config) (pair : ℕ) (rest : List ℕ) (leases : ℕ → ℕ) (pool : Pairs) → StandsFor config (pair ∷ rest) leases pool → pair < pair_count config
-    → StandsFor config rest (one_more leases pair) (after_lease pool pair rest)
-leased_stands config pair rest leases pool stands within =
-    let there : pair < length pool.generations = omega (arith, within, stands.count_is) in
-    record {
-      first_is = stands.first_is;
-      count_is = length-set pool.generations pair (generation pool pair + 1) ∙ stands.count_is;
-      free_is = refl;
-      leases_are = λ other inside. leased_by pool.generations leases pair other (pair == other) refl there (stands.leases_are pair within) (stands.leases_are other inside);
-    }
 
 -- a return: the pair stands after the others that are free
 pub returned_stands : (config : Config) (free : List ℕ) (leases : ℕ → ℕ) (pool : Pairs) (pair : ℕ) → StandsFor config free leases pool

@@ -30,6 +30,7 @@ pub enum BoxTake {
         len: usize,
     },
     /// A datagram of more than 2,000 bytes; its first 2,001 fill the buffer.
+    /// Its source is told here, since the event has it and an end may tell nothing.
     TooLong {
         /// Where it came from.
         source: Addr,

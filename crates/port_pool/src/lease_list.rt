@@ -28,10 +28,8 @@ impl Leases {
     pub fn with_room(alloc: Global, room: usize) -> Result<Leases, OutOfMemory>
         ensures { IfOk result (λ leases. leases ≡ record { list = []; room = room }) }
     {
-        match VecDeque::with_capacity(alloc, room) {
-            Ok(leases) => Ok(Leases { leases }),
-            Err(_) => Err(OutOfMemory),
-        }
+        let leases = VecDeque::with_capacity(alloc, room)?;
+        Ok(Leases { leases })
     }
 
     /// Adds a lease after the others. It takes no memory.

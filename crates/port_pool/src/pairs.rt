@@ -8,6 +8,7 @@ use std::collections::VecDeque;
 use std::marker::Model;
 
 /// The lease of a port pair. It can't be cloned, so a pair has one lease at a time.
+/// One that is dropped doesn't come back, and its pair stays leased.
 #[derive(Drop, PartialEq, Eq, Debug)]
 pub struct Lease {
     /// The pair's number, from 0.
@@ -89,12 +90,8 @@ impl Pool {
     {
         let first_port = u32::from(port_min) + u32::from(port_min) % 2;
         let count = (u32::from(port_max) + 1).saturating_sub(first_port) / 2;
-        let Ok(free) = all_pairs(alloc, count) else {
-            return Err(OutOfMemory);
-        };
-        let Ok(generations) = Vec::from_elem(alloc, 0, count as usize) else {
-            return Err(OutOfMemory);
-        };
+        let free = all_pairs(alloc, count)?;
+        let generations = Vec::from_elem(alloc, 0, count as usize)?;
         Ok(Pool {
             first_port,
             free,

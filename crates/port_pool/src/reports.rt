@@ -52,10 +52,8 @@ impl LegReports {
     pub fn new(alloc: Global) -> Result<LegReports, OutOfMemory>
         ensures { IfOk result (λ told. told ≡ []) }
     {
-        match Vec::with_capacity(alloc, MOST_LEGS) {
-            Ok(reports) => Ok(LegReports { reports }),
-            Err(_) => Err(OutOfMemory),
-        }
+        let reports = Vec::with_capacity(alloc, MOST_LEGS)?;
+        Ok(LegReports { reports })
     }
 
     /// How many reports there are.

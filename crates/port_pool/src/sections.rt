@@ -28,10 +28,8 @@ impl Signal {
     pub fn new(alloc: Global) -> Result<Signal, OutOfMemory>
         ensures { IfOk result (λ signal. signal ≡ []) }
     {
-        match Vec::with_capacity(alloc, MOST_SECTIONS) {
-            Ok(sections) => Ok(Signal { sections }),
-            Err(_) => Err(OutOfMemory),
-        }
+        let sections = Vec::with_capacity(alloc, MOST_SECTIONS)?;
+        Ok(Signal { sections })
     }
 
     /// Adds what is committed for the next section. It takes no memory.

@@ -13,7 +13,7 @@ use Rattle.port_pool.specs.declared.holder.Side.TheVariants.{A, B}
 use Rattle.port_pool.specs.declared.holder.Holder.{Holder}
 use Rattle.port_pool.specs.declared.signal.LegSignal.{LegSignal}
 use Rattle.port_pool.specs.Signals.{NewKey, side_eq}
-use Rattle.offer_answer.specs.Rounds.{Round, OfferAsk, AnswerAsk, NewLeg, drawn_for}
+use Rattle.offer_answer.specs.Rounds.{Round, OfferAsk, AnswerAsk, drawn_for}
 use Rattle.offer_answer.specs.Rounds as round
 use Rattle.offer_answer.specs.Sides.{is_begun}
 use Rattle.offer_answer.specs.Sections.{leases, life, has_pairs}
@@ -26,7 +26,7 @@ use Rattle.offer_answer.proofs.Drawn.{names_drawn_keys}
 use Rattle.offer_answer.proofs.Lives.{LifeOf, begins, goes_on, is_over, life-step}
 use Rattle.call_cell.specs.declared.leg.Leg.{Leg}
 use Rattle.call_cell.specs.declared.prepare.Prepare as prepared
-use Rattle.call_cell.specs.Cells.{CellEntry, legs, call, since_end, keys_in, key_numbered}
+use Rattle.call_cell.specs.Cells.{CellEntry, legs, since_end, keys_in, key_numbered}
 use Rattle.call_cell.specs.LegKeys.{keys_for, OnePerSuite}
 use Rattle.call_cell.specs.Standing.{port_by}
 use Rattle.call_cell.specs.Committing.{NamesKeys, said_of, outbound_in}
@@ -48,7 +48,6 @@ use Rattle.call_board.proofs.Keys.{key_between, keys_of_offer, drawn_grows, draw
 use Rattle.relay_core.specs.Entries.{Entry, cell_history, board_history}
 use Rattle.relay_core.specs.Legal.{Orderly}
 use Rattle.relay_core.proofs.Histories.{good_history}
-use Rattle.relay_core.proofs.Plans.{live_called}
 use Rattle.relay_core.proofs.Turns.{IsAbove}
 use Rattle.relay_core.proofs.Rounded.{entries_of, AreGood, new_within, new_without, stands, keys_drawn, keys_of_life}
 use Rattle.relay_core.proofs.Suites.{one_suite}
@@ -239,10 +238,3 @@ answer_names config l o n k x a above_board fits q above =
     let s = live_cell_is config l o n k a.of above_board told.is_live above in
     names_keys_same e c a.signal (turned c e s)
     (subst (λ t. NamesKeys e t) (sym told.signal_is) (names_after a.of.number (rounds h a.of.number) (good_rounds config h a.of.number (good_history config l o n)) a.ask))
-
--- and its cell holds the call
-pub answer_called : (config : Config) (l : List Entry) → Orderly config l → (n k : ℕ) (x : BoardEntry) (a : act.Answer) → IsAbove l 0 n
-    → FitsBoard config (board_history l n) x → act.act x ≡ act.Answered a → IsAbove l a.of.cell k → call (since_end (cell_history l a.of.cell k)) ≡ Some a.of.number
-answer_called config l o n k x a above_board fits q above =
-    let told = answer_told config (board_history l n) x a fits q in
-    live_called config l o n k a.of above_board above told.is_live

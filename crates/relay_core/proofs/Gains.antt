@@ -7,9 +7,8 @@ use Rattle.call_board.specs.Acts.{BoardEntry}
 use Rattle.call_board.specs.Fits.{FitsBoard}
 use Rattle.relay_core.specs.Entries.{Entry, board_entry, board_history}
 use Rattle.relay_core.specs.Scripts.{Owed, owed_by, script}
-use Rattle.relay_core.specs.Legal.{Orderly}
 pub use Rattle.relay_core.specs.Turning.{Rising, Gained}
-use Rattle.relay_core.proofs.Turns.{Numbered, IsAbove, IsTurn, with_turn, numbered_append, numbered_single, turn_keeps}
+use Rattle.relay_core.proofs.Turns.{Numbered, IsAbove, IsTurn, numbered_append, numbered_single}
 
 pub rising_above : (l ns : List Entry) → Rising l ns → (e : Entry) → In e ns → IsAbove l e.place e.number
 rising_above l [] r e i = elim i [ ]
@@ -110,9 +109,3 @@ turn_made config l ns b x is at_board at_front fits g = record {
   once = rising_once l ns g.rising;
   in_order = rising_order l ns g.rising;
 }
-
--- such a turn keeps the list orderly
-pub gained_keeps : (config : Config) (l ns : List Entry) (b : Entry) (x : BoardEntry) → Orderly config l → board_entry b ≡ Some x → b.place ≡ 0
-    → IsAbove l 0 b.number → FitsBoard config (board_history l b.number) x → Gained l b.number (script config (board_history l b.number) x) ns
-    → Orderly config (with_turn l ns b)
-gained_keeps config l ns b x o is at_board at_front fits g = turn_keeps config l ns b o (turn_made config l ns b x is at_board at_front fits g)

@@ -3,20 +3,15 @@ use Rattle.std.proofs.Common.{◌≡◌, ◌∙◌, sym, ap, subst, refl, ℕ, �
 use Rattle.std.specs.List.{filter_map}
 use Rattle.relay_outside.specs.declared.address.Addr.{Addr}
 use Rattle.relay_outside.specs.declared.settings.Config.{Config}
-use Rattle.rtp_packet.specs.declared.head.Half.{Half}
 use Rattle.histories.specs.Words.{In, here, there, Before, begins, goes_on}
 use Rattle.histories.proofs.Lists.{in_right}
 use Rattle.port_pool.specs.declared.holder.Holder.{Holder}
 use Rattle.port_pool.specs.Signals.{same_leg}
 use Rattle.port_pool.specs.Boxes.{BoxEvent, Open, Take, Close, Datagram, holder, FitsTaken}
 use Rattle.call_cell.specs.Cells.{Prepare, Receipt, legs, since_end, call_prepared}
-use Rattle.call_board.specs.Fits.{FitsBoard}
-use Rattle.call_board.proofs.Held.{new_leg}
-use Rattle.call_board.proofs.Calls.{offered_live}
-use Rattle.call_board.proofs.Cells.{live_cell}
 use Rattle.call_board.proofs.Leases.{leg_once}
 use Rattle.relay_core.specs.Entries.{Event, Board, Cell, Box, Entry, is_nested, front, board_history, history, cell_history, cell_before, box_in, box_event, box_history, box_of}
-use Rattle.relay_core.specs.Legal.{Orderly, Legal, Fits, FitsEvent, IsReceived}
+use Rattle.relay_core.specs.Legal.{Orderly, Legal, FitsEvent, IsReceived}
 use Rattle.relay_core.proofs.Histories.{good_history}
 use Rattle.relay_core.proofs.Boards.{later_entry}
 use Rattle.relay_core.proofs.Commits.{event_of}
@@ -90,27 +85,6 @@ fits_held : (h : List BoxEvent) (leg : Holder) (source : Addr) (bytes : List ℕ
     → FitsTaken v (Datagram leg source bytes) → holder h ≡ Some leg
 fits_held h leg source bytes None q k = absurd (let z = k in cc)
 fits_held h leg source bytes (Some other) q k = q ∙ ap Some (sym k.0)
-
--- the holder of a box is of a cell
-pub holder_cell : (config : Config) (l : List Entry) → Orderly config l → (place n : ℕ) (leg : Holder) → holder (box_history l place n) ≡ Some leg
-    → (1 ≤ leg.cell) × (leg.cell ≤ config.max_sessions)
-holder_cell config l o place n leg q =
-    let s = (holder_leased config l o place n leg q).0 in
-    let h = board_history l s.board.number in
-    let good = good_history config l o s.board.number in
-    let fits : FitsBoard config h s.entry = (o.board_fits s.board s.entry s.is_in s.is).1 in
-    let cell_is : leg.cell ≡ s.offer.of.cell = (new_leg config h s.entry s.offer leg fits s.acts s.has_leg).1 in
-    subst (λ (c : ℕ). (1 ≤ c) × (c ≤ config.max_sessions)) (sym cell_is)
-    (live_cell config (s.entry ∷ h) s.offer.of (fits, good) (offered_live config h s.entry s.offer good fits s.acts))
-
--- so is that for which a packet was taken
-pub taken_cell : (config : Config) (l : List Entry) → Orderly config l → (taking : Entry) (half : Half) (leg : Holder) (source : Addr) (bytes : List ℕ)
-    → Fits config l taking → taking.event ≡ Box (Take half (Datagram leg source bytes)) → (1 ≤ leg.cell) × (leg.cell ≤ config.max_sessions)
-taken_cell config l o taking half leg source bytes fits gave =
-    let there : FitsEvent config l taking.place taking.number taking.moment (Box (Take half (Datagram leg source bytes))) =
-    subst (FitsEvent config l taking.place taking.number taking.moment) gave fits in
-    holder_cell config l o taking.place taking.number leg
-    (fits_held (box_history l taking.place taking.number) leg source bytes (holder (box_history l taking.place taking.number)) refl there)
 
 before_in : {x y : Entry} (l : List Entry) → Before x y l → In x l
 before_in [] b = elim b [ ]

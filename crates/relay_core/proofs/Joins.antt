@@ -44,13 +44,6 @@ numbered_left l ls numbered e i =
     let some = there_once l e i in
     omega (arith, one, both, some)
 
-pub numbered_right : (l ls : List Entry) → Numbered (l ++ ls) → Numbered ls
-numbered_right l ls numbered e i =
-    let one : count_at e (l ++ ls) ≡ 1 = numbered e (in_right l ls i) in
-    let both = count_both l ls e in
-    let some = there_once ls e i in
-    omega (arith, one, both, some)
-
 -- an entry stands in one of the two parts
 pub not_in_both : (l ls : List Entry) → Numbered (l ++ ls) → (e f : Entry) → In e l → In f ls → e.place ≡ f.place → e.number ≡ f.number → ⊥
 not_in_both l ls numbered e f i j p q =

@@ -3,11 +3,10 @@ use Rattle.std.proofs.Common.{sym, subst, refl, List, Option}
 use Rattle.std.specs.Prelude.{IsSome}
 use Rattle.relay_outside.specs.declared.settings.Config.{Config}
 use Rattle.port_pool.specs.declared.holder.Holder.{Holder}
-use Rattle.call_cell.proofs.Since.{same_deed}
 use Rattle.call_board.proofs.Free.{held_once}
 use Rattle.relay_core.specs.Entries.{Entry, board_history}
 use Rattle.relay_core.specs.Legal.{Orderly, Legal}
-use Rattle.relay_core.specs.Safe.{BoardSafe, Safe, IsIsolated}
+use Rattle.relay_core.specs.Safe.{BoardSafe, Safe}
 use Rattle.relay_core.proofs.Histories.{good_history}
 use Rattle.relay_core.proofs.Holders.{pairs_apart, box_is_held, held_is_box}
 use Rattle.relay_core.proofs.Shutting.{opens_shut, closes_open}
@@ -47,7 +46,3 @@ legal_safe config l g = record {
   clear = clear config l g;
   keys_are_there = λ e leg s number i j q out. has_key config l g.orderly e.place e.number leg s number j q out;
 }
-
-pub isolated : (config : Config) → IsIsolated config
-isolated config l k e f x y g j i m q r packets answers before =
-    same_deed config (deed_is config l g e x i q) (deed_is config k j f y m r) before packets answers

@@ -10,9 +10,8 @@ use Rattle.port_pool.specs.Boxes.{Open, Take, Close, holder}
 use Rattle.call_board.specs.Acts as act
 use Rattle.call_board.specs.Acts.{BoardEntry}
 use Rattle.call_board.specs.Pairs.{held, free, closed_of}
-use Rattle.call_board.specs.Fits.{FitsBoard}
 use Rattle.call_board.proofs.Once.{Once}
-use Rattle.call_board.proofs.Free.{free_not_held, new_leg_free, new_legs_once}
+use Rattle.call_board.proofs.Free.{free_not_held}
 use Rattle.call_board.proofs.Held.{closed_of_held}
 use Rattle.relay_core.specs.Entries.{Event, Board, Cell, Box, Entry, is_nested, is_at, history, front, box_in, box_event, box_history, board_history, box_of}
 use Rattle.relay_core.specs.Legal.{Orderly}
@@ -132,22 +131,6 @@ once_later f [] x after o y i p = elim i [ ]
 once_later f (z ∷ before) x after o y (here q) p =
     o.0 (subst (λ n. In n (map f (before ++ x ∷ after))) (sym p ∙ ap f q) (maps f (before ++ x ∷ after) (in_right before (x ∷ after) (here refl))))
 once_later f (z ∷ before) x after o y (there i) p = once_later f before x after o.1 y i p
-
--- the legs of an offer have boxes apart, so that none of them opens the box of a later one
-pub plan_apart : (config : Config) (h : List BoardEntry) (e : BoardEntry) (o : act.Offer) → FitsBoard config h e → act.act e ≡ act.Offered o
-    → (before : List Holder) (leg : Holder) (after : List Holder) → o.legs ≡ before ++ leg ∷ after
-    → (other : Holder) → In other before → box_of config other.pair ≡ box_of config leg.pair → ⊥
-plan_apart config h e o fits q before leg after splits other i p =
-    once_later (λ (a : Holder). a.pair) before leg after
-    (subst (λ xs. Once (map (λ (a : Holder). a.pair) xs)) splits (new_legs_once config h e o fits q))
-    other i (same_box config other.pair leg.pair p)
-
--- so the box of each new leg of an offer that comes next is shut
-pub plan_shut : (config : Config) (l : List Entry) → Orderly config l → (n k : ℕ) (x : BoardEntry) (p : act.Offer) (leg : Holder) → IsAbove l 0 n
-    → IsAbove l (box_of config leg.pair) k → FitsBoard config (board_history l n) x → act.act x ≡ act.Offered p → In leg p.legs
-    → holder (box_history l (box_of config leg.pair) k) ≡ None
-plan_shut config l o n k x p leg above_board above fits q i =
-    shut_free config l o n k leg.pair above_board above (new_leg_free config (board_history l n) x p leg fits q i)
 
 -- and the box of each leg that the next entry closes is open for it
 pub closed_open : (config : Config) (l : List Entry) → Orderly config l → (n k : ℕ) (x : BoardEntry) (c : act.Call) (leg : Holder) → IsAbove l 0 n

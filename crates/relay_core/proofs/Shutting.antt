@@ -243,9 +243,6 @@ one_a_box config l o e f v w i j ne nf ve wf place board =
 
 -- Openings.
 
-open_is : (v : Event) (leg : Holder) → v ≡ Box (Open leg) → box_in v ≡ Some (Open leg)
-open_is v leg q = ap box_in q
-
 open_refuted : (config : Config) (l : List Entry) → Orderly config l → (e : Entry) (leg other : Holder) → In e l → box_event e ≡ Some (Open leg)
     → Opened l e.place (λ x. true) e.number other → ⊥
 open_refuted config l o e leg other i opens s =

@@ -20,9 +20,7 @@ fn add_cells<I: InEnd + Drop, O: OutEnd + Drop>(
     ensures { OnOk result (AddsCells config.now parts.old.items parts.new.items config.now.max_sessions) }
 {
     for _ in 0..config.max_sessions {
-        let Ok(()) = parts.push(Part::Cell(Cell::empty(alloc, config))) else {
-            return Err(OutOfMemory);
-        };
+        parts.push(Part::Cell(Cell::empty(alloc, config)))?;
     }
     Ok(())
 }
@@ -38,15 +36,15 @@ fn add_boxes<I: InEnd + Drop, O: OutEnd + Drop>(
 {
     for pair in 0..pairs {
         let at = rtp_address(config, pair);
-        let Ok(()) = parts.push(Part::Pair(PairBox::empty(config.max_sessions, at))) else {
-            return Err(OutOfMemory);
-        };
+        parts.push(Part::Pair(PairBox::empty(config.max_sessions, at)))?;
     }
     Ok(())
 }
 
 /// What the places of a relay hold before its first step: the board, an empty cell for each call that may be live, and a
 /// closed box for each port pair.
+/// A board and a cell stand for histories under one configuration, which is read off them: so what the places begin as
+/// is said once (`AreParts`).
 pub fn parts<I: InEnd + Drop, O: OutEnd + Drop>(
     alloc: Global,
     config: &Config,
@@ -56,9 +54,7 @@ pub fn parts<I: InEnd + Drop, O: OutEnd + Drop>(
     let board = Board::new(alloc, config)?;
     let pairs = board.free_count();
     let mut parts = Vec::new(alloc);
-    let Ok(()) = parts.push(Part::Board(board)) else {
-        return Err(OutOfMemory);
-    };
+    parts.push(Part::Board(board))?;
     add_cells(alloc, &mut parts, config)?;
     add_boxes(&mut parts, config, pairs)?;
     Ok(parts)

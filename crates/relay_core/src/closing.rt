@@ -25,6 +25,9 @@ use turn_table::{Hand, Turns};
 /// The hand's list is then that of all steps of all places. Of a relay it has the packet and the outcome. With what each relay
 /// noted, protected and sent added, it is a legal list, and so a safe one: where the main hand's own entries are
 /// orderly and its nested steps were handed their board entry's moment, and where each hand's relays are of takes of its own.
+///
+/// A leg's sends are told by its call, pair and generation, since two legs of one cell may have had the pair one after the
+/// other. Without `AreTimed` a sweep with another clock would meet every clause.
 pub fn close_relay<I: InEnd, O: OutEnd>(
     turns: Turns<Relay<I, O>>,
     hand: Hand<Relay<I, O>>,

@@ -16,18 +16,26 @@ ghost use Rattle.relay_core.specs.Joining.{IsLane, IsSound};
 /// sent once, to the opposite side's endpoint in that moment's state of the call that held the receiving port at receipt; no
 /// port has two holders; no key, source and index protects two packets; a kept cookie gives its first reply and changes
 /// nothing; a valid offer fails only for a named shortage.
+///
+/// Legality says less than one might look for: of the moment that a turn, a tick or a relay was handed, which no entry has,
+/// only that moments never fall; nothing of bounds that types fix (30 bytes of a key, ports below 65,536); and an entry's
+/// `board` means nothing where it isn't nested. "No other entry" is said of entries as values: that a value stands once is
+/// its part on numbers.
 pub fn legal_is_safe()
     ensures { (config : Config) (l : List Entry) → Legal config l → Safe config l }
 {}
 
 /// What a relay does depends on its receipt, the result of its send and the entries of its own cell since the last end of a
 /// call there, and on nothing else that happens.
+/// The receipt includes the number of its take. It asks for no equal moment, since what a relay does hangs on none.
 pub fn cells_are_apart()
     ensures { (config : Config) → IsIsolated config }
 {}
 
 /// What an orderly list tells by itself, whatever else happens: it is what the list of the control loop's own hand is to
 /// have between its turns, whatever the lanes do.
+/// That no box is opened twice, or closed while shut, is no part of being orderly: it follows from the pairs being held
+/// apart.
 pub fn orderly_is_safe()
     ensures { (config : Config) (l : List Entry) → Orderly config l → BoardSafe config l }
 {}

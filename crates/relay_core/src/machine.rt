@@ -6,6 +6,8 @@ use std::marker::{Brand, Model, PhantomData};
 use turn_table::{Machine, Said};
 
 /// What happens at a place. No value of it is made: contracts see what the table records of a step.
+/// The moment that a nested step was handed is among it, so that the close can tie it to its board
+/// entry's.
 pub struct Happening {
     made: (),
 }
@@ -28,6 +30,9 @@ impl Model for Happening {
 /// The machine of the board, the cells and the boxes, whose in ends and out ends are of these types.
 ///
 /// All its events but takes and relays are reserved for the main hand.
+///
+/// That an offer's keys have new numbers is the one thing that a cell's state doesn't tell from all
+/// its histories: it is a premise of that step, and holds in every orderly list.
 pub struct Relay<I, O> {
     ends: PhantomData<(I, O)>,
 }

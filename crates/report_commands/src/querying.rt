@@ -68,6 +68,7 @@ fn reported(reports: LegReports, reply: Result<Text, OutOfMemory>) -> CommandOut
 /// Tells of the live call of a query, in the board's turn of its datagram, or that no live call has the call-id (`E9`). The call's cell
 /// is read, and nothing is done besides. If memory runs out before the cell is read, it is not read; if it runs out after that, nothing
 /// is told.
+/// Whether the call is live is asked first, so an unknown call-id is `E9` also where memory is short for the reports.
 pub fn query<P: PortMaker, R: Wait>(
     rt: &R,
     turn: &mut BoardTurn<P>,

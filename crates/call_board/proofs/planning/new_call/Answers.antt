@@ -6,7 +6,7 @@ use Rattle.call_board.proofs.planning.new_call.Goals as goal
 
 pub returns : goal.returns
 returns c = λ config. record {
-  id_is = c.in-Ok-copy_of.ensures ∙ c.as_slice.ensures;
-  dialog_for = lent_for c.in-Ok.ensures.ok (c.in_ok-fresh.ensures.stands config);
-  awaits = subst (λ (dialog : Dialog). Awaits dialog c.args.from_tag.now.list) (sym c.in-Ok.ensures.ok) c.in_ok-fresh.ensures.awaits;
+  id_is = c.in-Ok.ensures ∙ c.as_slice.ensures;
+  dialog_for = lent_for c.in_ok-dialog.ensures.ok (c.in_ok-fresh.ensures.stands config);
+  awaits = subst (λ (dialog : Dialog). Awaits dialog c.args.from_tag.now.list) (sym c.in_ok-dialog.ensures.ok) c.in_ok-fresh.ensures.awaits;
 }

@@ -9,7 +9,7 @@ returns c = record {
   begun_is = refl;
   drawn_is = refl;
   calls_for = no_calls c.args.config.now c.new-3.result.list c.new-3.ensures;
-  cells_for = none_taken c.args.config.now c.in-Ok.taken.items (c.in-Ok.ensures.items_if_clones_equal (λ y h. h));
+  cells_for = none_taken c.args.config.now c.in_ok-taken.taken.items (c.in_ok-taken.ensures.items_if_clones_equal (λ y h. h));
   pool_for = fresh_pool c.args.config.now c.in_ok-pool.pool (c.in_ok-pool.ensures c.args.config.now refl refl);
   replies_for = c.in_ok-replies.ensures;
 }

@@ -1,41 +1,44 @@
-use Rattle.std.proofs.Common.{refl, sym, subst, ap, ◌∙◌, Option, Ok, Err, None}
+use Rattle.std.proofs.Common.{refl, sym, subst, Option, Ok, Err, None}
+use Rattle.std.proofs.lemmas.Result.{err_from_is_err_and}
 use Rattle.std.specs.Str.{bytes_eq}
 use Rattle.relay_outside.specs.declared.settings.Config.{Config}
 use Rattle.offer_answer.specs.Dialogs.{DialogFor}
 use Rattle.offer_answer.specs.Plans.{AnswerPlan}
 use Rattle.call_board.specs.declared.live_call.LiveCall.{LiveCall}
 use Rattle.call_board.specs.Views.{CallView, is_of_id}
-use Rattle.call_board.specs.Planned.{PlansAnswer, code_of}
+use Rattle.call_board.specs.Planned.{PlansAnswer, board_fault}
 use Rattle.call_board.proofs.Shown.{IsFirst, call_at_place, asks_id, lent_for}
 use Rattle.call_board.proofs.Plans.{answer_refused_by}
 use Rattle.call_board.proofs.board.Board.plan_reply.Goals as goal
 
-pub returns-in-Err-clause-plans : goal.returns-in-Err-clause-plans
-returns-in-Err-clause-plans c = λ config v s.
+pub returns-in_err-plan-clause-plans : goal.returns-in_err-plan-clause-plans
+returns-in_err-plan-clause-plans c =
+    let p = err_from_is_err_and c.from_residual.result c.from_residual.ensures.1 in
+    rw (p.1, p.2) (λ config v s.
     let id = c.args.input.now.call_id.list in
     let call = c.at-call.result.now in
     let f = subst (λ (call : LiveCall). IsFirst config (is_of_id id) v.calls call) (sym c.at-call.ensures)
     (call_at_place config (λ (call : LiveCall). bytes_eq call.id.list id) (is_of_id id) c.args.self.now.calls.list v.calls c.args.place call (asks_id config id) s.calls_for c.requires.found) in
     let dialog = lent_for c.deref.ensures (subst (λ (k : Config). DialogFor k call.dialog.value f.of.rounds) (sym s.config_is) f.call_for.dialog_for) in
-    subst (λ (o : Option CallView). PlansAnswer config c.args.input.now c.args.sdp.now o (Err c.fault_by.result)) (sym f.found)
-    (λ ask asks n. answer_refused_by f.of.rounds ask c.args.sdp.now c.args.self.now.config c.in-Err.fault (c.in-Err.ensures.answered f.of.rounds ask dialog asks) (λ e. n (c.fault_by.ensures ∙ e)) ∙ ap code_of (sym c.fault_by.ensures))
+    subst (λ (o : Option CallView). PlansAnswer config c.args.input.now c.args.sdp.now o (Err (board_fault c.in_err-plan.field-0.0))) (sym f.found)
+    (λ ask asks. answer_refused_by f.of.rounds ask c.args.sdp.now c.args.self.now.config c.in_err-plan.field-0.0 (c.in_err-plan.ensures.answered f.of.rounds ask dialog asks)))
 
-pub returns-in-Ok-clause-plans : goal.returns-in-Ok-clause-plans
-returns-in-Ok-clause-plans c = λ config v s.
+pub returns-clause-plans : goal.returns-clause-plans
+returns-clause-plans c = λ config v s.
     let id = c.args.input.now.call_id.list in
     let call = c.at-call.result.now in
     let f = subst (λ (call : LiveCall). IsFirst config (is_of_id id) v.calls call) (sym c.at-call.ensures)
     (call_at_place config (λ (call : LiveCall). bytes_eq call.id.list id) (is_of_id id) c.args.self.now.calls.list v.calls c.args.place call (asks_id config id) s.calls_for c.requires.found) in
     let dialog = lent_for c.deref.ensures (subst (λ (k : Config). DialogFor k call.dialog.value f.of.rounds) (sym s.config_is) f.call_for.dialog_for) in
     subst (λ (o : Option CallView). PlansAnswer config c.args.input.now c.args.sdp.now o
-    (Ok (record { plan = c.in-Ok.plan; call = call.number; cell = call.cell; begun = None; leases = None }))) (sym f.found)
+    (Ok (record { plan = c.in_ok-plan.plan; call = call.number; cell = call.cell; begun = None; leases = None }))) (sym f.found)
     (λ ask asks.
-    let made = c.in-Ok.ensures.answered f.of.rounds ask dialog asks in (
+    let made = c.in_ok-plan.ensures.answered f.of.rounds ask dialog asks in (
       made.0,
       record {
         call_is = f.call_for.number_is;
         cell_is = f.call_for.cell_is;
-        plan_for = subst (λ (k : Config). AnswerPlan k f.of.rounds ask c.args.sdp.now c.in-Ok.plan) s.config_is made.1;
+        plan_for = subst (λ (k : Config). AnswerPlan k f.of.rounds ask c.args.sdp.now c.in_ok-plan.plan) s.config_is made.1;
         begins_none = refl;
       },
     ))

@@ -17,14 +17,14 @@ same_count config least greatest min max = rw (min, max) refl
 
 pub invariant_of-result : goal.invariant_of-result
 invariant_of-result c =
-    let items = c.in-Ok-from_elem.generations.items in
+    let items = c.in_ok-generations.generations.items in
     let count = c.saturating_sub-count.result / 2 in
-    let many : length items ≡ count = sym c.in-Ok-from_elem.generations.ok.0 ∙ c.in-Ok-from_elem.ensures.len in
+    let many : length items ≡ count = sym c.in_ok-generations.generations.ok.0 ∙ c.in_ok-generations.ensures.len in
     let first : c.from.result + c.from-2.result % 2 ≡ c.args.port_min + c.args.port_min % 2 = rw (c.from.ensures, c.from-2.ensures) refl in
     let counted : count ≡ (c.args.port_max + 1 - (c.from.result + c.from-2.result % 2)) / 2 = rw (c.saturating_sub-count.ensures, c.from-3.ensures) refl in
     let ports = within_ports c.args.port_min c.args.port_max (c.from.result + c.from-2.result % 2) count first (omega (arith, c.ranges.port_min.fits)) (omega (arith, c.ranges.port_max.fits)) counted in
-    let room : length items ≤ deque_capacity c.in-Ok.free = omega (arith, many, c.in-Ok.ensures.room) in
-    let free : AreFree (length items) c.in-Ok.free.items = rw (many, c.in-Ok.ensures.pairs) (all_numbers count) in
+    let room : length items ≤ deque_capacity c.in_ok-free.free = omega (arith, many, c.in_ok-free.ensures.room) in
+    let free : AreFree (length items) c.in_ok-free.free.items = rw (many, c.in_ok-free.ensures.pairs) (all_numbers count) in
     (omega (arith, ports, many), room, free)
 
 pub returns : goal.returns
@@ -34,6 +34,6 @@ returns c config min max =
     rw (c.saturating_sub-count.ensures, c.from-3.ensures, c.from.ensures, c.from-2.ensures) (same_count config c.args.port_min c.args.port_max min max) in
     record {
       first_is = first;
-      all_free = c.in-Ok.ensures.pairs ∙ ap (numbers 0) counted;
-      none_leased = c.in-Ok-from_elem.ensures.items_if_clones_equal (λ y h. h) ∙ ap (λ count. replicate count 0) counted;
+      all_free = c.in_ok-free.ensures.pairs ∙ ap (numbers 0) counted;
+      none_leased = c.in_ok-generations.ensures.items_if_clones_equal (λ y h. h) ∙ ap (λ count. replicate count 0) counted;
     }
