@@ -17,6 +17,8 @@ pub enum Judge {
 /// Where packets go that are sent to one leg and half.
 ///
 /// Contracts see it by the lists of steps that it stands for: what was signalled, and the sources of accepted packets.
+/// It stands for some list, so what its calls say of every list settles its address, flags and learned source: a
+/// cell's proofs carry no list of steps.
 #[derive(Clone, Copy, PartialEq, Eq, Debug)]
 pub struct Learner {
     /// The address that was signalled last.

@@ -39,15 +39,6 @@ apart lanes m n same above below =
 pub none_before : (lanes index pair : ℕ) → index < lanes → pair % lanes ≡ index → pair < index → ⊥
 none_before lanes index pair below own before = let k : pair < lanes → pair % lanes ≡ pair = λ h. mod-eq_of_lt h in omega (arith, k, below, own, before)
 
--- the next own pair is `lanes` further
-pub next_own : (lanes upto pair : ℕ) → upto % lanes ≡ pair % lanes → pair < upto + lanes → (pair < upto) ⊎ (pair ≡ upto)
-next_own lanes upto pair same below =
-    elim (cases_order pair upto) [
-      | inl h ↦ inr h
-      | inr (inl h) ↦ inl h
-      | inr (inr h) ↦ absurd (apart lanes upto pair same h below)
-    ]
-
 -- Tests.
 
 is_below : (a b : ℕ) → a < b → nat_lt a b ≡ true

@@ -101,10 +101,6 @@ same_totals l k t same h = record {
   lost = h.lost ∙ ap capped (sym (same (relayed is_lost) (relayed_media is_lost)));
 }
 
--- nothing was taken yet
-pub nothing_totals : HasTotals [] (record { taken = 0; sent = 0; refused = 0; lost = 0 })
-nothing_totals = record { taken = refl; sent = refl; refused = refl; lost = refl }
-
 -- A turn of the board takes and relays nothing.
 
 one_none : (q : Event → Bool) (b : Entry) → q b.event ≡ false → counted q (b ∷ []) ≡ 0

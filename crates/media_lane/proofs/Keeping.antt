@@ -180,13 +180,3 @@ receipt_stays config l more pair p rec receiving rest = record {
         let before : TakesOwnPairs config l = λ f half holder source bytes j s. own f half holder source bytes (in_left l more j) s in
         rec.unspent before (receiving before) e x i q pairs takes
     either own e x q pairs takes (inr i) = rest own e x i q pairs takes
-
--- two receipts of different takes name different ones
-pub receipts_differ : (config : Config) (l : List Entry) (pair other : ℕ) (p q : Receipt) → IsReceiptOf config l pair p → IsReceiptOf config l other q
-    → (pair ≡ other → p.take ≡ q.take → ⊥) → TakesOwnPairs config l → q.holder.pair ≡ p.holder.pair → q.take ≡ p.take → ⊥
-receipts_differ config l pair other p q one two differ own pairs takes =
-    let a = own one.taking p.half p.holder p.source p.bytes one.is_there one.gave in
-    let b = own two.taking q.half q.holder q.source q.bytes two.is_there two.gave in
-    let c = one.at_box in
-    let d = two.at_box in
-    differ (omega (arith, a, b, c, d, pairs)) (sym takes)

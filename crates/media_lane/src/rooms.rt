@@ -11,6 +11,7 @@ use rtp_packet::Half;
 
 /// Two rooms for packets. In one stands what the last relay sent, at the front; the other one is free: a datagram is taken into it,
 /// and relayed where it stands. With each relay they change parts, so that no byte of a packet moves between its take and its send.
+/// With one room a take would write over what `sent_bytes` gives.
 #[derive(Drop)]
 pub struct Rooms {
     rooms: [PacketBuffer; 2],

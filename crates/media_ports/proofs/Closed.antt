@@ -8,7 +8,7 @@ use Rattle.relay_outside.specs.declared.ports.PortCall.TheVariants.{Open, Close}
 use Rattle.relay_outside.specs.Ports.{IsOpen, ClosesNot}
 use Rattle.histories.specs.Words.{In, here, there}
 use Rattle.media_ports.specs.Calls.{openings, Closes, ClosesUncalled, NoneOpen, LeavesOpen}
-use Rattle.media_ports.proofs.Opened.{open_anew, open_still, open_before, none_at_first}
+use Rattle.media_ports.proofs.Opened.{open_anew, open_still, open_before}
 
 pub closes_uncalled : (ats : List Addr) (calls : List PortCall) → AllZip ClosesUncalled ats calls → AllZip Closes ats calls
 closes_uncalled [] [] h = tt
@@ -122,7 +122,3 @@ pub not_open : (ats : List Addr) (calls : List PortCall) (at : Addr) → NoneOpe
 not_open [] calls at none among o = elim among [ ]
 not_open (a ∷ ats) calls at none (here same) o = none.0 (subst (IsOpen calls) same o)
 not_open (a ∷ ats) calls at none (there more) o = not_open ats calls at none.1 more o
-
--- no address is open before the first call
-pub none_open_first : (ats : List Addr) → NoneOpen ats []
-none_open_first ats = none_from ats [] (λ at among. none_at_first at)

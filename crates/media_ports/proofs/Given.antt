@@ -10,8 +10,7 @@ use Rattle.relay_outside.specs.declared.ports.PortCall.{PortCall}
 use Rattle.relay_outside.specs.declared.ports.PortCall.TheVariants.{Open, Close}
 use Rattle.relay_outside.specs.declared.settings.Config.{Config}
 use Rattle.relay_outside.specs.Ports.{joined, same_addr, taken_at, sent_at}
-use Rattle.relay_outside.specs.Told.{Gained, StartsEmpty}
-use Rattle.relay_outside.proofs.Telling.{gained_both}
+use Rattle.relay_outside.specs.Told.{StartsEmpty}
 use Rattle.rtp_packet.specs.declared.head.Half.{Half}
 use Rattle.port_pool.specs.Ports.{pair_count}
 use Rattle.port_pool.specs.declared.pairs.Lease.{Lease}
@@ -77,11 +76,6 @@ uncalled_both config xs ys these those = record {
   sends = λ at. subst (λ (told : Option (List OutCall)). Agrees told (Some [])) (sym (sent_append xs ys at))
       (agrees_both (sent_at xs at) (sent_at ys at) (Some []) (Some []) (these.sends at) (those.sends at));
 }
-
-pub gained_uncalled : (config : Config) (first second third : Option (List PortCall)) → Gained first second (GivesBackUncalled config) → Gained second third (GivesBackUncalled config) →
-    Gained first third (GivesBackUncalled config)
-gained_uncalled config first second third before after =
-    gained_both first second third (GivesBackUncalled config) (GivesBackUncalled config) (GivesBackUncalled config) (uncalled_both config) before after
 
 -- the address is that of a half of one of the configuration's pairs
 abbrev IsPorts : Config → Addr → Type 0

@@ -2,7 +2,7 @@ ghost use Rattle.std.specs.Prelude.{◌≡◌, ◌<◌, ◌≤◌, [], length, I
 ghost use Rattle.relay_outside.specs.Told.{Gained, HasCause};
 ghost use Rattle.media_ports.specs.Draws.{with_key, DrawsAll, DrawsUpTo};
 
-use relay_outside::{KeyAndSalt, KeySource, OutOfMemory};
+use relay_outside::{Failed, KeyAndSalt, KeySource, OutOfMemory};
 use std::alloc::Global;
 use std::marker::Model;
 
@@ -26,10 +26,8 @@ impl DrawnList {
     pub fn with_room(alloc: Global, room: usize) -> Result<DrawnList, OutOfMemory>
         ensures { IfOk result (λ drawn. drawn ≡ record { list = []; room = room }) }
     {
-        match Vec::with_capacity(alloc, room) {
-            Ok(keys) => Ok(DrawnList { keys }),
-            Err(_) => Err(OutOfMemory),
-        }
+        let keys = Vec::with_capacity(alloc, room)?;
+        Ok(DrawnList { keys })
     }
 
     /// Adds a key after the others. It takes no memory.
@@ -52,6 +50,12 @@ impl DrawnList {
 #[derive(Clone, Copy, PartialEq, Eq, Debug)]
 pub struct KeyFault;
 
+impl From<Failed> for KeyFault {
+    fn from(_failed: Failed) -> KeyFault {
+        KeyFault
+    }
+}
+
 /// Draws this many keys into an empty list with room for them. It takes no memory.
 pub fn draw_keys<K: KeySource>(
     keys: &mut K,
@@ -68,10 +72,8 @@ pub fn draw_keys<K: KeySource>(
     ensures cause { HasCause (K.faults keys.old) (K.faults keys.new) result }
 {
     for _drawn in 0..count {
-        match keys.draw() {
-            Ok(key) => drawn.push(key),
-            Err(_) => return Err(KeyFault),
-        }
+        let key = keys.draw()?;
+        drawn.push(key);
     }
     Ok(())
 }

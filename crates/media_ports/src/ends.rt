@@ -41,10 +41,8 @@ impl<I, O> OpenedPairs<I, O> {
     pub fn with_room(alloc: Global, room: usize) -> Result<OpenedPairs<I, O>, OutOfMemory>
         ensures { IfOk result (λ opened. opened ≡ record { list = []; room = room }) }
     {
-        match VecDeque::with_capacity(alloc, room) {
-            Ok(pairs) => Ok(OpenedPairs { pairs }),
-            Err(_) => Err(OutOfMemory),
-        }
+        let pairs = VecDeque::with_capacity(alloc, room)?;
+        Ok(OpenedPairs { pairs })
     }
 
     /// How many pairs there are.

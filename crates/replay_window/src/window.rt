@@ -78,6 +78,7 @@ impl Window {
     }
 
     /// Notes `index`, which `fresh` has to allow.
+    /// An index that is older than the window is not marked, which is safe.
     pub fn note(&mut self, index: u64)
         requires { index < 2 ^ 48 }
         ensures { (noted : List ℕ) → StandsFor self.old noted → fresh noted index ≡ Yes → StandsFor self.new (index ∷ noted) }

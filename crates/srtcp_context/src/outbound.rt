@@ -36,6 +36,9 @@ impl OutRtcp {
     ///
     /// The indices of a source count from 0; a new source must have room, and the index must be below 2^31 (RFC 3711
     /// sections 3.4 and 9.2). After a refusal nothing has changed.
+    ///
+    /// Too many sources is told before a spent key; for RTP the two never hold together. Freshness isn't asked: the index
+    /// is the number of packets that were protected before.
     pub fn protect(&mut self, buf: &mut [u8], len: usize) -> Result<(usize, u64), ProtectFault>
         requires room { len + 14 ≤ length buf.old }
         requires size { len < 2 ^ 31 }

@@ -19,6 +19,7 @@ const INNER_PAD: u8 = 0x36;
 const OUTER_PAD: u8 = 0x5c;
 
 /// HMAC-SHA1 under `key` of `text` followed by `tail`.
+/// Beyond 2^64 bits the standard defines no SHA-1.
 pub fn hmac(key: &[u8], text: &[u8], tail: &[u8]) -> [u8; 20]
     requires key_fits { length key.now < 2 ^ 32 }
     requires text_fits { length text.now < 2 ^ 32 }
