@@ -18,13 +18,12 @@ use Rattle.call_cell.specs.Asked.{CountsBelow, accepted_count, sent_count}
 use Rattle.call_cell.specs.Counting.{accepted_in, sent_in, as_counted}
 use Rattle.call_cell.specs.Standing.{LegFor, LegsFor}
 use Rattle.call_cell.specs.CellStanding.{CellFor}
-use Rattle.call_cell.specs.Committing.{NamesKeys, contexts_due_after}
+use Rattle.call_cell.specs.Committing.{NamesKeys}
 use Rattle.call_cell.specs.Preparing.{CanCome, added, prepare_entry}
 use Rattle.call_cell.proofs.Legs.{is_same_leg}
 use Rattle.call_cell.proofs.Few.{each_in}
 use Rattle.call_cell.proofs.KeysEqual.{suite_is}
 use Rattle.call_cell.proofs.PrepareSteps.{keys_stay, keys_new, any_true}
-use Rattle.call_cell.proofs.Callers.{due_is}
 
 -- The keys of a leg.
 
@@ -157,11 +156,6 @@ names_keys_again {O} config cell h k signal for again names leg number i q =
     let has = names leg number stands q in
     let t = twins config (since_end k) (since_end h) cell.legs.items again.legs_for for.legs_for leg stands has.key has.is_there in
     record { key = t.other; is_there = t.is_there; number_is = t.number ∙ has.number_is }
-
--- and it makes as many inbound contexts
-pub due_again : {O : Type 0} (config : Config) (cell : Cell O) (h k : List CellEntry) (signal : List SectionSignal) → CellFor config cell h
-    → CellFor config cell k → contexts_due_after (since_end h) signal ≡ contexts_due_after (since_end k) signal
-due_again config cell h k signal for again = sym (due_is config cell h signal for) ∙ due_is config cell k signal again
 
 -- and its counts are below 2 ^ 63
 pub counts_again : {O : Type 0} (config : Config) (cell : Cell O) (h k : List CellEntry) → CellFor config cell h → CellFor config cell k

@@ -1,5 +1,5 @@
 -- What is in force on a leg is what a commit said, after the leg was added.
-use Rattle.std.proofs.Common.{◌≡◌, refl, ap, subst, sym, ◌∙◌, ℕ, List, [], ◌∷◌, ◌++◌, Bool, true, false, cond, Option, Some, None, filter_map}
+use Rattle.std.proofs.Common.{◌≡◌, refl, ap, sym, ◌∙◌, ℕ, List, [], ◌∷◌, ◌++◌, Bool, true, false, cond, Option, Some, None, filter_map}
 use Rattle.std.specs.Prelude.{◌||◌}
 use Rattle.std.specs.List.{list_any, cons_option}
 use Rattle.histories.specs.Words.{In, here, there, first}
@@ -8,8 +8,8 @@ use Rattle.port_pool.specs.declared.signal.LegSignal.{LegSignal}
 use Rattle.port_pool.specs.declared.signal.SectionSignal.{SectionSignal}
 use Rattle.port_pool.specs.Signals.{same_leg, signal_at}
 use Rattle.call_cell.specs.Cells.{CellEvent, CellEntry, Prepare, Commit, Relay, Expire, Read, End, legs_of, legs, life, committed, commits_for, in_force}
-use Rattle.call_cell.proofs.Legs.{leg_before, is_same_leg}
-use Rattle.call_cell.proofs.Splits.{none_in, or_first, in_middle}
+use Rattle.call_cell.proofs.Legs.{is_same_leg}
+use Rattle.call_cell.proofs.Splits.{none_in, or_first}
 
 -- the last commit of the leg, with what stands after and before it
 pub record IsCommitted (h : List CellEntry) (leg : Holder) (s : LegSignal) : Type 0 where
@@ -86,10 +86,6 @@ pub in_force_committed : (h : List CellEntry) (leg : Holder) (s : LegSignal) →
 in_force_committed [] leg s q = absurd (let e = q in cc)
 in_force_committed (x ∷ h) leg s q = force_case x h leg s (in_force_committed h leg s) (adds leg x) refl q
 
--- the commit is an entry of the history
-pub commit_is_in : (h : List CellEntry) (leg : Holder) (s : LegSignal) (c : IsCommitted h leg s) → In c.entry h
-commit_is_in h leg s c = subst (λ (k : List CellEntry). In c.entry k) (sym c.splits) (in_middle c.newer c.older c.entry)
-
 -- what adds the leg is seen to
 
 or_true : (b c : Bool) → b ≡ true → (b || c) ≡ true
@@ -105,25 +101,3 @@ is_among leg [] i = elim i [ ]
 is_among leg (x ∷ xs) (here q) =
     or_true (same_leg leg x) (list_any (same_leg leg) xs) (sym (ap (λ (y : Holder). same_leg leg y) q) ∙ is_same_leg leg)
 is_among leg (x ∷ xs) (there i) = true_or (same_leg leg x) (list_any (same_leg leg) xs) (is_among leg xs i)
-
-commit_adds_none : (event : CellEvent) (signal : List SectionSignal) (leg : Holder) → event ≡ Commit signal → In leg (legs_of event) → ⊥
-commit_adds_none (Commit said) signal leg q i = elim i [ ]
-commit_adds_none (Prepare call legs keys dropped) signal leg q i = let e = q in cc
-commit_adds_none (Relay r) signal leg q i = let e = q in cc
-commit_adds_none (Expire due) signal leg q i = let e = q in cc
-commit_adds_none (Read told) signal leg q i = let e = q in cc
-commit_adds_none End signal leg q i = let e = q in cc
-
-no_add : (h : List CellEntry) (leg : Holder) (s : LegSignal) (c : IsCommitted h leg s) (e : CellEntry) → In e c.newer → In leg (legs_of e.event) → ⊥
-no_add h leg s c e i j = let p = c.adds_none e i in let q = is_among leg (legs_of e.event) j in cc
-
-no_add_here : (h : List CellEntry) (leg : Holder) (s : LegSignal) (c : IsCommitted h leg s) (e : CellEntry) → In e (c.entry ∷ []) → In leg (legs_of e.event) → ⊥
-no_add_here h leg s c e (here p) j =
-    commit_adds_none e.event c.signal leg (ap (λ (y : CellEntry). y.event) p ∙ c.is_commit) j
-no_add_here h leg s c e (there i) j = elim i [ ]
-
--- a leg that is there now was there when it was committed
-pub leg_at_commit : (h : List CellEntry) (leg : Holder) (s : LegSignal) → In leg (legs h) → (c : IsCommitted h leg s) → In leg (legs c.older)
-leg_at_commit h leg s i c =
-    leg_before (c.entry ∷ []) c.older leg (no_add_here h leg s c)
-    (leg_before c.newer (c.entry ∷ c.older) leg (no_add h leg s c) (subst (λ (k : List CellEntry). In leg (legs k)) c.splits i))

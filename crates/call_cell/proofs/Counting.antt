@@ -89,10 +89,6 @@ accepted_more : (m : ℕ) (p : Receipt) (ok : Bool) (d : Deed) (h : List CellEnt
 accepted_more m p ok d h leg half =
     count_case half (record { packet = p; sent_ok = ok; deed = d }) (accepted_of (life h leg) leg) (accepted_count h leg half) refl (accepts leg p d)
 
-sent_more : (m : ℕ) (p : Receipt) (ok : Bool) (d : Deed) (h : List CellEntry) (leg : Holder) (half : Half)
-    → sent_count (relay_entry m p ok d ∷ h) leg half ≡ cond (sent_from h leg half p d) (sent_count h leg half + 1) (sent_count h leg half)
-sent_more m p ok d h leg half = refl
-
 module _ (m : ℕ) (p : Receipt) (ok : Bool) (d : Deed) (h : List CellEntry) (leg : Holder) (counts : Counts) where
   accepted_same : IsCounted h leg counts → accepts leg p d ≡ false → (half : Half) → accepted_in half counts ≡ as_counted (accepted_count (relay_entry m p ok d ∷ h) leg half)
   accepted_same for none half =

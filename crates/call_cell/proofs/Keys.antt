@@ -17,10 +17,6 @@ brings_event moment (Expire due) i = elim i [ ]
 brings_event moment (Read told) i = elim i [ ]
 brings_event moment End i = elim i [ ]
 
--- an entry that brings a key is a Prepare with that key
-pub brings_prepares : {key : NewKey} (e : CellEntry) → In key (keys_of e.event) → (p : IsPrepare e) × In key p.keys
-brings_prepares e i = brings_event e.moment e.event i
-
 brought_case : {key : NewKey} (x : CellEntry) (h : List CellEntry) → (In key (keys_in h) → (e : CellEntry) × In e h × In key (keys_of e.event))
     → In key (keys_of x.event) ⊎ In key (keys_in h) → (e : CellEntry) × In e (x ∷ h) × In key (keys_of e.event)
 brought_case x h rest (inl i) = (x, here refl, i)

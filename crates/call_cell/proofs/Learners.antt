@@ -11,7 +11,7 @@ use Rattle.endpoint_learn.specs.declared.learner.Judge.{Judge}
 use Rattle.endpoint_learn.specs.declared.learner.Judge.TheVariants.{Pass, WrongSource}
 use Rattle.endpoint_learn.specs.Learning.{Step, Signalled, Heard, taught, endpoint, is_wrong, is_wrong_source}
 use Rattle.endpoint_learn.specs.Learners.{StandsFor, judge_of}
-use Rattle.endpoint_learn.proofs.Exact.{learner, begins, learns, signals, judges, goes_to}
+use Rattle.endpoint_learn.proofs.Exact.{learner, learns, signals, judges, goes_to}
 use Rattle.call_cell.specs.declared.leg.Leg.{Leg}
 use Rattle.call_cell.specs.Learning.{address}
 use Rattle.call_cell.specs.Parts.{learner_of, endpoint_of, is_wrong_for}
@@ -49,14 +49,6 @@ teaches o l new source half s known is does was =
     ap Some (learns l new source does)
     ∙ ap (λ (x : Learner). Some (learner x.signalled x.flags (taught x.flags x.learned source)))
     (some_is l (learner (address half s) s.flags known) (sym is ∙ was))
-
--- the learner of the first commit
-pub first_signal : (o : Option Learner) (new : Learner) (a : Addr) (half : Half) (s : LegSignal) (earlier : Option LegSignal) (known : Option Addr)
-    → o ≡ None → a ≡ address half s → StandsFor new (Signalled a s.flags ∷ []) → o ≡ learner_of half earlier known
-    → Some new ≡ learner_of half (Some s) (relearned earlier s half known)
-first_signal o new a half s None known is at stands was =
-    ap Some (begins new a s.flags stands) ∙ ap (λ (x : Addr). Some (learner x s.flags None)) at
-first_signal o new a half s (Some e) known is at stands was = absurd (let p = sym is ∙ was in cc)
 
 -- the learner of a later one
 pub later_signal : (o : Option Learner) (l new : Learner) (a : Addr) (half : Half) (s : LegSignal) (earlier : Option LegSignal) (known : Option Addr)

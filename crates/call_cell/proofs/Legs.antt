@@ -1,5 +1,5 @@
 -- The legs of a cell: which entry added one, and that none took it away since.
-use Rattle.std.proofs.Common.{◌≡◌, refl, ap, subst, sym, ◌∙◌, ℕ, List, [], ◌∷◌, ◌++◌, Bool, true, false, cond, Some, filter, not, ◌==◌, ◌⊎◌, inl, inr, append-nil}
+use Rattle.std.proofs.Common.{◌≡◌, refl, ap, ◌∙◌, ℕ, List, [], ◌∷◌, ◌++◌, Bool, true, false, cond, Some, filter, not, ◌==◌, ◌⊎◌, inl, inr, append-nil}
 use Rattle.std.specs.Prelude.{◌&&◌}
 use Rattle.histories.specs.Words.{In, here, there}
 use Rattle.histories.proofs.Lists.{in_left, in_right, in_append, filtered, keeps, first_is_in, equal, equal_if}
@@ -89,9 +89,6 @@ stays_there (x ∷ newer) older entry leg i stays =
     in_left (filter (keeps_leg x) (legs (newer ++ entry ∷ older))) (legs_of x.event)
     (keeps (keeps_leg x) (legs (newer ++ entry ∷ older)) (stays_there newer older entry leg i (λ e j. stays e (there j)))
     (not_false (takes_away x.event leg.section) (stays x (here refl))))
-
-pub leg_is_there : (h : List CellEntry) (leg : Holder) → IsAdded h leg → In leg (legs h)
-leg_is_there h leg a = subst (λ (k : List CellEntry). In leg (legs k)) (sym a.splits) (stays_there a.newer a.older a.entry leg a.adds a.stays)
 
 before_case : (x : CellEntry) (h : List CellEntry) (leg : Holder) → (In leg (legs_of x.event) → ⊥)
     → In leg (filter (keeps_leg x) (legs h)) ⊎ In leg (legs_of x.event) → In leg (legs h)

@@ -266,18 +266,6 @@ kept_is_same h = same_kept (kept h) h (kept_again h)
 pub legs_kept : (h : List CellEntry) → legs (since_end (kept h)) ≡ legs (since_end h)
 legs_kept h = let s = kept_is_same h in s.legs_are
 
-pub keys_kept : (h : List CellEntry) → keys_in (since_end (kept h)) ≡ keys_in (since_end h)
-keys_kept h = let s = kept_is_same h in s.keys_are
-
-pub keys_for_kept : (h : List CellEntry) (leg : Holder) → keys_for (since_end (kept h)) leg ≡ keys_for (since_end h) leg
-keys_for_kept h leg = keys_for_same (since_end (kept h)) (since_end h) (kept_is_same h) leg
-
-pub in_force_kept : (h : List CellEntry) (leg : Holder) → in_force (since_end (kept h)) leg ≡ in_force (since_end h) leg
-in_force_kept h leg = let s = kept_is_same h in s.force_is leg
-
-pub call_kept : (h : List CellEntry) → call (since_end (kept h)) ≡ call (since_end h)
-call_kept h = let s = kept_is_same h in s.call_is
-
 pub can_come_kept : {O : Type 0} (config : Config) (h k : List CellEntry) (signal : prepared.Prepare O) (number : ℕ) (keys : List NewKey) (dropped : List ℕ)
     → kept h ≡ kept k → CanCome config (since_end h) signal number keys dropped → CanCome config (since_end k) signal number keys dropped
 can_come_kept config h k signal number keys dropped same can =

@@ -31,11 +31,6 @@ none_since h number none = none_numbered (since_end h) number none_there
         let b = key_brought (since_end h) i in
         found_none h key (key_is_in h (since_is_in h b.1) b.2) (ap (λ (n : ℕ). key_numbered h n) q ∙ none)
 
--- a key that comes has a new number also since the last End
-pub brings_new : (e : CellEntry) (h : List CellEntry) → BringsNewKeys (e ∷ h) → (key : NewKey) → In key (keys_of e.event)
-    → key_numbered (since_end h) key.number ≡ None
-brings_new e h brings key i = none_since h key.number (brings.0 key i)
-
 since_case : (e : CellEntry) (h : List CellEntry) → ((key : NewKey) → In key (keys_of e.event) → key_numbered h key.number ≡ None)
     → BringsNewKeys (since_end h) → (b : Bool) → BringsNewKeys (cond b [] (e ∷ since_end h))
 since_case e h new rest true = tt

@@ -126,11 +126,3 @@ accepts_case config h p ok d (leaves t l e) q = taken_accepts h p t d (ap (λ (x
 
 pub accepts : (config : Config) (h : List CellEntry) (p : Receipt) (ok : Bool) → is_accepted (deed config h p ok).outcome ≡ true → Accepts h p (deed config h p ok)
 accepts config h p ok q = accepts_case config h p ok (deed config h p ok) (does config h p ok) q
-
-kind_case : (config : Config) (h : List CellEntry) (p : Receipt) (ok : Bool) (d : Deed) → Does config h p ok d → d.kind ≡ kind h p
-kind_case config h p ok d (refuses c e) = ap (λ (x : Deed). x.kind) e
-kind_case config h p ok d (loses t c n e) = ap (λ (x : Deed). x.kind) e
-kind_case config h p ok d (leaves t l e) = ap (λ (x : Deed). x.kind) e
-
-pub kind_is : (config : Config) (h : List CellEntry) (p : Receipt) (ok : Bool) → (deed config h p ok).kind ≡ kind h p
-kind_is config h p ok = kind_case config h p ok (deed config h p ok) (does config h p ok)

@@ -20,13 +20,11 @@ use Rattle.srtp_context.specs.Packets as srtp
 use Rattle.srtp_context.specs.Opening as srtp_in
 use Rattle.srtcp_context.specs.Packets as srtcp
 use Rattle.srtcp_context.specs.Opening as srtcp_in
-use Rattle.port_pool.specs.declared.holder.Holder.{Holder}
 use Rattle.port_pool.specs.declared.signal.LegSignal.{LegSignal}
 use Rattle.call_cell.specs.declared.outcome.Refused.TheVariants as refused
-use Rattle.call_cell.specs.Cells.{CellEntry, Receipt, in_force}
-use Rattle.call_cell.specs.Keyed.{accepted, Judged, Stopped, Passed, is_packet, opened_rtp, opened_rtcp, opened_under, opened_by}
-use Rattle.call_cell.specs.Learning.{learned, is_wrong_source}
-use Rattle.call_cell.specs.Deeds.{kind, judged, judged_leg}
+use Rattle.call_cell.specs.Keyed.{Judged, Stopped, Passed, is_packet, opened_rtp, opened_rtcp, opened_under, opened_by}
+use Rattle.call_cell.specs.Learning.{is_wrong_source}
+use Rattle.call_cell.specs.Deeds.{judged_leg}
 
 -- the front of a front
 take-take : (n m : ℕ) (xs : List ℕ) → n ≤ m → m ≤ length xs → take n (take m xs) ≡ take n xs
@@ -233,8 +231,3 @@ leg_case None known notes half source bytes noted plain q = absurd (let f = q in
 leg_case (Some s) known notes half source bytes noted plain q =
     passes_case half bytes (is_packet half bytes) (is_wrong_source s.flags known source) (opened_by s.inbound notes half bytes) noted plain refl
     (by_case s.inbound notes half bytes noted plain) q
-
-pub plain_is_packet : (h : List CellEntry) (p : Receipt) (leg : Holder) (noted : Option Note) (plain : List ℕ)
-    → judged h p leg ≡ Passed noted plain → IsPlain (kind h p) p.bytes plain
-plain_is_packet h p leg noted plain q =
-    leg_case (in_force h leg) (learned h leg p.half) (accepted h leg) (kind h p) p.source p.bytes noted plain q

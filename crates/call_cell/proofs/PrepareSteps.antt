@@ -116,11 +116,6 @@ number_so suite (p ∷ prepared) (key ∷ keys) leg zip =
     ∙ number_case (is_for leg.holder key) suite p.contexts.value (contexts_of suite x.sending) key (filter (is_for leg.holder) keys)
     (number_in (contexts_of suite leg.sending)) (anew_number key p.contexts.value zip.0.contexts) (number_so suite prepared keys leg zip.1)
 
-number_first : (t : Bool) (key : NewKey) (keys more : List NewKey) → number_of (first (keys ++ more)) ≡ or_else (number_of (first keys)) (number_of (first more))
-    → number_of (first (cond t (key ∷ keys) keys ++ more)) ≡ or_else (number_of (first (cond t (key ∷ keys) keys))) (number_of (first more))
-number_first true key keys more rest = refl
-number_first false key keys more rest = rest
-
 first_append : (keys more : List NewKey) → number_of (first (keys ++ more)) ≡ or_else (number_of (first keys)) (number_of (first more))
 first_append [] more = refl
 first_append (key ∷ keys) more = refl

@@ -128,11 +128,6 @@ sends_case config h p ok s d (refuses c e) q = absurd (let f = ap (λ (x : Deed)
 sends_case config h p ok s d (loses t c n e) q = absurd (let f = ap (λ (x : Deed). x.shield) e in cc)
 sends_case config h p ok s d (leaves t l e) q = (sending_of h p l.other l.signal l.bytes, ap (λ (x : Deed). x.sending) e)
 
--- a relay that protected made a send
-pub shield_sends : (config : Config) (h : List CellEntry) (p : Receipt) (ok : Bool) (s : Shield) → (deed config h p ok).shield ≡ Some s
-    → (w : Sending) × ((deed config h p ok).sending ≡ Some w)
-shield_sends config h p ok s q = sends_case config h p ok s (deed config h p ok) (does config h p ok) q
-
 -- the indices of RTCP packets under a key are below their count
 
 next_control : (half : Half) (ssrc index : ℕ) (notes : List Note) → half ≡ Rtcp → IsNextIndex half ssrc notes index → index ≡ length (indices Rtcp ssrc notes)

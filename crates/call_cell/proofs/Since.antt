@@ -8,7 +8,7 @@ use Rattle.call_cell.specs.Cells.{CellEvent, CellEntry, Prepare, Commit, Relay, 
 use Rattle.call_cell.specs.Deeds.{deed}
 use Rattle.call_cell.specs.Asked.{FitsAt}
 use Rattle.call_cell.specs.Good.{FittingCell, empty, longer, GoodCell, begins, goes_on}
-use Rattle.call_cell.proofs.Splits.{none_in, or_first, in_middle}
+use Rattle.call_cell.proofs.Splits.{none_in, or_first}
 
 -- since the last End
 
@@ -71,9 +71,6 @@ is_in_case x h rest false (there i) = there (rest i)
 pub since_is_in : {e : CellEntry} (h : List CellEntry) → In e (since_end h) → In e h
 since_is_in [] i = elim i [ ]
 since_is_in (x ∷ h) i = is_in_case x h (since_is_in h) (is_end x) i
-
-pub since_is_no_end : {e : CellEntry} (h : List CellEntry) → In e (since_end h) → is_end e ≡ false
-since_is_no_end h i = let s = since_split h i in s.is_not_end
 
 -- entries without an End stand before what stands since the last End
 pub since_append : (newer older : List CellEntry) → ((x : CellEntry) → In x newer → is_end x ≡ false)
@@ -152,11 +149,6 @@ begun_case x h c rest (Some n) q f = begun_list x h c n rest q (filter_map prepa
 pub call_begun : (h : List CellEntry) (c : ℕ) → call h ≡ Some c → IsBegun h c
 call_begun [] c q = absurd (let e = q in cc)
 call_begun (x ∷ h) c q = begun_case x h c (call_begun h c) (prepared_call x) refl q
-
-pub call_is_in : (h : List CellEntry) (c : ℕ) → call h ≡ Some c → (e : CellEntry) × In e h × (prepared_call e ≡ Some c)
-call_is_in h c q =
-    let b = call_begun h c q in
-    (b.entry, subst (λ (k : List CellEntry). In b.entry k) (sym b.splits) (in_middle b.newer b.older b.entry), b.prepares)
 
 -- where all Prepares name one call, and there is one, it is that call
 

@@ -11,9 +11,9 @@ use Rattle.port_pool.specs.declared.holder.Holder.{Holder}
 use Rattle.port_pool.specs.declared.signal.LegSignal.{LegSignal}
 use Rattle.port_pool.specs.declared.signal.SectionSignal.{SectionSignal}
 use Rattle.port_pool.specs.Signals.{NewKey, same_leg, signal_at, is_rejected}
-use Rattle.call_cell.specs.Cells.{CellEvent, CellEntry, Prepare, Commit, Relay, Relayed, Shield, call, legs, keys_in, life, committed, in_force, differs, is_accepted, accepted_of, since_change}
+use Rattle.call_cell.specs.Cells.{CellEvent, CellEntry, Prepare, Commit, Relay, Relayed, Shield, call, legs, life, committed, in_force, differs, is_accepted, accepted_of, since_change}
 use Rattle.call_cell.specs.Keyed.{same_inbound, span, accepted, shield_of, protected}
-use Rattle.call_cell.specs.Learning.{Lesson, lesson_of, lesson_under, heard, same_address, lessons, lessons_in, learned_from, source_in}
+use Rattle.call_cell.specs.Learning.{Lesson, lesson_under, heard, same_address, lessons, lessons_in, learned_from, source_in}
 use Rattle.endpoint_learn.specs.Learning.{taught}
 use Rattle.call_cell.specs.Parts.{note_under}
 use Rattle.call_cell.proofs.Legs.{legs_stay}
@@ -29,15 +29,6 @@ if_true false o = None
 
 pub relay_legs : (moment : ℕ) (r : Relayed) (h : List CellEntry) → legs (entry moment (Relay r) ∷ h) ≡ legs h
 relay_legs moment r h = legs_stay (entry moment (Relay r)) h refl (λ section. refl)
-
-pub relay_in_force : (moment : ℕ) (r : Relayed) (h : List CellEntry) (leg : Holder) → in_force (entry moment (Relay r) ∷ h) leg ≡ in_force h leg
-relay_in_force moment r h leg = refl
-
-pub relay_call : (moment : ℕ) (r : Relayed) (h : List CellEntry) → call (entry moment (Relay r) ∷ h) ≡ call h
-relay_call moment r h = refl
-
-pub relay_keys : (moment : ℕ) (r : Relayed) (h : List CellEntry) → keys_in (entry moment (Relay r) ∷ h) ≡ keys_in h
-relay_keys moment r h = refl
 
 -- what the relay notes under the leg's inbound key
 abbrev pub note_for : Holder → Relayed → Option Note
@@ -68,10 +59,6 @@ pub relay_protected : (moment : ℕ) (r : Relayed) (h : List CellEntry) (key : �
     → protected (entry moment (Relay r) ∷ h) key ≡ cons_option (note_under key r.deed.shield) (protected h key)
 relay_protected moment r h key = shield_case key (filter_map shield_of h) r.deed.shield
 
-pub relay_lessons : (moment : ℕ) (r : Relayed) (h : List CellEntry) (leg : Holder) (half : Half)
-    → lessons (entry moment (Relay r) ∷ h) leg half ≡ lesson_of (heard leg half (entry moment (Relay r))) (in_force h leg) ++ lessons h leg half
-relay_lessons moment r h leg half = refl
-
 -- whether the leg hears the relay in that half
 abbrev pub hears : Holder → Half → Relayed → Bool
 hears leg half r = same_leg leg r.packet.holder && is_accepted r.deed.outcome && is_half r.packet.half half
@@ -93,16 +80,6 @@ heard_is moment r leg half = heard_case half r (same_leg leg r.packet.holder && 
 pub commit_legs : (moment : ℕ) (signal : List SectionSignal) (h : List CellEntry)
     → legs (entry moment (Commit signal) ∷ h) ≡ filter (λ (leg : Holder). not (is_rejected signal leg.section)) (legs h)
 commit_legs moment signal h = append-nil (filter (λ (leg : Holder). not (is_rejected signal leg.section)) (legs h))
-
-pub commit_call : (moment : ℕ) (signal : List SectionSignal) (h : List CellEntry) → call (entry moment (Commit signal) ∷ h) ≡ call h
-commit_call moment signal h = refl
-
-pub commit_keys : (moment : ℕ) (signal : List SectionSignal) (h : List CellEntry) → keys_in (entry moment (Commit signal) ∷ h) ≡ keys_in h
-commit_keys moment signal h = refl
-
-pub commit_protected : (moment : ℕ) (signal : List SectionSignal) (h : List CellEntry) (key : ℕ)
-    → protected (entry moment (Commit signal) ∷ h) key ≡ protected h key
-commit_protected moment signal h key = refl
 
 first_of : {A : Type 0} (o : Option A) (xs : List A) → first (cons_option o xs) ≡ or_else o (first xs)
 first_of None xs = refl
@@ -162,10 +139,6 @@ pub prepare_lessons : (moment call : ℕ) (new : List Holder) (keys : List NewKe
 prepare_lessons moment call new keys dropped h leg half q =
     ap (λ (k : List CellEntry). lessons_in leg half k) (prepare_goes_on moment call new keys dropped h leg q)
 
-pub prepare_protected : (moment call : ℕ) (new : List Holder) (keys : List NewKey) (dropped : List ℕ) (h : List CellEntry) (key : ℕ)
-    → protected (entry moment (Prepare call new keys dropped) ∷ h) key ≡ protected h key
-prepare_protected moment call new keys dropped h key = refl
-
 pub new_leg_unanswered : (moment call : ℕ) (new : List Holder) (keys : List NewKey) (dropped : List ℕ) (h : List CellEntry) (leg : Holder)
     → adds leg new ≡ true → in_force (entry moment (Prepare call new keys dropped) ∷ h) leg ≡ None
 new_leg_unanswered moment call new keys dropped h leg q =
@@ -176,11 +149,6 @@ pub new_leg_notes_nothing : (moment call : ℕ) (new : List Holder) (keys : List
 new_leg_notes_nothing moment call new keys dropped h leg q =
     ap (λ (k : List CellEntry). filter_map (λ (x : Relayed). x.deed.noted) (accepted_of (since_change same_inbound leg k) leg))
     (prepare_begins moment call new keys dropped h leg q)
-
-pub new_leg_learned_nothing : (moment call : ℕ) (new : List Holder) (keys : List NewKey) (dropped : List ℕ) (h : List CellEntry) (leg : Holder) (half : Half)
-    → adds leg new ≡ true → lessons (entry moment (Prepare call new keys dropped) ∷ h) leg half ≡ []
-new_leg_learned_nothing moment call new keys dropped h leg half q =
-    ap (λ (k : List CellEntry). lessons_in leg half k) (prepare_begins moment call new keys dropped h leg q)
 
 -- Learning, packet by packet.
 

@@ -94,6 +94,8 @@ fn active_after(outcome: Outcome, active: u64, now: u64) -> u64
 }
 
 /// Relays a packet from the leg that received it to the one on the other side.
+/// The flags that judge the packet are those in force on the leg that received it; those that decide where it goes are those
+/// on the leg that sends it.
 fn relay_legs<O: OutEnd>(legs: &mut [Leg<O>], packet: &Incoming, buf: &mut PacketBuffer) -> Outcome
     requires held { packet.now.len ≤ 2000 }
     ensures relays { (config : Config) (h : List CellEntry) (number : ℕ) → LegsFor config h legs.old →
@@ -128,6 +130,8 @@ impl<O> Cell<O> {
     ghost use Rattle.call_cell.specs.Expiring.{due_by};
 
     /// Whether the call is due to end at the cell's last moment.
+    /// An answer that rejects every section commits the call, too. A call begins, for its timeout, at the first entry in its
+    /// cell, whose moment may be later than the one that a query tells.
     fn is_due(&self) -> bool
         ensures { result ≡ due_by self.now self.now.moment }
     {

@@ -4,7 +4,7 @@ ghost use Rattle.sdes_lines.specs.declared.crypto_line.Suite.{Suite};
 ghost use Rattle.rtp_packet.specs.declared.head.Half.TheVariants.{Rtp, Rtcp};
 ghost use Rattle.srtp_sources.specs.Notes.{Note};
 ghost use Rattle.port_pool.specs.Signals.{NewKey};
-ghost use Rattle.call_cell.specs.Keyed.{opened_under, wrapped_under, refused_by, lost_by};
+ghost use Rattle.call_cell.specs.Keyed.{opened_under, wrapped_under};
 ghost use Rattle.call_cell.specs.Contexts.{no_packet};
 ghost use Rattle.call_cell.specs.Heads.{head_of, half_of, IsHead};
 
@@ -15,30 +15,7 @@ use rtp_packet::{Half, RtpHead};
 use sdes_lines::Suite;
 use srtcp_context::{InRtcp, OutRtcp};
 use srtp_context::{InRtp, OutRtp};
-use srtp_keys::{DrawnKey, ProtectFault, UnprotectFault};
-
-fn refused_by(cause: UnprotectFault) -> Refused
-    ensures { result ≡ refused_by cause }
-{
-    match cause {
-        UnprotectFault::Short => Refused::Short,
-        UnprotectFault::NotAuthentic => Refused::NotAuthentic,
-        UnprotectFault::TooOld => Refused::TooOld,
-        UnprotectFault::Replayed => Refused::Replayed,
-        UnprotectFault::TooManySources => Refused::TooManySources,
-    }
-}
-
-fn lost_by(cause: ProtectFault) -> Lost
-    ensures { result ≡ lost_by cause }
-{
-    match cause {
-        ProtectFault::TooOld => Lost::OutTooOld,
-        ProtectFault::IndexUsed => Lost::IndexUsed,
-        ProtectFault::TooManySources => Lost::OutSources,
-        ProtectFault::KeySpent => Lost::KeySpent,
-    }
-}
+use srtp_keys::DrawnKey;
 
 /// Why what is no packet of a half is not protected: it has no index, and no source.
 fn no_packet(half: Half) -> Lost
@@ -83,10 +60,8 @@ impl Inbound {
         ensures head { IfOk result (λ size. rtp_head (take size buf.new) ≡ Some found) }
         ensures opens { (key : List ℕ × Suite) (notes : List Note) → InboundFor key self.old notes → OpensTo (opened_under key notes Rtp (take len buf.old)) key notes self.old self.new buf.new result }
     {
-        match self.rtp.unprotect_with_head(buf, len, found) {
-            Ok(size) => Ok(size),
-            Err(cause) => Err(refused_by(cause)),
-        }
+        let size = self.rtp.unprotect_with_head(buf, len, found)?;
+        Ok(size)
     }
 
     /// Checks and opens in place an RTCP packet of this sender.
@@ -102,10 +77,8 @@ impl Inbound {
         ensures head { IfOk result (λ size. rtcp_ssrc (take size buf.new) ≡ Some ssrc) }
         ensures opens { (key : List ℕ × Suite) (notes : List Note) → InboundFor key self.old notes → OpensTo (opened_under key notes Rtcp (take len buf.old)) key notes self.old self.new buf.new result }
     {
-        match self.rtcp.unprotect_with_ssrc(buf, len, ssrc) {
-            Ok(size) => Ok(size),
-            Err(cause) => Err(refused_by(cause)),
-        }
+        let size = self.rtcp.unprotect_with_ssrc(buf, len, ssrc)?;
+        Ok(size)
     }
 
     /// Checks and opens in place the packet with this head in the buffer's first `len` bytes, and returns the length of the
@@ -174,10 +147,8 @@ impl Outbound {
         ensures number { self.new.number ≡ self.old.number }
         ensures wraps { (key : NewKey) (notes : List Note) → OutboundFor key self.old notes → WrapsTo (wrapped_under key notes Rtp (take len buf.old)) key notes self.old self.new buf.new result }
     {
-        match self.rtp.protect_with_head(buf, len, found) {
-            Ok((size, _)) => Ok(size),
-            Err(cause) => Err(lost_by(cause)),
-        }
+        let (size, _) = self.rtp.protect_with_head(buf, len, found)?;
+        Ok(size)
     }
 
     /// Protects in place an RTCP packet of this sender.
@@ -188,10 +159,8 @@ impl Outbound {
         ensures number { self.new.number ≡ self.old.number }
         ensures wraps { (key : NewKey) (notes : List Note) → OutboundFor key self.old notes → WrapsTo (wrapped_under key notes Rtcp (take len buf.old)) key notes self.old self.new buf.new result }
     {
-        match self.rtcp.protect_with_ssrc(buf, len, ssrc) {
-            Ok((size, _)) => Ok(size),
-            Err(cause) => Err(lost_by(cause)),
-        }
+        let (size, _) = self.rtcp.protect_with_ssrc(buf, len, ssrc)?;
+        Ok(size)
     }
 
     /// Protects in place the packet of a half in the buffer's first `len` bytes, which has this head, and returns the length

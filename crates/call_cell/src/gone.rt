@@ -32,10 +32,8 @@ impl<O> Gone<O> {
     pub fn new(alloc: Global) -> Result<Gone<O>, OutOfMemory>
         ensures { IfOk result (λ gone. gone ≡ []) }
     {
-        match Vec::with_capacity(alloc, MOST_LEGS) {
-            Ok(legs) => Ok(Gone { legs }),
-            Err(_) => Err(OutOfMemory),
-        }
+        let legs = Vec::with_capacity(alloc, MOST_LEGS)?;
+        Ok(Gone { legs })
     }
 
     /// Whether one more leg has room.

@@ -37,10 +37,8 @@ impl InContexts {
     pub fn reserve(alloc: Global, count: usize) -> Result<InContexts, OutOfMemory>
         ensures { IfOk result (λ contexts. contexts ≡ count) }
     {
-        match places(alloc, count) {
-            Ok(places) => Ok(InContexts { places }),
-            Err(_) => Err(OutOfMemory),
-        }
+        let places = places(alloc, count)?;
+        Ok(InContexts { places })
     }
 
     /// The contexts of an inbound key, which have taken no packet, in one of the places.

@@ -41,6 +41,7 @@ fn place_for<O>(legs: &[Leg<O>], key: &PreparedKey) -> Option<usize>
 }
 
 /// Gives the contexts of a key to the leg that it is for.
+/// A key for which the cell has no leg is dropped.
 fn put_key<O>(legs: &mut [Leg<O>], key: PreparedKey)
     ensures { AreApart legs.old → legs.new ≡ map (λ leg. put_if key leg) legs.old }
 {

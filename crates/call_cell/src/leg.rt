@@ -55,6 +55,8 @@ fn is_opposite(leg: &Holder, other: &Holder) -> bool
 }
 
 /// The place of the leg that a packet was taken for.
+/// All is asked of the leg with the receipt's call, pair and lease, and not of its section and side. In a legal list the two are
+/// one.
 pub(crate) fn place_of<O>(legs: &[Leg<O>], holder: &Holder) -> Option<usize>
     ensures place { result ≡ position (λ leg. same_leg holder.now leg.holder) legs.now }
     ensures within { IfSome result (λ at. at < length legs.now) }
@@ -202,13 +204,11 @@ impl<O: OutEnd> Leg<O> {
         let Some(signal) = self.signal else {
             return Err(Refused::NotAnswered);
         };
-        match self.receiving.accept(&signal, half, head, source, buf, len) {
-            Err(cause) => Err(cause),
-            Ok(size) => {
-                self.counts.accept(half);
-                Ok(size)
-            }
-        }
+        let size = self
+            .receiving
+            .accept(&signal, half, head, source, buf, len)?;
+        self.counts.accept(half);
+        Ok(size)
     }
 
     /// Sends the plain packet in the buffer's first `len` bytes, which has this head, to the leg's side, protected under the key

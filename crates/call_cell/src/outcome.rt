@@ -1,6 +1,10 @@
+ghost use Rattle.std.specs.Prelude.{◌≡◌};
+ghost use Rattle.call_cell.specs.Keyed.{refused_by, lost_by};
+
 use port_pool::Holder;
 use relay_outside::Addr;
 use rtp_packet::Half;
+use srtp_keys::{ProtectFault, UnprotectFault};
 
 /// Why a packet is refused. Nothing but the cell's last moment changes.
 #[derive(Clone, Copy, PartialEq, Eq, Debug)]
@@ -25,10 +29,24 @@ pub enum Refused {
     TooManySources,
 }
 
+impl From<UnprotectFault> for Refused {
+    ghost from_gives = { λ cause refused. refused ≡ refused_by cause };
+
+    fn from(cause: UnprotectFault) -> Refused {
+        match cause {
+            UnprotectFault::Short => Refused::Short,
+            UnprotectFault::NotAuthentic => Refused::NotAuthentic,
+            UnprotectFault::TooOld => Refused::TooOld,
+            UnprotectFault::Replayed => Refused::Replayed,
+            UnprotectFault::TooManySources => Refused::TooManySources,
+        }
+    }
+}
+
 /// Why an accepted packet is not sent.
 #[derive(Clone, Copy, PartialEq, Eq, Debug)]
 pub enum Lost {
-    /// The opposite leg is on hold.
+    /// The opposite leg is on hold, was never committed, or isn't there. Where both legs of a section are added together, neither of the last two comes.
     Hold,
     /// The index under which the packet would be sent is too old, or there is none.
     OutTooOld,
@@ -39,10 +57,24 @@ pub enum Lost {
     /// The key of the opposite leg has no index left.
     KeySpent,
     /// The send failed. Its index stays used.
+    /// It names its port, else nobody above the cell could count the sends of an end; the printed line of a script has none.
     SendFault {
         /// The local port that it would have left by.
         port: u16,
     },
+}
+
+impl From<ProtectFault> for Lost {
+    ghost from_gives = { λ cause lost. lost ≡ lost_by cause };
+
+    fn from(cause: ProtectFault) -> Lost {
+        match cause {
+            ProtectFault::TooOld => Lost::OutTooOld,
+            ProtectFault::IndexUsed => Lost::IndexUsed,
+            ProtectFault::TooManySources => Lost::OutSources,
+            ProtectFault::KeySpent => Lost::KeySpent,
+        }
+    }
 }
 
 /// Room for a packet from its take to its send: for the longest that is taken, and for what protection adds to it.

@@ -53,9 +53,7 @@ fn leg_places<O>(alloc: Global, legs: usize) -> Result<(Vec<Leg<O>>, Vec<Leg<O>>
     ensures legs { IfOk result (λ both. (both.0.items ≡ []) × (vec_len both.0 ≡ 0) × (vec_capacity both.0 ≡ legs)) }
     ensures places { IfOk result (λ both. (vec_len both.1 ≡ 0) × (vec_capacity both.1 ≡ 16)) }
 {
-    let Ok(first) = Vec::with_capacity(alloc, legs) else {
-        return Err(OutOfMemory);
-    };
+    let first = Vec::with_capacity(alloc, legs)?;
     match Vec::with_capacity(alloc, MOST_LEGS) {
         Ok(places) => Ok((first, places)),
         Err(_) => {
@@ -74,12 +72,8 @@ impl<O> Prepare<O> {
         ensures room { IfOk result (λ signal. (leg_room signal ≡ legs) × (key_room signal ≡ keys)) }
         ensures ready { IfOk result (λ signal. IsReady signal) }
     {
-        let Ok(spare) = spare_places(alloc, keys) else {
-            return Err(OutOfMemory);
-        };
-        let Ok(keys) = Vec::with_capacity(alloc, keys) else {
-            return Err(OutOfMemory);
-        };
+        let spare = spare_places(alloc, keys)?;
+        let keys = Vec::with_capacity(alloc, keys)?;
         let (legs, places) = leg_places(alloc, legs)?;
         Ok(Prepare {
             legs,
@@ -127,6 +121,7 @@ impl<O> Prepare<O> {
     }
 
     /// Drops the legs that a section has in the cell. A call has no section from 8 on.
+    /// They are legs of earlier entries: those that this adds stay.
     pub fn drop_section(&mut self, section: u8)
         ensures stands { (keys : List NewKey) (dropped : List ℕ) → PrepareFor self.old keys dropped → PrepareFor self.new keys (section ∷ dropped) }
         ensures legs { (added self.new ≡ added self.old) × (parts_added self.new ≡ parts_added self.old) }

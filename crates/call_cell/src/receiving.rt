@@ -168,6 +168,8 @@ impl Receiving {
     }
 
     /// Learns from the source of an accepted packet.
+    /// A packet counts by the flags with which it was accepted. What was learned before `asymmetric` stands again when that is
+    /// off, the address being the same.
     fn learn(&mut self, half: Half, source: Addr)
         ensures { (s : LegSignal) (known : Half → Option Addr) (notes : List Note) → ReceivingFor (Some s) self.old known notes →
             ReceivingFor (Some s) self.new (parts.taught_half half s.flags source known) notes }
@@ -180,6 +182,8 @@ impl Receiving {
 
     /// Begins again what a commit changes: what was learned of a half whose address changed, and the contexts of another
     /// inbound key.
+    /// What was in force earlier doesn't count, so what changes and changes back was changed twice; a commit that says the same
+    /// changes nothing.
     pub(crate) fn commit(
         &mut self,
         earlier: &Option<LegSignal>,
@@ -220,12 +224,8 @@ impl Receiving {
         if is_wrong_source(self.learner(half), source) {
             return Err(Refused::WrongSource);
         }
-        match open(&mut self.inbound, head, buf, len) {
-            Err(cause) => Err(cause),
-            Ok(size) => {
-                self.learn(half, source);
-                Ok(size)
-            }
-        }
+        let size = open(&mut self.inbound, head, buf, len)?;
+        self.learn(half, source);
+        Ok(size)
     }
 }

@@ -230,9 +230,7 @@ impl<O: OutEnd> Sending<O> {
         if signal.hold {
             return Err(Lost::Hold);
         }
-        match self.protect(signal.outbound, half, head, buf, len) {
-            Err(cause) => Err(cause),
-            Ok(size) => send_answer(port, size, self.send(half, to, &buf[..size])),
-        }
+        let size = self.protect(signal.outbound, half, head, buf, len)?;
+        send_answer(port, size, self.send(half, to, &buf[..size]))
     }
 }

@@ -89,6 +89,7 @@ fn is_rejected(signal: &Signal, section: usize) -> bool
 }
 
 /// Which of 8 sections the signal rejects.
+/// A signal with fewer sections than the cell takes no others away.
 pub(crate) fn rejected(signal: &Signal) -> [bool; MOST_SECTIONS]
     ensures { FlagsAre result (is_rejected signal.now) }
 {

@@ -1,13 +1,15 @@
-use Rattle.std.proofs.Common.{refl, ap, take, Ok, Err}
+use Rattle.std.proofs.Common.{refl, ◌∙◌, ap, take, Ok, Err}
+use Rattle.std.proofs.lemmas.Result.{err_from_is_err_and}
 use Rattle.call_cell.proofs.BothHalves.{refusal, opens_rtp}
 use Rattle.call_cell.proofs.contexts.Inbound.unprotect_rtp.Goals as goal
 
-pub returns-in-Ok-clause-opens : goal.returns-in-Ok-clause-opens
-returns-in-Ok-clause-opens c key notes for =
+pub returns-clause-opens : goal.returns-clause-opens
+returns-clause-opens c key notes for =
     opens_rtp key notes (take c.args.len c.args.buf.now) c.args.self.now c.unprotect_with_head.new.self c.args.buf.now c.unprotect_with_head.new.buf
-    (Ok c.in-Ok.size) (Ok c.in-Ok.size) refl for (c.in-Ok.ensures.opens key.0 key.1 notes for.rtp)
+    (Ok c.in_ok-size.size) (Ok c.in_ok-size.size) refl for (c.in_ok-size.ensures.opens key.0 key.1 notes for.rtp)
 
-pub returns-in-Err-clause-opens : goal.returns-in-Err-clause-opens
-returns-in-Err-clause-opens c key notes for =
+pub returns-in_err-size-clause-opens : goal.returns-in_err-size-clause-opens
+returns-in_err-size-clause-opens c key notes for =
+    let p = err_from_is_err_and c.from_residual.result c.from_residual.ensures.1 in
     opens_rtp key notes (take c.args.len c.args.buf.now) c.args.self.now c.unprotect_with_head.new.self c.args.buf.now c.unprotect_with_head.new.buf
-    (Err c.in-Err.cause) (Err c.refused_by.result) (ap refusal c.refused_by.ensures) for (c.in-Err.ensures.opens key.0 key.1 notes for.rtp)
+    (Err c.in_err-size.field-0.0) c.from_residual.result (p.1 ∙ ap refusal p.2) for (c.in_err-size.ensures.opens key.0 key.1 notes for.rtp)
