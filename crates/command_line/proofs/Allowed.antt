@@ -49,9 +49,6 @@ no_dashes word name value e = go (bytes_eq word (45 ∷ 45 ∷ [])) refl
 
 -- Rows.
 
-named_row : Text → Row → Bool
-named_row name row = bytes_eq row.id name
-
 pub fresh : (id : Text) (change : Row → List Row) (missing rows : List Row) → has_row id rows ≡ false → at_row id change missing rows ≡ rows ++ missing
 fresh id change missing [] e = refl
 fresh id change missing (row ∷ rows) e = go (bytes_eq row.id id) refl (λ none. fresh id change missing rows none)

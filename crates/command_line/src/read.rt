@@ -37,9 +37,7 @@ fn read_serve<'a>(alloc: Global, words: &'a [&'a str]) -> Result<Settings, Refus
         (IsRefused (serve_settings (map (λ word. word.now) words.entry.now) ≡ None)) }
     ensures limits { IfOk result (λ settings. IsTaskInLimits (Task.Serve settings)) }
 {
-    let Ok(command) = serve_command(alloc) else {
-        return Err(Refusal::OutOfMemory);
-    };
+    let command = serve_command(alloc)?;
     let usage = ["serve --interface=ADDRESS [--NAME=VALUE]...\n"];
     let matches = parse(alloc, command, usage.as_slice(), words)?;
     match find_settings(&matches) {
@@ -55,9 +53,7 @@ fn read_replay<'a>(alloc: Global, words: &'a [&'a str]) -> Result<ReplaySettings
         (IsRefused (replay_words (map (λ word. word.now) words.entry.now) ≡ None)) }
     ensures limits { IfOk result (λ settings. IsTaskInLimits (Task.Replay settings)) }
 {
-    let Ok(command) = replay_command(alloc) else {
-        return Err(Refusal::OutOfMemory);
-    };
+    let command = replay_command(alloc)?;
     let usage = ["replay [--NAME=VALUE]... <SCRIPT\n"];
     let matches = parse(alloc, command, usage.as_slice(), words)?;
     match find_replay(&matches) {
@@ -73,9 +69,7 @@ fn read_load<'a>(alloc: Global, words: &'a [&'a str]) -> Result<LoadSettings, Re
         (IsRefused (load_words (map (λ word. word.now) words.entry.now) ≡ None)) }
     ensures limits { IfOk result (λ settings. IsTaskInLimits (Task.Load settings)) }
 {
-    let Ok(command) = load_command(alloc) else {
-        return Err(Refusal::OutOfMemory);
-    };
+    let command = load_command(alloc)?;
     let usage = ["load [--NAME=VALUE]...\n"];
     let matches = parse(alloc, command, usage.as_slice(), words)?;
     match find_load(&matches) {
@@ -92,22 +86,16 @@ fn read_task<'a>(alloc: Global, command: &'a str, options: &'a [&'a str]) -> Res
     ensures limits { IfOk result IsTaskInLimits }
 {
     if command == "serve" {
-        return match read_serve(alloc, options) {
-            Ok(settings) => Ok(Task::Serve(settings)),
-            Err(refusal) => Err(refusal),
-        };
+        let settings = read_serve(alloc, options)?;
+        return Ok(Task::Serve(settings));
     }
     if command == "replay" {
-        return match read_replay(alloc, options) {
-            Ok(settings) => Ok(Task::Replay(settings)),
-            Err(refusal) => Err(refusal),
-        };
+        let settings = read_replay(alloc, options)?;
+        return Ok(Task::Replay(settings));
     }
     if command == "load" {
-        return match read_load(alloc, options) {
-            Ok(settings) => Ok(Task::Load(settings)),
-            Err(refusal) => Err(refusal),
-        };
+        let settings = read_load(alloc, options)?;
+        return Ok(Task::Load(settings));
     }
     let parts = [
         "serve|replay|load [--NAME=VALUE]...: unknown command '",

@@ -2,6 +2,7 @@
 ghost use Rattle.std.specs.Prelude.{◌≡◌, ◌≢◌, IfOk, true, ⊤};
 ghost use Rattle.clap.specs.Words.{kind_of};
 ghost use Rattle.command_line.specs.Refusals.{begins_usage, IsRefused};
+ghost use Rattle.command_line.specs.declared.refusal.Refusal.TheVariants.{OutOfMemory as out_of_memory};
 
 use crate::values::{read_ip, read_listen};
 use clap::error::ErrorKind;
@@ -24,6 +25,14 @@ pub enum Refusal {
     Usage(Usage),
     /// Out of memory.
     OutOfMemory,
+}
+
+impl From<AllocError> for Refusal {
+    ghost from_gives = { λ _ refusal. refusal ≡ out_of_memory };
+
+    fn from(_refused: AllocError) -> Refusal {
+        Refusal::OutOfMemory
+    }
 }
 
 /// The line with a text more at its end.

@@ -65,23 +65,21 @@ fn find_interface(matches: &ArgMatches<'_>) -> Option<Ip>
     ensures value { result ≡ option_and_then ipv4 (first_of (codes "interface") (rows_of (found_of matches.now))) }
     ensures version { IfSome result IsV4 }
 {
-    match find_text(matches, "interface") {
-        Some(text) => read_ip(text.as_bytes()),
-        None => None,
-    }
+    let text = find_text(matches, "interface")?;
+    read_ip(text.as_bytes())
 }
 
 /// Where the control link is bound.
 fn find_listen(matches: &ArgMatches<'_>) -> Option<Addr>
     ensures { result ≡ option_and_then listen_address (first_of (codes "listen-ng") (rows_of (found_of matches.now))) }
 {
-    match find_text(matches, "listen-ng") {
-        Some(text) => read_listen(text.as_bytes()),
-        None => None,
-    }
+    let text = find_text(matches, "listen-ng")?;
+    read_listen(text.as_bytes())
 }
 
 /// The number that an option has, within the limits.
+/// It tests the range again: nothing leads from an option's name to what `clap`'s parser tested of its
+/// entry.
 fn find_number(matches: &ArgMatches<'_>, name: &str, limits: Limits) -> Option<u64>
     ensures value { result ≡ number_of limits.least limits.most name.now (rows_of (found_of matches.now)) }
     ensures within { IfSome result (λ number. (limits.least ≤ number) × (number ≤ limits.most)) }
@@ -103,10 +101,8 @@ fn find_port(matches: &ArgMatches<'_>, name: &str) -> Option<u16>
         least: 1_024,
         most: 65_535,
     };
-    match find_number(matches, name, limits) {
-        Some(port) => Some(port as u16),
-        None => None,
-    }
+    let port = find_number(matches, name, limits)?;
+    Some(port as u16)
 }
 
 /// How many calls may be live at a time: 1 to 2,048.
@@ -118,10 +114,8 @@ fn find_sessions(matches: &ArgMatches<'_>) -> Option<u32>
         least: 1,
         most: 2_048,
     };
-    match find_number(matches, "max-sessions", limits) {
-        Some(sessions) => Some(sessions as u32),
-        None => None,
-    }
+    let sessions = find_number(matches, "max-sessions", limits)?;
+    Some(sessions as u32)
 }
 
 /// The time in seconds, from one to a day, that an option has.
@@ -142,10 +136,8 @@ fn find_threads(matches: &ArgMatches<'_>) -> Option<u32>
     ensures within { IfSome result (λ threads. threads ≤ 16) }
 {
     let limits = Limits { least: 0, most: 16 };
-    match find_number(matches, "num-threads", limits) {
-        Some(threads) => Some(threads as u32),
-        None => None,
-    }
+    let threads = find_number(matches, "num-threads", limits)?;
+    Some(threads as u32)
 }
 
 /// How many calls are made, or packets sent by each side of one: 1 to 1,000.
@@ -157,10 +149,8 @@ fn find_count(matches: &ArgMatches<'_>, name: &str) -> Option<u32>
         least: 1,
         most: 1_000,
     };
-    match find_number(matches, name, limits) {
-        Some(count) => Some(count as u32),
-        None => None,
-    }
+    let count = find_number(matches, name, limits)?;
+    Some(count as u32)
 }
 
 /// How many lanes relay generated packets: 1 to 16.
@@ -169,10 +159,8 @@ fn find_lanes(matches: &ArgMatches<'_>) -> Option<u32>
     ensures within { IfSome result (λ lanes. (1 ≤ lanes) × (lanes ≤ 16)) }
 {
     let limits = Limits { least: 1, most: 16 };
-    match find_number(matches, "lanes", limits) {
-        Some(lanes) => Some(lanes as u32),
-        None => None,
-    }
+    let lanes = find_number(matches, "lanes", limits)?;
+    Some(lanes as u32)
 }
 
 /// From which number keys are drawn.

@@ -29,12 +29,8 @@ pub(crate) fn offer_body(alloc: Global, call: u32, protected: bool) -> Result<Te
     requires { call ≤ 1000 }
     ensures { IfOk result (λ body. body.list ≡ spelling (offer_of call protected)) }
 {
-    let Ok(id) = call_id(alloc, call) else {
-        return Err(OutOfMemory);
-    };
-    let Ok(sdp) = offered_sdp(alloc, call) else {
-        return Err(OutOfMemory);
-    };
+    let id = call_id(alloc, call)?;
+    let sdp = offered_sdp(alloc, call)?;
     let mut pairs = Pairs::new(alloc);
     put_text(alloc, &mut pairs, b"call-id", id.as_slice())?;
     put_text(alloc, &mut pairs, b"command", b"offer")?;
@@ -48,16 +44,13 @@ pub(crate) fn offer_body(alloc: Global, call: u32, protected: bool) -> Result<Te
 }
 
 /// The body of its answer.
+/// It has the from-tag `a` and the to-tag `b`, as every answer after an offer of side A.
 pub(crate) fn answer_body(alloc: Global, call: u32, protected: bool) -> Result<Text, OutOfMemory>
     requires { call ≤ 1000 }
     ensures { IfOk result (λ body. body.list ≡ spelling (answer_of call protected)) }
 {
-    let Ok(id) = call_id(alloc, call) else {
-        return Err(OutOfMemory);
-    };
-    let Ok(sdp) = answered_sdp(alloc, call, protected) else {
-        return Err(OutOfMemory);
-    };
+    let id = call_id(alloc, call)?;
+    let sdp = answered_sdp(alloc, call, protected)?;
     let mut pairs = Pairs::new(alloc);
     put_text(alloc, &mut pairs, b"call-id", id.as_slice())?;
     put_text(alloc, &mut pairs, b"command", b"answer")?;
@@ -70,7 +63,7 @@ pub(crate) fn answer_body(alloc: Global, call: u32, protected: bool) -> Result<T
     }
 }
 
-fn call_id(alloc: Global, call: u32) -> Result<Text, ng_bencode::OutOfMemory>
+fn call_id(alloc: Global, call: u32) -> Result<Text, OutOfMemory>
     ensures { IfOk result (λ id. id.list ≡ call_id call) }
 {
     let mut id = Text::new(alloc);

@@ -11,7 +11,7 @@ use relay_outside::OutOfMemory;
 use std::alloc::Global;
 
 /// The cookie of a datagram by its number from 0: `o` for an offer and `a` for an answer, and the call's number.
-fn datagram_cookie(alloc: Global, number: u32) -> Result<Text, ng_bencode::OutOfMemory>
+fn datagram_cookie(alloc: Global, number: u32) -> Result<Text, OutOfMemory>
     ensures { IfOk result (λ cookie. cookie.list ≡ cookie_of number) }
 {
     let mut cookie = Text::new(alloc);
@@ -43,9 +43,7 @@ pub(crate) fn load_datagram(alloc: Global, number: u32) -> Result<Text, OutOfMem
     requires { number < 2000 }
     ensures { IfOk result (λ datagram. datagram.list ≡ datagram_at number) }
 {
-    let Ok(cookie) = datagram_cookie(alloc, number) else {
-        return Err(OutOfMemory);
-    };
+    let cookie = datagram_cookie(alloc, number)?;
     let body = datagram_body(alloc, number)?;
     match join(alloc, cookie.as_slice(), body.as_slice()) {
         Ok(datagram) => Ok(datagram),

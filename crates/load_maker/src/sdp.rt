@@ -5,8 +5,8 @@ ghost use Rattle.sdes_lines.specs.declared.crypto_line.Suite.TheVariants.{Tag80}
 ghost use Rattle.load_maker.specs.Calls.{media_port, answer_key, answer_end, offered_sdp, answered_sdp};
 
 use crate::writing::{put, put_number};
-use ng_bencode::{OutOfMemory, Text};
-use relay_outside::KeyAndSalt;
+use ng_bencode::Text;
+use relay_outside::{KeyAndSalt, OutOfMemory};
 use sdes_lines::{CryptoLine, Suite, write_line};
 use std::alloc::Global;
 

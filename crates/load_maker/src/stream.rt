@@ -110,6 +110,8 @@ fn put(out: &mut [u8; ROOM], at: usize, bytes: &[u8]) -> usize
 
 /// Protects the packet at the front of the buffer as the first one under this key, so that its index is its sequence number, and
 /// returns its length then.
+/// Each packet has a context of its own, so that an end keeps no more than a count; the derivation of its session keys is work
+/// of the load and not of the relay.
 fn seal(key: KeyAndSalt, out: &mut [u8; ROOM]) -> usize
     requires { IsSome (rtp_head (take 32 out.old)) }
     ensures within { result ≤ 42 }

@@ -18,6 +18,7 @@ const PORTS: u32 = 4;
 const LAST: u32 = 1_000;
 
 /// The maker of the ports of a whole load: a `LoadMaker` for which each call begins at its first opening, the next after each fourth.
+/// One loop makes all control turns, and can't tell the ports where a call begins.
 #[derive(Drop)]
 pub struct LoadPorts {
     maker: LoadMaker,

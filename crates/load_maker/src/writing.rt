@@ -2,13 +2,16 @@
 ghost use Rattle.std.specs.Prelude.{◌≡◌, ◌++◌, decimal, OnOk};
 
 use itoa::Buffer;
-use ng_bencode::{OutOfMemory, Text};
+use ng_bencode::Text;
+use relay_outside::OutOfMemory;
 
 /// Puts bytes after the text.
 pub(crate) fn put(text: &mut Text, bytes: &[u8]) -> Result<(), OutOfMemory>
     ensures { OnOk result (text.new.list ≡ text.old.list ++ bytes.now) }
 {
-    text.reserve(bytes.len())?;
+    let Ok(()) = text.reserve(bytes.len()) else {
+        return Err(OutOfMemory);
+    };
     text.extend(bytes);
     Ok(())
 }

@@ -11,6 +11,7 @@ use std::net::{Net, UdpSocket};
 use std::time::Duration;
 
 /// How long a read waits for a datagram that the system told and doesn't give, in milliseconds.
+/// It is a limit for reads, and the socket isn't set to wait for nothing, so that a send still waits for room.
 const READ_MILLIS: u64 = 1;
 
 /// Where the program waits for a datagram of the control socket.

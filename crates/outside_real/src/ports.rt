@@ -44,6 +44,7 @@ impl InEnd for UdpIn {
 /// The sending end of a UDP port. It tells the address that it was opened for, and nothing of its calls.
 ///
 /// A send never waits: where the system has no room for the datagram, that is a fault as any other error.
+/// Linux tells an unconnected socket nothing of ports that are unreachable, so no such fault comes here.
 #[derive(Drop)]
 pub struct UdpOut {
     at: Addr,

@@ -114,12 +114,6 @@ hex_more digits bytes rest more byte before small e = record {
   fit = bytes_push bytes byte before.fit small;
 }
 
-pub hex_whole : (digits bytes rest : List ℕ) → HexBefore digits bytes rest → rest ≡ [] → IsHex digits bytes
-hex_whole digits bytes rest before e = record {
-  spelled = before.parts ∙ ap (λ t. encode_lower bytes ++ t) e ∙ append-nil (encode_lower bytes);
-  fit = before.fit;
-}
-
 pub hex_longer : (rest more : List ℕ) (byte : ℕ) → rest ≡ encode_lower (byte ∷ []) ++ more → length rest ≡ 2 + length more
 hex_longer rest more byte e = omega (arith, ap length e, encode_one_length byte, length-append (encode_lower (byte ∷ [])) more)
 
@@ -187,9 +181,6 @@ pub record TextBefore (text bytes rest : List ℕ) : Type 0 where
   pub parts : text ≡ front ++ rest
   pub is : IsText front bytes
 
-pub text_start : (text : List ℕ) → TextBefore text [] text
-text_start text = record { front = []; parts = refl; is = record { pieces = []; allowed = tt; spelled = refl; stands_for = refl } }
-
 pub text_push : (front bytes : List ℕ) (byte : ℕ) (piece : Piece) → IsText front bytes → IsPiece piece → byte ≡ piece_byte piece → IsText (front ++ piece_text piece) (bytes ++ byte ∷ [])
 text_push front bytes byte piece is allowed e = record {
   pieces = is.pieces ++ piece ∷ [];
@@ -204,11 +195,6 @@ text_more text bytes rest more byte before begins = record {
   parts = before.parts ∙ ap (λ t. before.front ++ t) begins.parts ∙ sym (append_assoc before.front (piece_text begins.piece) more);
   is = text_push before.front bytes byte begins.piece before.is begins.allowed begins.stands_for;
 }
-
-pub text_whole : (text bytes rest : List ℕ) → TextBefore text bytes rest → rest ≡ [] → IsText text bytes
-text_whole text bytes rest before e =
-    let same : text ≡ before.front = before.parts ∙ ap (λ t. before.front ++ t) e ∙ append-nil before.front in
-    subst (λ t. IsText t bytes) (sym same) before.is
 
 -- a text stands for some bytes
 pub record SomeText (text : List ℕ) : Type 0 where

@@ -14,7 +14,7 @@ use Rattle.relay_script.specs.declared.step.Step as coded
 use Rattle.relay_script.specs.declared.reading.Keyword.{Keyword}
 use Rattle.relay_script.specs.Steps.{Step, Skip, At, Key, Fail, FailSend, Ng, Take, Relay, Packet, Tick, meaning}
 use Rattle.relay_script.specs.Fields.{IsNumber, IsCount, IsAddr, IsPayload}
-use Rattle.relay_script.specs.Lines.{first_word, kind_word, IsFailure, IsSendFailure, IsDatagram, IsArrival, Behind, InWords, IsSkipped, SpellsStep}
+use Rattle.relay_script.specs.Lines.{first_word, kind_word, IsFailure, IsSendFailure, IsDatagram, IsArrival, Behind, InWords}
 use Rattle.relay_script.specs.Reading.{Refuses, NoStep, NoWords, Fits, Reads, IsPortAndCount, ReadsSendFailure, kind_of, keyword_of, keyword_text}
 use Rattle.relay_script.proofs.Texts.{free_by_test}
 use Rattle.relay_script.proofs.Digits.{free_in_number}
@@ -190,13 +190,3 @@ pub words_refused : (line name rest : List ℕ) (k : Keyword) (r : Result coded.
 words_refused line name rest k (Ok step) e free known reads = tt
 words_refused line name rest k (Err fault) e free known reads =
     words_refused_at line name rest fault e free (subst (λ t. Refuses fault (NoStep t rest)) (sym known) reads)
-
-pub words_spell : (line : List ℕ) (step : Step) → InWords line step → SpellsStep line step
-words_spell line Skip is = absurd is.behind
-words_spell line Tick is = absurd is.behind
-words_spell line step is = is
-
-pub outside_at : (line : List ℕ) → (IsSkipped line → ⊥) → (line ≡ codes "tick" → ⊥) → NoWords line → (step : Step) → SpellsStep line step → ⊥
-outside_at line full other none Skip is = full is
-outside_at line full other none Tick is = other is
-outside_at line full other none step is = none step is

@@ -58,9 +58,7 @@ fn read_hex(alloc: Global, digits: &[u8]) -> Result<Text, ParseFault>
         (λ fault. Refuses fault ((bytes : List ℕ) → IsHex digits.now bytes → ⊥)) }
 {
     let mut bytes = Text::new(alloc);
-    let Ok(()) = bytes.reserve(digits.len() / 2) else {
-        return Err(ParseFault::OutOfMemory);
-    };
+    bytes.reserve(digits.len() / 2)?;
     let mut rest = digits;
     while !rest.is_empty() {
         let Some((byte, more)) = read_coded(rest) else {
@@ -97,9 +95,7 @@ fn read_text(alloc: Global, text: &[u8]) -> Result<Text, ParseFault>
         (λ fault. Refuses fault ((bytes : List ℕ) → IsText text.now bytes → ⊥)) }
 {
     let mut bytes = Text::new(alloc);
-    let Ok(()) = bytes.reserve(text.len()) else {
-        return Err(ParseFault::OutOfMemory);
-    };
+    bytes.reserve(text.len())?;
     let mut rest = text;
     while !rest.is_empty() {
         let Some((byte, more)) = read_piece(rest) else {

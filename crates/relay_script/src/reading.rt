@@ -110,10 +110,8 @@ fn read_datagram(alloc: Global, text: &[u8]) -> Result<(Addr, Text), ParseFault>
     let Some(source) = read_addr(address) else {
         return Err(ParseFault::NotInGrammar);
     };
-    match read_payload(alloc, payload) {
-        Ok(bytes) => Ok((source, bytes)),
-        Err(fault) => Err(fault),
-    }
+    let bytes = read_payload(alloc, payload)?;
+    Ok((source, bytes))
 }
 
 /// `PORT ADDR BYTES`.
@@ -128,37 +126,29 @@ fn read_arrival(alloc: Global, text: &[u8]) -> Result<(u16, Addr, Text), ParseFa
     let Some(port) = read_port(port) else {
         return Err(ParseFault::NotInGrammar);
     };
-    match read_datagram(alloc, datagram) {
-        Ok((source, bytes)) => Ok((port, source, bytes)),
-        Err(fault) => Err(fault),
-    }
+    let (source, bytes) = read_datagram(alloc, datagram)?;
+    Ok((port, source, bytes))
 }
 
 fn read_ng(alloc: Global, rest: &[u8]) -> Result<Step, ParseFault>
     ensures { Reads (codes "ng") rest.now result }
 {
-    match read_datagram(alloc, rest) {
-        Ok((source, bytes)) => Ok(Step::Ng(source, bytes)),
-        Err(fault) => Err(fault),
-    }
+    let (source, bytes) = read_datagram(alloc, rest)?;
+    Ok(Step::Ng(source, bytes))
 }
 
 fn read_take(alloc: Global, rest: &[u8]) -> Result<Step, ParseFault>
     ensures { Reads (codes "take") rest.now result }
 {
-    match read_arrival(alloc, rest) {
-        Ok((port, source, bytes)) => Ok(Step::Take(port, source, bytes)),
-        Err(fault) => Err(fault),
-    }
+    let (port, source, bytes) = read_arrival(alloc, rest)?;
+    Ok(Step::Take(port, source, bytes))
 }
 
 fn read_packet(alloc: Global, rest: &[u8]) -> Result<Step, ParseFault>
     ensures { Reads (codes "packet") rest.now result }
 {
-    match read_arrival(alloc, rest) {
-        Ok((port, source, bytes)) => Ok(Step::Packet(port, source, bytes)),
-        Err(fault) => Err(fault),
-    }
+    let (port, source, bytes) = read_arrival(alloc, rest)?;
+    Ok(Step::Packet(port, source, bytes))
 }
 
 /// `KIND N`, or `send PORT N`.

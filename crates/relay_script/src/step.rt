@@ -1,4 +1,7 @@
-use ng_bencode::Text;
+ghost use Rattle.std.specs.Prelude.{◌≡◌};
+ghost use Rattle.relay_script.specs.declared.step.ParseFault.TheVariants.{OutOfMemory as out_of_memory};
+
+use ng_bencode::{OutOfMemory, Text};
 use relay_outside::{Addr, KeyAndSalt};
 
 /// Which calls a line `fail` counts.
@@ -48,4 +51,12 @@ pub enum ParseFault {
     NotInGrammar,
     /// There was no memory for the bytes of its datagram.
     OutOfMemory,
+}
+
+impl From<OutOfMemory> for ParseFault {
+    ghost from_gives = { λ _ fault. fault ≡ out_of_memory };
+
+    fn from(_refused: OutOfMemory) -> ParseFault {
+        ParseFault::OutOfMemory
+    }
 }

@@ -26,10 +26,8 @@ impl Countdowns {
         ensures list { IfOk result (λ calls. calls.list ≡ []) }
         ensures room { IfOk result (λ calls. calls.spare ≡ room) }
     {
-        match Vec::with_capacity(alloc, room) {
-            Ok(numbers) => Ok(Countdowns { numbers }),
-            Err(_) => Err(OutOfMemory),
-        }
+        let numbers = Vec::with_capacity(alloc, room)?;
+        Ok(Countdowns { numbers })
     }
 
     /// The call of this number from now fails. Without room it takes memory; if it runs out of memory, nothing
@@ -40,10 +38,8 @@ impl Countdowns {
         ensures full { OnErr result (self.old.spare ≡ 0) }
         ensures same { IfErr result (λ _. self.new.list ≡ self.old.list) }
     {
-        match self.numbers.push(number) {
-            Ok(()) => Ok(()),
-            Err(_) => Err(OutOfMemory),
-        }
+        self.numbers.push(number)?;
+        Ok(())
     }
 
     /// Whether the next call fails.

@@ -46,10 +46,8 @@ impl KeysDue {
     pub(crate) fn add(&mut self, key: KeyAndSalt) -> Result<(), OutOfMemory>
         ensures { OnOk result (self.new ≡ record self.old { unused = self.old.unused ++ key ∷ [] }) }
     {
-        match self.lines.push(key) {
-            Ok(()) => Ok(()),
-            Err(_) => Err(OutOfMemory),
-        }
+        self.lines.push(key)?;
+        Ok(())
     }
 
     /// The next key, which is used up. `None`: 2^64 - 1 keys of the stream were drawn.

@@ -102,10 +102,8 @@ impl SendFailures {
             number,
             stage: Stage::Waiting,
         };
-        match self.list.push(failure) {
-            Ok(()) => Ok(()),
-            Err(_) => Err(OutOfMemory),
-        }
+        self.list.push(failure)?;
+        Ok(())
     }
 
     /// An opening of a port made an end.

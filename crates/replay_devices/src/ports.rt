@@ -55,9 +55,7 @@ impl<'a> ReplayPorts<'a> {
         ensures faults { IfOk result (λ maker. maker.faults ≡ 0) }
     {
         let opens = Countdowns::with_room(alloc, failures_of(FailKind::Open, timetable.steps()))?;
-        let Ok(since) = vec![in alloc; 0; PORTS] else {
-            return Err(OutOfMemory);
-        };
+        let since = vec![in alloc; 0; PORTS]?;
         Ok(ReplayPorts {
             alloc,
             told: CallList::new(alloc),

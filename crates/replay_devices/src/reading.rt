@@ -72,10 +72,8 @@ fn read_past<S: LineSource>(source: &mut S, buf: &mut [u8]) -> Ending
 fn keep_step(steps: &mut Vec<Step>, step: Step) -> Result<(), OutOfMemory>
     ensures { OnOk result (steps.new.items ≡ steps.old.items ++ step ∷ []) }
 {
-    match steps.push(step) {
-        Ok(()) => Ok(()),
-        Err(_) => Err(OutOfMemory),
-    }
+    steps.push(step)?;
+    Ok(())
 }
 
 /// Reads a script through a buffer for its lines.
@@ -93,14 +91,9 @@ fn read_lines<S: LineSource>(
 {
     let mut steps = Vec::new(alloc);
     for _line in 0..MOST_LINES {
-        match read_step(alloc, source, buf) {
-            Ok(Found::Step(step)) => {
-                let Ok(()) = keep_step(&mut steps, step) else {
-                    return Err(OutOfMemory);
-                };
-            }
-            Ok(Found::Ending(ending)) => return Ok(Script { steps, ending }),
-            Err(_) => return Err(OutOfMemory),
+        match read_step(alloc, source, buf)? {
+            Found::Step(step) => keep_step(&mut steps, step)?,
+            Found::Ending(ending) => return Ok(Script { steps, ending }),
         }
     }
     let ending = read_past(source, buf);
@@ -118,8 +111,6 @@ pub fn read_script<S: LineSource>(alloc: Global, source: &mut S) -> Result<Scrip
     ensures later { S.faults source.old ≤ S.faults source.new }
     ensures fault { IfOk result (λ script. script.ending ≡ Ending.Fault → Rose (S.faults source.old) (S.faults source.new)) }
 {
-    let Ok(mut buffer) = vec![in alloc; 0; ROOM] else {
-        return Err(OutOfMemory);
-    };
+    let mut buffer = vec![in alloc; 0; ROOM]?;
     read_lines(alloc, source, buffer.as_mut_slice())
 }

@@ -94,13 +94,9 @@ fn failing_takes(alloc: Global, steps: &[Step]) -> Result<Vec<bool>, OutOfMemory
     ensures { IfOk result (λ failing. (index : ℕ) → index < length steps.now → slice_get failing.items index ≡ Some (take_fails steps.now index)) }
 {
     let mut takes = Countdowns::with_room(alloc, failures_of(FailKind::Take, steps))?;
-    let Ok(mut failing) = Vec::with_capacity(alloc, steps.len()) else {
-        return Err(OutOfMemory);
-    };
+    let mut failing = Vec::with_capacity(alloc, steps.len())?;
     for step in steps {
-        if failing.push(takes.next_fails()).is_err() {
-            return Err(OutOfMemory);
-        }
+        failing.push(takes.next_fails())?;
         pass(&mut takes, step)?;
     }
     Ok(failing)

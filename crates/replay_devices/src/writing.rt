@@ -2,8 +2,10 @@ ghost use Rattle.std.specs.Prelude.{◌≡◌, ◌≤◌, ◌++◌, ◌∷◌, [
 ghost use Rattle.relay_outside.specs.Told.{Gains, Rose};
 ghost use Rattle.relay_outside.specs.declared.lines.WriteCall.TheVariants.{Write};
 ghost use Rattle.relay_script.specs.Printing.{event_of, line_of};
+ghost use Rattle.replay_devices.specs.declared.writing.WriteFault.TheVariants.{OutOfMemory as out_of_memory, Failed as failed};
 
-use relay_outside::LineSink;
+use ng_bencode::OutOfMemory;
+use relay_outside::{Failed, LineSink};
 use relay_script::{Printed, print};
 use std::alloc::Global;
 
@@ -14,6 +16,22 @@ pub enum WriteFault {
     OutOfMemory,
     /// The sink failed.
     Failed,
+}
+
+impl From<OutOfMemory> for WriteFault {
+    ghost from_gives = { λ _ fault. fault ≡ out_of_memory };
+
+    fn from(_refused: OutOfMemory) -> WriteFault {
+        WriteFault::OutOfMemory
+    }
+}
+
+impl From<Failed> for WriteFault {
+    ghost from_gives = { λ _ fault. fault ≡ failed };
+
+    fn from(_failure: Failed) -> WriteFault {
+        WriteFault::Failed
+    }
 }
 
 /// Writes the line that an event is printed as, with its line feed, in one call of the sink.
@@ -28,15 +46,9 @@ pub fn write_event<O: LineSink>(
     ensures memory { IsErrOf result WriteFault.OutOfMemory → out.new ≡ out.old }
     ensures later { O.faults out.old ≤ O.faults out.new }
 {
-    let Ok(mut line) = print(alloc, event) else {
-        return Err(WriteFault::OutOfMemory);
-    };
-    let Ok(()) = line.reserve(1) else {
-        return Err(WriteFault::OutOfMemory);
-    };
+    let mut line = print(alloc, event)?;
+    line.reserve(1)?;
     line.push(b'\n');
-    match out.write(line.as_slice()) {
-        Ok(()) => Ok(()),
-        Err(_) => Err(WriteFault::Failed),
-    }
+    out.write(line.as_slice())?;
+    Ok(())
 }

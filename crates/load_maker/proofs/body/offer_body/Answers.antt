@@ -5,12 +5,12 @@ use Rattle.ng_bencode.specs.Tree.{pairs_of, tree_of}
 use Rattle.load_maker.proofs.Trees.{offer_is}
 use Rattle.load_maker.proofs.body.offer_body.Goals as goal
 
-pub returns-in-Ok-encode : goal.returns-in-Ok-encode
-returns-in-Ok-encode c =
-    c.in-Ok-encode.ensures
+pub returns-in-Ok : goal.returns-in-Ok
+returns-in-Ok c =
+    c.in-Ok.ensures
     ∙ ap spelling
     (offer_is (pairs_of (list_in c.new-pairs.result)) (pairs_of (list_in c.put_text.new.pairs)) (pairs_of (list_in c.put_text-2.new.pairs))
     (pairs_of (list_in c.put_text-3.new.pairs)) (pairs_of (list_in c.put_text-4.new.pairs)) (pairs_of (list_in c.put_profile.new.pairs))
     (tree_of c.dict.result) c.as_slice.result.now c.as_slice-2.result.now c.args.call c.args.protected
-    (ap pairs_of c.new-pairs.ensures) (c.as_slice.ensures ∙ c.in-Ok.ensures) (c.as_slice-2.ensures ∙ c.in-Ok-offered_sdp.ensures)
+    (ap pairs_of c.new-pairs.ensures) (c.as_slice.ensures ∙ c.in_ok-id.ensures) (c.as_slice-2.ensures ∙ c.in_ok-sdp.ensures)
     c.in_ok-put_text.ensures.put c.in_ok-put_text-2.ensures.put c.in_ok-put_text-3.ensures.put c.in_ok-put_text-4.ensures.put c.in_ok-put_profile.ensures c.dict.ensures)
