@@ -20,10 +20,10 @@ use Rattle.relay_core.specs.Turning.{IsAbove, made_by}
 use Rattle.media_lane.specs.declared.receipt.Receipt.{Receipt}
 use Rattle.media_lane.specs.declared.answers.Received.{Received}
 use Rattle.media_lane.specs.declared.answers.Received.TheVariants as answer
-use Rattle.media_lane.specs.Lanes.{packet_of, pair_of}
+use Rattle.media_lane.specs.Lanes.{packet_of}
 use Rattle.board_turns.specs.Between.{board_of, MakesTurn}
 use Rattle.board_turns.specs.Stopping.{stop_entry}
-use Rattle.media_lane.specs.Steps.{take_entry, Took}
+use Rattle.media_lane.specs.Steps.{Took}
 use Rattle.relay_script.specs.Steps as step
 use Rattle.relay_script.specs.Steps.{Step}
 use Rattle.relay_script.specs.Printing as event
@@ -42,25 +42,6 @@ use Rattle.replay_steps.specs.Watching.{RelaysSo, StepsSo}
 use Rattle.replay_steps.proofs.Controls.{turns_board}
 
 -- Takes.
-
-pub takes_packet : (config : Config) (l new : List Entry) (port : ℕ) (source : Addr) (bytes : List ℕ) (pair : ℕ) (half : Half) (r : Receipt)
-    → IsEndAt config port source.ip (pair, half) → Took config l pair half (answer.Got r) new → (packet_of r).source ≡ source → (packet_of r).bytes ≡ bytes
-    → TakesPacket config l port source bytes (taken_by r) new
-takes_packet config l new port source bytes pair half r at took source_is bytes_are =
-    let tells = took.tells in record {
-      at = subst (λ (h : Half). IsEndAt config port source.ip (pair_of r, h)) (sym tells.half_is) (subst (λ (k : ℕ). IsEndAt config port source.ip (k, half)) (sym tells.pair_is) at);
-      source_is = source_is;
-      bytes_are = bytes_are;
-      at_front = subst (λ (n : ℕ). IsAbove l (box_of config (pair_of r)) n) (sym tells.number_is) (subst (λ (k : ℕ). IsAbove l (box_of config k) took.number) (sym tells.pair_is) took.at_front);
-      fits = subst (λ (t : Taken). FitsTaken (holder (box_history l (box_of config (pair_of r)) (packet_of r).take)) t) tells.gave
-          (subst (λ (n : ℕ). FitsTaken (holder (box_history l (box_of config (pair_of r)) n)) took.taken) (sym tells.number_is)
-          (subst (λ (k : ℕ). FitsTaken (holder (box_history l (box_of config k) took.number)) took.taken) (sym tells.pair_is) took.fits));
-      list_is = took.list_is
-          ∙ ap (λ (k : ℕ). l ++ take_entry config k half took.number took.taken ∷ []) (sym tells.pair_is)
-          ∙ ap (λ (h : Half). l ++ take_entry config (pair_of r) h took.number took.taken ∷ []) (sym tells.half_is)
-          ∙ ap (λ (n : ℕ). l ++ take_entry config (pair_of r) (packet_of r).half n took.taken ∷ []) (sym tells.number_is)
-          ∙ ap (λ (t : Taken). l ++ take_entry config (pair_of r) (packet_of r).half (packet_of r).take t ∷ []) tells.gave;
-    }
 
 module _ (config : Config) (l new : List Entry) (port : ℕ) (source : Addr) (bytes : List ℕ) (failing : Bool) (pair : ℕ) (half : Half) (at : IsEndAt config port source.ip (pair, half)) where
   takes_none : (given : Received) (e : Printed) (took : Took config l pair half given new) → PrintsTaken took.taken bytes e → FailsSo took.taken failing → Misses config l port source bytes failing e new
@@ -162,12 +143,6 @@ lacks_under number list lacks = any_under number list ∙ any-position (has_numb
 
 pub one_event : (e : Printed) (P : Printed → Type 0) → P e → PrintsOne (e ∷ []) P
 one_event e P p = record { event = e; prints_are = refl; holds = p }
-
--- an event that was printed, where there was memory for it
-pub of_event : (config : Config) (seed : ℕ) (r : Course) (s : Step) (new : Course) (o : Result coded.Printed Untold) (did : Stepped)
-    → MatchResult o (λ (e : coded.Printed). did ≡ stepped.Prints e) (λ (why : Untold). did ≡ stepped.Untold why) → ((e : coded.Printed) → o ≡ Ok e → Makes config seed r s (event_of e ∷ []) new) → OfStep config seed r s did new
-of_event config seed r s new (Err why) did is makes = subst (λ (d : Stepped). OfStep config seed r s d new) (sym is) tt
-of_event config seed r s new (Ok e) did is makes = subst (λ (d : Stepped). OfStep config seed r s d new) (sym is) (makes e refl)
 
 module _ (config : Config) (seed : ℕ) (l : List Entry) (was : ReceiptList) (clock : ℕ) (past : List Happening) where
   module _ (failing : Bool) (asked : failing ≡ fails model.Taking past) where

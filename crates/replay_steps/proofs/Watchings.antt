@@ -27,9 +27,6 @@ draws_more seed [] x a b c same last = subst (λ (k : List Happening). DrawsAske
 draws_more seed (key.Drawn bytes ∷ xs) x a b c (so, due, rest) last = (so, due, draws_more seed xs x _ b c rest last)
 draws_more seed (key.Failed ∷ xs) x a b c (so, rest) last = (so, draws_more seed xs x _ b c rest last)
 
-pub none_watched : (config : Config) (seed : ℕ) (w : WatchState) (P : List Happening → List Happening → Type 0) → ((past : List Happening) → P past past) → Watches config seed w w P
-none_watched config seed w P here past s = (past, here past, s)
-
 pub openings_watched : (config : Config) (seed : ℕ) (xs : List PortCall) (x : PortCall) (first second third : WatchState) → Watches config seed first second (OpensAsked config xs)
     → Watches config seed second third (OpensAsked config (x ∷ [])) → Watches config seed first third (OpensAsked config (xs ++ x ∷ []))
 openings_watched config seed xs x first second third before last past s =

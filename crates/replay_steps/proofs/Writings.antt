@@ -191,9 +191,6 @@ some_played config seed steps before behind r is xs x = record {
   writes_are = x.writes_are;
 }
 
-pub nothing_played : (config : Config) (seed : ℕ) (steps : List Step) → PlayedSome config seed steps []
-nothing_played config seed steps = some_played config seed steps [] steps at_first refl [] (none_played config seed at_first refl)
-
 -- all of them were made
 pub all_played : (config : Config) (seed : ℕ) (steps before : List Step) (r : Course) (l : List Entry) → before ≡ steps → r.entries ≡ l → (xs : List WriteCall) → PlayedTo config seed before r xs
     → Played config seed steps l xs

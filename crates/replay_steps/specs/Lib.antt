@@ -2,7 +2,6 @@ pub mod Holding
 pub mod Arrivals
 pub mod Steps
 pub mod Watching
-pub mod Board
 pub mod Ready
 pub mod Moves
 pub mod Controlling

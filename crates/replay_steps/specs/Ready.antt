@@ -1,32 +1,34 @@
 -- A replay between two steps.
-use Rattle.std.specs.Prelude.{◌≡◌, ℕ, [], Some}
+use Rattle.std.specs.Prelude.{◌≡◌, ℕ, List, []}
 use Rattle.relay_outside.specs.declared.settings.Config.{Config}
-use Rattle.turn_table.specs.declared.hands.Turns.{Turns}
-use Rattle.turn_table.specs.declared.hands.Hand.{Hand}
 use Rattle.turn_table.specs.Hands.{parts}
-use Rattle.relay_core.specs.declared.part.Part.{Part}
-use Rattle.relay_core.specs.Made.{Made}
 use Rattle.relay_core.specs.Turning.{made_by}
 use Rattle.board_turns.specs.Between.{IsBetween}
 use Rattle.ng_server.specs.Servers.{OpensJust, history_of}
+use Rattle.replay_devices.specs.Devices.{Happening}
 use Rattle.replay_devices.specs.Watch.{StandsFor}
+use Rattle.replay_steps.specs.declared.state.Replayer.{Replayer}
 use Rattle.replay_steps.specs.declared.state.ReplayState.{ReplayState}
 use Rattle.replay_steps.specs.Holding.{AreReceipts}
+use Rattle.replay_steps.specs.Steps.{Course, course_of, at_first}
 
--- Before the first step: no port was opened, no receipt is held, and no call of a device was made
-pub record IsFirst (config : Config) (seed : ℕ) (state : ReplayState) : Type 0 where
-  pub config_is : state.config ≡ config
-  pub told : state.devices.ports.told ≡ Some []
-  pub none : state.receipts ≡ record { list = []; received = 0; room = 64 }
-  pub clock_is : state.clock ≡ 0
-  pub watch : (any : Config) → StandsFor any seed [] state.watch
+-- where a replay is with this state, and with what happened
+abbrev pub course_at : ReplayState → List Happening → Course
+course_at state past = course_of (made_by state.hand) state.receipts state.clock past
 
-module _ {M I O T : Type 0} {g : _} where
+module _ {R : Type 0} where
   -- The one hand has all parts and holds no turn, just the ports of the held pairs are open, and the receipts that are held are of its list
-  pub record IsReady (config : Config) (turns : Turns M (Part I O) Made T) (hand : Hand M (Part I O) Made T g) (state : ReplayState) : Type 0 where
-    pub config_is : state.config ≡ config
-    pub between : IsBetween config turns hand
-    pub opens : OpensJust config (history_of hand) state.devices.ports.told
-    pub receipts : AreReceipts config (made_by hand) state.receipts.list
+  pub record IsReady (replayer : Replayer R) (state : ReplayState) : Type 0 where
+    pub config_is : replayer.config ≡ replayer.server.config
+    pub between : IsBetween replayer.server.config replayer.server.turns state.hand
+    pub opens : OpensJust replayer.server.config (history_of state.hand) state.devices.ports.told
+    pub receipts : AreReceipts replayer.server.config (made_by state.hand) state.receipts.list
     pub room : state.receipts.room ≡ 64
-    pub all : parts hand ≡ 1024
+    pub all : parts state.hand ≡ 1024
+
+  -- Before the first step, with keys of this seed: nothing was done, and no call of a device was made
+  pub record IsFirst (config : Config) (seed : ℕ) (replayer : Replayer R) (state : ReplayState) : Type 0 where
+    pub config_is : replayer.server.config ≡ config
+    pub ready : IsReady replayer state
+    pub course_is : course_at state [] ≡ at_first
+    pub watch : (any : Config) → StandsFor any seed [] state.watch

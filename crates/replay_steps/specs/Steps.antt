@@ -42,6 +42,7 @@ use Rattle.replay_devices.specs.Due.{stream_from}
 use Rattle.replay_devices.specs.Watch.{step_of}
 use Rattle.replay_steps.specs.Arrivals.{End, IsEndAt, IsNoEnd}
 use Rattle.replay_steps.specs.Holding.{Numbered, ReceiptList, taken_by}
+use Rattle.replay_steps.specs.declared.ended.Untold.TheVariants as untold
 use Rattle.replay_steps.specs.declared.arriving.Arrived.{Arrived}
 use Rattle.replay_steps.specs.declared.arriving.Arrived.TheVariants as arrived
 use Rattle.replay_steps.specs.declared.stepping.Stepped.{Stepped}
@@ -241,11 +242,12 @@ pub record TakesOther (config : Config) (l : List Entry) (port : ℕ) (source : 
   pub other : TookOther taken source bytes failing
   pub list_is : new ≡ l ++ take_entry config end.0 end.1 number taken ∷ []
 
--- the same of what an arrival came to, whose take has to fail or not
+-- the same of what an arrival came to, whose take has to fail or not. Without memory nothing is said
 abbrev pub Arrives : Config → List Entry → (port : ℕ) → Addr → List ℕ → (failing : Bool) → Arrived → List Entry → Type 0
 Arrives config l port source bytes failing (arrived.Packet r) new = (failing ≡ false) × TakesPacket config l port source bytes (taken_by r) new
 Arrives config l port source bytes failing (arrived.Printed e) new = Misses config l port source bytes failing (event_of e) new
-Arrives config l port source bytes failing arrived.Other new = TakesOther config l port source bytes failing new
+Arrives config l port source bytes failing (arrived.Untold untold.OutOfMemory) new = Unit {0}
+Arrives config l port source bytes failing (arrived.Untold untold.DeviceFault) new = TakesOther config l port source bytes failing new
 
 -- Ticks.
 

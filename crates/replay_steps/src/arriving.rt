@@ -1,38 +1,31 @@
 //! The packets of lines `take` and `packet`, and their relays.
-ghost use Rattle.std.specs.Prelude.{◌≡◌, ℕ, List, Some, IsTrue, false};
-ghost use Rattle.relay_outside.specs.Ports.{IsOpen};
+ghost use Rattle.std.specs.Prelude.{◌≡◌, ◌≢◌, ℕ, List, IsTrue, true, false};
 ghost use Rattle.relay_outside.specs.declared.settings.Config.{Config};
 ghost use Rattle.rtp_packet.specs.declared.head.Half.{Half};
-ghost use Rattle.turn_table.specs.Hands.{parts};
 ghost use Rattle.relay_core.specs.Entries.{Entry};
 ghost use Rattle.relay_core.specs.Turning.{made_by};
 ghost use Rattle.media_lane.specs.Taking.{HasReceipt};
-ghost use Rattle.board_turns.specs.Between.{board_of, IsBetween};
-ghost use Rattle.media_lane.specs.Steps.{IsIn, IsNew, Took, KeepsReceipts, KeepsOthers};
-ghost use Rattle.replay_steps.specs.Arrivals.{IsEndAt, IsGood};
-ghost use Rattle.replay_steps.specs.Holding.{taken_by};
-ghost use Rattle.replay_steps.specs.Board.{LeavesBoard};
-ghost use Rattle.ng_server.specs.Servers.{OpensJust};
+ghost use Rattle.media_lane.specs.Steps.{IsIn, IsNew, Took, deed_after};
 ghost use Rattle.call_cell.specs.Cells.{CellEntry};
 ghost use Rattle.call_cell.specs.Cells as cells;
-ghost use Rattle.media_lane.specs.Steps.{deed_after};
-ghost use Rattle.replay_steps.specs.Arrivals.{IsShutUnless};
+ghost use Rattle.replay_steps.specs.Arrivals.{IsEndAt, IsGood, IsShutUnless};
+ghost use Rattle.replay_steps.specs.Holding.{IsApart, taken_by};
+ghost use Rattle.replay_steps.specs.Moves.{HasArrived, HasPassed};
+ghost use Rattle.replay_steps.specs.Ready.{IsReady};
 ghost use Rattle.replay_steps.specs.Steps.{Arrives, SendsAsked};
-ghost use Rattle.replay_steps.specs.Watching.{Watches, RelaysSo, SendsOther, send_of, failed_send_of};
+ghost use Rattle.replay_steps.specs.Watching.{Watches, SendsOther, send_of, failed_send_of};
 
 use crate::ended::Untold;
 use crate::ends::find_end;
 use crate::opened::is_open;
+use crate::state::{ReplayState, Replayer};
 use call_cell::{Lost, Outcome};
 use media_lane::{Receipt, Received, receive_between, relay_between};
 use port_pool::MOST_PACKET;
-use relay_core::Relay;
-use relay_outside::{Addr, Config, InEnd, OutEnd, PortCall};
-use relay_script::Printed;
+use relay_outside::Addr;
+use relay_script::{FailKind, Printed};
 use replay_devices::Watch;
-use std::alloc::Global;
 use std::sync::Wait;
-use turn_table::{Hand, Turns};
 
 /// The packet of a line.
 #[derive(Clone, Copy)]
@@ -52,32 +45,29 @@ pub(crate) enum Arrived {
     Packet(Receipt),
     /// Nothing was taken, and this is printed.
     Printed(Printed),
-    /// Another packet than the line's was taken, or the take failed where it had not to, or did not where it had to.
-    Other,
+    /// It can't be told. A device did otherwise: another packet than the line's was taken, or the take failed where it had not to, or did
+    /// not where it had to.
+    Untold(Untold),
 }
 
-/// What came of a take at the port of this address, of which these calls tell whether it is open; the take had to fail or not.
-fn tell_arrival(
-    received: Received,
-    packet: LinePacket<'_>,
-    failing: bool,
-    told: &[PortCall],
-    at: Addr,
-) -> Arrived
+/// What came of a take at a port that is open or not; the take had to fail or not.
+/// Of a packet that is too long the printed line is tied to the script's line by its length alone, since the lane gives no bytes of it.
+fn tell_arrival(received: Received, packet: LinePacket<'_>, failing: bool, opened: bool) -> Arrived
     ensures good { (config : Config) (l new : List Entry) → HasReceipt config new received → IsNew config l received → IsGood config l result new }
-    ensures arrives { (config : Config) (l new : List Entry) (port pair : ℕ) (half : Half) → IsEndAt config port packet.entry.source.ip (pair, half) → Took config l pair half received new → IsShutUnless config l pair (IsOpen told.now at) → Arrives config l port packet.entry.source packet.entry.bytes.now failing result new }
+    ensures arrives { (config : Config) (l new : List Entry) (port pair : ℕ) (half : Half) → IsEndAt config port packet.entry.source.ip (pair, half) → Took config l pair half received new → IsShutUnless config l pair (opened ≡ true) → Arrives config l port packet.entry.source packet.entry.bytes.now failing result new }
+    ensures memory { result ≢ Arrived.Untold Untold.OutOfMemory }
 {
     match received {
         Received::Got(receipt) => {
             if !failing && receipt.source() == packet.source && receipt.bytes() == packet.bytes {
                 Arrived::Packet(receipt)
             } else {
-                Arrived::Other
+                Arrived::Untold(Untold::DeviceFault)
             }
         }
         Received::Nothing => {
-            if is_open(told, at) {
-                Arrived::Other
+            if opened {
+                Arrived::Untold(Untold::DeviceFault)
             } else {
                 Arrived::Printed(Printed::Nothing)
             }
@@ -86,49 +76,47 @@ fn tell_arrival(
             if !failing && packet.bytes.len() > MOST_PACKET {
                 Arrived::Printed(Printed::TooLong)
             } else {
-                Arrived::Other
+                Arrived::Untold(Untold::DeviceFault)
             }
         }
         Received::TakeFault => {
             if failing {
                 Arrived::Printed(Printed::TakeFault)
             } else {
-                Arrived::Other
+                Arrived::Untold(Untold::DeviceFault)
             }
         }
-        Received::Busy { .. } => Arrived::Other,
+        Received::Busy { .. } => Arrived::Untold(Untold::DeviceFault),
     }
 }
 
-/// The packet of a line arrives at its port and is taken there, once; the take has to fail or not, and the calls of the port maker tell
-/// which ports are open. A port that no pair of the range has is not open.
-pub(crate) fn arrive<I: InEnd, O: OutEnd, R: Wait>(
-    rt: &R,
-    turns: &Turns<Relay<I, O>>,
-    hand: Hand<Relay<I, O>>,
-    config: &Config,
+/// The packet of a line arrives at its port and is taken there, once. A port that no pair of the range has is not open.
+pub(crate) fn arrive<'a, R: Wait>(
+    replayer: &Replayer<'_, 'a, R>,
+    state: ReplayState<'a>,
     packet: LinePacket<'_>,
-    failing: bool,
-    told: &[PortCall],
-) -> (Arrived, Hand<Relay<I, O>>)
-    requires between { IsBetween config.now turns.now hand }
-    requires opens { OpensJust config.now (board_of (made_by hand)) (Some told.now) }
-    ensures board { LeavesBoard config.now turns.now hand result.1 }
-    ensures receipts { KeepsReceipts config.now (made_by hand) (made_by result.1) }
-    ensures packet { IsGood config.now (made_by hand) result.0 (made_by result.1) }
-    ensures arrives { Arrives config.now (made_by hand) packet.entry.port packet.entry.source packet.entry.bytes.now failing result.0 (made_by result.1) }
+) -> (Arrived, ReplayState<'a>)
+    requires ready { IsReady replayer.now state }
+    ensures { HasArrived replayer.now packet.entry.port packet.entry.source packet.entry.bytes.now result.0 state.entry result.1 }
 {
-    match find_end(config, packet.port, packet.source.ip) {
-        Some((pair, half)) => {
-            let (received, hand) = receive_between(rt, turns, hand, config, pair, half);
-            let at = Addr {
-                ip: config.interface,
-                port: packet.port,
-            };
-            (tell_arrival(received, packet, failing, told, at), hand)
-        }
-        None => (Arrived::Printed(Printed::Nothing), hand),
-    }
+    let config = &replayer.config;
+    let failing = state.watch.fails(FailKind::Take);
+    let Some((pair, half)) = find_end(config, packet.port, packet.source.ip) else {
+        return (Arrived::Printed(Printed::Nothing), state);
+    };
+    let Some(told) = state.devices.ports.calls() else {
+        return (Arrived::Untold(Untold::OutOfMemory), state);
+    };
+    let at = Addr {
+        ip: config.interface,
+        port: packet.port,
+    };
+    let opened = is_open(told, at);
+    let turns = replayer.server.turns();
+    let mut state = state;
+    let (received, hand) = receive_between(replayer.rt, turns, state.hand, config, pair, half);
+    state.hand = hand;
+    (tell_arrival(received, packet, failing, opened), state)
 }
 
 /// By which port a relay with this outcome sent, and whether its send succeeded. `None`: it sent nothing.
@@ -170,31 +158,34 @@ fn note_send(watch: &mut Watch, outcome: Outcome) -> bool
     done != failing
 }
 
-/// Relays a packet, handed a moment in milliseconds, and returns what is printed, or why it can't be: there was no memory for it, or its
-/// send failed where it had not to, or did not where it had to.
-pub(crate) fn pass<I: InEnd, O: OutEnd, R: Wait>(
-    rt: &R,
-    alloc: Global,
-    turns: &Turns<Relay<I, O>>,
-    hand: Hand<Relay<I, O>>,
-    config: &Config,
+/// Relays a packet at the clock's moment, and returns what is printed, or why it can't be: there was no memory for it, or its send failed where
+/// it had not to, or did not where it had to.
+pub(crate) fn pass<'a, R: Wait>(
+    replayer: &Replayer<'_, 'a, R>,
+    state: ReplayState<'a>,
     receipt: Receipt,
-    watch: &mut Watch,
-    now: u64,
-) -> (Result<Printed, Untold>, Hand<Relay<I, O>>)
-    requires between { IsBetween config.now turns.now hand }
-    requires receipt { IsIn config.now (made_by hand) (taken_by receipt) }
-    requires all { parts hand ≡ 1024 }
-    ensures board { LeavesBoard config.now turns.now hand result.1 }
-    ensures receipts { KeepsOthers config.now (made_by hand) (taken_by receipt) (made_by result.1) }
-    ensures relays { (seed : ℕ) → RelaysSo config.now seed now (made_by hand) (taken_by receipt) result.0 watch.old watch.new (made_by result.1) }
+) -> (Result<Printed, Untold>, ReplayState<'a>)
+    requires ready { IsReady replayer.now state }
+    requires receipt { IsIn replayer.now.server.config (made_by state.hand) (taken_by receipt) }
+    requires apart { IsApart receipt state.receipts.list }
+    ensures { HasPassed replayer.now receipt result.0 state.entry result.1 }
 {
-    let (outcome, sent, hand) = relay_between(rt, alloc, turns, hand, config, receipt, now);
-    if !note_send(watch, outcome) {
-        return (Err(Untold::DeviceFault), hand);
+    let mut state = state;
+    let (outcome, sent, hand) = relay_between(
+        replayer.rt,
+        replayer.alloc,
+        replayer.server.turns(),
+        state.hand,
+        &replayer.config,
+        receipt,
+        state.clock,
+    );
+    state.hand = hand;
+    if !note_send(&mut state.watch, outcome) {
+        return (Err(Untold::DeviceFault), state);
     }
     match sent {
-        Ok(bytes) => (Ok(Printed::Relayed { outcome, bytes }), hand),
-        Err(_) => (Err(Untold::OutOfMemory), hand),
+        Ok(bytes) => (Ok(Printed::Relayed { outcome, bytes }), state),
+        Err(_) => (Err(Untold::OutOfMemory), state),
     }
 }

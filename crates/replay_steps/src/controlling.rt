@@ -12,23 +12,26 @@ ghost use Rattle.replay_steps.specs.Controlling.{IsReply, TellsTaken, TellsEvent
 
 use crate::devices::Devices;
 use crate::ended::Untold;
+use crate::state::Replayer;
 use ng_bencode::Text;
-use ng_server::{ControlTurn, DATAGRAM_ROOM, Desk, Server};
+use ng_server::{ControlTurn, DATAGRAM_ROOM, Desk};
 use relay_core::Relay;
 use relay_outside::Addr;
 use relay_script::Printed;
-use replay_devices::{ReplayIn, ReplayLink, ReplayOut, ReplayPorts};
+use replay_devices::{ReplayIn, ReplayLink, ReplayOut};
 use std::alloc::Global;
 use std::sync::Wait;
 use turn_table::Hand;
 
-/// The datagram of a line `ng`, and which calls of its control turn have to fail.
+/// The datagram of a line `ng` with the moment it comes at, and which calls of its control turn have to fail.
 #[derive(Clone, Copy)]
 pub(crate) struct LineDatagram<'p> {
     /// Where it comes from.
     pub(crate) source: Addr,
     /// Its bytes.
     pub(crate) bytes: &'p [u8],
+    /// When it comes, in milliseconds.
+    pub(crate) moment: u64,
     /// Whether the take of the link has to fail.
     pub(crate) read_fails: bool,
     /// Whether the send of a reply has to fail.
@@ -117,26 +120,29 @@ fn turn_event(
     }
 }
 
-/// Makes the control turn of the present line, handed a moment in milliseconds, and returns what is printed, or why it can't be.
+/// Makes the control turn of the present line, and returns what is printed, or why it can't be.
 pub(crate) fn make_turn<'a, R: Wait>(
-    rt: &R,
-    alloc: Global,
-    server: &Server<ReplayPorts<'a>>,
+    replayer: &Replayer<'_, 'a, R>,
     hand: &mut Hand<Relay<ReplayIn<'a>, ReplayOut<'a>>>,
     desk: &mut Desk<ReplayOut<'a>>,
     devices: &mut Devices<'a>,
     line: LineDatagram<'_>,
-    now: u64,
 ) -> Result<Printed, Untold>
-    requires between { IsBetween server.now.config server.now.turns hand.old }
-    requires open { OpensJust server.now.config (history_of hand.old) devices.old.ports.told }
+    requires between { IsBetween replayer.now.server.config replayer.now.server.turns hand.old }
+    requires open { OpensJust replayer.now.server.config (history_of hand.old) devices.old.ports.told }
     ensures same { IsSameHand hand.old hand.new }
-    ensures between { IsBetween server.now.config server.now.turns hand.new }
-    ensures open { OpensJust server.now.config (history_of hand.new) devices.new.ports.told }
-    ensures receipts { KeepsReceipts server.now.config (made_by hand.old) (made_by hand.new) }
-    ensures controls { Controlled server.now.config now (made_by hand.old) line.entry.source line.entry.bytes.now line.entry.read_fails line.entry.reply_fails devices.old.ports.told devices.new.ports.told devices.old.keys.told devices.new.keys.told result (made_by hand.new) }
+    ensures between { IsBetween replayer.now.server.config replayer.now.server.turns hand.new }
+    ensures open { OpensJust replayer.now.server.config (history_of hand.new) devices.new.ports.told }
+    ensures receipts { KeepsReceipts replayer.now.server.config (made_by hand.old) (made_by hand.new) }
+    ensures controls { Controlled replayer.now.server.config line.entry.moment (made_by hand.old) line.entry.source line.entry.bytes.now line.entry.read_fails line.entry.reply_fails devices.old.ports.told devices.new.ports.told devices.old.keys.told devices.new.keys.told result (made_by hand.new) }
 {
     let Devices { link, ports, keys } = devices;
-    let turn = server.control_turn(rt, alloc, hand, desk, link, ports, keys, now);
-    turn_event(alloc, turn, link, line)
+    let Replayer {
+        rt,
+        alloc,
+        server,
+        ..
+    } = replayer;
+    let turn = server.control_turn(*rt, *alloc, hand, desk, link, ports, keys, line.moment);
+    turn_event(*alloc, turn, link, line)
 }

@@ -32,10 +32,8 @@ impl Receipts {
     pub(crate) fn new(alloc: Global) -> Result<Receipts, OutOfMemory>
         ensures { IfOk result (λ held. held ≡ record { list = []; received = 0; room = 64 }) }
     {
-        match Vec::with_capacity(alloc, MOST) {
-            Ok(list) => Ok(Receipts { list, received: 0 }),
-            Err(_) => Err(OutOfMemory),
-        }
+        let list = Vec::with_capacity(alloc, MOST)?;
+        Ok(Receipts { list, received: 0 })
     }
 
     /// Whether no more may be held.

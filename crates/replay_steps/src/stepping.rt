@@ -13,16 +13,12 @@ ghost use Rattle.replay_steps.specs.Moves.{MakesStep};
 use crate::arriving::{Arrived, LinePacket, arrive, pass};
 use crate::controlling::{LineDatagram, make_turn};
 use crate::ended::Untold;
-use crate::state::ReplayState;
+use crate::state::{ReplayState, Replayer};
 use crate::watching::{count_draws, count_openings, note_calls};
-use ng_server::Server;
-use relay_core::Relay;
 use relay_outside::Addr;
 use relay_script::{FailKind, Printed, Step};
-use replay_devices::{ReplayIn, ReplayOut, ReplayPorts, Watch};
-use std::alloc::Global;
+use replay_devices::Watch;
 use std::sync::Wait;
-use turn_table::Hand;
 
 /// What a step did.
 #[derive(Drop)]
@@ -49,103 +45,65 @@ fn tell_event(event: Result<Printed, Untold>) -> Stepped
 
 /// The packet of a line arrives, and is held for a later line `relay`.
 fn take_packet<'a, R: Wait>(
-    rt: &R,
-    server: &Server<ReplayPorts<'a>>,
-    hand: Hand<Relay<ReplayIn<'a>, ReplayOut<'a>>>,
-    state: &mut ReplayState<'a>,
+    replayer: &Replayer<'_, 'a, R>,
+    state: ReplayState<'a>,
     packet: LinePacket<'_>,
-) -> (Stepped, Hand<Relay<ReplayIn<'a>, ReplayOut<'a>>>)
-    requires ready { IsReady server.now.config server.now.turns hand state.old }
-    requires number { state.old.receipts.received + 1 < 2 ^ 32 }
-    ensures { MakesStep server.now.config server.now.turns (line.Take packet.entry.port packet.entry.source packet.entry.bytes.now) result.0 hand.entry result.1 state.old state.new }
+) -> (Stepped, ReplayState<'a>)
+    requires ready { IsReady replayer.now state }
+    requires number { state.receipts.received + 1 < 2 ^ 32 }
+    ensures { MakesStep replayer.now (line.Take packet.entry.port packet.entry.source packet.entry.bytes.now) result.0 state.entry result.1 }
 {
-    let Some(told) = state.devices.ports.calls() else {
-        return (Stepped::Untold(Untold::OutOfMemory), hand);
-    };
     if state.receipts.is_full() {
-        return (Stepped::Faulty, hand);
+        return (Stepped::Faulty, state);
     }
-    let failing = state.watch.fails(FailKind::Take);
-    let turns = server.turns();
-    let (arrived, hand) = arrive(rt, turns, hand, &state.config, packet, failing, told);
+    let (arrived, state) = arrive(replayer, state, packet);
     match arrived {
-        Arrived::Packet(receipt) => (
-            Stepped::Prints(Printed::Took(state.receipts.keep(receipt))),
-            hand,
-        ),
-        Arrived::Printed(event) => (Stepped::Prints(event), hand),
-        Arrived::Other => (Stepped::Untold(state.devices.cause()), hand),
+        Arrived::Packet(receipt) => {
+            let mut state = state;
+            let number = state.receipts.keep(receipt);
+            (Stepped::Prints(Printed::Took(number)), state)
+        }
+        Arrived::Printed(event) => (Stepped::Prints(event), state),
+        Arrived::Untold(why) => (Stepped::Untold(why), state),
     }
 }
 
 /// The receipt of a number is relayed.
 fn relay_receipt<'a, R: Wait>(
-    rt: &R,
-    alloc: Global,
-    server: &Server<ReplayPorts<'a>>,
-    hand: Hand<Relay<ReplayIn<'a>, ReplayOut<'a>>>,
-    state: &mut ReplayState<'a>,
+    replayer: &Replayer<'_, 'a, R>,
+    state: ReplayState<'a>,
     number: u32,
-) -> (Stepped, Hand<Relay<ReplayIn<'a>, ReplayOut<'a>>>)
-    requires ready { IsReady server.now.config server.now.turns hand state.old }
-    ensures { MakesStep server.now.config server.now.turns (line.Relay number) result.0 hand.entry result.1 state.old state.new }
+) -> (Stepped, ReplayState<'a>)
+    requires ready { IsReady replayer.now state }
+    ensures { MakesStep replayer.now (line.Relay number) result.0 state.entry result.1 }
 {
-    let ReplayState {
-        config,
-        watch,
-        receipts,
-        clock,
-        ..
-    } = state;
-    match receipts.take(number) {
+    let mut state = state;
+    match state.receipts.take(number) {
         Some(receipt) => {
-            let (event, hand) = pass(
-                rt,
-                alloc,
-                server.turns(),
-                hand,
-                config,
-                receipt,
-                watch,
-                *clock,
-            );
-            (tell_event(event), hand)
+            let (event, state) = pass(replayer, state, receipt);
+            (tell_event(event), state)
         }
-        None => (Stepped::Faulty, hand),
+        None => (Stepped::Faulty, state),
     }
 }
 
 /// The packet of a line arrives, and is relayed at once.
 fn pass_packet<'a, R: Wait>(
-    rt: &R,
-    alloc: Global,
-    server: &Server<ReplayPorts<'a>>,
-    hand: Hand<Relay<ReplayIn<'a>, ReplayOut<'a>>>,
-    state: &mut ReplayState<'a>,
+    replayer: &Replayer<'_, 'a, R>,
+    state: ReplayState<'a>,
     packet: LinePacket<'_>,
-) -> (Stepped, Hand<Relay<ReplayIn<'a>, ReplayOut<'a>>>)
-    requires ready { IsReady server.now.config server.now.turns hand state.old }
-    ensures { MakesStep server.now.config server.now.turns (line.Packet packet.entry.port packet.entry.source packet.entry.bytes.now) result.0 hand.entry result.1 state.old state.new }
+) -> (Stepped, ReplayState<'a>)
+    requires ready { IsReady replayer.now state }
+    ensures { MakesStep replayer.now (line.Packet packet.entry.port packet.entry.source packet.entry.bytes.now) result.0 state.entry result.1 }
 {
-    let Some(told) = state.devices.ports.calls() else {
-        return (Stepped::Untold(Untold::OutOfMemory), hand);
-    };
-    let ReplayState {
-        config,
-        watch,
-        clock,
-        ..
-    } = state;
-    let failing = watch.fails(FailKind::Take);
-    let turns = server.turns();
-    let (arrived, hand) = arrive(rt, turns, hand, config, packet, failing, told);
+    let (arrived, state) = arrive(replayer, state, packet);
     match arrived {
         Arrived::Packet(receipt) => {
-            let (event, hand) = pass(rt, alloc, turns, hand, config, receipt, watch, *clock);
-            (tell_event(event), hand)
+            let (event, state) = pass(replayer, state, receipt);
+            (tell_event(event), state)
         }
-        Arrived::Printed(event) => (Stepped::Prints(event), hand),
-        Arrived::Other => (Stepped::Untold(state.devices.cause()), hand),
+        Arrived::Printed(event) => (Stepped::Prints(event), state),
+        Arrived::Untold(why) => (Stepped::Untold(why), state),
     }
 }
 
@@ -172,19 +130,16 @@ fn note_reply(watch: &mut Watch, event: &Result<Printed, Untold>)
 
 /// The control turn of a line `ng`: the devices were told of the line.
 fn control<'a, R: Wait>(
-    rt: &R,
-    alloc: Global,
-    server: &Server<ReplayPorts<'a>>,
-    hand: &mut Hand<Relay<ReplayIn<'a>, ReplayOut<'a>>>,
+    replayer: &Replayer<'_, 'a, R>,
     state: &mut ReplayState<'a>,
     source: Addr,
     bytes: &[u8],
 ) -> Stepped
-    requires ready { IsReady server.now.config server.now.turns hand.old state.old }
-    ensures { MakesStep server.now.config server.now.turns (line.Ng source bytes.now) result hand.old hand.new state.old state.new }
+    requires ready { IsReady replayer.now state.old }
+    ensures { MakesStep replayer.now (line.Ng source bytes.now) result state.old state.new }
 {
     let ReplayState {
-        config,
+        hand,
         desk,
         devices,
         watch,
@@ -196,12 +151,14 @@ fn control<'a, R: Wait>(
     let line = LineDatagram {
         source,
         bytes,
+        moment: *clock,
         read_fails,
         reply_fails,
     };
+    let config = &replayer.config;
     let opened = count_openings(&devices.ports);
     let drawn = count_draws(&devices.keys);
-    let event = make_turn(rt, alloc, server, hand, desk, devices, line, *clock);
+    let event = make_turn(replayer, hand, desk, devices, line);
     if !note_calls(watch, config, &devices.ports, opened, &devices.keys, drawn) {
         return Stepped::Untold(devices.cause());
     }
@@ -210,55 +167,41 @@ fn control<'a, R: Wait>(
 }
 
 /// The tick of a line `tick`: how many calls it ended is printed.
-fn tick<'a, R: Wait>(
-    rt: &R,
-    server: &Server<ReplayPorts<'a>>,
-    hand: &mut Hand<Relay<ReplayIn<'a>, ReplayOut<'a>>>,
-    state: &mut ReplayState<'a>,
-) -> Stepped
-    requires ready { IsReady server.now.config server.now.turns hand.old state.old }
-    ensures { MakesStep server.now.config server.now.turns line.Tick result hand.old hand.new state.old state.new }
+fn tick<'a, R: Wait>(replayer: &Replayer<'_, 'a, R>, state: &mut ReplayState<'a>) -> Stepped
+    requires ready { IsReady replayer.now state.old }
+    ensures { MakesStep replayer.now line.Tick result state.old state.new }
 {
     let ReplayState {
+        hand,
         desk,
         devices,
         clock,
         ..
     } = state;
-    let ended = server.timer_turn(rt, hand, desk, &mut devices.ports, *clock);
+    let Replayer { rt, server, .. } = replayer;
+    let ended = server.timer_turn(*rt, hand, desk, &mut devices.ports, *clock);
     Stepped::Prints(Printed::Ended(ended))
 }
 
 /// Makes a step: the devices were told of its line.
 pub(crate) fn make_step<'a, R: Wait>(
-    rt: &R,
-    alloc: Global,
-    server: &Server<ReplayPorts<'a>>,
-    hand: Hand<Relay<ReplayIn<'a>, ReplayOut<'a>>>,
-    state: &mut ReplayState<'a>,
+    replayer: &Replayer<'_, 'a, R>,
+    state: ReplayState<'a>,
     step: &Step,
-) -> (Stepped, Hand<Relay<ReplayIn<'a>, ReplayOut<'a>>>)
-    requires ready { IsReady server.now.config server.now.turns hand state.old }
-    requires number { state.old.receipts.received + 1 < 2 ^ 32 }
-    ensures { MakesStep server.now.config server.now.turns (meaning step.now) result.0 hand.entry result.1 state.old state.new }
+) -> (Stepped, ReplayState<'a>)
+    requires ready { IsReady replayer.now state }
+    requires number { state.receipts.received + 1 < 2 ^ 32 }
+    ensures { MakesStep replayer.now (meaning step.now) result.0 state.entry result.1 }
 {
+    let mut state = state;
     match step {
         Step::At(moment) => {
             state.clock = *moment;
-            (Stepped::Quiet, hand)
+            (Stepped::Quiet, state)
         }
         Step::Ng(source, bytes) => {
-            let mut hand = hand;
-            let stepped = control(
-                rt,
-                alloc,
-                server,
-                &mut hand,
-                state,
-                *source,
-                bytes.as_slice(),
-            );
-            (stepped, hand)
+            let stepped = control(replayer, &mut state, *source, bytes.as_slice());
+            (stepped, state)
         }
         Step::Take(port, source, bytes) => {
             let packet = LinePacket {
@@ -266,25 +209,24 @@ pub(crate) fn make_step<'a, R: Wait>(
                 source: *source,
                 bytes: bytes.as_slice(),
             };
-            take_packet(rt, server, hand, state, packet)
+            take_packet(replayer, state, packet)
         }
-        Step::Relay(number) => relay_receipt(rt, alloc, server, hand, state, *number),
+        Step::Relay(number) => relay_receipt(replayer, state, *number),
         Step::Packet(port, source, bytes) => {
             let packet = LinePacket {
                 port: *port,
                 source: *source,
                 bytes: bytes.as_slice(),
             };
-            pass_packet(rt, alloc, server, hand, state, packet)
+            pass_packet(replayer, state, packet)
         }
         Step::Tick => {
-            let mut hand = hand;
-            let stepped = tick(rt, server, &mut hand, state);
-            (stepped, hand)
+            let stepped = tick(replayer, &mut state);
+            (stepped, state)
         }
         Step::Skip | Step::Key(_) | Step::Fail(_, _) | Step::FailSend(_, _) => (
             Stepped::Quiet,
-            hand,
+            state,
         ),
     }
 }

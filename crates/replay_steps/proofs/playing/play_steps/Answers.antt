@@ -4,7 +4,8 @@ use Rattle.relay_core.specs.Turning.{made_by}
 use Rattle.relay_script.specs.Steps.{Step, meaning}
 use Rattle.replay_devices.specs.Devices.{Happening, Made}
 use Rattle.replay_devices.specs.Watch.{step_of}
-use Rattle.replay_steps.specs.Steps.{Course, course_of, after}
+use Rattle.replay_steps.specs.Ready.{course_at}
+use Rattle.replay_steps.specs.Steps.{Course, after}
 use Rattle.replay_steps.specs.Written.{DidStep, Played, PlayedSome, DidSteps}
 use Rattle.replay_steps.proofs.Fronts.{upto, step_at, upto_next, upto_count, upto_all}
 use Rattle.replay_steps.proofs.Steps.{ready_still}
@@ -19,52 +20,52 @@ steps-init g c = record {
   received = let none = ap (λ (r : Course). r.received) c.requires.none in omega (arith, none);
   below = omega arith;
   numbered = refl;
-  told = λ seed begins. ([], begins, wrote_none (g.O.LineSink.told c.args.out.now) _ (none_played c.args.server.now.config seed _ c.requires.none));
+  told = λ seed begins. ([], begins, wrote_none (g.O.LineSink.told c.args.out.now) _ (none_played c.args.replayer.now.server.config seed _ c.requires.none));
   later = omega arith;
 }
 
 pub returns-in-Some-clause-told : goal.returns-in-Some-clause-told
 returns-in-Some-clause-told g c seed begins =
-    let config = c.args.server.now.config in
+    let config = c.args.replayer.now.server.config in
     let steps = c.args.steps.now in
     let made = c.steps.made in
     let x = c.index-steps-made.result in
     let did = c.make_step-stepped.result.0 in
     let told = c.steps.invariant.told seed begins in
-    let from : List Happening → Course = λ past. course_of (made_by c.steps.hand) c.steps.state.receipts c.steps.state.clock past in
-    let to : List Happening → Course = λ past. course_of (made_by c.make_step-stepped.result.1) c.make_step-stepped.new.state.receipts c.make_step-stepped.new.state.clock past in
-    let step = some_step config seed from (meaning x) did to c.steps.state.watch c.make_step-stepped.new.state.watch (c.make_step-stepped.ensures.steps seed) told.0 told.1 in
+    let from : List Happening → Course = λ past. course_at c.steps.state past in
+    let to : List Happening → Course = λ past. course_at c.make_step-stepped.result.1 past in
+    let step = some_step config seed from (meaning x) did to c.steps.state.watch c.make_step-stepped.result.1.watch (c.make_step-stepped.ensures.steps seed) told.0 told.1 in
     let less = c.steps-test.true in
     let count = upto_count steps made x less c.index-steps-made.is in
     let numbered = c.steps.invariant.numbered in
     wrote_both (g.O.LineSink.told c.args.out.now) (g.O.LineSink.told c.steps.out) (g.O.LineSink.told c.write_step.new.out) (PlayedTo config seed (upto made steps) (from told.0))
-    (DidStep did (c.steps.line + 1) (Some c.in-Some.ended)) (DidSteps config seed (map meaning steps) (made_by c.make_step-stepped.result.1) (Some c.in-Some.ended))
+    (DidStep did (c.steps.line + 1) (Some c.in-Some.ended)) (DidSteps config seed (map meaning steps) (made_by c.make_step-stepped.result.1.hand) (Some c.in-Some.ended))
     (ended_in config seed (upto made steps) (from told.0) (meaning x) (to step.0) (c.steps.line + 1) (map meaning steps) (map meaning (drop (suc made) steps)) (step_at steps made x less c.index-steps-made.is)
-    (made_by c.make_step-stepped.result.1) (omega (arith, count, numbered)) refl did c.in-Some.ended c.make_step-stepped.ensures.differs step.1)
+    (made_by c.make_step-stepped.result.1.hand) (omega (arith, count, numbered)) refl did c.in-Some.ended c.make_step-stepped.ensures.differs step.1)
     told.2 c.in-Some.ensures.told
 
 pub returns-in_default-clause-told : goal.returns-in_default-clause-told
 returns-in_default-clause-told g c seed begins =
-    let config = c.args.server.now.config in
+    let config = c.args.replayer.now.server.config in
     let steps = c.args.steps.now in
     let made = c.steps.made in
     let x = c.index-steps-made.result in
     let told = c.steps.invariant.told seed begins in
-    let at = course_of (made_by c.steps.hand) c.steps.state.receipts c.steps.state.clock told.0 in
+    let at = course_at c.steps.state told.0 in
     wrote_less (g.O.LineSink.told c.args.out.now) (g.O.LineSink.told c.steps.out) (PlayedTo config seed (upto made steps) at) (PlayedSome config seed (map meaning steps))
     (some_played config seed (map meaning steps) (upto made steps) (meaning x ∷ map meaning (drop (suc made) steps)) at (step_at steps made x c.steps-test.true c.index-steps-made.is)) told.2
 
 pub returns-then-not-tell-clause-told : goal.returns-then-not-tell-clause-told
 returns-then-not-tell-clause-told g c seed begins =
-    let config = c.args.server.now.config in
+    let config = c.args.replayer.now.server.config in
     let steps = c.args.steps.now in
     let made = c.steps.made in
     let x = c.index-steps-made.result in
     let did = c.make_step-stepped.result.0 in
     let told = c.steps.invariant.told seed begins in
-    let from : List Happening → Course = λ past. course_of (made_by c.steps.hand) c.steps.state.receipts c.steps.state.clock past in
-    let to : List Happening → Course = λ past. course_of (made_by c.make_step-stepped.result.1) c.make_step-stepped.new.state.receipts c.make_step-stepped.new.state.clock past in
-    let step = one_step config seed from (meaning x) did to c.steps.state.watch c.make_step-stepped.new.state.watch (c.make_step-stepped.ensures.steps seed) told.0 told.1 (c.write_step.ensures.known c.in-None.is) in
+    let from : List Happening → Course = λ past. course_at c.steps.state past in
+    let to : List Happening → Course = λ past. course_at c.make_step-stepped.result.1 past in
+    let step = one_step config seed from (meaning x) did to c.steps.state.watch c.make_step-stepped.result.1.watch (c.make_step-stepped.ensures.steps seed) told.0 told.1 (c.write_step.ensures.known c.in-None.is) in
     let less = c.steps-test.true in
     let behind = map meaning (drop (suc made) steps) in
     wrote_both (g.O.LineSink.told c.args.out.now) (g.O.LineSink.told c.steps.out) (g.O.LineSink.told c.write_step.new.out) (PlayedTo config seed (upto made steps) (from told.0))
@@ -76,25 +77,25 @@ returns-then-not-tell-clause-told g c seed begins =
 
 pub returns-clause-told : goal.returns-clause-told
 returns-clause-told g c seed begins =
-    let config = c.args.server.now.config in
+    let config = c.args.replayer.now.server.config in
     let steps = c.args.steps.now in
     let made = c.steps.made in
     let told = c.steps.invariant.told seed begins in
     let most = c.steps.invariant.below in
     let least = c.steps-test.false in
-    let at = course_of (made_by c.steps.hand) c.steps.state.receipts c.steps.state.clock told.0 in
-    wrote_less (g.O.LineSink.told c.args.out.now) (g.O.LineSink.told c.steps.out) (PlayedTo config seed (upto made steps) at) (Played config seed (map meaning steps) (made_by c.steps.hand))
-    (all_played config seed (map meaning steps) (upto made steps) at (made_by c.steps.hand) (upto_all steps made (omega (arith, most, least))) refl) told.2
+    let at = course_at c.steps.state told.0 in
+    wrote_less (g.O.LineSink.told c.args.out.now) (g.O.LineSink.told c.steps.out) (PlayedTo config seed (upto made steps) at) (Played config seed (map meaning steps) (made_by c.steps.state.hand))
+    (all_played config seed (map meaning steps) (upto made steps) at (made_by c.steps.state.hand) (upto_all steps made (omega (arith, most, least))) refl) told.2
 
 pub steps-preserved : goal.steps-preserved
 steps-preserved g c =
-    let config = c.args.server.now.config in
+    let config = c.args.replayer.now.server.config in
     let steps = c.args.steps.now in
     let made = c.steps.made in
     let x = c.index-steps-made.result in
     let did = c.make_step-stepped.result.0 in
-    let from : List Happening → Course = λ past. course_of (made_by c.steps.hand) c.steps.state.receipts c.steps.state.clock past in
-    let to : List Happening → Course = λ past. course_of (made_by c.make_step-stepped.result.1) c.make_step-stepped.new.state.receipts c.make_step-stepped.new.state.clock past in
+    let from : List Happening → Course = λ past. course_at c.steps.state past in
+    let to : List Happening → Course = λ past. course_at c.make_step-stepped.result.1 past in
     let numbered = c.steps.invariant.numbered in
     let test = c.steps-test.true in
     let was = c.steps.invariant.same in
@@ -105,13 +106,13 @@ steps-preserved g c =
     let late = c.write_step.ensures.later in
     record {
       same = (is.0 ∙ was.0, is.1 ∙ was.1, is.2 ∙ was.2, is.3 ∙ was.3);
-      ready = ready_still c.args.server.now.config c.args.server.now.turns c.make_step-stepped.result.1 c.make_step-stepped.new.state _ c.make_step-stepped.ensures.ready refl refl refl;
+      ready = ready_still c.args.replayer.now c.make_step-stepped.result.1 _ c.make_step-stepped.ensures.ready refl refl refl;
       received = omega (arith, before, more);
       below = omega (arith, test);
       numbered = omega (arith, numbered);
       told = λ seed begins.
           let told = c.steps.invariant.told seed begins in
-          let step = one_step config seed from (meaning x) did to c.steps.state.watch c.make_step-stepped.new.state.watch (c.make_step-stepped.ensures.steps seed) told.0 told.1 (c.write_step.ensures.known c.in-None.is) in (
+          let step = one_step config seed from (meaning x) did to c.steps.state.watch c.make_step-stepped.result.1.watch (c.make_step-stepped.ensures.steps seed) told.0 told.1 (c.write_step.ensures.known c.in-None.is) in (
             Made (step_of (meaning x)) ∷ step.0,
             c.in-Ok.ensures config seed step.0 step.2,
             wrote_both (g.O.LineSink.told c.args.out.now) (g.O.LineSink.told c.steps.out) (g.O.LineSink.told c.write_step.new.out) (PlayedTo config seed (upto made steps) (from told.0))
@@ -125,16 +126,16 @@ steps-preserved g c =
 
 pub make_step-stepped-requires-clause-ready : goal.make_step-stepped-requires-clause-ready
 make_step-stepped-requires-clause-ready g c =
-    ready_still c.args.server.now.config c.args.server.now.turns c.steps.hand c.steps.state _ c.steps.invariant.ready refl c.begin.ensures.ports refl
+    ready_still c.args.replayer.now c.steps.state _ c.steps.invariant.ready refl c.begin.ensures.ports refl
 
 pub returns-in-Some-clause-ready : goal.returns-in-Some-clause-ready
 returns-in-Some-clause-ready g c =
-    ready_still c.args.server.now.config c.args.server.now.turns c.make_step-stepped.result.1 c.make_step-stepped.new.state _ c.make_step-stepped.ensures.ready refl refl refl
+    ready_still c.args.replayer.now c.make_step-stepped.result.1 _ c.make_step-stepped.ensures.ready refl refl refl
 
 pub returns-in_default-clause-ready : goal.returns-in_default-clause-ready
 returns-in_default-clause-ready g c =
-    ready_still c.args.server.now.config c.args.server.now.turns c.make_step-stepped.result.1 c.make_step-stepped.new.state _ c.make_step-stepped.ensures.ready refl refl refl
+    ready_still c.args.replayer.now c.make_step-stepped.result.1 _ c.make_step-stepped.ensures.ready refl refl refl
 
 pub returns-then-not-tell-clause-ready : goal.returns-then-not-tell-clause-ready
 returns-then-not-tell-clause-ready g c =
-    ready_still c.args.server.now.config c.args.server.now.turns c.make_step-stepped.result.1 c.make_step-stepped.new.state _ c.make_step-stepped.ensures.ready refl refl refl
+    ready_still c.args.replayer.now c.make_step-stepped.result.1 _ c.make_step-stepped.ensures.ready refl refl refl

@@ -1,10 +1,8 @@
 use Rattle.std.proofs.Common.{◌≡◌, ◌-◌, ◌≤◌, ℕ, List, [], length}
 use Rattle.turn_table.specs.Hands.{IsSameHand}
-use Rattle.relay_core.specs.Turning.{made_by}
 use Rattle.replay_devices.specs.Devices.{Happening}
 use Rattle.replay_devices.specs.Watch.{StandsFor}
-use Rattle.replay_steps.specs.Ready.{IsReady}
-use Rattle.replay_steps.specs.Steps.{course_of}
+use Rattle.replay_steps.specs.Ready.{IsReady, course_at}
 use Rattle.replay_steps.specs.Written.{Wrote}
 use Rattle.replay_steps.proofs.Fronts.{upto}
 use Rattle.replay_steps.proofs.Writings.{PlayedTo}
@@ -12,13 +10,13 @@ use Rattle.replay_steps.proofs.playing.play_steps.Given as goal
 
 abbrev pub invariant-steps : goal.invariant-steps
 invariant-steps g l = record {
-  same : IsSameHand l.fn.hand l.hand;
-  ready : IsReady l.server.config l.server.turns l.hand l.state;
+  same : IsSameHand l.fn.state.hand l.state.hand;
+  ready : IsReady l.replayer l.state;
   received : l.state.receipts.received ≤ l.made;
   below : l.made ≤ length l.steps;
   numbered : l.line ≡ l.made;
-  told : (seed : ℕ) → StandsFor l.server.config seed [] l.fn.state.watch → (past : List Happening) × StandsFor l.server.config seed past l.state.watch
-      × Wrote (g.O.LineSink.told l.fn.out) (g.O.LineSink.told l.out) (PlayedTo l.server.config seed (upto l.made l.steps) (course_of (made_by l.hand) l.state.receipts l.state.clock past));
+  told : (seed : ℕ) → StandsFor l.replayer.server.config seed [] l.fn.state.watch → (past : List Happening) × StandsFor l.replayer.server.config seed past l.state.watch
+      × Wrote (g.O.LineSink.told l.fn.out) (g.O.LineSink.told l.out) (PlayedTo l.replayer.server.config seed (upto l.made l.steps) (course_at l.state past));
   later : g.O.LineSink.faults l.fn.out ≤ g.O.LineSink.faults l.out;
 }
 

@@ -1,26 +1,23 @@
-use Rattle.std.proofs.Common.{refl, sym, subst, map}
-use Rattle.relay_outside.specs.declared.settings.Config.{Config}
+use Rattle.std.proofs.Common.{◌∙◌, ap, sym, ℕ, ◌+◌, map}
+use Rattle.std.proofs.lemmas.List.{length-map}
+use Rattle.relay_core.specs.Turning.{made_by}
 use Rattle.relay_script.specs.Steps.{meaning}
-use Rattle.replay_steps.specs.Written.{Wrote, DidPlay}
-use Rattle.replay_steps.proofs.Beginnings.{ready_first, course_first}
+use Rattle.replay_steps.specs.Written.{DidSteps, DidFinish, DidPlay}
+use Rattle.replay_steps.proofs.Courses.{stops}
+use Rattle.replay_steps.proofs.Writings.{wrote_both, after_stop}
 use Rattle.replay_steps.proofs.replaying.play.Goals as goal
 
-pub play_on-requires-clause-ready : goal.play_on-requires-clause-ready
-play_on-requires-clause-ready g c =
-    let begins = c.in-Ok-start.ensures in
-    ready_first c.in-Ok-start.server.config c.args.config.now c.args.seed c.in-Ok-start.server.turns c.in-Ok-start.hand
-    (record { config = c.args.config.now; desk = c.in-Ok-new-2.desk; devices = c.in-Ok-new-3.devices; watch = c.in-Ok.watch; receipts = c.in-Ok-new.receipts; clock = 0 })
-    begins.between begins.nothing begins.all (sym begins.config)
-    (record { config_is = refl; told = c.in-Ok-new-3.ensures; none = c.in-Ok-new.ensures; clock_is = refl; watch = c.in-Ok.ensures })
-
-pub play_on-requires-clause-none : goal.play_on-requires-clause-none
-play_on-requires-clause-none g c =
-    course_first c.args.config.now c.args.seed c.in-Ok-start.hand
-    (record { config = c.args.config.now; desk = c.in-Ok-new-2.desk; devices = c.in-Ok-new-3.devices; watch = c.in-Ok.watch; receipts = c.in-Ok-new.receipts; clock = 0 })
-    c.in-Ok-start.ensures.nothing
-    (record { config_is = refl; told = c.in-Ok-new-3.ensures; none = c.in-Ok-new.ensures; clock_is = refl; watch = c.in-Ok.ensures })
-
 pub returns-clause-told : goal.returns-clause-told
-returns-clause-told g c =
-    subst (λ (k : Config). Wrote (g.O.LineSink.told c.args.out.now) (g.O.LineSink.told c.play_on.new.out) (DidPlay k c.args.seed (map meaning c.args.steps.now) c.args.ending c.play_on.result))
-    c.in-Ok-start.ensures.config (c.play_on.ensures.told c.args.seed (c.in-Ok.ensures c.in-Ok-start.server.config))
+returns-clause-told g c seed stands =
+    let config = c.args.replayer.server.config in
+    let steps = map meaning c.args.steps.now in
+    let ran = c.play_steps-ended.result.0 in
+    let line = c.play_steps-ended.result.1 + 1 in
+    let hand = c.play_steps-ended.result.2.hand in
+    let how = c.args.ending in
+    let end = c.end_replay-ended.result in
+    let closed = c.close.ensures.legal in
+    wrote_both (g.O.LineSink.told c.args.out.now) (g.O.LineSink.told c.play_steps-ended.new.out) (g.O.LineSink.told c.end_replay-ended.new.out) (DidSteps config seed steps (made_by hand) ran)
+    (DidFinish ran how line end) (DidPlay config seed steps how end)
+    (after_stop config seed steps (made_by hand) line ran how end (λ q. ap (λ (k : ℕ). k + 1) (c.play_steps-ended.ensures.all q ∙ sym (length-map c.args.steps.now meaning))) (stops config hand c.stop.new.state.hand c.stop.ensures.makes (closed.0, closed.1, closed.2, closed.3)))
+    (c.play_steps-ended.ensures.told seed stands) c.end_replay-ended.ensures.told

@@ -1,9 +1,11 @@
 use Rattle.std.proofs.Common.{sym, subst, List, map}
 use Rattle.relay_outside.specs.Told.{Gained}
+use Rattle.relay_outside.specs.declared.settings.Config.{Config}
 use Rattle.replay_devices.specs.Scripts.{Reads}
 use Rattle.relay_script.specs.declared.step.Step as coded
 use Rattle.relay_script.specs.Steps.{meaning}
 use Rattle.replay_devices.specs.declared.script.Ending.{Ending}
+use Rattle.replay_steps.specs.Written.{Wrote, DidPlay}
 use Rattle.replay_steps.proofs.Writings.{replays}
 use Rattle.replay_steps.proofs.replaying.replay.Goals as goal
 
@@ -11,11 +13,14 @@ pub returns-clause-replayed : goal.returns-clause-replayed
 returns-clause-replayed g c =
     let config = c.args.config.now in
     let seed = c.args.seed in
-    let steps = map meaning c.steps-2.result.now in
+    let steps = map meaning c.steps-3.result.now in
     let how = c.ending.result in
+    let first = c.in-Ok-begin.ensures in
     let read = g.S.LineSource.told c.args.source.now in
     let read_now = g.S.LineSource.told c.read_script.new.source in
-    replays config seed steps how c.play.result read read_now (g.O.LineSink.told c.args.out.now) (g.O.LineSink.told c.play.new.out)
-    (subst (λ (xs : List coded.Step). Gained read read_now (Reads (map meaning xs) how)) (sym c.steps-2.ensures)
+    let wrote = g.O.LineSink.told c.args.out.now in
+    let wrote_now = g.O.LineSink.told c.play.new.out in
+    replays config seed steps how c.play.result read read_now wrote wrote_now
+    (subst (λ (xs : List coded.Step). Gained read read_now (Reads (map meaning xs) how)) (sym c.steps-3.ensures)
     (subst (λ (e : Ending). Gained read read_now (Reads (map meaning c.in-Ok.script.steps) e)) (sym c.ending.ensures) c.in-Ok.ensures.reads))
-    c.play.ensures.told
+    (subst (λ (k : Config). Wrote wrote wrote_now (DidPlay k seed steps how c.play.result)) first.config_is (c.play.ensures.told seed (first.watch c.in-Ok-begin.replayer.server.config)))

@@ -11,7 +11,7 @@ returns-then-not-note_calls g c =
     let turn = c.make_turn-event.ensures in
     record {
       same = turn.same;
-      ready = ready_after c.args.server.now.config c.args.server.now.turns c.args.hand.now c.make_turn-event.new.hand c.args.state.now _ c.requires.ready turn.same turn.between turn.open turn.receipts refl refl;
+      ready = ready_after c.args.replayer.now c.args.state.now _ c.requires.ready turn.same turn.between turn.open turn.receipts refl;
       received = omega arith;
       differs = λ q. refl;
       steps = λ seed. tt;
@@ -19,16 +19,16 @@ returns-then-not-note_calls g c =
 
 pub returns : goal.returns
 returns g c =
-    let config = c.args.server.now.config in
+    let config = c.args.replayer.now.server.config in
     let turn = c.make_turn-event.ensures in
     let state = c.args.state.now in
     record {
       same = turn.same;
-      ready = ready_after config c.args.server.now.turns c.args.hand.now c.make_turn-event.new.hand state _ c.requires.ready turn.same turn.between turn.open turn.receipts refl refl;
+      ready = ready_after c.args.replayer.now state _ c.requires.ready turn.same turn.between turn.open turn.receipts refl;
       received = omega arith;
       differs = λ q. refl;
       steps = λ seed.
-          commanded config seed (made_by c.args.hand.now) (made_by c.make_turn-event.new.hand) state.clock c.args.source c.args.bytes.now state.receipts c.fails-read_fails.result c.fails-reply_fails.result
+          commanded config seed (made_by state.hand) (made_by c.make_turn-event.new.hand) state.clock c.args.source c.args.bytes.now state.receipts c.fails-read_fails.result c.fails-reply_fails.result
           state.watch c.note_calls.new.watch c.note_reply.new.watch state.devices.ports.told c.make_turn-event.new.devices.ports.told state.devices.keys.told c.make_turn-event.new.devices.keys.told
           c.count_openings-opened.result c.count_draws-drawn.result (c.fails-read_fails.ensures config seed) (c.fails-reply_fails.ensures config seed) c.count_openings-opened.ensures c.count_draws-drawn.ensures
           (subst (λ (k : Config). WatchesTurn k seed c.make_turn-event.new.devices.ports.told c.count_openings-opened.result c.make_turn-event.new.devices.keys.told c.count_draws-drawn.result state.watch c.note_calls.new.watch)

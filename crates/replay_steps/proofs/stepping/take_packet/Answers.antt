@@ -1,112 +1,102 @@
-use Rattle.std.proofs.Common.{◌∙◌, ◌≤◌, refl, sym, subst, List, length, Option, false, arith}
+use Rattle.std.proofs.Common.{◌≡◌, ◌+◌, ◌<◌, ◌≤◌, ◌^◌, refl, sym, subst, ap, ℕ, List, [], ◌∷◌, ◌++◌, length, false, arith}
 use Rattle.std.specs.Prelude.{IsTrue}
-use Rattle.relay_outside.specs.declared.ports.PortCall.{PortCall}
 use Rattle.relay_core.specs.Turning.{made_by}
-use Rattle.ng_server.specs.Servers.{OpensJust, history_of}
+use Rattle.relay_script.specs.Printing as event
 use Rattle.relay_script.specs.Printing.{event_of}
 use Rattle.relay_script.specs.Steps as line
+use Rattle.replay_devices.specs.Watch.{WatchState, StandsFor}
 use Rattle.replay_steps.specs.declared.arriving.Arrived.{Arrived}
-use Rattle.replay_steps.specs.declared.ended.Untold.TheVariants as untold
 use Rattle.replay_steps.specs.declared.stepping.Stepped.TheVariants as stepped
 use Rattle.replay_steps.specs.Arrivals.{IsGood}
-use Rattle.replay_steps.specs.Holding.{Numbered, AreReceipts}
-use Rattle.replay_steps.specs.Steps.{Arrives}
+use Rattle.replay_steps.specs.Holding.{Numbered, ReceiptList, AreReceipts}
+use Rattle.replay_steps.specs.Ready.{course_at}
+use Rattle.replay_steps.specs.Steps.{Arrives, Makes, course_of}
 use Rattle.replay_steps.proofs.Courses.{many_held, holds_packet, holds_none}
-use Rattle.replay_steps.proofs.Holdings.{all_apart, receipts_kept, receipts_pushed}
-use Rattle.replay_steps.proofs.Steps.{ready_again, moved_ready, moved_step, stays}
+use Rattle.replay_steps.proofs.Holdings.{all_apart, receipts_pushed}
+use Rattle.replay_steps.proofs.Steps.{ready_holding, stays, steps_at, as_many}
 use Rattle.replay_steps.proofs.stepping.take_packet.Goals as goal
-
-pub arrive-arrived-requires-clause-between : goal.arrive-arrived-requires-clause-between
-arrive-arrived-requires-clause-between g c =
-    (moved_ready c.args.server.now.config c.args.state.now.config c.args.server.now.turns c.turns-turns.result.now c.args.hand c.args.state.now (sym c.requires.ready.config_is) (sym c.turns-turns.ensures) c.requires.ready).between
-
-pub arrive-arrived-requires-clause-opens : goal.arrive-arrived-requires-clause-opens
-arrive-arrived-requires-clause-opens g c =
-    subst (λ (o : Option (List PortCall)). OpensJust c.args.state.now.config (history_of c.args.hand) o) c.in-Some.ensures
-    (moved_ready c.args.server.now.config c.args.state.now.config c.args.server.now.turns c.turns-turns.result.now c.args.hand c.args.state.now (sym c.requires.ready.config_is) (sym c.turns-turns.ensures) c.requires.ready).opens
-
-pub returns-in_default : goal.returns-in_default
-returns-in_default g c =
-    stays c.args.server.now.config c.args.server.now.turns (line.Take c.args.packet.port c.args.packet.source c.args.packet.bytes.now) (stepped.Untold untold.OutOfMemory) c.args.hand c.args.state.now c.requires.ready
-    (λ q. refl) (λ seed past. tt)
 
 pub returns-then-is_full : goal.returns-then-is_full
 returns-then-is_full g c =
-    stays c.args.server.now.config c.args.server.now.turns (line.Take c.args.packet.port c.args.packet.source c.args.packet.bytes.now) stepped.Faulty c.args.hand c.args.state.now c.requires.ready
-    (λ q. refl) (λ seed past. (many_held c.args.state.now.receipts.list (c.if-is_full.ensures.0 refl), refl))
+    stays c.args.replayer.now (line.Take c.args.packet.port c.args.packet.source c.args.packet.bytes.now) stepped.Faulty c.args.state c.requires.ready
+    (λ q. refl) (λ seed past. (many_held c.args.state.receipts.list (c.if-is_full.ensures.0 refl), refl))
+
+pub keep-number-requires : goal.keep-number-requires
+keep-number-requires g c =
+    let arrived = c.arrive-arrived.ensures in
+    let few : 64 ≤ length c.args.state.receipts.list → ⊥ = λ more. absurd (let k : IsTrue false = c.if-is_full.ensures.1 more in cc) in
+    let room = arrived.ready.room in
+    let as_long = ap (λ (w : ReceiptList). length w.list) arrived.receipts_are in
+    record {
+      room = omega (arith, few, room, as_long);
+      number = subst (λ (w : ReceiptList). w.received + 1 < 2 ^ 32) (sym arrived.receipts_are) c.requires.number;
+    }
 
 pub returns-in-Packet : goal.returns-in-Packet
 returns-in-Packet g c =
-    let k = c.args.state.now.config in
-    let t = c.turns-turns.result.now in
-    let state = c.args.state.now in
+    let replayer = c.args.replayer.now in
+    let k = replayer.server.config in
+    let state = c.args.state in
     let was = state.receipts in
-    let l = made_by c.args.hand in
-    let new = made_by c.arrive-arrived.result.1 in
+    let after = c.arrive-arrived.result.1 in
+    let arrived = c.arrive-arrived.ensures in
+    let new = made_by after.hand in
     let r = c.in-Packet.receipt in
-    let ready = moved_ready c.args.server.now.config k c.args.server.now.turns t c.args.hand state (sym c.requires.ready.config_is) (sym c.turns-turns.ensures) c.requires.ready in
-    let leaves = c.arrive-arrived.ensures.board in
-    let good = subst (λ (a : Arrived). IsGood k l a new) c.in-Packet.is c.arrive-arrived.ensures.packet in
-    moved_step k c.args.server.now.config t c.args.server.now.turns _ _ c.args.hand c.arrive-arrived.result.1 state _ c.requires.ready.config_is c.turns-turns.ensures (record {
-      same = leaves.same;
-      ready = ready_again k t c.args.hand c.arrive-arrived.result.1 state _ ready leaves refl refl
-          (subst (λ (list : List Numbered). AreReceipts k new list) (sym c.keep.ensures.list)
-          (receipts_pushed k new was.list (_, r) (receipts_kept k l new was.list c.arrive-arrived.ensures.receipts ready.receipts) good.0 (all_apart k l r was.list good.1 ready.receipts)))
-          (c.keep.ensures.room ∙ ready.room);
-      received = let more = c.keep.ensures.received in omega (arith, more);
+    let now = c.keep-number.new.self in
+    let n = c.keep-number.result in
+    let good = subst (λ (a : Arrived). IsGood k (made_by state.hand) a new) c.in-Packet.is arrived.good in
+    let list = subst (λ (w : ReceiptList). now.list ≡ w.list ++ (w.received + 1, r) ∷ []) arrived.receipts_are c.keep-number.ensures.list in
+    let number = subst (λ (w : ReceiptList). n ≡ w.received + 1) arrived.receipts_are c.keep-number.ensures.number in
+    let received = subst (λ (w : ReceiptList). now.received ≡ w.received + 1) arrived.receipts_are c.keep-number.ensures.received in
+    let held = subst (λ (w : ReceiptList). AreReceipts k new w.list) arrived.receipts_are arrived.ready.receipts in
+    record {
+      same = arrived.same;
+      ready = ready_holding replayer after now arrived.ready
+          (subst (λ (xs : List Numbered). AreReceipts k new xs) (sym list) (receipts_pushed k new was.list (_, r) held good.0 (all_apart k (made_by state.hand) r was.list good.1 c.requires.ready.receipts)))
+          c.keep-number.ensures.room;
+      received = omega (arith, received);
       differs = λ q. refl;
       steps = λ seed past s. (
         past,
-        holds_packet k seed l was state.clock past c.fails-failing.result (c.fails-failing.ensures k seed past s) c.args.packet.port c.args.packet.source c.args.packet.bytes.now r c.keep.result new
-            c.keep.new.self (λ more. absurd (let k : IsTrue false = c.if-is_full.ensures.1 more in cc))
-            (subst (λ (a : Arrived). Arrives k l c.args.packet.port c.args.packet.source c.args.packet.bytes.now c.fails-failing.result a new) c.in-Packet.is c.arrive-arrived.ensures.arrives)
-            c.keep.ensures.number c.keep.ensures.list c.keep.ensures.received,
-        s,
+        subst (λ (m : ℕ). Makes k seed (course_at state past) (line.Take c.args.packet.port c.args.packet.source c.args.packet.bytes.now) (event.Took n ∷ []) (course_of new now m past)) (sym arrived.clock_is)
+            (holds_packet k seed (made_by state.hand) was state.clock past arrived.failing (arrived.asked seed past s) c.args.packet.port c.args.packet.source c.args.packet.bytes.now r n new now
+            (λ more. absurd (let k : IsTrue false = c.if-is_full.ensures.1 more in cc))
+            (subst (λ (a : Arrived). Arrives k (made_by state.hand) c.args.packet.port c.args.packet.source c.args.packet.bytes.now arrived.failing a new) c.in-Packet.is arrived.arrives)
+            number list received),
+        subst (λ (w : WatchState). StandsFor k seed past w) (sym arrived.watch_is) s,
       );
-    })
+    }
 
 pub returns-in-Printed : goal.returns-in-Printed
 returns-in-Printed g c =
-    let k = c.args.state.now.config in
-    let t = c.turns-turns.result.now in
-    let state = c.args.state.now in
-    let was = state.receipts in
-    let l = made_by c.args.hand in
-    let new = made_by c.arrive-arrived.result.1 in
-    let ready = moved_ready c.args.server.now.config k c.args.server.now.turns t c.args.hand state (sym c.requires.ready.config_is) (sym c.turns-turns.ensures) c.requires.ready in
-    let leaves = c.arrive-arrived.ensures.board in
-    moved_step k c.args.server.now.config t c.args.server.now.turns _ _ c.args.hand c.arrive-arrived.result.1 state _ c.requires.ready.config_is c.turns-turns.ensures (record {
-      same = leaves.same;
-      ready = ready_again k t c.args.hand c.arrive-arrived.result.1 state _ ready leaves refl refl (receipts_kept k l new was.list c.arrive-arrived.ensures.receipts ready.receipts) ready.room;
-      received = omega arith;
+    let k = c.args.replayer.now.server.config in
+    let state = c.args.state in
+    let after = c.arrive-arrived.result.1 in
+    let arrived = c.arrive-arrived.ensures in
+    let did = stepped.Prints c.in-Printed.event in
+    record {
+      same = arrived.same;
+      ready = arrived.ready;
+      received = as_many state after state.receipts arrived.receipts_are refl;
       differs = λ q. refl;
-      steps = λ seed past s. (
-        past,
-        holds_none k seed l was state.clock past c.fails-failing.result (c.fails-failing.ensures k seed past s) c.args.packet.port c.args.packet.source c.args.packet.bytes.now
-            (event_of c.in-Printed.event) new (λ more. absurd (let k : IsTrue false = c.if-is_full.ensures.1 more in cc))
-            (subst (λ (a : Arrived). Arrives k l c.args.packet.port c.args.packet.source c.args.packet.bytes.now c.fails-failing.result a new) c.in-Printed.is c.arrive-arrived.ensures.arrives),
-        s,
-      );
-    })
+      steps = λ seed.
+          steps_at k seed (line.Take c.args.packet.port c.args.packet.source c.args.packet.bytes.now) did (course_at state) state.watch state.receipts state.clock after arrived.receipts_are arrived.clock_is
+          (λ past s. (
+            past,
+            holds_none k seed (made_by state.hand) state.receipts state.clock past arrived.failing (arrived.asked seed past s) c.args.packet.port c.args.packet.source c.args.packet.bytes.now
+                (event_of c.in-Printed.event) (made_by after.hand) (λ more. absurd (let k : IsTrue false = c.if-is_full.ensures.1 more in cc))
+                (subst (λ (a : Arrived). Arrives k (made_by state.hand) c.args.packet.port c.args.packet.source c.args.packet.bytes.now arrived.failing a (made_by after.hand)) c.in-Printed.is arrived.arrives),
+            subst (λ (w : WatchState). StandsFor k seed past w) (sym arrived.watch_is) s,
+          ));
+    }
 
-pub returns-in-Other : goal.returns-in-Other
-returns-in-Other g c =
-    let k = c.args.state.now.config in
-    let t = c.turns-turns.result.now in
-    let state = c.args.state.now in
-    let ready = moved_ready c.args.server.now.config k c.args.server.now.turns t c.args.hand state (sym c.requires.ready.config_is) (sym c.turns-turns.ensures) c.requires.ready in
-    let leaves = c.arrive-arrived.ensures.board in
-    moved_step k c.args.server.now.config t c.args.server.now.turns _ _ c.args.hand c.arrive-arrived.result.1 state _ c.requires.ready.config_is c.turns-turns.ensures (record {
-      same = leaves.same;
-      ready = ready_again k t c.args.hand c.arrive-arrived.result.1 state _ ready leaves refl refl
-          (receipts_kept k (made_by c.args.hand) (made_by c.arrive-arrived.result.1) state.receipts.list c.arrive-arrived.ensures.receipts ready.receipts) ready.room;
-      received = omega arith;
+pub returns-in-Untold : goal.returns-in-Untold
+returns-in-Untold g c =
+    let arrived = c.arrive-arrived.ensures in
+    record {
+      same = arrived.same;
+      ready = arrived.ready;
+      received = as_many c.args.state c.arrive-arrived.result.1 c.args.state.receipts arrived.receipts_are refl;
       differs = λ q. refl;
       steps = λ seed. tt;
-    })
-
-pub keep-requires-clause-room : goal.keep-requires-clause-room
-keep-requires-clause-room g c =
-    let few : 64 ≤ length c.args.state.now.receipts.list → ⊥ = λ more. absurd (let k : IsTrue false = c.if-is_full.ensures.1 more in cc) in
-    let room = c.requires.ready.room in
-    omega (arith, few, room)
+    }

@@ -16,18 +16,19 @@ use Rattle.replay_steps.proofs.stepping.tick.Goals as goal
 
 pub returns : goal.returns
 returns g c =
-    let config = c.args.server.now.config in
-    let turns = c.args.server.now.turns in
-    let old = c.args.hand.now in
-    let new = c.timer_turn-ended.new.hand in
+    let replayer = c.args.replayer.now in
+    let config = replayer.server.config in
+    let turns = replayer.server.turns in
     let state = c.args.state.now in
+    let old = state.hand in
+    let new = c.timer_turn-ended.new.hand in
     let turn = c.timer_turn-ended.ensures in
     let ticks = turn.ticks in
     let entry = tick_entry (board_of (made_by old)) state.clock ticks.calls in
     let did = stepped.Prints (printed.Ended c.timer_turn-ended.result) in
     record {
       same = turn.same;
-      ready = ready_after config turns old new state _ c.requires.ready turn.same turn.between turn.open (makes_keeps config turns old new entry c.requires.ready.between ticks.makes) refl refl;
+      ready = ready_after replayer state _ c.requires.ready turn.same turn.between turn.open (makes_keeps config turns old new entry c.requires.ready.between ticks.makes) refl;
       received = omega arith;
       differs = λ q. absurd (let k : did ≡ stepped.Untold untold.DeviceFault = q in cc);
       steps = λ seed.
