@@ -1,7 +1,7 @@
 -- How the rows of a run grow: by a control turn, by a sweep, and by the stop.
 use Rattle.std.specs.Prelude.{is_some, unwrap_or}
 use Rattle.std.specs.Option.{option_map}
-use Rattle.std.proofs.Common.{◌≡◌, ◌∙◌, ap, refl, subst, sym, ℕ, zero, suc, ◌<◌, List, [], ◌∷◌, ◌++◌, append_assoc, append-nil, Bool, true, false, cond, Option, None, Some, arith}
+use Rattle.std.proofs.Common.{◌≡◌, ◌∙◌, ap, refl, subst, sym, ℕ, ◌<◌, List, [], ◌∷◌, ◌++◌, append_assoc, append-nil, Bool, true, false, cond, Option, None, Some}
 use Rattle.relay_outside.specs.declared.settings.Config.{Config}
 use Rattle.turn_table.specs.declared.hands.Turns.{Turns}
 use Rattle.turn_table.specs.declared.hands.Hand.{Hand}
@@ -80,11 +80,6 @@ no_rows (row ∷ rows) none = absurd (let k = none in cc)
 -- before the first round
 pub no_rounds : (config : Config) (threads : ℕ) (range : Option (ℕ × ℕ)) (rows : List Row) → list_of rows ≡ [] → AreRounds config threads range [] rows
 no_rounds config threads range rows none = no_rows rows none
-
--- where threads relay media, nothing stands between the turns
-pub no_sweep_rows : (config : Config) (threads : ℕ) (range : Option (ℕ × ℕ)) (rows : List Row) → 0 < threads → AddsSweep config threads range rows rows
-no_sweep_rows config zero range rows some = absurd (omega (arith, some))
-no_sweep_rows config (suc more) range rows some = record { rows = []; are = sym (append-nil rows); alone = refl }
 
 module _ {M I O : Type 0} {g : _} where
   pub turn_rows : (config : Config) (old new : Hand M (Part I O) Made (Unit {0}) g) (now : ℕ) (answer : ControlTurn) (made : Option Hearing) → Follows config old new now answer made

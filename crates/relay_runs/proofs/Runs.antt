@@ -30,11 +30,6 @@ loop_prints status.Usage ends = absurd ends
 loop_prints status.ScriptFault ends = absurd ends
 loop_prints status.ScriptRead ends = absurd ends
 
--- what the words say, by what was read of them
-pub serves_as : (settings found : Option Settings) (range : Option (ℕ × ℕ)) (gate : ℕ → Type 0) (outside : Outside) (wrote wrote_now : Option (List WriteCall)) (answer : Status) → found ≡ settings
-    → Serves found range gate outside wrote wrote_now answer → Serves settings range gate outside wrote wrote_now answer
-serves_as settings found range gate outside wrote wrote_now answer is serves = subst (λ (s : Option Settings). Serves s range gate outside wrote wrote_now answer) is serves
-
 -- a device that was not called
 uncalled : {C : Type 0} (before after : Option (List C)) → before ≡ after → Gave before after []
 uncalled {C} before after same = subst (λ (t : Option (List C)). Gave before t []) same (gained_none before (λ more. more ≡ []) refl)

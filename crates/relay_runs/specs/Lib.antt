@@ -2,6 +2,7 @@ pub mod Devices
 pub mod Ends
 pub mod Loads
 pub mod Numbered
+pub mod Prepared
 pub mod Rounds
 pub mod Run
 pub mod Served

@@ -20,6 +20,7 @@ use Rattle.media_lane.specs.Gated.{AreGated, GainsGated}
 use Rattle.media_lane.specs.Totals.{HasTotals}
 use Rattle.media_lane.specs.Visits.{Row, Visit, all_rows, AreTotals, one_if}
 use Rattle.relay_runs.specs.declared.lanes.OwnLane.{OwnLane}
+use Rattle.relay_runs.specs.declared.sharing.LaneRoom.{LaneRoom}
 use Rattle.relay_runs.specs.declared.threads.MediaThread.{MediaThread}
 use Rattle.relay_runs.specs.declared.threads.Until.{Until}
 use Rattle.relay_runs.specs.declared.threads.Until.TheVariants as until
@@ -86,6 +87,12 @@ module _ {I O : Type 0} {gi : _} {go : _} {gm : _} where
   pub record HasRoom (lanes : ℕ) (thread : MediaThread I O gi go gm) : Type 0 where
     pub empty : thread.lanes.items ≡ []
     pub room : lanes ≤ vec_capacity thread.lanes
+
+  -- there are so many threads, none of which has a lane yet, each with room for so many, and an empty list has room for as many
+  pub record IsRoomFor (threads lanes : ℕ) (room : LaneRoom I O gi go gm) : Type 0 where
+    pub as_many : length room.threads.items ≡ threads
+    pub each : All (λ thread. HasRoom lanes thread) room.threads.items
+    pub in_all : HasLaneRoom lanes room.lanes
 
   -- the thread at this place has this lane more, and nothing else is new
   pub record AddsLane (at : ℕ) (own : OwnLane I O gi go gm) (old new : List (MediaThread I O gi go gm)) : Type 0 where

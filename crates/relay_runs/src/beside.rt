@@ -37,8 +37,22 @@ pub(crate) trait MediaWork<S, X> {
         ensures over { goes_on self.old self.new → ∥ F.holds ∥₁ };
 }
 
+/// What threads of media relay by.
+#[derive(Drop)]
+pub(crate) struct Relaying<'t, 'm, S, X> {
+    /// The table whose hands their lanes have.
+    pub(crate) turns: &'t S,
+    /// What each relay is handed.
+    pub(crate) media: &'m X,
+}
+
 /// Runs all threads of media, each in a thread of its own.
-fn media_threads<R, S, X, L, F>(rt: &R, turns: &S, media: &X, halt: &HaltWord<F>, threads: &mut [L])
+fn media_threads<R, S, X, L, F>(
+    rt: &R,
+    relaying: &Relaying<'_, '_, S, X>,
+    halt: &HaltWord<F>,
+    threads: &mut [L],
+)
 where
     R: Threads + Wait + Sync,
     S: Sync,
@@ -46,8 +60,8 @@ where
     L: MediaWork<S, X> + Send,
     F: Over + Send + Sync,
     requires some { 0 < length threads.old }
-    requires ready { All (λ thread. L.can_work thread turns.now) threads.old }
-    ensures did { (i : ℕ) (d : _) → i < length threads.old → L.did turns.now media.now (slice_index_or threads.old i d) (slice_index_or threads.new i d) }
+    requires ready { All (λ thread. L.can_work thread relaying.now.turns.now) threads.old }
+    ensures did { (i : ℕ) (d : _) → i < length threads.old → L.did relaying.now.turns.now relaying.now.media.now (slice_index_or threads.old i d) (slice_index_or threads.new i d) }
     ensures over { (i : ℕ) (d : _) → i < length threads.old → L.goes_on (slice_index_or threads.old i d) (slice_index_or threads.new i d) → ∥ F.holds ∥₁ }
 {
     let count = threads.len();
@@ -55,15 +69,14 @@ where
         rt,
         threads,
         count,
-        &|_, thread| { thread.work(rt, turns, media, halt) },
+        &|_, thread| { thread.work(rt, relaying.turns, relaying.media, halt) },
     );
 }
 
 /// Runs all threads of media after the control turns. Where these did not end as they should, the halt word is set from the start, and else never.
 fn run_unless_over<R, S, X, L, F>(
     rt: &R,
-    turns: &S,
-    media: &X,
+    relaying: &Relaying<'_, '_, S, X>,
     threads: &mut Vec<L>,
     went_well: bool,
 )
@@ -74,25 +87,24 @@ where
     L: MediaWork<S, X> + Send,
     F: Over + Send + Sync,
     requires some { 0 < length threads.old.items }
-    requires ready { All (λ thread. L.can_work thread turns.now) threads.old.items }
+    requires ready { All (λ thread. L.can_work thread relaying.now.turns.now) threads.old.items }
     requires over { went_well ≡ false → ∥ F.holds ∥₁ }
     ensures as_many { length threads.new.items ≡ length threads.old.items }
-    ensures threads { (i : ℕ) (d : _) → i < length threads.old.items → L.did turns.now media.now (slice_index_or threads.old.items i d) (slice_index_or threads.new.items i d) }
+    ensures threads { (i : ℕ) (d : _) → i < length threads.old.items → L.did relaying.now.turns.now relaying.now.media.now (slice_index_or threads.old.items i d) (slice_index_or threads.new.items i d) }
     ensures over { (i : ℕ) (d : _) → i < length threads.old.items → L.goes_on (slice_index_or threads.old.items i d) (slice_index_or threads.new.items i d) → ∥ F.holds ∥₁ }
 {
     let halt: HaltWord<F> = HaltWord::new();
     if !went_well {
         halt.set(rt);
     }
-    media_threads(rt, turns, media, &halt, threads.as_mut_slice());
+    media_threads(rt, relaying, &halt, threads.as_mut_slice());
 }
 
 /// Runs all threads of media after the control turns, each until it has done all its work. Where the control turns did not end as they should, the halt
 /// word is set from the start.
 pub(crate) fn run_after<R, S, X, L>(
     rt: &R,
-    turns: &S,
-    media: &X,
+    relaying: &Relaying<'_, '_, S, X>,
     threads: &mut Vec<L>,
     went_well: bool,
 )
@@ -102,12 +114,12 @@ where
     X: Sync,
     L: MediaWork<S, X> + Send,
     requires some { 0 < length threads.old.items }
-    requires threads { All (λ thread. L.can_work thread turns.now) threads.old.items }
+    requires threads { All (λ thread. L.can_work thread relaying.now.turns.now) threads.old.items }
     ensures as_many { length threads.new.items ≡ length threads.old.items }
-    ensures threads { (i : ℕ) (d : _) → i < length threads.old.items → L.did turns.now media.now (slice_index_or threads.old.items i d) (slice_index_or threads.new.items i d) }
+    ensures threads { (i : ℕ) (d : _) → i < length threads.old.items → L.did relaying.now.turns.now relaying.now.media.now (slice_index_or threads.old.items i d) (slice_index_or threads.new.items i d) }
     ensures done { went_well ≡ true → (i : ℕ) (d : _) → i < length threads.old.items → L.goes_on (slice_index_or threads.old.items i d) (slice_index_or threads.new.items i d) → ⊥ }
 {
-    run_unless_over::<R, S, X, L, Brand>(rt, turns, media, threads, went_well);
+    run_unless_over::<R, S, X, L, Brand>(rt, relaying, threads, went_well);
 }
 
 /// Makes all control turns in this thread, and then sets the halt word; until it is set media is relayed in as many others as there are threads of media.
@@ -116,8 +128,7 @@ where
 fn run_halted<R, V, S, X, D, M, L, F>(
     rt: &R,
     server: &V,
-    turns: &S,
-    media: &X,
+    relaying: &Relaying<'_, '_, S, X>,
     devices: &mut D,
     control: &mut M,
     threads: &mut [L],
@@ -131,24 +142,24 @@ where
     F: Over + Send + Sync,
     requires some { 0 < length threads.old }
     requires control { M.can_work control.old server.now devices.old }
-    requires threads { All (λ thread. L.can_work thread turns.now) threads.old }
-    requires over { (new : M) (devices_now : D) → M.did server.now media.now control.old devices.old new devices_now → ∥ F.holds ∥₁ }
-    ensures control { M.did server.now media.now control.old devices.old control.new devices.new }
-    ensures threads { (i : ℕ) (d : _) → i < length threads.old → L.did turns.now media.now (slice_index_or threads.old i d) (slice_index_or threads.new i d) }
+    requires threads { All (λ thread. L.can_work thread relaying.now.turns.now) threads.old }
+    requires over { (new : M) (devices_now : D) → M.did server.now relaying.now.media.now control.old devices.old new devices_now → ∥ F.holds ∥₁ }
+    ensures control { M.did server.now relaying.now.media.now control.old devices.old control.new devices.new }
+    ensures threads { (i : ℕ) (d : _) → i < length threads.old → L.did relaying.now.turns.now relaying.now.media.now (slice_index_or threads.old i d) (slice_index_or threads.new i d) }
 {
     let word: HaltWord<F> = HaltWord::new();
     let halt = &word;
     thread::join_mut(
         rt,
         &mut ||
-            requires { (0 < length threads.now) × All (λ thread. L.can_work thread turns.now) threads.now }
-            ensures { (i : ℕ) (d : _) → i < length threads.entry.now → L.did turns.entry.now media.entry.now (slice_index_or threads.entry.now i d) (slice_index_or threads.exit.now i d) }
-        { media_threads(rt, turns, media, halt, threads) },
+            requires { (0 < length threads.now) × All (λ thread. L.can_work thread relaying.now.turns.now) threads.now }
+            ensures { (i : ℕ) (d : _) → i < length threads.entry.now → L.did relaying.entry.now.turns.now relaying.entry.now.media.now (slice_index_or threads.entry.now i d) (slice_index_or threads.exit.now i d) }
+        { media_threads(rt, relaying, halt, threads) },
         &mut ||
-            requires { M.can_work control.now server.now devices.now × ((new : M) (devices_now : D) → M.did server.now media.now control.now devices.now new devices_now → ∥ F.holds ∥₁) }
-            ensures { M.did server.entry.now media.entry.now control.entry.now devices.entry.now control.exit.now devices.exit.now }
+            requires { M.can_work control.now server.now devices.now × ((new : M) (devices_now : D) → M.did server.now relaying.now.media.now control.now devices.now new devices_now → ∥ F.holds ∥₁) }
+            ensures { M.did server.entry.now relaying.entry.now.media.now control.entry.now devices.entry.now control.exit.now devices.exit.now }
         {
-            control.work(rt, server, media, devices);
+            control.work(rt, server, relaying.media, devices);
             halt.set(rt);
         },
     );
@@ -159,8 +170,7 @@ where
 pub(crate) fn run_beside<R, V, S, X, D, M, L>(
     rt: &R,
     server: &V,
-    turns: &S,
-    media: &X,
+    relaying: &Relaying<'_, '_, S, X>,
     devices: &mut D,
     control: &mut M,
     threads: &mut Vec<L>,
@@ -172,20 +182,19 @@ where
     M: ControlWork<V, X, D>,
     L: MediaWork<S, X> + Send,
     requires control { M.can_work control.old server.now devices.old }
-    requires threads { All (λ thread. L.can_work thread turns.now) threads.old.items }
-    ensures control { M.did server.now media.now control.old devices.old control.new devices.new }
+    requires threads { All (λ thread. L.can_work thread relaying.now.turns.now) threads.old.items }
+    ensures control { M.did server.now relaying.now.media.now control.old devices.old control.new devices.new }
     ensures as_many { length threads.new.items ≡ length threads.old.items }
-    ensures threads { (i : ℕ) (d : _) → i < length threads.old.items → L.did turns.now media.now (slice_index_or threads.old.items i d) (slice_index_or threads.new.items i d) }
+    ensures threads { (i : ℕ) (d : _) → i < length threads.old.items → L.did relaying.now.turns.now relaying.now.media.now (slice_index_or threads.old.items i d) (slice_index_or threads.new.items i d) }
 {
     if threads.is_empty() {
-        control.work(rt, server, media, devices);
+        control.work(rt, server, relaying.media, devices);
         return;
     }
     run_halted::<R, V, S, X, D, M, L, Brand>(
         rt,
         server,
-        turns,
-        media,
+        relaying,
         devices,
         control,
         threads.as_mut_slice(),

@@ -4,6 +4,9 @@ ghost use Rattle.std.specs.Prelude.{◌≤◌};
 use relay_outside::{ControlLink, KeySource, PortMaker, Timer};
 
 /// The devices that the control turns of a run ask, each borrowed for the run.
+///
+/// A function that is handed them says that each reference stays the same (`AreSame`): without
+/// that, its caller would not learn what became of a device.
 #[derive(Drop)]
 pub struct Devices<'l, 'p, 'k, 't, N, P, K, T> {
     /// It takes datagrams, and sends their replies.

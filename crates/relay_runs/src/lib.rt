@@ -10,6 +10,7 @@ mod lanes;
 mod load_end;
 mod load_run;
 mod loading;
+mod prepared;
 mod rota;
 mod seeded;
 mod serving;

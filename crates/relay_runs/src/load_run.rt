@@ -1,24 +1,23 @@
 //! The control turns of a load, then its threads of media, and then its end: one after the other, so that each relay stands at its cell after
 //! all that the control turns made there, and before all that the stop makes.
-ghost use Rattle.std.specs.Prelude.{◌≡◌, ◌≤◌, ◌<◌, ◌^◌, ℕ, [], All, length};
+ghost use Rattle.std.specs.Prelude.{◌≡◌, ◌≤◌, ◌<◌, ◌^◌, ℕ, []};
 ghost use Rattle.turn_table.specs.Hands.{parts};
 ghost use Rattle.relay_core.specs.Turning.{made_by};
 ghost use Rattle.media_ports.specs.Held.{TellsHeld};
 ghost use Rattle.board_turns.specs.Between.{IsBetween, board_of};
 ghost use Rattle.relay_runs.specs.Devices.{AreSame};
 ghost use Rattle.relay_runs.specs.Loads.{DidLoadTurns};
-ghost use Rattle.relay_runs.specs.Threads.{HasLaneRoom, HasRoom, RelaysDue, due_in};
+ghost use Rattle.relay_runs.specs.Prepared.{IsPrepared};
+ghost use Rattle.relay_runs.specs.Threads.{IsRoomFor, RelaysDue, due_in};
 
-use crate::beside::{ControlWork, run_after};
+use crate::beside::{ControlWork, Relaying, run_after};
 use crate::devices::{Devices, Tells};
-use crate::lanes::OwnLane;
-use crate::sharing::{join_threads, make_lanes};
+use crate::prepared::Prepared;
+use crate::sharing::{LaneRoom, join_threads, make_lanes};
 use crate::status::Status;
-use crate::threads::MediaThread;
-use crate::turns::{ControlLoop, Looped, Prepared, close_table};
+use crate::turns::{ControlLoop, Looped, close_table};
 use command_line::Settings;
 use media_lane::Media;
-use ng_server::Server;
 use relay_core::Relay;
 use relay_outside::{
     Clock, ControlLink, Gate, InEnd, KeySource, LaneShare, OutEnd, PortMaker, Timer,
@@ -32,12 +31,10 @@ use turn_table::{Hand, Turns};
 /// came of them. Before the split and after the join the main hand has the whole history of each place.
 fn relay_due<I, O, C, G, R>(
     rt: &R,
-    turns: &Turns<Relay<I, O>>,
+    relaying: &Relaying<'_, '_, Turns<Relay<I, O>>, Media<'_, '_, C, G>>,
     hand: &mut Hand<Relay<I, O>>,
-    room: Vec<MediaThread<I, O>>,
-    lanes: Vec<OwnLane<I, O>>,
+    room: LaneRoom<I, O>,
     settings: &Settings,
-    media: &Media<'_, '_, C, G>,
     looped: &mut Looped,
 )
 where
@@ -48,24 +45,23 @@ where
     R: Threads + Wait + Sync,
     requires threads { settings.now.threads ≤ 16 }
     requires some { 0 < settings.now.threads }
-    requires as_many { length room.items ≡ settings.now.threads }
-    requires room { All (λ thread. HasRoom settings.now.threads thread) room.items }
-    requires lanes { HasLaneRoom settings.now.threads lanes }
+    requires room { IsRoomFor settings.now.threads settings.now.threads room }
     requires all { parts hand.old ≡ 1024 }
-    requires between { IsBetween settings.now.config turns.now hand.old }
-    ensures between { IsBetween settings.now.config turns.now hand.new }
+    requires between { IsBetween settings.now.config relaying.now.turns.now hand.old }
+    ensures between { IsBetween settings.now.config relaying.now.turns.now hand.new }
     ensures parts { parts hand.new ≡ parts hand.old }
     ensures history { board_of (made_by hand.new) ≡ board_of (made_by hand.old) }
-    ensures relays { RelaysDue settings.now.config settings.now.threads (C.range media.now.clock.now) (G.passed media.now.gate.now) hand.old hand.new looped.old.totals looped.new.totals }
-    ensures took { looped.old.status ≡ Status.Ok → (n : ℕ) → n ≤ due_in room.items → n < 2 ^ 64 → n ≤ looped.new.totals.taken }
+    ensures relays { RelaysDue settings.now.config settings.now.threads (C.range relaying.now.media.now.clock.now) (G.passed relaying.now.media.now.gate.now) hand.old hand.new looped.old.totals looped.new.totals }
+    ensures took { looped.old.status ≡ Status.Ok → (n : ℕ) → n ≤ due_in room.threads.items → n < 2 ^ 64 → n ≤ looped.new.totals.taken }
     ensures same { (looped.new.status ≡ looped.old.status) × (looped.new.counts ≡ looped.old.counts) }
 {
+    let turns = relaying.turns;
     turns.survey(hand);
-    let mut threads = room;
+    let LaneRoom { mut threads, lanes } = room;
     let share = LaneShare::one_each(settings.threads);
     make_lanes(turns, hand, &mut threads, share, &settings.config);
     let went_well = looped.status == Status::Ok;
-    run_after(rt, turns, media, &mut threads, went_well);
+    run_after(rt, relaying, &mut threads, went_well);
     join_threads(turns, hand, threads, lanes, &mut looped.totals);
     turns.survey(hand);
 }
@@ -76,8 +72,7 @@ pub(crate) fn load_turns<N, P, K, T, C, G, R>(
     rt: &R,
     alloc: Global,
     settings: &Settings,
-    server: Server<P>,
-    prepared: Prepared<P::In, P::Out>,
+    prepared: Prepared<P>,
     devices: &mut Devices<'_, '_, '_, '_, N, P, K, T>,
     media: &Media<'_, '_, C, G>,
 ) -> Looped
@@ -94,25 +89,19 @@ where
     requires limit { settings.now.turns < 2 ^ 63 }
     requires threads { settings.now.threads ≤ 16 }
     requires some { 0 < settings.now.threads }
-    requires config { server.config ≡ settings.now.config }
-    requires between { IsBetween server.config server.turns prepared.hand }
-    requires nothing { made_by prepared.hand ≡ [] }
-    requires all { parts prepared.hand ≡ 1024 }
-    requires as_many { length prepared.room.items ≡ settings.now.threads }
-    requires room { All (λ thread. HasRoom settings.now.threads thread) prepared.room.items }
-    requires lanes { HasLaneRoom settings.now.threads prepared.lanes }
-    requires open { TellsHeld server.config (P.told devices.old.ports.now) [] }
+    requires prepared { IsPrepared settings.now.config settings.now.threads settings.now.threads prepared }
+    requires open { TellsHeld prepared.server.config (P.told devices.old.ports.now) [] }
     ensures same { AreSame devices.old devices.new }
-    ensures did { DidLoadTurns settings.now.turns server.config settings.now.threads (C.range media.now.clock.now) (G.passed media.now.gate.now)
+    ensures did { DidLoadTurns settings.now.turns prepared.server.config settings.now.threads (C.range media.now.clock.now) (G.passed media.now.gate.now)
         (⟦<Devices<'static, 'static, 'static, 'static, N, P, K, T> as Tells>⟧.outside devices.old devices.new)
         result.status result.counts result.totals }
-    ensures took { result.status ≡ Status.Ok → (n : ℕ) → n ≤ due_in prepared.room.items → n < 2 ^ 64 → n ≤ result.totals.taken }
+    ensures took { result.status ≡ Status.Ok → (n : ℕ) → n ≤ due_in prepared.room.threads.items → n < 2 ^ 64 → n ≤ result.totals.taken }
 {
     let Prepared {
+        server,
         hand,
         desk,
         room,
-        lanes,
     } = prepared;
     let mut control = ControlLoop {
         alloc,
@@ -130,16 +119,11 @@ where
         mut looped,
     } = control;
     let Some(mut hand) = hand else { unreachable!() };
-    relay_due(
-        rt,
-        server.turns(),
-        &mut hand,
-        room,
-        lanes,
-        settings,
+    let relaying = Relaying {
+        turns: server.turns(),
         media,
-        &mut looped,
-    );
+    };
+    relay_due(rt, &relaying, &mut hand, room, settings, &mut looped);
     server.stop(rt, &mut hand, &mut desk, devices.ports);
     close_table(server, hand);
     looped

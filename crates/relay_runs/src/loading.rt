@@ -1,12 +1,10 @@
 //! The command `load`.
-ghost use Rattle.std.specs.Prelude.{◌≡◌, ◌≤◌, ◌*◌, ◌-◌, ◌^◌, [], Some, true, false, nat_lt, All, IfOk, IfErr, IsSome, IsTrue, length};
+ghost use Rattle.std.specs.Prelude.{◌≡◌, ◌≤◌, ◌*◌, ◌-◌, ◌^◌, [], Some, true, false, nat_lt, IfOk, IfErr, IsSome, IsTrue};
 ghost use Rattle.relay_runs.specs.Numbered.{load_status};
-ghost use Rattle.relay_runs.specs.Threads.{HasLaneRoom, HasRoom, due_in};
+ghost use Rattle.relay_runs.specs.Prepared.{IsPrepared};
+ghost use Rattle.relay_runs.specs.Threads.{due_in};
 ghost use Rattle.relay_outside.specs.Told.{Rose, WhereTold};
 ghost use Rattle.outside_real.specs.KeyStream.{stream_of, told_draws};
-ghost use Rattle.turn_table.specs.Hands.{parts};
-ghost use Rattle.relay_core.specs.Turning.{made_by};
-ghost use Rattle.board_turns.specs.Between.{IsBetween};
 ghost use Rattle.command_line.specs.Values.{IsLoadInLimits};
 ghost use Rattle.load_maker.specs.Links.{IsOfLoad};
 ghost use Rattle.load_maker.specs.Moments.{AreZero};
@@ -16,17 +14,17 @@ ghost use Rattle.relay_runs.specs.Loads.{RunsLoad, CutsShort, EndsLoad, Loads, I
 use crate::devices::Devices;
 use crate::load_end::{LoadEnd, Shortfall};
 use crate::load_run::load_turns;
+use crate::prepared::Prepared;
 use crate::seeded::{Seed, SeedKeys};
 use crate::serving::line_room;
-use crate::sharing::{Due, lane_room, thread_room};
+use crate::sharing::Due;
 use crate::status::Status;
 use crate::totals::put_number;
-use crate::turns::{Looped, Prepared};
+use crate::turns::Looped;
 use command_line::{LoadSettings, Settings};
-use load_maker::{LoadIn, LoadLink, LoadOut, LoadPorts, LoadTimer};
+use load_maker::{LoadLink, LoadPorts, LoadTimer};
 use media_lane::{Media, Totals};
 use ng_bencode::Text;
-use ng_server::{Desk, Server};
 use relay_outside::{Addr, Gate, HandClock, Ip, LaneShare, LineSink};
 use std::alloc::Global;
 use std::marker::Brand;
@@ -78,26 +76,19 @@ fn run_load<G, R>(
     rt: &R,
     alloc: Global,
     settings: &LoadSettings,
-    server: Server<LoadPorts>,
-    prepared: Prepared<LoadIn, LoadOut>,
+    prepared: Prepared<LoadPorts>,
     gate: &G,
 ) -> Result<Totals, Shortfall>
 where
     G: Gate + Sync,
     R: Threads + Wait + Sync,
     requires limits { IsLoadInLimits settings.now }
-    requires config { server.config ≡ settings.now.config }
-    requires between { IsBetween server.config server.turns prepared.hand }
-    requires nothing { made_by prepared.hand ≡ [] }
-    requires all { parts prepared.hand ≡ 1024 }
-    requires as_many { length prepared.room.items ≡ settings.now.lanes }
-    requires room { All (λ thread. HasRoom settings.now.lanes thread) prepared.room.items }
-    requires lanes { HasLaneRoom settings.now.lanes prepared.lanes }
-    requires due { due_in prepared.room.items ≡ packets_of settings.now }
+    requires prepared { IsPrepared settings.now.config settings.now.lanes settings.now.lanes prepared }
+    requires due { due_in prepared.room.threads.items ≡ packets_of settings.now }
     ensures whole { IfOk result (λ totals. RunsLoad settings.now (G.passed gate.now) totals) }
     ensures short { IfErr result (λ cause. CutsShort settings.now (G.passed gate.now) cause) }
 {
-    run_seeded::<G, R, Brand>(rt, alloc, settings, server, prepared, gate)
+    run_seeded::<G, R, Brand>(rt, alloc, settings, prepared, gate)
 }
 
 /// The same, with keys of this seed.
@@ -105,8 +96,7 @@ fn run_seeded<G, R, S>(
     rt: &R,
     alloc: Global,
     settings: &LoadSettings,
-    server: Server<LoadPorts>,
-    prepared: Prepared<LoadIn, LoadOut>,
+    prepared: Prepared<LoadPorts>,
     gate: &G,
 ) -> Result<Totals, Shortfall>
 where
@@ -115,14 +105,8 @@ where
     S: Seed,
     requires seed { settings.now.seed ≡ S.number }
     requires limits { IsLoadInLimits settings.now }
-    requires config { server.config ≡ settings.now.config }
-    requires between { IsBetween server.config server.turns prepared.hand }
-    requires nothing { made_by prepared.hand ≡ [] }
-    requires all { parts prepared.hand ≡ 1024 }
-    requires as_many { length prepared.room.items ≡ settings.now.lanes }
-    requires room { All (λ thread. HasRoom settings.now.lanes thread) prepared.room.items }
-    requires lanes { HasLaneRoom settings.now.lanes prepared.lanes }
-    requires due { due_in prepared.room.items ≡ packets_of settings.now }
+    requires prepared { IsPrepared settings.now.config settings.now.lanes settings.now.lanes prepared }
+    requires due { due_in prepared.room.threads.items ≡ packets_of settings.now }
     ensures whole { IfOk result (λ totals. RunsLoad settings.now (G.passed gate.now) totals) }
     ensures short { IfErr result (λ cause. CutsShort settings.now (G.passed gate.now) cause) }
 {
@@ -145,7 +129,6 @@ where
         rt,
         alloc,
         &run_settings(settings),
-        server,
         prepared,
         &mut devices,
         &media,
@@ -256,30 +239,15 @@ where
     let Ok(mut line) = line_room(alloc) else {
         return LoadEnd::NotBegun;
     };
-    let Ok(desk) = Desk::new(alloc) else {
-        return LoadEnd::NotBegun;
-    };
     let due = Due {
         pairs: 2 * settings.calls,
         packets: settings.packets,
     };
     let share = LaneShare::one_each(settings.lanes);
-    let Ok(room) = thread_room(alloc, share, Some(due)) else {
+    let Ok(prepared) = Prepared::reserve(alloc, settings.config, share, Some(due)) else {
         return LoadEnd::NotBegun;
     };
-    let Ok(lanes) = lane_room(alloc, share) else {
-        return LoadEnd::NotBegun;
-    };
-    let Ok((server, hand)) = Server::start(alloc, settings.config) else {
-        return LoadEnd::NotBegun;
-    };
-    let prepared = Prepared {
-        hand,
-        desk,
-        room,
-        lanes,
-    };
-    let totals = match run_load(rt, alloc, settings, server, prepared, gate) {
+    let totals = match run_load(rt, alloc, settings, prepared, gate) {
         Ok(totals) => totals,
         Err(cause) => return LoadEnd::CutShort(cause),
     };

@@ -6,15 +6,15 @@ ghost use Rattle.relay_runs.specs.Devices.{AreSame, AreUnasked};
 ghost use Rattle.relay_runs.specs.Run.{Serves, IsServed};
 
 use crate::devices::{Devices, Tells};
-use crate::sharing::{lane_room, serve_share, thread_room};
+use crate::prepared::Prepared;
+use crate::sharing::serve_share;
 use crate::status::Status;
 use crate::totals::put_totals;
-use crate::turns::{Prepared, close_table, serve_turns};
+use crate::turns::{close_table, serve_turns};
 use command_line::Settings;
 use media_lane::Media;
-use ng_bencode::Text;
-use ng_server::{Desk, Server};
-use relay_outside::{Clock, ControlLink, Gate, KeySource, LineSink, OutOfMemory, PortMaker, Timer};
+use ng_bencode::{OutOfMemory, Text};
+use relay_outside::{Clock, ControlLink, Gate, KeySource, LineSink, PortMaker, Timer};
 use std::alloc::Global;
 use std::sync::Wait;
 use std::thread::Threads;
@@ -27,15 +27,15 @@ pub(crate) fn line_room(alloc: Global) -> Result<Text, OutOfMemory>
     ensures { IfOk result (λ line. (line.list ≡ []) × (512 ≤ line.spare)) }
 {
     let mut line = Text::new(alloc);
-    match line.reserve(LINE) {
-        Ok(()) => Ok(line),
-        Err(_) => Err(OutOfMemory),
-    }
+    line.reserve(LINE)?;
+    Ok(line)
 }
 
 /// Serves the ng control protocol as the settings say: binds the control link, makes its control turns while threads of media relay packets, ends all
 /// calls, and prints a line of totals. `OutOfMemory` comes before any device is asked; `ControlFault` where the link was not bound, and then nothing is printed, or
 /// where a take of it failed; `PrintFault` takes the place of any other status. After each of these the table is closed and no port of a call is open.
+///
+/// That the link's count of faults rose at the very call that failed is no clause: it follows from the meaning of the link.
 pub fn serve<N, P, K, T, C, G, O, R>(
     rt: &R,
     alloc: Global,
@@ -72,30 +72,21 @@ where
     let Ok(mut line) = line_room(alloc) else {
         return Status::OutOfMemory;
     };
-    let Ok(desk) = Desk::new(alloc) else {
-        return Status::OutOfMemory;
-    };
     let share = serve_share(&settings.config, settings.threads);
-    let Ok(room) = thread_room(alloc, share, None) else {
-        return Status::OutOfMemory;
-    };
-    let Ok(lanes) = lane_room(alloc, share) else {
-        return Status::OutOfMemory;
-    };
-    let Ok((server, hand)) = Server::start(alloc, settings.config) else {
+    let Ok(prepared) = Prepared::reserve(alloc, settings.config, share, None) else {
         return Status::OutOfMemory;
     };
     let Ok(()) = devices.link.bind(settings.listen) else {
+        let Prepared {
+            server,
+            hand,
+            desk: _desk,
+            room: _room,
+        } = prepared;
         close_table(server, hand);
         return Status::ControlFault;
     };
-    let prepared = Prepared {
-        hand,
-        desk,
-        room,
-        lanes,
-    };
-    let looped = serve_turns(rt, alloc, settings, server, prepared, devices, media);
+    let looped = serve_turns(rt, alloc, settings, prepared, devices, media);
     put_totals(&mut line, looped.counts, looped.totals);
     match out.write(line.as_slice()) {
         Ok(()) => looped.status,

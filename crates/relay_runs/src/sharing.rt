@@ -4,17 +4,17 @@ ghost use Rattle.std.specs.List.Sorted.{IsPermutation};
 ghost use Rattle.turn_table.specs.Hands.{IsHandOf, HasNoTurn, view, starts, entries, parts};
 ghost use Rattle.board_turns.specs.Between.{IsBetween};
 ghost use Rattle.relay_runs.specs.Rounds.{all_of, lane_count};
-ghost use Rattle.relay_runs.specs.Threads.{AreNumbers, AreInOrder, MayJoin, IsFresh, AddsEach, AddsLane, HasLaneRoom, HasRoom, JoinsInOrder, all_lanes, due_in, numbers_of, pairs_of_lane, rows_each};
+ghost use Rattle.relay_runs.specs.Threads.{AreNumbers, AreInOrder, MayJoin, IsFresh, IsRoomFor, AddsEach, AddsLane, HasLaneRoom, HasRoom, JoinsInOrder, all_lanes, due_in, numbers_of, pairs_of_lane, rows_each};
 ghost use Rattle.relay_runs.specs.declared.sharing.Due.{Due};
 
 use crate::lanes::OwnLane;
 use crate::threads::{MediaThread, Until};
 use crate::totals::no_totals;
 use media_lane::{LaneHand, Rooms, Totals, count_pairs};
-use relay_core::Relay;
+use relay_core::{Happening, Part, Relay};
 use relay_outside::{Config, InEnd, LaneShare, OutEnd, OutOfMemory};
 use std::alloc::Global;
-use turn_table::{Hand, Turns};
+use turn_table::{Hand, Machine, Turns};
 
 /// The datagrams of a run of which it is known how many come.
 #[derive(Clone, Copy)]
@@ -64,9 +64,38 @@ pub(crate) fn serve_share(config: &Config, threads: u32) -> LaneShare
     LaneShare::of_pairs(threads, count_pairs(config))
 }
 
+/// Threads of media before they have lanes, and room for those.
+#[derive(Drop)]
+pub(crate) struct LaneRoom<I: InEnd, O: OutEnd>
+where
+    Relay<I, O>: Machine<State = Part<I, O>, Event = Happening, Outcome = ()>,
+{
+    /// The threads, each without a lane and with room for them.
+    pub(crate) threads: Vec<MediaThread<I, O>>,
+    /// An empty list with room for the lanes of all threads.
+    pub(crate) lanes: Vec<OwnLane<I, O>>,
+}
+
+impl<I: InEnd, O: OutEnd> LaneRoom<I, O> {
+    /// The room of this share. Where it is known how many datagrams come, each thread has one lane, and knows how many come to that.
+    pub(crate) fn reserve(
+        alloc: Global,
+        share: LaneShare,
+        due: Option<Due>,
+    ) -> Result<LaneRoom<I, O>, OutOfMemory>
+        ensures room { IfOk result (λ room. IsRoomFor share.threads share.lanes room) }
+        ensures due { (all : Due) → due ≡ Some all → 0 < share.threads → IfOk result (λ room. due_in room.threads.items ≡ all.pairs * all.packets) }
+    {
+        Ok(LaneRoom {
+            threads: thread_room(alloc, share, due)?,
+            lanes: Vec::with_capacity(alloc, share.lanes as usize)?,
+        })
+    }
+}
+
 /// The threads of this share, each without a lane and with room for them. Where it is known how many datagrams come, each has one lane, and knows how
 /// many come to that.
-pub(crate) fn thread_room<I: InEnd, O: OutEnd>(
+fn thread_room<I: InEnd, O: OutEnd>(
     alloc: Global,
     share: LaneShare,
     due: Option<Due>,
@@ -75,13 +104,9 @@ pub(crate) fn thread_room<I: InEnd, O: OutEnd>(
     ensures room { IfOk result (λ room. All (λ thread. HasRoom share.lanes thread) room.items) }
     ensures due { (all : Due) → due ≡ Some all → 0 < share.threads → IfOk result (λ room. due_in room.items ≡ all.pairs * all.packets) }
 {
-    let Ok(mut threads) = Vec::with_capacity(alloc, share.threads as usize) else {
-        return Err(OutOfMemory);
-    };
+    let mut threads = Vec::with_capacity(alloc, share.threads as usize)?;
     for number in 0..share.threads {
-        let Ok(lanes) = Vec::with_capacity(alloc, share.lanes as usize) else {
-            return Err(OutOfMemory);
-        };
+        let lanes = Vec::with_capacity(alloc, share.lanes as usize)?;
         threads.push_reserved(MediaThread {
             lanes,
             number,
@@ -91,16 +116,6 @@ pub(crate) fn thread_room<I: InEnd, O: OutEnd>(
         });
     }
     Ok(threads)
-}
-
-/// An empty list with room for all lanes of this share.
-pub(crate) fn lane_room<I: InEnd, O: OutEnd>(
-    alloc: Global,
-    share: LaneShare,
-) -> Result<Vec<OwnLane<I, O>>, OutOfMemory>
-    ensures { IfOk result (λ room. HasLaneRoom share.lanes room) }
-{
-    Vec::with_capacity(alloc, share.lanes as usize).map_err(|_| OutOfMemory)
 }
 
 /// Adds a lane to the thread at this place, which has room for it.

@@ -1,5 +1,5 @@
 //! The control turns of a run, with its ticks, and with its sweeps where no thread relays media, and its end: the stop of all calls and the close of the table.
-ghost use Rattle.std.specs.Prelude.{◌≡◌, ◌≤◌, ◌<◌, ◌^◌, ℕ, List, [], map, Option, None, Some, IfSome, length, unwrap_or, if◌then◌else◌, All};
+ghost use Rattle.std.specs.Prelude.{◌≡◌, ◌≤◌, ◌<◌, ◌^◌, ℕ, List, [], map, Option, None, Some, IfSome, unwrap_or, if◌then◌else◌};
 ghost use Rattle.relay_outside.specs.Told.{Gained, Rose};
 ghost use Rattle.turn_table.specs.Hands.{IsHandOf, HasNoTurn, IsSameHand, parts, starts, entries};
 ghost use Rattle.relay_core.specs.Entries.{Entry};
@@ -21,16 +21,15 @@ ghost use Rattle.media_lane.specs.Totals.{HasTotals};
 ghost use Rattle.ng_server.specs.Servers.{OpensJust, history_of};
 ghost use Rattle.relay_runs.specs.Devices.{AreSame};
 ghost use Rattle.relay_runs.specs.Rounds.{status_after, is_second_later, lane_count};
-ghost use Rattle.relay_runs.specs.Threads.{HasLaneRoom, HasRoom};
+ghost use Rattle.relay_runs.specs.Prepared.{IsPrepared};
 ghost use Rattle.relay_runs.specs.Served.{DidServe};
 ghost use Rattle.relay_runs.specs.Turned.{AddsSweep, TicksWhenDue, DidTurns, CanWork, DidWork, IsLoopEnd};
 
-use crate::beside::{ControlWork, run_beside};
+use crate::beside::{ControlWork, Relaying, run_beside};
 use crate::devices::{Devices, Tells};
-use crate::lanes::OwnLane;
-use crate::sharing::{join_threads, make_lanes, serve_share};
+use crate::prepared::Prepared;
+use crate::sharing::{LaneRoom, join_threads, make_lanes, serve_share};
 use crate::status::Status;
-use crate::threads::MediaThread;
 use crate::totals::{Counts, no_totals};
 use command_line::Settings;
 use media_lane::{Media, Totals, sweep_between};
@@ -124,40 +123,50 @@ fn sweep_alone<P: PortMaker, C: Clock, G: Gate, R: Wait>(
 /// How many milliseconds after a tick the next one is due.
 const SECOND_MS: u64 = 1_000;
 
-/// Whether a moment is at least a second after that from which it counts.
-fn is_second_later(since: Option<u64>, now: u64) -> bool
-    ensures { result ≡ is_second_later since now }
-{
-    match since {
-        Some(then) => now.saturating_sub(then) >= SECOND_MS,
-        None => false,
+/// The second at whose end a tick is due, at a control turn.
+#[derive(Clone, Copy)]
+struct Second {
+    /// The moment from which it counts: that of the last tick, or of the first control turn, where there was none yet.
+    since: Option<u64>,
+    /// The moment of the control turn.
+    now: u64,
+}
+
+impl Second {
+    /// Whether it is over.
+    fn is_over(self) -> bool
+        ensures { result ≡ is_second_later self.since self.now }
+    {
+        match self.since {
+            Some(then) => self.now.saturating_sub(then) >= SECOND_MS,
+            None => false,
+        }
     }
 }
 
-/// Makes a tick at this moment if one is due: a second after the last one, or after the first control turn, where there was none yet.
-/// Returns the moment from which the next second counts.
+/// Makes a tick at the control turn's moment if the second is over. Returns the moment from which the next second counts.
 fn tick_when_due<P: PortMaker, R: Wait>(
     rt: &R,
     server: &Server<P>,
     hand: &mut Hand<Relay<P::In, P::Out>>,
     desk: &mut Desk<P::Out>,
     ports: &mut P,
-    since: Option<u64>,
-    now: u64,
+    second: Second,
 ) -> u64
     requires between { IsBetween server.now.config server.now.turns hand.old }
     requires open { OpensJust server.now.config (history_of hand.old) (P.told ports.old) }
     ensures same { IsSameHand hand.old hand.new }
     ensures between { IsBetween server.now.config server.now.turns hand.new }
     ensures open { OpensJust server.now.config (history_of hand.new) (P.told ports.new) }
-    ensures ticks { TicksWhenDue server.now.config hand.old hand.new since now }
-    ensures since { result ≡ (if is_second_later since now then now else unwrap_or since now) }
+    ensures ticks { TicksWhenDue server.now.config hand.old hand.new second.since second.now }
+    ensures since { result ≡ (if is_second_later second.since second.now then second.now else unwrap_or second.since second.now) }
     ensures totals { (totals : Totals) → HasTotals (made_by hand.old) totals → HasTotals (made_by hand.new) totals }
     ensures closes { Gained (P.told ports.old) (P.told ports.new) OpensNone }
     ensures ties { Ties server.now.config (P.told ports.old) (P.told ports.new) (entries hand.old) (entries hand.new) }
     ensures later { P.faults ports.old ≤ P.faults ports.new }
 {
-    if !is_second_later(since, now) {
+    let Second { since, now } = second;
+    if !second.is_over() {
         return since.unwrap_or(now);
     }
     server.timer_turn(rt, hand, desk, ports, now);
@@ -245,7 +254,8 @@ where
                 return;
             }
             hand = sweep_alone(rt, settings, server, hand, media, &mut totals);
-            let next = tick_when_due(rt, server, &mut hand, desk, devices.ports, since, now);
+            let second = Second { since, now };
+            let next = tick_when_due(rt, server, &mut hand, desk, devices.ports, second);
             since = Some(next);
         }
         let looped = Looped {
@@ -256,21 +266,6 @@ where
         self.looped = looped;
         self.hand = Some(hand);
     }
-}
-
-/// What a run has taken memory for when it begins, besides its server.
-pub(crate) struct Prepared<I: InEnd, O: OutEnd>
-where
-    Relay<I, O>: Machine<State = Part<I, O>, Event = Happening, Outcome = ()>,
-{
-    /// The main hand, which has all parts of the table.
-    pub(crate) hand: Hand<Relay<I, O>>,
-    /// The memory of a control turn.
-    pub(crate) desk: Desk<O>,
-    /// The threads of media, each without a lane and with room for them.
-    pub(crate) room: Vec<MediaThread<I, O>>,
-    /// An empty list with room for the lanes of all threads.
-    pub(crate) lanes: Vec<OwnLane<I, O>>,
 }
 
 /// Closes the table of a server by a hand that has all parts, and lets go what its places hold.
@@ -297,8 +292,7 @@ pub(crate) fn serve_turns<N, P, K, T, C, G, R>(
     rt: &R,
     alloc: Global,
     settings: &Settings,
-    server: Server<P>,
-    prepared: Prepared<P::In, P::Out>,
+    prepared: Prepared<P>,
     devices: &mut Devices<'_, '_, '_, '_, N, P, K, T>,
     media: &Media<'_, '_, C, G>,
 ) -> Looped
@@ -314,28 +308,22 @@ where
     R: Threads + Wait + Sync,
     requires limit { settings.now.turns < 2 ^ 63 }
     requires threads { settings.now.threads ≤ 16 }
-    requires config { server.config ≡ settings.now.config }
-    requires between { IsBetween server.config server.turns prepared.hand }
-    requires nothing { made_by prepared.hand ≡ [] }
-    requires all { parts prepared.hand ≡ 1024 }
-    requires as_many { length prepared.room.items ≡ settings.now.threads }
-    requires room { All (λ thread. HasRoom (lane_count settings.now.config settings.now.threads) thread) prepared.room.items }
-    requires lanes { HasLaneRoom (lane_count settings.now.config settings.now.threads) prepared.lanes }
-    requires open { TellsHeld server.config (P.told devices.old.ports.now) [] }
+    requires prepared { IsPrepared settings.now.config settings.now.threads (lane_count settings.now.config settings.now.threads) prepared }
+    requires open { TellsHeld prepared.server.config (P.told devices.old.ports.now) [] }
     ensures same { AreSame devices.old devices.new }
-    ensures did { DidServe [] settings.now.turns server.config settings.now.threads (C.range media.now.clock.now) (G.passed media.now.gate.now)
+    ensures did { DidServe [] settings.now.turns prepared.server.config settings.now.threads (C.range media.now.clock.now) (G.passed media.now.gate.now)
         (⟦<Devices<'static, 'static, 'static, 'static, N, P, K, T> as Tells>⟧.outside devices.old devices.new)
         result.status result.counts result.totals }
-    ensures shut { TellsHeld server.config (P.told devices.new.ports.now) [] }
+    ensures shut { TellsHeld prepared.server.config (P.told devices.new.ports.now) [] }
     ensures later { ⟦<Devices<'static, 'static, 'static, 'static, N, P, K, T> as Tells>⟧.later devices.old devices.new }
     ensures cause { result.status ≡ Status.ControlFault → Rose (N.faults devices.old.link.now) (N.faults devices.new.link.now) }
     ensures ends { IsLoopEnd result.status }
 {
     let Prepared {
+        server,
         mut hand,
         desk,
-        room: mut threads,
-        lanes,
+        room: LaneRoom { mut threads, lanes },
     } = prepared;
     let share = serve_share(&settings.config, settings.threads);
     make_lanes(
@@ -352,15 +340,11 @@ where
         desk,
         looped: Looped::not_begun(),
     };
-    run_beside(
-        rt,
-        &server,
-        server.turns(),
+    let relaying = Relaying {
+        turns: server.turns(),
         media,
-        devices,
-        &mut control,
-        &mut threads,
-    );
+    };
+    run_beside(rt, &server, &relaying, devices, &mut control, &mut threads);
     let ControlLoop {
         alloc: _,
         settings: _,

@@ -17,7 +17,7 @@ pub run_load-requires-clause-due : goal.run_load-requires-clause-due
 run_load-requires-clause-due g c lifetimes within =
     let least = c.requires.limits.least_lanes in
     let same = c.one_each-share.ensures.0 in
-    c.in-Ok-thread_room.ensures.due (record { pairs = 2 * c.args.settings.now.calls; packets = c.args.settings.now.packets }) refl (omega (arith, least, same))
+    c.in-Ok-reserve.ensures.due (record { pairs = 2 * c.args.settings.now.calls; packets = c.args.settings.now.packets }) refl (omega (arith, least, same))
 
 pub returns-in-Ok-write-clause-loads : goal.returns-in-Ok-write-clause-loads
 returns-in-Ok-write-clause-loads g c = (end.Finished, refl, returns-in-Ok-write-clause-ends g c)

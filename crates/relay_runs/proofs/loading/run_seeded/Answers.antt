@@ -7,7 +7,7 @@ use Rattle.relay_runs.proofs.loading.run_seeded.Goals as goal
 
 pub load_turns-looped-requires-clause-open : goal.load_turns-looped-requires-clause-open
 load_turns-looped-requires-clause-open g c lifetimes within =
-    subst (λ ports. TellsHeld c.args.server.config ports.maker.told []) (sym c.new-ports.ensures) (held_at_first c.args.server.config)
+    subst (λ ports. TellsHeld c.args.prepared.server.config ports.maker.told []) (sym c.new-ports.ensures) (held_at_first c.args.prepared.server.config)
 
 pub returns-clause-whole : goal.returns-clause-whole
 returns-clause-whole g c =
@@ -16,8 +16,8 @@ returns-clause-whole g c =
     let looped = c.load_turns-looped.result in
     let found = c.whole_totals.ensures in
     whole_load settings gate looped.totals _ looped.counts looped.status
-    (serve_as settings gate c.run_settings.result.turns c.args.server.config c.run_settings.result.threads c.new-clock.result _ looped.status looped.counts looped.totals
-    c.run_settings.ensures.turns c.requires.config c.run_settings.ensures.threads c.new-clock.ensures c.load_turns-looped.ensures.did)
+    (serve_as settings gate c.run_settings.result.turns c.args.prepared.server.config c.run_settings.result.threads c.new-clock.result _ looped.status looped.counts looped.totals
+    c.run_settings.ensures.turns c.requires.prepared.config_is c.run_settings.ensures.threads c.new-clock.ensures c.load_turns-looped.ensures.did)
     _ _ _ _ (ap (λ link. link.told) c.new-link.ensures, ap (λ ports. ports.maker.told) c.new-ports.ensures, c.new-timer.ensures, drew_none _ settings.seed c.new-keys.ensures)
     (search rules) (search rules) (search rules) (search rules)
     c.whole_totals.result _ _ _ found.seeded c.requires.seed found.went found.taken found.spent found.told found.heard.told found.gave found.zero
@@ -29,8 +29,8 @@ returns-clause-short g c =
     let looped = c.load_turns-looped.result in
     let found = c.whole_totals.ensures in
     short_load settings gate looped.totals _ looped.counts looped.status
-    (serve_as settings gate c.run_settings.result.turns c.args.server.config c.run_settings.result.threads c.new-clock.result _ looped.status looped.counts looped.totals
-    c.run_settings.ensures.turns c.requires.config c.run_settings.ensures.threads c.new-clock.ensures c.load_turns-looped.ensures.did)
+    (serve_as settings gate c.run_settings.result.turns c.args.prepared.server.config c.run_settings.result.threads c.new-clock.result _ looped.status looped.counts looped.totals
+    c.run_settings.ensures.turns c.requires.prepared.config_is c.run_settings.ensures.threads c.new-clock.ensures c.load_turns-looped.ensures.did)
     _ _ _ _ (ap (λ link. link.told) c.new-link.ensures, ap (λ ports. ports.maker.told) c.new-ports.ensures, c.new-timer.ensures, drew_none _ settings.seed c.new-keys.ensures)
     (search rules) (search rules) (search rules) (search rules)
     c.whole_totals.result (λ ok. c.load_turns-looped.ensures.took ok (packets_of settings) (search rules) (search rules)) found.short

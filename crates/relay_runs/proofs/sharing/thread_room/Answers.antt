@@ -5,11 +5,11 @@ use Rattle.relay_runs.proofs.sharing.thread_room.Goals as goal
 
 pub loop-number-preserved : goal.loop-number-preserved
 loop-number-preserved g c =
-    let capacity = c.in-Ok-with_capacity.ensures.capacity in
+    let capacity = c.in_ok-lanes.ensures.capacity in
     record {
       as_many = search rules;
       capacity = search rules;
-      room = room_push c.args.share.lanes c.loop-number.threads.items c.push_reserved.new.self.items _ c.push_reserved.ensures.items c.loop-number.invariant.room c.in-Ok-with_capacity.ensures.items
+      room = room_push c.args.share.lanes c.loop-number.threads.items c.push_reserved.new.self.items _ c.push_reserved.ensures.items c.loop-number.invariant.room c.in_ok-lanes.ensures.items
           (omega (arith, capacity));
       due = λ all is.
           due_next c.loop-number.threads.items c.push_reserved.new.self.items _ all.pairs all.packets c.args.share.threads c.loop-number.number c.push_reserved.ensures.items

@@ -4,7 +4,7 @@ use Rattle.relay_runs.proofs.turns.tick_when_due.Goals as goal
 
 pub returns-clause-ticks : goal.returns-clause-ticks
 returns-clause-ticks g c =
-    record { ticked = Some c.timer_turn.ensures.ticks.calls; when_due = c.if-not-is_second_later.ensures; did = c.timer_turn.ensures.ticks.makes }
+    record { ticked = Some c.timer_turn.ensures.ticks.calls; when_due = c.if-not-is_over.ensures; did = c.timer_turn.ensures.ticks.makes }
 
 pub returns-clause-totals : goal.returns-clause-totals
 returns-clause-totals g c = λ totals counts.
