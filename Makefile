@@ -29,12 +29,25 @@ build:
 check:
 	tools/crates-txt
 	tools/layers
+	tools/wide-calls
 	tools/documents
 	bench/table --check
 	tools/refusing-calls
 	tools/man-page
 	attacks/try --look
 	rt ci
+
+# Tries forty of the attacks, which the day picks. WORDS has more words for attacks/try, as --write.
+sample:
+	attacks/try --sample $(WORDS)
+
+# Lists what tries the built program. `make try-NAME` runs one, with WORDS as its words.
+try:
+	@awk 'FNR == 1 { text = "" } FNR > 1 && text != "told" { sub(/^("""|# ?)/, ""); text = text " " $$0; if (match(text, /[.:]( |$$)/)) \
+	    { printf "make %-13s %s.\n", substr(FILENAME, 7), substr(text, 2, RSTART - 2); text = "told" } }' tools/try-*
+
+try-%: tools/try-%
+	$< $(WORDS)
 
 # Writes the man page from docs/OPERATING.md.
 man:
@@ -68,4 +81,4 @@ uninstall:
 deb dist:
 	packaging/pack $@
 
-.PHONY: all build check man install uninstall deb dist
+.PHONY: all build check sample try man install uninstall deb dist
