@@ -15,7 +15,7 @@ use Rattle.call_cell.specs.declared.counts.Counts.{Counts}
 use Rattle.call_cell.specs.declared.receiving.Receiving.{Receiving}
 use Rattle.call_cell.specs.declared.leg.Leg.{Leg}
 use Rattle.call_cell.specs.Keyed.{Judged, Stopped, Passed, is_packet, opened_by}
-use Rattle.call_cell.specs.Learning.{is_wrong_source}
+use Rattle.endpoint_learn.specs.Learning.{is_wrong_source}
 use Rattle.call_cell.specs.Deeds.{judged_leg}
 use Rattle.call_cell.specs.Counting.{more_accepted}
 use Rattle.call_cell.specs.Standing.{LegAccepts}

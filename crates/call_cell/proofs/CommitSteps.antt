@@ -1,6 +1,7 @@
 -- A leg over one commit: it is committed, or nothing is said of it.
 use Rattle.std.proofs.Common.{◌≡◌, refl, ap, subst, sym, ◌∙◌, ℕ, Bool, true, false, cond, List, [], ◌∷◌, filter, Option, Some, None}
 use Rattle.std.specs.Prelude.{◌||◌}
+use Rattle.std.specs.List.{cons_option}
 use Rattle.relay_outside.specs.declared.settings.Config.{Config}
 use Rattle.rtp_packet.specs.declared.head.Half.{Half}
 use Rattle.sdes_lines.specs.declared.crypto_line.Suite.{Suite}
@@ -20,12 +21,15 @@ use Rattle.call_cell.specs.declared.sending.Sending.{Sending}
 use Rattle.call_cell.specs.declared.leg.Leg.{Leg}
 use Rattle.call_cell.specs.Cells.{CellEntry, Commit, differs, in_force}
 use Rattle.call_cell.specs.Keyed.{same_inbound, accepted}
-use Rattle.call_cell.specs.Learning.{Lesson, same_address, lessons, learned, learned_from}
+use Rattle.endpoint_learn.specs.Learning as learner
+use Rattle.endpoint_learn.specs.Learning.{Signalling, is_new}
+use Rattle.endpoint_learn.proofs.Lessons.{learned_again}
+use Rattle.call_cell.specs.Learning.{address, step_by, steps_of, learned}
 use Rattle.call_cell.specs.LegKeys.{keys_for, key_of, number_of, OnePerSuite}
 use Rattle.call_cell.specs.Parts.{InboundIn, HasIt, boxed_in, contexts_of, has_number, is_numbered, number_in}
 use Rattle.call_cell.specs.Standing.{LegFor}
-use Rattle.call_cell.specs.Committing.{LegCommits, LegCommitsBy, HasKey, said_of, outbound_in}
-use Rattle.call_cell.proofs.Steps.{commit_in_force, commit_accepted, commit_lessons}
+use Rattle.call_cell.specs.Committing.{LegCommits, LegCommitsBy, HasKey, relearned, said_of, outbound_in}
+use Rattle.call_cell.proofs.Steps.{commit_in_force, commit_accepted, signal_is}
 use Rattle.call_cell.proofs.KeysEqual.{suite_is}
 
 abbrev pub commit_entry : ℕ → List SectionSignal → CellEntry
@@ -73,18 +77,18 @@ named_by config h leg (Some n) for keys =
 
 -- What a commit does to what is received.
 
-cut_case : (b : Bool) (ls : List Lesson) → learned_from (cond b [] ls) ≡ cond b None (learned_from ls)
-cut_case true ls = refl
-cut_case false ls = refl
+learned_still : (m : ℕ) (signal : List SectionSignal) (h : List CellEntry) (leg : Holder) (half : Half) → said_of signal leg ≡ None
+    → learned (commit_entry m signal ∷ h) leg half ≡ learned h leg half
+learned_still m signal h leg half is =
+    ap (λ (o : Option LegSignal). learner.learned (cons_option (step_by leg half o None) (steps_of h leg half))) is
 
-learned_so : (m : ℕ) (signal : List SectionSignal) (h : List CellEntry) (leg : Holder) (half : Half) (said earlier : Option LegSignal) → said_of signal leg ≡ said
-    → earlier ≡ in_force h leg
-    → learned (commit_entry m signal ∷ h) leg half ≡ cond (differs (same_address half) said earlier) None (learned h leg half)
-learned_so m signal h leg half said earlier is force =
-    ap learned_from (commit_lessons m signal h leg half)
-    ∙ cut_case (differs (same_address half) (said_of signal leg) (in_force h leg)) (lessons h leg half)
-    ∙ ap (λ (o : Option LegSignal). cond (differs (same_address half) o (in_force h leg)) None (learned h leg half)) is
-    ∙ sym (ap (λ (o : Option LegSignal). cond (differs (same_address half) said o) None (learned h leg half)) force)
+learned_so : (m : ℕ) (signal : List SectionSignal) (h : List CellEntry) (leg : Holder) (half : Half) (s : LegSignal) (earlier : Option LegSignal)
+    → said_of signal leg ≡ Some s → earlier ≡ in_force h leg
+    → learned (commit_entry m signal ∷ h) leg half ≡ relearned earlier s half (learned h leg half)
+learned_so m signal h leg half s earlier is force =
+    ap (λ (o : Option LegSignal). learner.learned (cons_option (step_by leg half o None) (steps_of h leg half))) is
+    ∙ learned_again (steps_of h leg half) (address half s) s.flags
+    ∙ ap (λ (o : Option Signalling). cond (is_new (address half s) o) None (learned h leg half)) (signal_is h leg half earlier (sym force))
 
 accepted_so : (m : ℕ) (signal : List SectionSignal) (h : List CellEntry) (leg : Holder) (said earlier : Option LegSignal) → said_of signal leg ≡ said
     → earlier ≡ in_force h leg
@@ -109,7 +113,7 @@ silent_leg config m signal h leg is for =
       signal = for.signal ∙ sym (force_so m signal h leg.holder None is);
       port = for.port;
       receiving = record {
-        learned = λ half. for.receiving.learned half ∙ ap (λ (o : Option Addr). learner_of half leg.signal o) (sym (learned_so m signal h leg.holder half None leg.signal is for.signal));
+        learned = λ half. for.receiving.learned half ∙ ap (λ (o : Option Addr). learner_of half leg.signal o) (sym (learned_still m signal h leg.holder half is));
         inbound = subst (λ (l : List Note). InboundIn (inbound_of leg.signal) (boxed_in leg.receiving.inbound) l)
             (sym (accepted_so m signal h leg.holder None leg.signal is for.signal)) for.receiving.inbound;
       };
@@ -134,7 +138,7 @@ said_leg {O} config m signal h old new s is keys does for =
       signal = sym (force_so m signal h old.holder (Some s) is);
       port = for.port;
       receiving = record {
-        learned = λ half. r.learned half ∙ ap (λ (o : Option Addr). learner_of half (Some s) o) (sym (learned_so m signal h old.holder half (Some s) old.signal is for.signal));
+        learned = λ half. r.learned half ∙ ap (λ (o : Option Addr). learner_of half (Some s) o) (sym (learned_so m signal h old.holder half s old.signal is for.signal));
         inbound = subst (λ (l : List Note). InboundIn s.inbound (boxed_in new.receiving.inbound) l)
             (sym (accepted_so m signal h old.holder (Some s) old.signal is for.signal)) r.inbound;
       };

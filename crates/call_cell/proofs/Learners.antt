@@ -1,6 +1,6 @@
 -- The learners of a leg's halves: what is learned, a new signal, and where packets go.
 use Rattle.std.proofs.Common.{◌≡◌, ◌∙◌, refl, sym, ap, ℕ, List, Bool, true, false, Option, Some, None, cond}
-use Rattle.std.specs.Prelude.{not, ◌∷◌, []}
+use Rattle.std.specs.Prelude.{not, ◌∷◌}
 use Rattle.relay_outside.specs.declared.address.Addr.{Addr}
 use Rattle.relay_outside.specs.Ports.{same_addr}
 use Rattle.rtp_packet.specs.declared.head.Half.{Half}

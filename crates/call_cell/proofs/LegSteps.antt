@@ -1,5 +1,5 @@
 -- A leg over one relay: it took the packet, sent it, or neither.
-use Rattle.std.proofs.Common.{◌≡◌, refl, ap, subst, sym, ◌∙◌, ℕ, Bool, true, false, List, ◌∷◌, ◌++◌, Option, Some, None}
+use Rattle.std.proofs.Common.{◌≡◌, refl, ap, subst, sym, ◌∙◌, ℕ, Bool, true, false, List, ◌∷◌, Option, Some, None}
 use Rattle.std.specs.Prelude.{◌&&◌, ◌==◌, ◌||◌, if◌then◌else◌}
 use Rattle.std.specs.List.{cons_option}
 use Rattle.relay_outside.specs.declared.settings.Config.{Config}
@@ -16,13 +16,15 @@ use Rattle.call_cell.specs.declared.sending.Sending.{Sending}
 use Rattle.call_cell.specs.declared.leg.Leg.{Leg}
 use Rattle.call_cell.specs.Cells.{CellEntry, Relayed, Receipt, Shield, Deed, in_force, is_accepted, key_numbered}
 use Rattle.call_cell.specs.Keyed.{accepted, protected}
-use Rattle.call_cell.specs.Learning.{Lesson, lessons, lesson_of, learned, learned_from}
+use Rattle.call_cell.specs.Learning.{address, steps_of, learned}
 use Rattle.call_cell.specs.Contexts.{OutboundFor}
 use Rattle.relay_outside.specs.declared.address.Addr.{Addr}
-use Rattle.endpoint_learn.specs.Learning.{taught}
+use Rattle.endpoint_learn.specs.Learning as learner
+use Rattle.endpoint_learn.specs.Learning.{Heard, taught}
+use Rattle.endpoint_learn.proofs.Lessons.{learned_more}
 use Rattle.call_cell.specs.Parts.{boxed_in, inbound_of, learner_of, ReceivingFor, InboundIn, SendingFor, OutboundIn, HasNamed, HasIt, SameNumbers, contexts_of, has_number, is_numbered, number_in, noted_under, taught_half}
 use Rattle.call_cell.specs.Standing.{LegFor, outbound_of, relay_entry, with_receiving, with_send}
-use Rattle.call_cell.proofs.Steps.{if_true, heard_is, relay_accepted, relay_protected, taught_by}
+use Rattle.call_cell.proofs.Steps.{if_true, relay_accepted, relay_protected, signal_is}
 use Rattle.call_cell.proofs.Protecting.{other_kept}
 use Rattle.call_cell.proofs.Counting.{sent_from, counted_still, counted_accepts, counted_sends}
 
@@ -38,8 +40,7 @@ relayed_of p ok d = record { packet = p; sent_ok = ok; deed = d }
 learned_keeps : (m : ℕ) (p : Receipt) (ok : Bool) (d : Deed) (h : List CellEntry) (leg : Holder) (half : Half) → takes leg p d ≡ false
     → learned (relay_entry m p ok d ∷ h) leg half ≡ learned h leg half
 learned_keeps m p ok d h leg half is_not =
-    ap (λ (o : Option Relayed). learned_from (lesson_of o (in_force h leg) ++ lessons h leg half))
-    (heard_is m (relayed_of p ok d) leg half ∙ ap (λ (b : Bool). if_true (b && is_half p.half half) (Some (relayed_of p ok d))) is_not)
+    ap (λ (b : Bool). learner.learned (cons_option (if b && is_half p.half half then Some (Heard p.source) else None) (steps_of h leg half))) is_not
 
 accepted_keeps : (m : ℕ) (p : Receipt) (ok : Bool) (d : Deed) (h : List CellEntry) (leg : Holder) → takes leg p d ≡ false
     → accepted (relay_entry m p ok d ∷ h) leg ≡ accepted h leg
@@ -55,18 +56,17 @@ receiving_keeps m p ok d h leg signal receiving is_not for =
       inbound = subst (λ (l : List Note). InboundIn (inbound_of signal) (boxed_in receiving.inbound) l) (sym (accepted_keeps m p ok d h leg is_not)) for.inbound;
     }
 
-taught_case : (r : Relayed) (s : LegSignal) (ls : List Lesson) (b : Bool)
-    → learned_from (lesson_of (if_true b (Some r)) (Some s) ++ ls) ≡ (if b then taught s.flags (learned_from ls) r.packet.source else learned_from ls)
-taught_case r s ls true = taught_by r.packet.source s ls
-taught_case r s ls false = refl
+taught_case : (h : List CellEntry) (leg : Holder) (half : Half) (s : LegSignal) (source : Addr) → in_force h leg ≡ Some s → (b : Bool)
+    → learner.learned (cons_option (if b then Some (Heard source) else None) (steps_of h leg half))
+    ≡ (if b then taught s.flags (learned h leg half) source else learned h leg half)
+taught_case h leg half s source force true = learned_more (steps_of h leg half) (address half s) source s.flags (signal_is h leg half (Some s) force)
+taught_case h leg half s source force false = refl
 
 learned_takes : (m : ℕ) (p : Receipt) (ok : Bool) (d : Deed) (h : List CellEntry) (leg : Holder) (s : LegSignal) (half : Half) → takes leg p d ≡ true
     → in_force h leg ≡ Some s → learned (relay_entry m p ok d ∷ h) leg half ≡ taught_half p.half s.flags p.source (learned h leg) half
 learned_takes m p ok d h leg s half is_so force =
-    ap (λ (o : Option Relayed). learned_from (lesson_of o (in_force h leg) ++ lessons h leg half))
-    (heard_is m (relayed_of p ok d) leg half ∙ ap (λ (b : Bool). if_true (b && is_half p.half half) (Some (relayed_of p ok d))) is_so)
-    ∙ ap (λ (o : Option LegSignal). learned_from (lesson_of (if_true (is_half p.half half) (Some (relayed_of p ok d))) o ++ lessons h leg half)) force
-    ∙ taught_case (relayed_of p ok d) s (lessons h leg half) (is_half p.half half)
+    ap (λ (b : Bool). learner.learned (cons_option (if b && is_half p.half half then Some (Heard p.source) else None) (steps_of h leg half))) is_so
+    ∙ taught_case h leg half s p.source force (is_half p.half half)
 
 accepted_takes : (m : ℕ) (p : Receipt) (ok : Bool) (d : Deed) (h : List CellEntry) (leg : Holder) → takes leg p d ≡ true
     → accepted (relay_entry m p ok d ∷ h) leg ≡ cons_option d.noted (accepted h leg)

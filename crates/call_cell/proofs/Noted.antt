@@ -19,7 +19,8 @@ use Rattle.call_cell.specs.declared.outcome.Refused.TheVariants as refused
 use Rattle.call_cell.specs.declared.outcome.Outcome.TheVariants as outcomes
 use Rattle.call_cell.specs.Cells.{CellEntry, Receipt, Sending, Deed, legs, in_force, is_accepted}
 use Rattle.call_cell.specs.Keyed.{accepted, Judged, Stopped, Passed, is_packet, opened_rtp, opened_rtcp, opened_under, opened_by}
-use Rattle.call_cell.specs.Learning.{learned, is_wrong_source}
+use Rattle.call_cell.specs.Learning.{learned}
+use Rattle.endpoint_learn.specs.Learning.{is_wrong_source}
 use Rattle.call_cell.specs.Deeds.{deed, found, kind, judged, judged_leg, sent_outcome, refused_deed}
 use Rattle.call_cell.proofs.Legs.{found_is}
 use Rattle.call_cell.proofs.Does.{Does, refuses, loses, leaves, Taken, sending_of, does}

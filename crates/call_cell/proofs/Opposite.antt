@@ -1,6 +1,6 @@
 -- Where each Prepare adds the two legs of a section together, a leg has an opposite one, and what was committed for the one
 -- was committed for the other: no packet is held back for lack of them.
-use Rattle.std.proofs.Common.{◌≡◌, refl, ap, ◌∙◌, ℕ, List, [], ◌∷◌, ◌++◌, Bool, false, cond, Option, Some, None, filter_map, ◌==◌}
+use Rattle.std.proofs.Common.{◌≡◌, refl, ap, ◌∙◌, List, [], ◌∷◌, ◌++◌, Bool, false, cond, Option, Some, None, filter_map}
 use Rattle.std.specs.List.{list_any, cons_option}
 use Rattle.histories.specs.Words.{In, here, there, first}
 use Rattle.port_pool.specs.declared.holder.Side.{Side}

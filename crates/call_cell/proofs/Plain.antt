@@ -23,7 +23,7 @@ use Rattle.srtcp_context.specs.Opening as srtcp_in
 use Rattle.port_pool.specs.declared.signal.LegSignal.{LegSignal}
 use Rattle.call_cell.specs.declared.outcome.Refused.TheVariants as refused
 use Rattle.call_cell.specs.Keyed.{Judged, Stopped, Passed, is_packet, opened_rtp, opened_rtcp, opened_under, opened_by}
-use Rattle.call_cell.specs.Learning.{is_wrong_source}
+use Rattle.endpoint_learn.specs.Learning.{is_wrong_source}
 use Rattle.call_cell.specs.Deeds.{judged_leg}
 
 -- the front of a front

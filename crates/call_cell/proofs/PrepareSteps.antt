@@ -3,6 +3,7 @@ use Rattle.std.proofs.Common.{◌≡◌, refl, ap, subst, sym, ◌∙◌, ℕ, �
 use Rattle.std.specs.Prelude.{◌&&◌, ◌||◌, ◌==◌}
 use Rattle.std.specs.List.{AllZip, list_any}
 use Rattle.std.proofs.lemmas.List.Elements.{filter-append}
+use Rattle.relay_outside.specs.declared.address.Addr.{Addr}
 use Rattle.relay_outside.specs.declared.settings.Config.{Config}
 use Rattle.rtp_packet.specs.declared.head.Half.{Half}
 use Rattle.sdes_lines.specs.declared.crypto_line.Suite.{Suite}
@@ -23,7 +24,7 @@ use Rattle.call_cell.specs.declared.leg.Leg.{Leg}
 use Rattle.call_cell.specs.declared.prepare.PreparedKey.{PreparedKey}
 use Rattle.call_cell.specs.Cells.{CellEntry, key_numbered, keys_in}
 use Rattle.call_cell.specs.Keyed.{accepted, protected}
-use Rattle.call_cell.specs.Learning.{Lesson, learned, learned_from}
+use Rattle.call_cell.specs.Learning.{learned}
 use Rattle.call_cell.specs.LegKeys.{keys_for, keys_since, is_for, key_of, number_of, OnePerSuite}
 use Rattle.call_cell.specs.Contexts.{OutboundFor}
 use Rattle.call_cell.specs.Parts.{InboundIn, OutboundIn, SendingFor, HasIt, boxed_in, contexts_of, has_number, is_numbered, number_in}
@@ -33,7 +34,7 @@ use Rattle.call_cell.proofs.Splits.{both_left, both_right}
 use Rattle.call_cell.proofs.Keys.{finds_key}
 use Rattle.call_cell.proofs.Placing.{true_or_not}
 use Rattle.call_cell.proofs.KeysEqual.{suite_is}
-use Rattle.call_cell.proofs.Steps.{prepare_in_force, prepare_accepted, prepare_lessons, new_leg_unanswered, new_leg_notes_nothing}
+use Rattle.call_cell.proofs.Steps.{prepare_in_force, prepare_accepted, prepare_learned, new_leg_unanswered, new_leg_notes_nothing}
 use Rattle.call_cell.proofs.CommitSteps.{has_of}
 use Rattle.call_cell.proofs.Joined.{side_is}
 use Rattle.call_cell.proofs.Counting.{counted_stays, counted_begins}
@@ -344,7 +345,7 @@ leg_stays {O} config m call legs prepared keys dropped h came leg stays one for 
       signal = for.signal ∙ sym (prepare_in_force m call legs keys dropped h leg.holder stays);
       port = for.port;
       receiving = record {
-        learned = λ half. for.receiving.learned half ∙ ap (λ (ls : List Lesson). learner_of half leg.signal (learned_from ls)) (sym (prepare_lessons m call legs keys dropped h leg.holder half stays));
+        learned = λ half. for.receiving.learned half ∙ ap (λ (o : Option Addr). learner_of half leg.signal o) (sym (prepare_learned m call legs keys dropped h leg.holder half stays));
         inbound = subst (λ (l : List Note). InboundIn (inbound_of leg.signal) (boxed_in leg.receiving.inbound) l)
             (sym (prepare_accepted m call legs keys dropped h leg.holder stays)) for.receiving.inbound;
       };

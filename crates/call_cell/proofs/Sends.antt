@@ -13,9 +13,11 @@ use Rattle.call_cell.specs.declared.outcome.Lost.TheVariants as lost
 use Rattle.call_cell.specs.declared.outcome.Outcome.TheVariants as outcomes
 use Rattle.call_cell.specs.Cells.{CellEntry, Receipt, Sending, Deed, legs, opposite, in_force}
 use Rattle.call_cell.specs.Keyed.{Judged, Wrapped}
-use Rattle.call_cell.specs.Learning.{learned, endpoint, endpoint_in}
+use Rattle.endpoint_learn.specs.Learning.{Signalling, endpoint_under}
+use Rattle.call_cell.specs.Learning.{learned, endpoint}
 use Rattle.call_cell.specs.Deeds.{deed, found, way, bytes_of, transform, transformed, plain_of, sent_outcome}
 use Rattle.call_cell.proofs.Legs.{found_is}
+use Rattle.call_cell.proofs.Steps.{signal_is}
 use Rattle.call_cell.proofs.Does.{IsNoFault, Does, refuses, loses, leaves, Taken, Leaving, sending_of, does}
 use Rattle.call_cell.proofs.Noted.{own, refused_is}
 
@@ -66,7 +68,7 @@ sends_case config h p ok w d (leaves t l e) q =
       sends_bytes = transform_is h p t l;
       from_pair = refl;
       by_half = refl;
-      sends_to = ap (λ (s : Option LegSignal). endpoint_in s (learned h l.other (way h p)) (way h p)) l.is_in_force;
+      sends_to = ap (λ (x : Option Signalling). endpoint_under x (learned h l.other (way h p))) (signal_is h l.other (way h p) (Some l.signal) l.is_in_force);
     })
 
 pub sends : (config : Config) (h : List CellEntry) (p : Receipt) (ok : Bool) (w : Sending) → (deed config h p ok).sending ≡ Some w → Sends h p w

@@ -1,20 +1,20 @@
 -- What one more entry does to each question to a cell.
-use Rattle.std.proofs.Common.{◌≡◌, refl, ap, sym, ◌∙◌, ℕ, List, [], ◌∷◌, ◌++◌, Bool, true, false, cond, Option, Some, None, map, filter, filter_map, not, ◌==◌, append-nil}
+use Rattle.std.proofs.Common.{◌≡◌, refl, ap, ◌∙◌, ℕ, List, [], ◌∷◌, Bool, true, false, cond, Option, Some, None, option_map, map, filter, filter_map, not, ◌==◌, append-nil}
 use Rattle.std.specs.Prelude.{◌&&◌}
 use Rattle.std.specs.List.{list_any, cons_option}
 use Rattle.relay_outside.specs.declared.address.Addr.{Addr}
-use Rattle.relay_outside.specs.declared.settings.Flags.{Flags}
 use Rattle.rtp_packet.specs.declared.head.Half.{Half}
-use Rattle.srtp_sources.specs.Notes.{Note, is_half}
-use Rattle.histories.specs.Words.{first, final, or_else}
+use Rattle.srtp_sources.specs.Notes.{Note}
+use Rattle.histories.specs.Words.{first, or_else}
 use Rattle.port_pool.specs.declared.holder.Holder.{Holder}
 use Rattle.port_pool.specs.declared.signal.LegSignal.{LegSignal}
 use Rattle.port_pool.specs.declared.signal.SectionSignal.{SectionSignal}
 use Rattle.port_pool.specs.Signals.{NewKey, same_leg, signal_at, is_rejected}
-use Rattle.call_cell.specs.Cells.{CellEvent, CellEntry, Prepare, Commit, Relay, Relayed, Shield, call, legs, life, committed, in_force, differs, is_accepted, accepted_of, since_change}
+use Rattle.call_cell.specs.Cells.{CellEvent, CellEntry, Prepare, Commit, Relay, Relayed, Shield, call, legs, life, committed, in_force, differs, is_accepted, accepted_of, relayed, since_change}
 use Rattle.call_cell.specs.Keyed.{same_inbound, span, accepted, shield_of, protected}
-use Rattle.call_cell.specs.Learning.{Lesson, lesson_under, heard, same_address, lessons, lessons_in, learned_from, source_in}
-use Rattle.endpoint_learn.specs.Learning.{taught}
+use Rattle.endpoint_learn.specs.Learning as learner
+use Rattle.endpoint_learn.specs.Learning.{Step, Heard, last_signal}
+use Rattle.call_cell.specs.Learning.{signalling, hears, step_by, steps_of, learned}
 use Rattle.call_cell.specs.Parts.{note_under}
 use Rattle.call_cell.proofs.Legs.{legs_stay}
 
@@ -59,22 +59,6 @@ pub relay_protected : (moment : ℕ) (r : Relayed) (h : List CellEntry) (key : �
     → protected (entry moment (Relay r) ∷ h) key ≡ cons_option (note_under key r.deed.shield) (protected h key)
 relay_protected moment r h key = shield_case key (filter_map shield_of h) r.deed.shield
 
--- whether the leg hears the relay in that half
-abbrev pub hears : Holder → Half → Relayed → Bool
-hears leg half r = same_leg leg r.packet.holder && is_accepted r.deed.outcome && is_half r.packet.half half
-
-heard_one : (r : Relayed) (b : Bool) → first (cond b (r ∷ []) []) ≡ if_true b (Some r)
-heard_one r true = refl
-heard_one r false = refl
-
-heard_case : (half : Half) (r : Relayed) (b : Bool)
-    → first (filter (λ (x : Relayed). is_half x.packet.half half) (cond b (r ∷ []) [])) ≡ if_true (b && is_half r.packet.half half) (Some r)
-heard_case half r true = heard_one r (is_half r.packet.half half)
-heard_case half r false = refl
-
-pub heard_is : (moment : ℕ) (r : Relayed) (leg : Holder) (half : Half) → heard leg half (entry moment (Relay r)) ≡ if_true (hears leg half r) (Some r)
-heard_is moment r leg half = heard_case half r (same_leg leg r.packet.holder && is_accepted r.deed.outcome)
-
 -- A commit.
 
 pub commit_legs : (moment : ℕ) (signal : List SectionSignal) (h : List CellEntry)
@@ -100,12 +84,6 @@ pub commit_accepted : (moment : ℕ) (signal : List SectionSignal) (h : List Cel
     → accepted (entry moment (Commit signal) ∷ h) leg ≡ cond (differs same_inbound (signal_at signal leg.section leg.side) (in_force h leg)) [] (accepted h leg)
 commit_accepted moment signal h leg =
     cut_accepted moment signal (span h leg) leg (differs same_inbound (signal_at signal leg.section leg.side) (in_force h leg))
-
--- a commit that says another address resets what is learned of the half
-pub commit_lessons : (moment : ℕ) (signal : List SectionSignal) (h : List CellEntry) (leg : Holder) (half : Half)
-    → lessons (entry moment (Commit signal) ∷ h) leg half
-    ≡ cond (differs (same_address half) (signal_at signal leg.section leg.side) (in_force h leg)) [] (lessons h leg half)
-commit_lessons moment signal h leg half = refl
 
 -- A Prepare.
 
@@ -134,10 +112,11 @@ prepare_accepted moment call new keys dropped h leg q =
     ap (λ (k : List CellEntry). filter_map (λ (x : Relayed). x.deed.noted) (accepted_of (since_change same_inbound leg k) leg))
     (prepare_goes_on moment call new keys dropped h leg q)
 
-pub prepare_lessons : (moment call : ℕ) (new : List Holder) (keys : List NewKey) (dropped : List ℕ) (h : List CellEntry) (leg : Holder) (half : Half)
-    → adds leg new ≡ false → lessons (entry moment (Prepare call new keys dropped) ∷ h) leg half ≡ lessons h leg half
-prepare_lessons moment call new keys dropped h leg half q =
-    ap (λ (k : List CellEntry). lessons_in leg half k) (prepare_goes_on moment call new keys dropped h leg q)
+pub prepare_learned : (moment call : ℕ) (new : List Holder) (keys : List NewKey) (dropped : List ℕ) (h : List CellEntry) (leg : Holder) (half : Half)
+    → adds leg new ≡ false → learned (entry moment (Prepare call new keys dropped) ∷ h) leg half ≡ learned h leg half
+prepare_learned moment call new keys dropped h leg half q =
+    ap (λ (k : List CellEntry). learner.learned (filter_map (λ (e : CellEntry). step_by leg half (committed leg e) (relayed e)) k))
+    (prepare_goes_on moment call new keys dropped h leg q)
 
 pub new_leg_unanswered : (moment call : ℕ) (new : List Holder) (keys : List NewKey) (dropped : List ℕ) (h : List CellEntry) (leg : Holder)
     → adds leg new ≡ true → in_force (entry moment (Prepare call new keys dropped) ∷ h) leg ≡ None
@@ -150,46 +129,27 @@ new_leg_notes_nothing moment call new keys dropped h leg q =
     ap (λ (k : List CellEntry). filter_map (λ (x : Relayed). x.deed.noted) (accepted_of (since_change same_inbound leg k) leg))
     (prepare_begins moment call new keys dropped h leg q)
 
--- Learning, packet by packet.
+-- What the learner of a half was signalled last is in force.
 
-final_is_some : (x : Lesson) (xs : List Lesson) → (y : Lesson) × (final (x ∷ xs) ≡ Some y)
-final_is_some x [] = (x, refl)
-final_is_some x (z ∷ zs) = final_is_some z zs
+heard_last : (source : Addr) (steps : List Step) (b : Bool) → last_signal (cons_option (cond b (Some (Heard source)) None) steps) ≡ last_signal steps
+heard_last source steps true = refl
+heard_last source steps false = refl
 
--- a lesson that doesn't move: nothing changes, but where nothing was learned
-stays_case : (source : Addr) (moved : Option Lesson) (ls : List Lesson)
-    → source_in (or_else moved (final (record { source = source; moves = false } ∷ ls)))
-    ≡ or_else (source_in (or_else moved (final ls))) (Some source)
-stays_case source (Some m) ls = refl
-stays_case source None [] = refl
-stays_case source None (z ∷ zs) =
-    let f = final_is_some z zs in
-    ap (λ (o : Option Lesson). source_in o) f.1 ∙ sym (ap (λ (o : Option Lesson). or_else (source_in o) (Some source)) f.1)
+last_case : (leg : Holder) (half : Half) (o : Option LegSignal) (r : Option Relayed) (steps : List Step) (before : List LegSignal)
+    → last_signal steps ≡ option_map (signalling half) (first before)
+    → last_signal (cons_option (step_by leg half o r) steps) ≡ option_map (signalling half) (first (cons_option o before))
+last_case leg half (Some s) r steps before q = refl
+last_case leg half None (Some r) steps before q = heard_last r.packet.source steps (hears leg half r) ∙ q
+last_case leg half None None steps before q = q
 
-taught_case : (source : Addr) (known : Option Addr) (flags : Flags) (asymmetric moves : Bool) → flags.asymmetric ≡ asymmetric
-    → (flags.handover && not flags.strict) ≡ moves
-    → cond asymmetric known (cond moves (Some source) (or_else known (Some source))) ≡ taught flags known source
-taught_case source None flags true moves p q = sym (ap (λ (b : Bool). cond b None (Some source)) p)
-taught_case source None flags false true p q = sym (ap (λ (b : Bool). cond b None (Some source)) p)
-taught_case source None flags false false p q = sym (ap (λ (b : Bool). cond b None (Some source)) p)
-taught_case source (Some known) flags true moves p q =
-    sym (ap (λ (b : Bool). cond b (Some known) (cond (flags.handover && not flags.strict) (Some source) (Some known))) p)
-taught_case source (Some known) flags false true p q =
-    sym (ap (λ (b : Bool). cond b (Some known) (cond (flags.handover && not flags.strict) (Some source) (Some known))) p
-    ∙ ap (λ (b : Bool). cond b (Some source) (Some known)) q)
-taught_case source (Some known) flags false false p q =
-    sym (ap (λ (b : Bool). cond b (Some known) (cond (flags.handover && not flags.strict) (Some source) (Some known))) p
-    ∙ ap (λ (b : Bool). cond b (Some source) (Some known)) q)
+last_is : (leg : Holder) (half : Half) (h : List CellEntry)
+    → last_signal (filter_map (λ (e : CellEntry). step_by leg half (committed leg e) (relayed e)) h)
+    ≡ option_map (signalling half) (first (filter_map (committed leg) h))
+last_is leg half [] = refl
+last_is leg half (e ∷ h) =
+    last_case leg half (committed leg e) (relayed e) (filter_map (λ (x : CellEntry). step_by leg half (committed leg x) (relayed x)) h)
+    (filter_map (committed leg) h) (last_is leg half h)
 
-lesson_case : (source : Addr) (ls : List Lesson) (asymmetric moves : Bool)
-    → learned_from (cond asymmetric [] (record { source = source; moves = moves } ∷ []) ++ ls)
-    ≡ cond asymmetric (learned_from ls) (cond moves (Some source) (or_else (learned_from ls) (Some source)))
-lesson_case source ls true moves = refl
-lesson_case source ls false true = refl
-lesson_case source ls false false = stays_case source (first (filter (λ (l : Lesson). l.moves) ls)) ls
-
-pub taught_by : (source : Addr) (s : LegSignal) (ls : List Lesson)
-    → learned_from (lesson_under source (Some s) ++ ls) ≡ taught s.flags (learned_from ls) source
-taught_by source s ls =
-    lesson_case source ls s.flags.asymmetric (s.flags.handover && not s.flags.strict)
-    ∙ taught_case source (learned_from ls) s.flags s.flags.asymmetric (s.flags.handover && not s.flags.strict) refl refl
+pub signal_is : (h : List CellEntry) (leg : Holder) (half : Half) (o : Option LegSignal) → in_force h leg ≡ o
+    → last_signal (steps_of h leg half) ≡ option_map (signalling half) o
+signal_is h leg half o q = last_is leg half (life h leg) ∙ ap (option_map (signalling half)) q

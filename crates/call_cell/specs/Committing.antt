@@ -1,5 +1,5 @@
 -- What an answer's commit does to a leg, to the legs of a cell, and to the cell.
-use Rattle.std.specs.Prelude.{◌≡◌, ◌<◌, ◌+◌, ◌&&◌, not, ℕ, Bool, false, max, List, [], ◌∷◌, map, filter, count_by, length, Option, Some, None, is_some, slice_index_or, if◌then◌else◌}
+use Rattle.std.specs.Prelude.{◌≡◌, ◌<◌, ◌+◌, ◌&&◌, not, ℕ, Bool, false, max, List, [], ◌∷◌, map, filter, count_by, length, Option, Some, None, option_map, is_some, slice_index_or, if◌then◌else◌}
 use Rattle.relay_outside.specs.declared.address.Addr.{Addr}
 use Rattle.relay_outside.specs.declared.settings.Config.{Config}
 use Rattle.rtp_packet.specs.declared.head.Half.{Half}
@@ -12,11 +12,12 @@ use Rattle.port_pool.specs.declared.holder.Side.TheVariants.{A, B}
 use Rattle.port_pool.specs.declared.signal.LegSignal.{LegSignal}
 use Rattle.port_pool.specs.declared.signal.SectionSignal.{SectionSignal}
 use Rattle.port_pool.specs.Signals.{NewKey, side_of, signal_at, is_rejected}
+use Rattle.endpoint_learn.specs.Learning.{is_new}
 use Rattle.call_cell.specs.declared.receiving.Receiving.{Receiving}
 use Rattle.call_cell.specs.declared.leg.Leg.{Leg}
 use Rattle.call_cell.specs.declared.cell.Cell.{Cell}
 use Rattle.call_cell.specs.Cells.{CellEntry, Commit, differs, in_force, legs}
-use Rattle.call_cell.specs.Learning.{same_address}
+use Rattle.call_cell.specs.Learning.{address, signalling}
 use Rattle.call_cell.specs.Keyed.{same_inbound}
 use Rattle.call_cell.specs.Asked.{FitsCell}
 use Rattle.call_cell.specs.LegKeys.{keys_for}
@@ -28,7 +29,7 @@ use Rattle.call_cell.specs.Ending.{parts_of}
 
 -- what is learned of a half starts over where the half's address changed
 abbrev pub relearned : Option LegSignal → LegSignal → Half → Option Addr → Option Addr
-relearned earlier s half known = if differs (same_address half) (Some s) earlier then None else known
+relearned earlier s half known = if is_new (address half s) (option_map (signalling half) earlier) then None else known
 
 -- the notes under the inbound key start over where the key or its suite changed
 abbrev pub renoted : Option LegSignal → LegSignal → List Note → List Note

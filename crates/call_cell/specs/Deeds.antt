@@ -10,6 +10,7 @@ use Rattle.port_pool.specs.Ports.{half_port}
 use Rattle.port_pool.specs.declared.holder.Holder.{Holder}
 use Rattle.port_pool.specs.declared.signal.LegSignal.{LegSignal}
 use Rattle.port_pool.specs.Signals.{same_leg}
+use Rattle.endpoint_learn.specs.Learning.{is_wrong_source}
 use Rattle.call_cell.specs.declared.outcome.Refused.{Refused}
 use Rattle.call_cell.specs.declared.outcome.Refused.TheVariants as refused
 use Rattle.call_cell.specs.declared.outcome.Lost.{Lost}
@@ -18,7 +19,7 @@ use Rattle.call_cell.specs.declared.outcome.Outcome.{Outcome}
 use Rattle.call_cell.specs.declared.outcome.Outcome.TheVariants as outcomes
 use Rattle.call_cell.specs.Cells.{CellEntry, Receipt, Shield, Sending, Deed, legs, opposite, in_force, key_numbered}
 use Rattle.call_cell.specs.Keyed.{accepted, protected, Judged, Stopped, Passed, is_packet, opened_by, Wrapped, Held, Leaves, wrapped_with}
-use Rattle.call_cell.specs.Learning.{learned, endpoint_by, is_wrong_source}
+use Rattle.call_cell.specs.Learning.{learned, endpoint_by}
 
 -- the half as which a packet is read, and the half by which it leaves: that of the port that took it
 abbrev pub kind : List CellEntry → Receipt → Half

@@ -1,7 +1,6 @@
 -- What a learner's calls say of the learner itself: each learner stands for some list, so what they say of every list pins it.
 use Rattle.std.proofs.Common.{◌≡◌, ◌∙◌, sym, ap, refl, List, [], ◌∷◌, Bool, true, false, cond, Option, Some, None, eq-eqb}
-use Rattle.std.specs.Prelude.{not, ◌&&◌, find}
-use Rattle.histories.specs.Words.{final, or_else}
+use Rattle.std.specs.Prelude.{not, ◌&&◌}
 use Rattle.std.specs.Cmp.Lexicographic.{bytes_decides}
 use Rattle.relay_outside.specs.declared.address.Addr.{Addr}
 use Rattle.relay_outside.specs.declared.address.Ip.{Ip}
@@ -10,9 +9,9 @@ use Rattle.relay_outside.specs.declared.settings.Flags.{Flags}
 use Rattle.relay_outside.specs.Ports.{same_addr, same_ip}
 use Rattle.endpoint_learn.specs.declared.learner.Learner.{Learner}
 use Rattle.endpoint_learn.specs.declared.learner.Judge.{Judge}
-use Rattle.endpoint_learn.specs.Learning.{Step, Signalled, Heard, Signalling, Lesson, lessons, learned, taught, endpoint, endpoint_by, endpoint_under, is_wrong, is_wrong_source, is_wrong_under, is_new, source_in}
+use Rattle.endpoint_learn.specs.Learning.{Step, Signalled, Heard, Signalling, lessons, learned, taught, endpoint, endpoint_by, endpoint_under, is_wrong, is_wrong_source, is_wrong_under, is_new}
 use Rattle.endpoint_learn.specs.Learners.{StandsFor, judge_of, signal_of}
-use Rattle.endpoint_learn.proofs.Lessons.{learned_more}
+use Rattle.endpoint_learn.proofs.Lessons.{learned_from, learned_more, learned_again}
 
 -- a learner that was signalled this address with these flags, and learned this
 abbrev pub learner : Addr → Flags → Option Addr → Learner
@@ -30,9 +29,6 @@ abbrev steps_with : Addr → Flags → Option Addr → List Step
 steps_with address flags None = Signalled address flags ∷ []
 steps_with address flags (Some known) = Signalled address flags ∷ Heard known ∷ Signalled address plain ∷ []
 
-abbrev learned_of : List Lesson → Option Addr
-learned_of ls = source_in (or_else (find (λ (l : Lesson). l.moves) ls) (final ls))
-
 both_true : (a b : Bool) → a ≡ true → b ≡ true → a && b ≡ true
 both_true a b p q = rw (p, q) refl
 
@@ -45,7 +41,7 @@ addr_itself a = both_true _ _ (ip_itself a.ip) (eq-eqb a.port a.port refl)
 
 heard_once : (address known : Addr) (flags : Flags) → learned (steps_with address flags (Some known)) ≡ Some known
 heard_once address known flags =
-    ap (λ (b : Bool). learned_of (cond (not b) [] (lessons (Heard known ∷ Signalled address plain ∷ [])))) (addr_itself address)
+    ap (λ (b : Bool). learned_from (cond (not b) [] (lessons (Heard known ∷ Signalled address plain ∷ [])))) (addr_itself address)
 
 stands_case : (address : Addr) (flags : Flags) (known : Option Addr) → StandsFor (learner address flags known) (steps_with address flags known)
 stands_case address flags None = record { signal_is = refl; learned_is = refl }
@@ -82,10 +78,6 @@ learns old new source does =
     (sym after.learned_is ∙ learned_more (steps_for old) old.signalled source old.flags before.signal_is
     ∙ ap (λ (known : Option Addr). taught old.flags known source) before.learned_is)
 
-cut : (b : Bool) (steps : List Step) (known : Option Addr) → learned steps ≡ known → learned_of (cond b [] (lessons steps)) ≡ cond b None known
-cut true steps known q = refl
-cut false steps known q = q
-
 -- a learner that was signalled again
 pub signals : (old new : Learner) (address : Addr) (flags : Flags)
     → ((steps : List Step) → StandsFor old steps → StandsFor new (Signalled address flags ∷ steps))
@@ -98,8 +90,9 @@ signals old new address flags does =
     learners new.signalled address new.flags flags new.learned (cond (not (same_addr old.signalled address)) None old.learned)
     (ap (λ (x : Signalling). x.address) (sym s)) (ap (λ (x : Signalling). x.flags) (sym s))
     (sym after.learned_is
-    ∙ ap (λ (o : Option Signalling). learned_of (cond (is_new address o) [] (lessons steps))) before.signal_is
-    ∙ cut (not (same_addr old.signalled address)) steps old.learned before.learned_is)
+    ∙ learned_again steps address flags
+    ∙ ap (λ (o : Option Signalling). cond (is_new address o) None (learned steps)) before.signal_is
+    ∙ ap (λ (known : Option Addr). cond (not (same_addr old.signalled address)) None known) before.learned_is)
 
 -- how a source is judged
 pub judges : (l : Learner) (source : Addr) (answer : Judge) → ((steps : List Step) → StandsFor l steps → answer ≡ judge_of (is_wrong steps source))

@@ -1,12 +1,12 @@
--- What one more source teaches.
+-- What one more source teaches, and what a new signal leaves.
 use Rattle.std.proofs.Common.{◌≡◌, sym, ap, subst, refl, List, [], ◌∷◌, ◌++◌, Bool, true, false, cond, Option, Some, None}
 use Rattle.std.specs.Prelude.{not, ◌&&◌, find}
 use Rattle.relay_outside.specs.declared.address.Addr.{Addr}
 use Rattle.relay_outside.specs.declared.settings.Flags.{Flags}
 use Rattle.histories.specs.Words.{final, or_else}
-use Rattle.endpoint_learn.specs.Learning.{Step, Heard, Signalling, last_signal, Lesson, lesson_under, lessons, source_in, learned, taught}
+use Rattle.endpoint_learn.specs.Learning.{Step, Heard, Signalled, Signalling, last_signal, Lesson, lesson_under, lessons, is_new, source_in, learned, taught}
 
-abbrev learned_from : List Lesson → Option Addr
+abbrev pub learned_from : List Lesson → Option Addr
 learned_from ls = source_in (or_else (find (λ lesson. lesson.moves) ls) (final ls))
 
 -- a lesson that doesn't move, before none and before others
@@ -68,3 +68,11 @@ heard_by s flags at source ls q =
 pub learned_more : (steps : List Step) (at source : Addr) (flags : Flags) → last_signal steps ≡ Some (record { address = at; flags = flags })
     → learned (Heard source ∷ steps) ≡ taught flags (learned steps) source
 learned_more steps at source flags q = heard_by (last_signal steps) flags at source (lessons steps) q
+
+cut : (b : Bool) (steps : List Step) → learned_from (cond b [] (lessons steps)) ≡ cond b None (learned steps)
+cut true steps = refl
+cut false steps = refl
+
+pub learned_again : (steps : List Step) (at : Addr) (flags : Flags)
+    → learned (Signalled at flags ∷ steps) ≡ cond (is_new at (last_signal steps)) None (learned steps)
+learned_again steps at flags = cut (is_new at (last_signal steps)) steps

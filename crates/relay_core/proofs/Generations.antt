@@ -1,5 +1,5 @@
 -- Pair and generation name one leg, so the leg that relays a packet is the one that held the port when it was taken.
-use Rattle.std.proofs.Common.{◌≡◌, ◌∙◌, sym, ap, subst, refl, ℕ, ◌≤◌, List, [], ◌∷◌, true, Option, Some, None, filter}
+use Rattle.std.proofs.Common.{◌≡◌, ◌∙◌, sym, ap, subst, refl, ℕ, List, [], ◌∷◌, true, Option, Some, None, filter}
 use Rattle.std.specs.List.{filter_map}
 use Rattle.relay_outside.specs.declared.address.Addr.{Addr}
 use Rattle.relay_outside.specs.declared.settings.Config.{Config}

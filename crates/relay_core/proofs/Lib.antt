@@ -18,7 +18,6 @@ pub mod Sends
 pub mod Clear
 pub mod Replies
 pub mod Safety
-pub mod Learned
 pub mod Elsewhere
 pub mod Turns
 pub mod Gains

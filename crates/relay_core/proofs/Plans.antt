@@ -6,7 +6,6 @@ use Rattle.call_cell.specs.Cells.{CellEntry, Prepare, End}
 use Rattle.call_board.specs.Acts as act
 use Rattle.call_board.specs.Acts.{Call, BoardEntry}
 use Rattle.call_board.specs.Calls.{live, begun_by_act, ended_by}
-use Rattle.call_board.proofs.Told.{begins}
 use Rattle.call_board.proofs.Calls.{live_before, offered_live}
 use Rattle.relay_core.specs.Entries.{Cell, Entry, is_nested, board_entry, board_history}
 use Rattle.relay_core.specs.Scripts.{Owed}

@@ -3,7 +3,6 @@ pub mod Scripts
 pub mod Legal
 pub mod Safe
 pub mod Carried
-pub mod Learned
 pub mod Codes
 pub mod Made
 pub mod Recorded

@@ -1,14 +1,10 @@
 ghost use Rattle.std.specs.Prelude.{◌++◌, List};
 ghost use Rattle.relay_outside.specs.declared.settings.Config.{Config};
-ghost use Rattle.rtp_packet.specs.declared.head.Half.{Half};
 ghost use Rattle.turn_table.specs.declared.machine.Entry as table;
-ghost use Rattle.port_pool.specs.declared.holder.Holder.{Holder};
-ghost use Rattle.call_cell.specs.Cells.{CellEntry};
 ghost use Rattle.relay_core.specs.Entries.{Entry};
 ghost use Rattle.relay_core.specs.Legal.{Orderly, Legal};
 ghost use Rattle.relay_core.specs.Carried.{CarriesCalls};
 ghost use Rattle.relay_core.specs.Safe.{BoardSafe, Safe, IsIsolated};
-ghost use Rattle.relay_core.specs.Learned.{IsOneLearning};
 ghost use Rattle.relay_core.specs.Made.{Made};
 ghost use Rattle.relay_core.specs.Joining.{IsLane, IsSound};
 
@@ -45,12 +41,6 @@ pub fn orderly_is_safe()
 /// and one that is opened and sent in the clear; and then another call at the same ports, which times out.
 pub fn a_legal_list_exists()
     ensures { (config : Config) × (l : List Entry) × Legal config l × CarriesCalls config l }
-{}
-
-/// What a cell says of learning is what a learner says of the signals and sources in the leg's life: the same source is
-/// learned for each leg and half, packets go to the same address, and the same sources are wrong.
-pub fn learning_is_one()
-    ensures { (h : List CellEntry) (leg : Holder) (half : Half) → IsOneLearning h leg half }
 {}
 
 /// What is known of the main hand's list when the table is closed is known of it with the list of a lane's hand behind it, as

@@ -3,7 +3,7 @@
 //!
 //! Module `laws` states that. `specs/Entries.antt` has the entries and the histories of places, `specs/Scripts.antt` what an entry of the board owes,
 //! `specs/Legal.antt` when a list is legal, `specs/Safe.antt` what is then promised, `specs/Carried.antt` what the list has that
-//! shows that legal lists exist, `specs/Learned.antt` that a cell learns as a learner does.
+//! shows that legal lists exist.
 //!
 //! `part` is what a place holds, `beginning` what the places hold at first, and `machine` says which steps of the turn table the
 //! events are (`specs/Made.antt`, `Steps.antt`). `closing` closes the table: the list of the hand that closes it is legal.
@@ -20,8 +20,7 @@ mod part;
 pub use beginning::parts;
 pub use closing::close_relay;
 pub use laws::{
-    a_legal_list_exists, cells_are_apart, joined_lists_are_sound, learning_is_one, legal_is_safe,
-    orderly_is_safe,
+    a_legal_list_exists, cells_are_apart, joined_lists_are_sound, legal_is_safe, orderly_is_safe,
 };
 pub use machine::{Happening, Relay, Says, Told};
 pub use part::Part;

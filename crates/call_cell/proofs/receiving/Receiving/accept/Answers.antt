@@ -3,7 +3,7 @@ use Rattle.std.specs.Prelude.{not}
 use Rattle.std.proofs.lemmas.Result.{err_from_is_err_and}
 use Rattle.rtp_packet.specs.declared.head.Half.{Half}
 use Rattle.call_cell.specs.Keyed.{opened_by}
-use Rattle.call_cell.specs.Learning.{is_wrong_source}
+use Rattle.endpoint_learn.specs.Learning.{is_wrong_source}
 use Rattle.endpoint_learn.specs.declared.learner.Learner.{Learner}
 use Rattle.call_cell.specs.Parts.{OpensIn, is_wrong_for}
 use Rattle.call_cell.proofs.HeadLemmas.{head_again, no_packet_by, packet_by, read_is}
