@@ -2,6 +2,7 @@
 use Rattle.std.proofs.Common.{◌≡◌, refl, ap, subst, sym, ◌∙◌, ℕ, Bool, true, List, Option, Some, None, Result}
 use Rattle.std.specs.Prelude.{Box, if◌then◌else◌}
 use Rattle.std.specs.Global.{Global}
+use Rattle.std.specs.Box.{with_value}
 use Rattle.std.specs.List.{cons_option}
 use Rattle.rtp_packet.specs.declared.head.Half.{Half}
 use Rattle.sdes_lines.specs.declared.crypto_line.Suite.{Suite}
@@ -16,7 +17,8 @@ use Rattle.call_cell.specs.declared.sending.Sending.{Sending}
 use Rattle.call_cell.specs.Cells.{Shield}
 use Rattle.call_cell.specs.Keyed.{Wrapped, Held, Leaves, wrapped_under, wrapped_with}
 use Rattle.call_cell.specs.Contexts.{OutboundFor, WrapsTo, IsUnder, note_of}
-use Rattle.call_cell.specs.Parts.{boxed_in, WrapsInTo, IsKept, IsOf, OutboundIn, is_numbered, note_under, noted_under, WrapsUnder, SendingFor, ProtectsTo}
+use Rattle.call_cell.specs.Parts.{boxed_in, WrapsInTo, IsKept, IsOf, OutboundIn, is_numbered, note_under, noted_under, SendingFor, ProtectsTo}
+use Rattle.call_cell.proofs.Boxed.{same_place}
 
 -- under its own key a shield's note is noted
 own_note : (number : ℕ) (shield : Option Shield) → IsUnder number shield → note_under number shield ≡ note_of shield
@@ -47,24 +49,25 @@ shield_of_key leg suite keys notes old k (Some t) under s q =
     key_in None = 0
     key_in (Some x) = x.key
 
-wraps_case : (leg : Holder) (suite : Suite) (keys : ℕ → Option NewKey) (notes : ℕ → List Note) (old new : Outbound) (buf : List ℕ) (result : Result ℕ Lost)
+wraps_case : (leg : Holder) (suite : Suite) (keys : ℕ → Option NewKey) (notes : ℕ → List Note) (place : Box (Option Outbound) Global) (old new : Outbound)
+    (buf : List ℕ) (result : Result ℕ Lost) (o : Option (Box (Option Outbound) Global)) → Some (with_value place (Some old)) ≡ o
     → (k : IsKept leg suite keys notes old) → (w : Wrapped) → WrapsTo w k.key (notes old.number) old new buf result
-    → WrapsUnder w leg suite keys notes (Some old) (Some new) buf result
-wraps_case leg suite keys notes old new buf result k (Held cause) does =
-    record { answer = does.answer; contexts = ap (λ (x : Outbound). Some x) does.contexts }
-wraps_case leg suite keys notes old new buf result k (Leaves shield bytes) does =
-    let same : new.number ≡ old.number = does.contexts.number ∙ sym k.contexts_for.number in
+    → WrapsInTo w leg suite keys notes o (Some (with_value place (Some new))) buf result
+wraps_case leg suite keys notes place old new buf result o same k (Held cause) does =
+    record { answer = does.answer; contexts = ap (λ (x : Outbound). Some (with_value place (Some x))) does.contexts ∙ same }
+wraps_case leg suite keys notes place old new buf result o same k (Leaves shield bytes) does =
+    let number : new.number ≡ old.number = does.contexts.number ∙ sym k.contexts_for.number in
     let own : note_under old.number shield ≡ note_of shield
     = own_note old.number shield (subst (λ (n : ℕ). IsUnder n shield) (sym k.contexts_for.number) does.under) in
     let noted : cons_option (note_of shield) (notes old.number) ≡ noted_under shield notes new.number
-    = ap (λ (o : Option Note). cons_option o (notes old.number)) (sym own) ∙ ap (λ (n : ℕ). noted_under shield notes n) (sym same) in
+    = ap (λ (x : Option Note). cons_option x (notes old.number)) (sym own) ∙ ap (λ (n : ℕ). noted_under shield notes n) (sym number) in
     record {
       answer = does.answer;
       buffer = does.buffer;
       under = shield_of_key leg suite keys notes old k shield does.under;
       contexts = record {
         key = k.key;
-        is_there = ap keys same ∙ k.is_there;
+        is_there = ap keys number ∙ k.is_there;
         section = k.section;
         side = k.side;
         suite_is = k.suite_is;
@@ -72,27 +75,24 @@ wraps_case leg suite keys notes old new buf result k (Leaves shield bytes) does 
       };
     }
 
-wraps_kept : (leg : Holder) (suite : Suite) (keys : ℕ → Option NewKey) (notes : ℕ → List Note) (half : Half) (bytes : List ℕ) (old new : Outbound) (buf : List ℕ)
-    (result : Result ℕ Lost) → (k : IsKept leg suite keys notes old)
+-- the contexts in a place protect a packet under the key of their number
+pub wraps_in : (leg : Holder) (suite : Suite) (keys : ℕ → Option NewKey) (notes : ℕ → List Note) (number : ℕ) (half : Half) (bytes : List ℕ)
+    (place : Box (Option Outbound) Global) (old new : Outbound) (buf : List ℕ) (result : Result ℕ Lost) (o : Option (Box (Option Outbound) Global)) → o ≡ Some place
+    → place.value ≡ Some old
     → ((key : NewKey) (l : List Note) → OutboundFor key old l → WrapsTo (wrapped_under key l half bytes) key l old new buf result)
-    → WrapsUnder (wrapped_with (keys old.number) (notes old.number) half bytes) leg suite keys notes (Some old) (Some new) buf result
-wraps_kept leg suite keys notes half bytes old new buf result k does =
-    let P : Option NewKey → Type 0 = λ (o : Option NewKey).
-    WrapsUnder (wrapped_with o (notes old.number) half bytes) leg suite keys notes (Some old) (Some new) buf result in
-    subst P (sym k.is_there)
-    (wraps_case leg suite keys notes old new buf result k (wrapped_under k.key (notes old.number) half bytes) (does k.key (notes old.number) k.contexts_for))
-
-pub wraps_in : (leg : Holder) (suite : Suite) (keys : ℕ → Option NewKey) (notes : ℕ → List Note) (number : ℕ) (half : Half) (bytes : List ℕ) (old new : Outbound)
-    (buf : List ℕ) (result : Result ℕ Lost) (o : Option Outbound) → o ≡ Some old
-    → ((key : NewKey) (l : List Note) → OutboundFor key old l → WrapsTo (wrapped_under key l half bytes) key l old new buf result)
-    → OutboundIn leg suite keys notes o → is_numbered o number ≡ true
-    → WrapsUnder (wrapped_with (keys number) (notes number) half bytes) leg suite keys notes o (Some new) buf result
-wraps_in leg suite keys notes number half bytes old new buf result o is does for numbered =
-    let Q : Option Outbound → Type 0 = λ (x : Option Outbound). WrapsUnder (wrapped_with (keys number) (notes number) half bytes) leg suite keys notes x (Some new) buf result in
-    let P : ℕ → Type 0 = λ (n : ℕ). WrapsUnder (wrapped_with (keys n) (notes n) half bytes) leg suite keys notes (Some old) (Some new) buf result in
-    let k : IsKept leg suite keys notes old = subst (λ (x : Option Outbound). OutboundIn leg suite keys notes x) is for in
-    let same : old.number ≡ number = equal_if old.number number (subst (λ (x : Option Outbound). is_numbered x number ≡ true) is numbered) in
-    subst Q (sym is) (subst P same (wraps_kept leg suite keys notes half bytes old new buf result k does))
+    → OutboundIn leg suite keys notes (boxed_in o) → is_numbered (boxed_in o) number ≡ true
+    → WrapsInTo (wrapped_with (keys number) (notes number) half bytes) leg suite keys notes o (Some (with_value place (Some new))) buf result
+wraps_in leg suite keys notes number half bytes place old new buf result o is there does for numbered =
+    let value = ap boxed_in is ∙ there in
+    let P : ℕ → Type 0 = λ (n : ℕ). WrapsInTo (wrapped_with (keys n) (notes n) half bytes) leg suite keys notes o (Some (with_value place (Some new))) buf result in
+    let Q : Option NewKey → Type 0 = λ (x : Option NewKey).
+    WrapsInTo (wrapped_with x (notes old.number) half bytes) leg suite keys notes o (Some (with_value place (Some new))) buf result in
+    let k : IsKept leg suite keys notes old = subst (λ (x : Option Outbound). OutboundIn leg suite keys notes x) value for in
+    let same : old.number ≡ number = equal_if old.number number (subst (λ (x : Option Outbound). is_numbered x number ≡ true) value numbered) in
+    subst P same
+    (subst Q (sym k.is_there)
+    (wraps_case leg suite keys notes place old new buf result o (same_place place (Some old) o is there) k
+    (wrapped_under k.key (notes old.number) half bytes) (does k.key (notes old.number) k.contexts_for)))
 
 -- Contexts of another key.
 

@@ -81,10 +81,6 @@ pub record TakesIn (key : Option (List ℕ × Suite)) (notes : List Note) (noted
   pub buffer : take (length plain) buf ≡ plain
   pub contexts : InboundIn key new (cons_option noted notes)
 
-abbrev pub OpensUnder : Judged → Option (List ℕ × Suite) → List Note → Option Inbound → Option Inbound → List ℕ → Result ℕ Refused → Type 0
-OpensUnder (Stopped cause) key notes old new buf result = Refuses cause old new result
-OpensUnder (Passed noted plain) key notes old new buf result = TakesIn key notes noted plain new buf result
-
 abbrev pub OpensIn : Judged → Option (List ℕ × Suite) → List Note → Option (Box (Option Inbound) Global) → Option (Box (Option Inbound) Global)
     → List ℕ → Result ℕ Refused → Type 0
 OpensIn (Stopped cause) key notes old new buf result = Refuses cause old new result
@@ -186,11 +182,6 @@ pub record WrapsIn (leg : Holder) (suite : Suite) (keys : ℕ → Option NewKey)
   pub buffer : take (length bytes) buf ≡ bytes
   pub under : (s : Shield) → shield ≡ Some s → IsOf leg suite keys s.key
   pub contexts : OutboundIn leg suite keys (noted_under shield notes) new
-
-abbrev pub WrapsUnder : Wrapped → Holder → Suite → (ℕ → Option NewKey) → (ℕ → List Note) → Option Outbound → Option Outbound → List ℕ
-    → Result ℕ Lost → Type 0
-WrapsUnder (Held cause) leg suite keys notes old new buf result = Refuses cause old new result
-WrapsUnder (Leaves shield bytes) leg suite keys notes old new buf result = WrapsIn leg suite keys notes shield bytes new buf result
 
 abbrev pub WrapsInTo : Wrapped → Holder → Suite → (ℕ → Option NewKey) → (ℕ → List Note) → Option (Box (Option Outbound) Global)
     → Option (Box (Option Outbound) Global) → List ℕ → Result ℕ Lost → Type 0

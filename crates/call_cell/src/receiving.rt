@@ -7,7 +7,7 @@ ghost use Rattle.srtp_sources.specs.Notes.{Note};
 ghost use Rattle.call_cell.specs.Keyed.{opened_by};
 ghost use Rattle.call_cell.specs.Heads.{head_of, half_of, IsHead};
 ghost use Rattle.call_cell.specs.Deeds.{judged_leg};
-ghost use Rattle.call_cell.specs.Parts.{InboundIn, OpensIn, OpensUnder, boxed_in, inbound_of, learner_of, is_wrong_for};
+ghost use Rattle.call_cell.specs.Parts.{InboundIn, OpensIn, boxed_in, inbound_of, learner_of, is_wrong_for};
 ghost use Rattle.call_cell.specs.Parts as parts;
 ghost use Rattle.call_cell.specs.Committing.{relearned, renoted, is_inbound_anew};
 
@@ -56,26 +56,6 @@ fn is_wrong_source(learner: Option<Learner>, source: Addr) -> bool
     }
 }
 
-/// Checks and opens a packet with this head in place, under these contexts, where there are any.
-fn open_under(
-    inbound: &mut Option<Inbound>,
-    head: Head,
-    buf: &mut PacketBuffer,
-    len: usize,
-) -> Result<usize, Refused>
-    requires held { len ≤ 2064 }
-    requires head { IsHead head (take len buf.old) }
-    ensures fits { IfOk result (λ size. size ≤ len) }
-    ensures head { IfOk result (λ size. IsHead head (take size buf.new)) }
-    ensures opens { (key : Option (List ℕ × Suite)) (notes : List Note) → InboundIn key inbound.old notes →
-        OpensUnder (opened_by key notes (half_of head) (take len buf.old)) key notes inbound.old inbound.new buf.new result }
-{
-    match inbound {
-        None => Ok(len),
-        Some(contexts) => contexts.unprotect(head, buf, len),
-    }
-}
-
 /// Checks and opens a packet with this head in place, under the inbound key, where there is one.
 fn open(
     inbound: &mut Option<Box<Option<Inbound>>>,
@@ -90,9 +70,12 @@ fn open(
     ensures opens { (key : Option (List ℕ × Suite)) (notes : List Note) → InboundIn key (boxed_in inbound.old) notes →
         OpensIn (opened_by key notes (half_of head) (take len buf.old)) key notes inbound.old inbound.new buf.new result }
 {
-    match inbound {
+    let Some(place) = inbound else {
+        return Ok(len);
+    };
+    match (**place).as_mut() {
         None => Ok(len),
-        Some(place) => open_under(&mut **place, head, buf, len),
+        Some(contexts) => contexts.unprotect(head, buf, len),
     }
 }
 

@@ -5,7 +5,7 @@ ghost use Rattle.port_pool.specs.declared.holder.Holder.{Holder};
 ghost use Rattle.port_pool.specs.Signals.{NewKey};
 ghost use Rattle.call_cell.specs.Keyed.{wrapped_with};
 ghost use Rattle.call_cell.specs.Heads.{head_of};
-ghost use Rattle.call_cell.specs.Parts.{OutboundIn, WrapsUnder, WrapsInTo, boxed_in, is_numbered, number_in, send_answer};
+ghost use Rattle.call_cell.specs.Parts.{OutboundIn, WrapsInTo, boxed_in, is_numbered, number_in, send_answer};
 
 use crate::contexts::Outbound;
 use crate::heads::Head;
@@ -26,46 +26,16 @@ pub(crate) struct Sending<O> {
     tag32: Option<Box<Option<Outbound>>>,
 }
 
-/// Whether the contexts are those of the key of this number.
-fn is_numbered_so(contexts: &Option<Outbound>, number: u64) -> bool
-    ensures { result ≡ is_numbered contexts.now number }
-{
-    match contexts {
-        None => false,
-        Some(contexts) => contexts.number() == number,
-    }
-}
-
 /// Whether the contexts in this place are those of the key of this number.
 fn is_numbered(place: &Option<Box<Option<Outbound>>>, number: u64) -> bool
     ensures { result ≡ is_numbered (boxed_in place.now) number }
 {
-    match place {
+    let Some(place) = place else {
+        return false;
+    };
+    match &**place {
         None => false,
-        Some(contexts) => is_numbered_so(&**contexts, number),
-    }
-}
-
-/// Protects a packet in place under the key of this number, where these are its contexts.
-fn protect_so(
-    contexts: &mut Option<Outbound>,
-    number: u64,
-    half: Half,
-    head: Option<Head>,
-    buf: &mut PacketBuffer,
-    len: usize,
-) -> Result<usize, Lost>
-    requires held { len ≤ 2000 }
-    requires head { head ≡ head_of half (take len buf.old) }
-    ensures fits { IfOk result (λ size. size ≤ 2064) }
-    ensures number { number_in contexts.new ≡ number_in contexts.old }
-    ensures wraps { (leg : Holder) (suite : Suite) (keys : ℕ → Option NewKey) (notes : ℕ → List Note) → OutboundIn leg suite keys notes contexts.old →
-        is_numbered contexts.old number ≡ true →
-        WrapsUnder (wrapped_with (keys number) (notes number) half (take len buf.old)) leg suite keys notes contexts.old contexts.new buf.new result }
-{
-    match contexts {
-        None => Err(Lost::KeySpent),
-        Some(contexts) => contexts.protect(half, head, buf, len),
+        Some(contexts) => contexts.number() == number,
     }
 }
 
@@ -86,9 +56,12 @@ fn protect_under(
         is_numbered (boxed_in place.old) number ≡ true →
         WrapsInTo (wrapped_with (keys number) (notes number) half (take len buf.old)) leg suite keys notes place.old place.new buf.new result }
 {
-    match place {
+    let Some(place) = place else {
+        return Err(Lost::KeySpent);
+    };
+    match (**place).as_mut() {
         None => Err(Lost::KeySpent),
-        Some(contexts) => protect_so(&mut **contexts, number, half, head, buf, len),
+        Some(contexts) => contexts.protect(half, head, buf, len),
     }
 }
 
@@ -148,32 +121,6 @@ impl<O: OutEnd> Sending<O> {
     ghost use Rattle.relay_outside.specs.declared.address.Addr.{Addr};
     ghost use Rattle.call_cell.specs.Parts.{SendingFor, HasNamed, ProtectsTo, SameEnds, SameKeys, SameNumbers, SendsBy, ForwardsTo, wrapped_by, wrapped_for};
 
-    /// Protects a packet in place under the key of this number.
-    fn protect_numbered(
-        &mut self,
-        number: u64,
-        half: Half,
-        head: Option<Head>,
-        buf: &mut PacketBuffer,
-        len: usize,
-    ) -> Result<usize, Lost>
-        requires held { len ≤ 2000 }
-        requires head { head ≡ head_of half (take len buf.old) }
-        ensures fits { IfOk result (λ size. size ≤ 2064) }
-        ensures ends { SameEnds self.old self.new }
-        ensures numbers { SameNumbers self.old self.new }
-        ensures protects { (leg : Holder) (keys : ℕ → Option NewKey) (notes : ℕ → List Note) → SendingFor leg keys notes self.old → HasNamed (Some number) keys self.old →
-            ProtectsTo (wrapped_with (keys number) (notes number) half (take len buf.old)) leg keys notes self.old self.new buf.new result }
-    {
-        if is_numbered(&self.tag80, number) {
-            return protect_under(&mut self.tag80, number, half, head, buf, len);
-        }
-        if is_numbered(&self.tag32, number) {
-            return protect_under(&mut self.tag32, number, half, head, buf, len);
-        }
-        Err(Lost::KeySpent)
-    }
-
     /// Protects in place the packet in the buffer's first `len` bytes, under the key of this number where there is one, and
     /// returns its length. After a refusal nothing has changed.
     fn protect(
@@ -192,10 +139,16 @@ impl<O: OutEnd> Sending<O> {
         ensures protects { (leg : Holder) (keys : ℕ → Option NewKey) (notes : ℕ → List Note) → SendingFor leg keys notes self.old → HasNamed number keys self.old →
             ProtectsTo (wrapped_by keys notes number half (take len buf.old)) leg keys notes self.old self.new buf.new result }
     {
-        match number {
-            None => Ok(len),
-            Some(number) => self.protect_numbered(number, half, head, buf, len),
+        let Some(number) = number else {
+            return Ok(len);
+        };
+        if is_numbered(&self.tag80, number) {
+            return protect_under(&mut self.tag80, number, half, head, buf, len);
         }
+        if is_numbered(&self.tag32, number) {
+            return protect_under(&mut self.tag32, number, half, head, buf, len);
+        }
+        Err(Lost::KeySpent)
     }
 
     /// Sends a datagram by the end of a half, and returns whether that succeeded.
