@@ -9,7 +9,7 @@ use Rattle.clap.specs.Faults.{check_fault, walk_fault}
 use Rattle.clap.specs.Kinds.{Kinds}
 use Rattle.clap.specs.Words.{fault_of, matches_of}
 use Rattle.clap.proofs.FaultLemmas.{leaf_fault}
-use Rattle.port_pool.specs.Ports.{pair_count}
+use Rattle.relay_outside.specs.Settings.{pair_count}
 use Rattle.command_line.specs.Commands.{app_of_rules, load_app, load_rules}
 use Rattle.command_line.specs.Grammar.{allowed_load, call_count, is_in_form, is_option, lane_count, load_names, one_value, packet_count, seed_number, values_of}
 use Rattle.command_line.specs.Values.{default_config, load_from}

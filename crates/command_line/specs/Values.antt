@@ -5,7 +5,7 @@ use Rattle.relay_outside.specs.declared.address.Addr.{Addr}
 use Rattle.relay_outside.specs.declared.address.Ip.{Ip}
 use Rattle.relay_outside.specs.declared.address.Ip.TheVariants.{V4, V6}
 use Rattle.relay_outside.specs.declared.settings.Config.{Config}
-use Rattle.port_pool.specs.Ports.{first_port, pair_count}
+use Rattle.relay_outside.specs.Settings.{first_port, pair_count}
 use Rattle.sdp_text.specs.Hosts.{ipv4_bytes}
 use Rattle.command_line.specs.Numbers.{whole_number}
 use Rattle.command_line.specs.declared.settings.LoadSettings.{LoadSettings}

@@ -8,7 +8,7 @@ ghost use Rattle.command_line.specs.Words.{settings, serve_settings, replay_word
 use crate::options::{load_command, replay_command, serve_command};
 use crate::refusal::{Refusal, refuse, refuse_by, refuse_values};
 use crate::settings::{LoadSettings, Media, ReplaySettings, Settings, Task};
-use crate::values::{count_pairs, find_load, find_replay, find_settings};
+use crate::values::{find_load, find_replay, find_settings};
 use clap::{ArgMatches, Command};
 use std::alloc::Global;
 
@@ -122,19 +122,16 @@ pub fn read_words<'a>(alloc: Global, words: &'a [&'a str]) -> Result<Task, Refus
 }
 
 /// How a run with these words relays media, for those who make its devices; `None` unless they are a valid command line of `serve`, or out of memory.
-#[tactic(auto, unfolding(port_pool::specs::Ports::pair_count))]
+#[tactic(auto, unfolding(relay_outside::specs::Settings::pair_count))]
 pub fn read_media<'a>(alloc: Global, words: &'a [&'a str]) -> Option<Media>
     ensures { MatchOption result ⊤ (λ said. media (settings (map (λ word. word.now) words.entry.now)) ≡ Some said) }
 {
     match read_words(alloc, words) {
-        Ok(Task::Serve(settings)) => {
-            let port_min = settings.config.port_min;
-            Some(Media {
-                threads: settings.threads,
-                pairs: count_pairs(&settings.config),
-                first_port: port_min + port_min % 2,
-            })
-        }
+        Ok(Task::Serve(settings)) => Some(Media {
+            threads: settings.threads,
+            pairs: settings.config.pairs(),
+            first_port: settings.config.first_port() as u16,
+        }),
         _ => None,
     }
 }

@@ -1,7 +1,6 @@
 //! What the values of the options say.
 ghost use Rattle.std.specs.Prelude.{◌≡◌, ◌≤◌, ◌<◌, ◌==◌, ◌↔◌, IfSome, IsTrue, MatchOption, None, Some, ℕ, Option, codes, length, position, option_and_then};
 ghost use Rattle.clap.specs.Words.{first_of, found_of, rows_of};
-ghost use Rattle.port_pool.specs.Ports.{pair_count};
 ghost use Rattle.command_line.specs.Numbers.{whole_number};
 ghost use Rattle.command_line.specs.Values.{ipv4, listen_address, has_pair, default_config, IsV4, IsPair, IsInLimits, IsLoadInLimits};
 ghost use Rattle.command_line.specs.Words.{number_of, config_of, settings_of, replay_of, load_of};
@@ -176,7 +175,7 @@ fn find_seed(matches: &ArgMatches<'_>) -> Option<u64>
 }
 
 /// What a replay is made with whose words say nothing of it.
-#[tactic(auto, unfolding(port_pool::specs::Ports::pair_count))]
+#[tactic(auto, unfolding(relay_outside::specs::Settings::pair_count))]
 fn default_config() -> Config
     ensures value { result ≡ default_config }
     ensures limits { IsInLimits result }
@@ -197,19 +196,7 @@ fn has_pair(config: &Config) -> bool
     ensures value { result ≡ has_pair config.now }
     ensures pair { IsTrue result ↔ ((port : ℕ) × IsPair config.now port) }
 {
-    let port_min = u32::from(config.port_min);
-    let first_port = port_min + port_min % 2;
-    first_port < u32::from(config.port_max)
-}
-
-/// How many pairs of ports the range holds: even ports whose next port is in it too.
-#[tactic(auto, unfolding(port_pool::specs::Ports::pair_count))]
-pub(crate) fn count_pairs(config: &Config) -> u32
-    ensures { result ≡ pair_count config.now }
-{
-    let port_min = u32::from(config.port_min);
-    let first_port = port_min + port_min % 2;
-    (u32::from(config.port_max) + 1).saturating_sub(first_port) / 2
+    config.pairs() > 0
 }
 
 /// What the relay is run with, where the range of ports holds a pair.

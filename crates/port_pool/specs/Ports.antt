@@ -1,19 +1,13 @@
 -- The ports of the pairs of a configuration. A pair is an even port and the next one, both in the range.
-use Rattle.std.specs.Prelude.{◌≡◌, ℕ, ◌+◌, ◌-◌, ◌*◌, ◌/◌, ◌%◌}
+use Rattle.std.specs.Prelude.{◌≡◌, ℕ, ◌+◌, ◌*◌}
 use Rattle.rtp_packet.specs.declared.head.Half.{Half}
 use Rattle.rtp_packet.specs.declared.head.Half.TheVariants.{Rtp, Rtcp}
 use Rattle.relay_outside.specs.declared.address.Addr.{Addr}
 use Rattle.relay_outside.specs.declared.address.Ip.{Ip}
 use Rattle.relay_outside.specs.declared.settings.Config.{Config}
+pub use Rattle.relay_outside.specs.Settings.{first_port}
+unfoldable pub use Rattle.relay_outside.specs.Settings.{pair_count}
 use Rattle.relay_outside.specs.Told.{EndTold}
-
--- the first even port of the range
-abbrev pub first_port : Config → ℕ
-first_port config = config.port_min + config.port_min % 2
-
--- how many pairs the range has
-unfoldable pub pair_count : Config → ℕ
-pair_count config = (config.port_max + 1 - first_port config) / 2
 
 -- the even port of a pair, which takes RTP (RFC 3550 section 11)
 abbrev pub pair_port : Config → ℕ → ℕ

@@ -6,15 +6,13 @@ use relay_outside::{Addr, Config};
 
 /// The address of a pair's even port, which takes RTP (RFC 3550 section 11), on the configuration's interface. Pairs are numbered
 /// from 0.
-#[tactic(auto, using(crate::proofs::Addresses::below_end, crate::proofs::Addresses::few_pairs))]
 pub fn rtp_address(config: &Config, pair: usize) -> Addr
     requires { pair < pair_count config.now }
     ensures { result ≡ port_address config.now pair Rtp }
 {
     prove!(config.port_max <= 65_535);
-    let first_port = usize::from(config.port_min) + usize::from(config.port_min) % 2;
     Addr {
         ip: config.interface,
-        port: (first_port + 2 * pair) as u16,
+        port: (config.first_port() as usize + 2 * pair) as u16,
     }
 }

@@ -8,5 +8,6 @@ pub mod Link
 pub mod LinkTape
 pub mod PortTape
 pub mod Ports
+pub mod Settings
 pub mod SinkTape
 pub mod Told

@@ -29,3 +29,24 @@ pub struct Config {
     /// How many calls may be live at a time.
     pub max_sessions: u32,
 }
+
+impl Config {
+    ghost use Rattle.std.specs.Prelude.{◌≡◌, ◌≤◌};
+    ghost use Rattle.relay_outside.specs.Settings.{first_port, pair_count};
+
+    /// The first even port of the range; 65,536, where the range has only the last odd one.
+    pub fn first_port(&self) -> u32
+        ensures { result ≡ first_port self.now }
+    {
+        u32::from(self.port_min) + u32::from(self.port_min) % 2
+    }
+
+    /// How many pairs of ports the range holds: even ports whose next port is in it too.
+    #[tactic(auto, unfolding(crate::specs::Settings::pair_count))]
+    pub fn pairs(&self) -> u32
+        ensures count { result ≡ pair_count self.now }
+        ensures within { result ≤ 32768 }
+    {
+        (u32::from(self.port_max) + 1).saturating_sub(self.first_port()) / 2
+    }
+}
