@@ -141,7 +141,7 @@ unfolding srtcp_in.taken_index
 long_control master notes bytes ssrc index q =
     ltb-false (length bytes) 22
     (long_case (nat_lt (length bytes) 22)
-    (cond (srtcp.is_authentic master bytes) (srtcp_in.index_by ssrc notes (srtcp.carried_index bytes) (fresh (indices Rtcp ssrc notes) (srtcp.carried_index bytes))) (Err fault.NotAuthentic))
+    (cond (srtcp.is_authentic master bytes) (srtcp_in.index_by Rtcp ssrc notes (srtcp.carried_index bytes) (fresh (indices Rtcp ssrc notes) (srtcp.carried_index bytes))) (Err fault.NotAuthentic))
     index q)
 
 at_control : (master : List ℕ) (notes : List Note) (bytes : List ℕ) (ssrc : ℕ) → rtcp_ssrc bytes ≡ Some ssrc

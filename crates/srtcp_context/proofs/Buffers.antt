@@ -9,7 +9,8 @@ use Rattle.std.proofs.lemmas.Slice.{between_is, between_to_end}
 use Rattle.rtp_packet.specs.Head.{rtcp_ssrc}
 use Rattle.rtp_packet.proofs.HeadLemmas.{rtcp_ssrc-front}
 use Rattle.aes_ctr.specs.Keystream.{xored}
-use Rattle.srtcp_context.specs.Packets.{packet_keystream, ciphered, trailer, code_of, tag_of, tagged, protect, body, is_authentic, word_of, is_enciphered, carried_index, opened, Writes}
+use Rattle.srtp_sources.specs.Judged.{Writes}
+use Rattle.srtcp_context.specs.Packets.{packet_keystream, ciphered, trailer, code_of, tag_of, tagged, protect, body, is_authentic, word_of, is_enciphered, carried_index, opened}
 use Rattle.srtcp_context.proofs.PacketLemmas.{length-tag_of, length-trailer, length-ciphered, equal, differ}
 
 -- the middle of a buffer, as a part of its front

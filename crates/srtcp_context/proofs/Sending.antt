@@ -1,6 +1,6 @@
 -- How a packet that is to be sent is judged: which answer comes in which case, and which
 -- index it gets.
-use Rattle.std.proofs.Common.{◌≡◌, ℕ, ◌<◌, ◌≤◌, Bool, true, false, List, ◌∷◌, take, Some, arith, sym, ◌∙◌, ap, subst, refl}
+use Rattle.std.proofs.Common.{◌≡◌, ℕ, ◌<◌, ◌≤◌, Bool, true, false, List, Some, arith, sym, ◌∙◌, ap}
 use Rattle.std.specs.Prelude.{◌^◌, nat_lt, Result, Ok, Err, if◌then◌else◌}
 use Rattle.std.specs.Option.{option_map_or}
 use Rattle.rtp_packet.specs.declared.head.Half.TheVariants.{Rtcp}
@@ -8,11 +8,8 @@ use Rattle.rtp_packet.specs.Head.{rtcp_ssrc}
 use Rattle.srtp_keys.specs.declared.faults.ProtectFault.{ProtectFault}
 use Rattle.srtp_keys.specs.declared.faults.ProtectFault.TheVariants as fault
 use Rattle.srtp_sources.specs.Notes.{Note, has_room}
-use Rattle.srtcp_context.specs.declared.outbound.OutRtcp.{OutRtcp}
-use Rattle.srtcp_context.specs.Packets.{protect, Writes}
-use Rattle.srtcp_context.specs.Wrapping.{Wrapped, next_index, sent_index, wrapped_at, wrapping}
+use Rattle.srtcp_context.specs.Wrapping.{next_index, sent_index, wrapped_at, wrapping}
 use Rattle.srtcp_context.proofs.Tallying.{less, not_less}
-use Rattle.srtcp_context.specs.Contexts.{OutFor, WrapsTo}
 
 -- the answer by its first test, and by its second
 by_count : ℕ → List Note → Bool → Result ℕ ProtectFault
@@ -39,30 +36,10 @@ counts_on notes ssrc next room is left =
     ap Ok is
     ∙ sym (ap (by_room notes ssrc) room ∙ ap (by_count ssrc notes) (less (next_index ssrc notes) (2 ^ 31) (omega (arith, is))))
 
-wrapping_is : (master : List ℕ) (notes : List Note) (packet : List ℕ) (ssrc : ℕ) (sent : Result ℕ ProtectFault)
+pub wrapping_is : (master : List ℕ) (notes : List Note) (packet : List ℕ) (ssrc : ℕ) (sent : Result ℕ ProtectFault)
     → rtcp_ssrc packet ≡ Some ssrc → sent ≡ sent_index notes ssrc
     → wrapping master notes packet ≡ wrapped_at master packet ssrc sent
 unfolding wrapping
 wrapping_is master notes packet ssrc sent head is =
     ap (λ o. option_map_or (λ s. wrapped_at master packet s (sent_index notes s)) o (Err fault.TooManySources)) head
     ∙ ap (wrapped_at master packet ssrc) (sym is)
-
-pub refuses : (master : List ℕ) (notes : List Note) (context : OutRtcp) (buf : List ℕ) (len : ℕ) (ssrc : ℕ)
-    (cause : ProtectFault)
-    → rtcp_ssrc (take len buf) ≡ Some ssrc → Err cause ≡ sent_index notes ssrc
-    → WrapsTo (wrapping master notes (take len buf)) master notes context context buf buf (Err cause)
-refuses master notes context buf len ssrc cause head is =
-    let P : Result Wrapped ProtectFault → Type 0 = λ o. WrapsTo o master notes context context buf buf (Err cause) in
-    subst P (sym (wrapping_is master notes (take len buf) ssrc (Err cause) head is))
-    (record { answer = refl; buffer = refl; context = refl })
-
-pub sends : (master : List ℕ) (notes : List Note) (old new : OutRtcp) (buf buf_new : List ℕ) (len size index : ℕ)
-    (ssrc : ℕ)
-    → rtcp_ssrc (take len buf) ≡ Some ssrc → Ok index ≡ sent_index notes ssrc
-    → Writes (protect master (take len buf) index) buf buf_new size
-    → OutFor master new (record { half = Rtcp; ssrc = ssrc; index = index } ∷ notes)
-    → WrapsTo (wrapping master notes (take len buf)) master notes old new buf buf_new (Ok (size, index))
-sends master notes old new buf buf_new len size index ssrc head is written for =
-    let P : Result Wrapped ProtectFault → Type 0 = λ o. WrapsTo o master notes old new buf buf_new (Ok (size, index)) in
-    subst P (sym (wrapping_is master notes (take len buf) ssrc (Ok index) head is))
-    (record { answer = ap (λ n. Ok (n, index)) written.length_is; buffer = written.buffer; context = for })

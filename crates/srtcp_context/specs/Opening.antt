@@ -4,33 +4,18 @@ use Rattle.std.specs.Prelude.{ℕ, List, length, Result, Ok, Err, nat_lt, if◌t
 use Rattle.std.specs.Option.{option_map_or}
 use Rattle.rtp_packet.specs.declared.head.Half.TheVariants.{Rtcp}
 use Rattle.rtp_packet.specs.Head.{rtcp_ssrc}
-use Rattle.replay_window.specs.declared.answers.Fresh.{Fresh}
-use Rattle.replay_window.specs.declared.answers.Fresh.TheVariants.{Yes, TooOld, Used}
-use Rattle.replay_window.specs.Indices.{fresh}
 use Rattle.srtp_keys.specs.declared.faults.UnprotectFault.{UnprotectFault}
 use Rattle.srtp_keys.specs.declared.faults.UnprotectFault.TheVariants as fault
-use Rattle.srtp_sources.specs.Notes.{Note, indices, has_room}
+use Rattle.srtp_sources.specs.Notes.{Note}
+pub use Rattle.srtp_sources.specs.Judged.{Opened, index_by, judged_index}
 use Rattle.srtcp_context.specs.Packets.{is_authentic, carried_index, opened}
-
--- a packet that is taken: its note, and the plain packet
-pub record Opened : Type 0 where
-  pub note : Note
-  pub packet : List ℕ
-
--- an index that the window allows, where its source is known or has room
-abbrev pub index_by : ℕ → List Note → ℕ → Fresh → Result ℕ UnprotectFault
-index_by ssrc notes index TooOld = Err fault.TooOld
-index_by ssrc notes index Used = Err fault.Replayed
-index_by ssrc notes index Yes = if has_room Rtcp ssrc notes then Ok index else Err fault.TooManySources
 
 -- the index under which the packet is taken: the carried one, where the packet is no shorter than 22 bytes and authentic
 unfoldable pub taken_index : List ℕ → List Note → List ℕ → ℕ → Result ℕ UnprotectFault
 taken_index master notes bytes ssrc =
     if nat_lt (length bytes) 22
     then Err fault.Short
-    else (if is_authentic master bytes
-    then index_by ssrc notes (carried_index bytes) (fresh (indices Rtcp ssrc notes) (carried_index bytes))
-    else Err fault.NotAuthentic)
+    else (if is_authentic master bytes then judged_index Rtcp ssrc notes (carried_index bytes) else Err fault.NotAuthentic)
 
 abbrev pub opened_at : List ℕ → List ℕ → ℕ → Result ℕ UnprotectFault → Result Opened UnprotectFault
 opened_at master bytes ssrc (Err cause) = Err cause

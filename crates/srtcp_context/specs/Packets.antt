@@ -73,8 +73,3 @@ pub record OpensAs (master : List ℕ) (bytes : List ℕ) (index : ℕ) (packet 
   pub authentic : is_authentic master bytes ≡ true
   pub carries : carried_index bytes ≡ index
   pub holds : opened master bytes ≡ packet
-
--- these bytes, `size` of them, were written at a buffer's front, and the bytes after them are as before
-pub record Writes (bytes old new : List ℕ) (size : ℕ) : Type 0 where
-  pub length_is : size ≡ length bytes
-  pub buffer : new ≡ bytes ++ drop (length bytes) old

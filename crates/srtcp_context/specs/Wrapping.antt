@@ -7,12 +7,8 @@ use Rattle.rtp_packet.specs.Head.{rtcp_ssrc}
 use Rattle.srtp_keys.specs.declared.faults.ProtectFault.{ProtectFault}
 use Rattle.srtp_keys.specs.declared.faults.ProtectFault.TheVariants as fault
 use Rattle.srtp_sources.specs.Notes.{Note, indices, has_room}
+pub use Rattle.srtp_sources.specs.Judged.{Wrapped}
 use Rattle.srtcp_context.specs.Packets.{protect}
-
--- a packet that is protected: its note, and its bytes
-pub record Wrapped : Type 0 where
-  pub note : Note
-  pub bytes : List ℕ
 
 -- the index of a source's next packet: how many were sent before it
 abbrev pub next_index : ℕ → List Note → ℕ

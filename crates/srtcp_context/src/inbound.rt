@@ -5,7 +5,6 @@ ghost use Rattle.srtcp_context.specs.Opening.{opening};
 
 use crate::session::{RtcpSession, read_word};
 use relay_outside::KeyAndSalt;
-use replay_window::Fresh;
 use rtp_packet::rtcp;
 use srtp_keys::UnprotectFault;
 use srtp_sources::Sources;
@@ -80,16 +79,8 @@ impl InRtcp {
         let word = read_word(&buf[..len]);
         let index = u64::from(word % ENCIPHERED);
         let source = self.sources.find(ssrc);
-        match self.sources.fresh_of(source, index) {
-            Fresh::Yes => {}
-            Fresh::TooOld => return Err(UnprotectFault::TooOld),
-            Fresh::Used => return Err(UnprotectFault::Replayed),
-        }
-        if !self.sources.has_room_for(source) {
-            return Err(UnprotectFault::TooManySources);
-        }
+        self.sources.take(source, index)?;
         // The packet is taken: from here on nothing is refused.
-        self.sources.note_for(source, index);
         Ok(self.session.open(buf, len, ssrc))
     }
 }

@@ -1,7 +1,8 @@
 ghost use Rattle.std.specs.Prelude.{ℕ, ◌≡◌, ◌+◌, ◌<◌, ◌≤◌, ◌^◌, ◌++◌, List, Some, length, take, drop};
 ghost use Rattle.rtp_packet.specs.Head.{rtcp_ssrc};
 ghost use Rattle.aes_ctr.specs.Keystream.{xored};
-ghost use Rattle.srtcp_context.specs.Packets.{packet_keystream, code_of, is_authentic, word_of, trailer, protect, opened, ciphered, Writes};
+ghost use Rattle.srtp_sources.specs.Judged.{Writes};
+ghost use Rattle.srtcp_context.specs.Packets.{packet_keystream, code_of, is_authentic, word_of, trailer, protect, opened, ciphered};
 
 use aes_ctr::Cipher;
 use relay_outside::KeyAndSalt;

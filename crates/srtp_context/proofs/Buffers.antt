@@ -10,7 +10,8 @@ use Rattle.rtp_packet.specs.Head.{rtp_head}
 use Rattle.rtp_packet.proofs.HeadLemmas.{rtp_head-front}
 use Rattle.sdes_lines.specs.declared.crypto_line.Suite.{Suite}
 use Rattle.aes_ctr.specs.Keystream.{xored}
-use Rattle.srtp_context.specs.Packets.{tag_size, packet_keystream, ciphered, code_of, tag_of, tagged, protect, body, is_authentic, opened, Writes}
+use Rattle.srtp_sources.specs.Judged.{Writes}
+use Rattle.srtp_context.specs.Packets.{tag_size, packet_keystream, ciphered, code_of, tag_of, tagged, protect, body, is_authentic, opened}
 use Rattle.srtp_context.proofs.PacketLemmas.{length-tag_of, length-ciphered}
 
 -- the middle of a buffer, as a part of its front

@@ -1,6 +1,6 @@
 -- How a received packet is judged: which answer comes in which case.
-use Rattle.std.proofs.Common.{◌≡◌, ℕ, ◌+◌, ◌<◌, ◌≤◌, Bool, true, false, List, ◌∷◌, length, take, Some, arith, sym, ◌∙◌, ap, subst, refl, length-take-le}
-use Rattle.std.specs.Prelude.{Result, Ok, Err, nat_lt, if◌then◌else◌}
+use Rattle.std.proofs.Common.{◌≡◌, ℕ, ◌+◌, ◌<◌, ◌≤◌, Bool, true, false, List, length, take, Some, arith, sym, ◌∙◌, ap, length-take-le}
+use Rattle.std.specs.Prelude.{Result, Err, nat_lt, if◌then◌else◌}
 use Rattle.std.specs.Option.{option_map_or}
 use Rattle.std.proofs.lemmas.Bool.Decides.{nat_tests}
 use Rattle.rtp_packet.specs.declared.head.Half.TheVariants.{Rtp}
@@ -9,16 +9,13 @@ use Rattle.rtp_packet.specs.Head.{rtp_head}
 use Rattle.sdes_lines.specs.declared.crypto_line.Suite.{Suite}
 use Rattle.replay_window.specs.declared.answers.Near.{Near}
 use Rattle.replay_window.specs.declared.answers.Near.TheVariants.{At}
-use Rattle.replay_window.specs.declared.answers.Fresh.{Fresh}
-use Rattle.replay_window.specs.declared.answers.Fresh.TheVariants.{Yes}
-use Rattle.replay_window.specs.Indices.{near, fresh}
+use Rattle.replay_window.specs.Indices.{near}
 use Rattle.srtp_keys.specs.declared.faults.UnprotectFault.{UnprotectFault}
 use Rattle.srtp_keys.specs.declared.faults.UnprotectFault.TheVariants as fault
-use Rattle.srtp_sources.specs.Notes.{Note, indices, has_room}
-use Rattle.srtp_context.specs.declared.inbound.InRtp.{InRtp}
-use Rattle.srtp_context.specs.Packets.{tag_size, is_authentic, opened, Writes}
-use Rattle.srtp_context.specs.Opening.{Opened, index_by, index_near, taken_index, opened_at, opening}
-use Rattle.srtp_context.specs.Contexts.{InFor, OpensTo}
+use Rattle.srtp_sources.specs.Notes.{Note, indices}
+use Rattle.srtp_sources.specs.Judged.{judged_index}
+use Rattle.srtp_context.specs.Packets.{tag_size, is_authentic}
+use Rattle.srtp_context.specs.Opening.{index_near, taken_index, opened_at, opening}
 
 less : (a b : ℕ) → a < b → nat_lt a b ≡ true
 less a b is = grind (arith, nat_tests)
@@ -55,46 +52,20 @@ long master suite notes buf len found size source nearest held tag is same at =
 pub not_authentic : (master : List ℕ) (suite : Suite) (ssrc : ℕ) (notes : List Note) (bytes : List ℕ) (index : ℕ)
     → is_authentic master suite bytes index ≡ false → Err fault.NotAuthentic ≡ index_near master suite ssrc notes bytes (At index)
 not_authentic master suite ssrc notes bytes index not =
-    sym (ap (λ t. if t then index_by ssrc notes index (fresh (indices Rtp ssrc notes) index) else Err fault.NotAuthentic) not)
+    sym (ap (λ t. if t then judged_index Rtp ssrc notes index else Err fault.NotAuthentic) not)
 
--- its tag is right for that index: the answer is by the window
-pub authentic : (master : List ℕ) (suite : Suite) (ssrc : ℕ) (notes : List Note) (bytes : List ℕ) (index source : ℕ) (answer : Fresh)
-    → is_authentic master suite bytes index ≡ true → source ≡ ssrc → answer ≡ fresh (indices Rtp source notes) index
-    → index_by ssrc notes index answer ≡ index_near master suite ssrc notes bytes (At index)
-authentic master suite ssrc notes bytes index source answer right same is =
-    ap (index_by ssrc notes index) (is ∙ ap (λ s. fresh (indices Rtp s notes) index) same)
-    ∙ sym (ap (λ t. if t then index_by ssrc notes index (fresh (indices Rtp ssrc notes) index) else Err fault.NotAuthentic) right)
+-- its tag is right for that index: the answer is that of its source
+pub authentic : (master : List ℕ) (suite : Suite) (ssrc : ℕ) (notes : List Note) (bytes : List ℕ) (index source : ℕ)
+    → is_authentic master suite bytes index ≡ true → source ≡ ssrc
+    → judged_index Rtp source notes index ≡ index_near master suite ssrc notes bytes (At index)
+authentic master suite ssrc notes bytes index source right same =
+    ap (λ s. judged_index Rtp s notes index) same
+    ∙ sym (ap (λ t. if t then judged_index Rtp ssrc notes index else Err fault.NotAuthentic) right)
 
--- the window allows the index: the answer is by the room
-pub fresh_by : (ssrc : ℕ) (notes : List Note) (index source : ℕ) (room : Bool) → source ≡ ssrc → room ≡ has_room Rtp source notes
-    → ◌≡◌ {A = Result ℕ UnprotectFault} (if room then Ok index else Err fault.TooManySources) (index_by ssrc notes index Yes)
-fresh_by ssrc notes index source room same is =
-    ap (λ t. if t then Ok index else Err fault.TooManySources) (is ∙ ap (λ s. has_room Rtp s notes) same)
-
-opening_is : (master : List ℕ) (suite : Suite) (notes : List Note) (bytes : List ℕ) (found : RtpHead) (taken : Result ℕ UnprotectFault)
+pub opening_is : (master : List ℕ) (suite : Suite) (notes : List Note) (bytes : List ℕ) (found : RtpHead) (taken : Result ℕ UnprotectFault)
     → rtp_head bytes ≡ Some found → taken ≡ taken_index master suite notes bytes found
     → opening master suite notes bytes ≡ opened_at master suite bytes found taken
 unfolding opening
 opening_is master suite notes bytes found taken head is =
     ap (λ o. option_map_or (λ h. opened_at master suite bytes h (taken_index master suite notes bytes h)) o (Err fault.Short)) head
     ∙ ap (opened_at master suite bytes found) (sym is)
-
-pub refuses : (master : List ℕ) (suite : Suite) (notes : List Note) (context : InRtp) (buf : List ℕ) (len : ℕ) (found : RtpHead)
-    (cause : UnprotectFault)
-    → rtp_head (take len buf) ≡ Some found → Err cause ≡ taken_index master suite notes (take len buf) found
-    → OpensTo (opening master suite notes (take len buf)) master suite notes context context buf buf (Err cause)
-refuses master suite notes context buf len found cause head is =
-    let P : Result Opened UnprotectFault → Type 0 = λ o. OpensTo o master suite notes context context buf buf (Err cause) in
-    subst P (sym (opening_is master suite notes (take len buf) found (Err cause) head is))
-    (record { answer = refl; buffer = refl; context = refl })
-
-pub takes : (master : List ℕ) (suite : Suite) (notes : List Note) (old new : InRtp) (buf buf_new : List ℕ) (len size index : ℕ)
-    (found : RtpHead)
-    → rtp_head (take len buf) ≡ Some found → Ok index ≡ taken_index master suite notes (take len buf) found
-    → Writes (opened master suite (take len buf) index) buf buf_new size
-    → InFor master suite new (record { half = Rtp; ssrc = found.ssrc; index = index } ∷ notes)
-    → OpensTo (opening master suite notes (take len buf)) master suite notes old new buf buf_new (Ok size)
-takes master suite notes old new buf buf_new len size index found head is written for =
-    let P : Result Opened UnprotectFault → Type 0 = λ o. OpensTo o master suite notes old new buf buf_new (Ok size) in
-    subst P (sym (opening_is master suite notes (take len buf) found (Ok index) head is))
-    (record { answer = ap Ok written.length_is; buffer = written.buffer; context = for })

@@ -1,5 +1,5 @@
 -- How a packet that is to be sent is judged: which answer comes in which case.
-use Rattle.std.proofs.Common.{◌≡◌, ℕ, Bool, List, ◌∷◌, take, Some, sym, ◌∙◌, ap, subst, refl}
+use Rattle.std.proofs.Common.{◌≡◌, ℕ, Bool, List, Some, sym, ◌∙◌, ap}
 use Rattle.std.specs.Prelude.{Result, Ok, Err, if◌then◌else◌}
 use Rattle.std.specs.Option.{option_map_or}
 use Rattle.rtp_packet.specs.declared.head.Half.TheVariants.{Rtp}
@@ -14,10 +14,7 @@ use Rattle.replay_window.specs.Indices.{near, fresh}
 use Rattle.srtp_keys.specs.declared.faults.ProtectFault.{ProtectFault}
 use Rattle.srtp_keys.specs.declared.faults.ProtectFault.TheVariants as fault
 use Rattle.srtp_sources.specs.Notes.{Note, indices, has_room}
-use Rattle.srtp_context.specs.declared.outbound.OutRtp.{OutRtp}
-use Rattle.srtp_context.specs.Packets.{protect, Writes}
-use Rattle.srtp_context.specs.Wrapping.{Wrapped, index_by, index_near, sent_index, wrapped_at, wrapping}
-use Rattle.srtp_context.specs.Contexts.{OutFor, WrapsTo}
+use Rattle.srtp_context.specs.Wrapping.{index_by, index_near, sent_index, wrapped_at, wrapping}
 
 pub near_is : (notes : List Note) (found : RtpHead) (source : ℕ) (nearest : Near)
     → source ≡ found.ssrc → nearest ≡ near (indices Rtp source notes) found.seq
@@ -40,30 +37,10 @@ pub fresh_by : (ssrc : ℕ) (notes : List Note) (index source : ℕ) (room : Boo
 fresh_by ssrc notes index source room same is =
     ap (λ t. if t then Ok index else Err fault.TooManySources) (is ∙ ap (λ s. has_room Rtp s notes) same)
 
-wrapping_is : (master : List ℕ) (suite : Suite) (notes : List Note) (packet : List ℕ) (found : RtpHead) (sent : Result ℕ ProtectFault)
+pub wrapping_is : (master : List ℕ) (suite : Suite) (notes : List Note) (packet : List ℕ) (found : RtpHead) (sent : Result ℕ ProtectFault)
     → rtp_head packet ≡ Some found → sent ≡ sent_index notes found
     → wrapping master suite notes packet ≡ wrapped_at master suite packet found sent
 unfolding wrapping
 wrapping_is master suite notes packet found sent head is =
     ap (λ o. option_map_or (λ h. wrapped_at master suite packet h (sent_index notes h)) o (Err fault.TooOld)) head
     ∙ ap (wrapped_at master suite packet found) (sym is)
-
-pub refuses : (master : List ℕ) (suite : Suite) (notes : List Note) (context : OutRtp) (buf : List ℕ) (len : ℕ) (found : RtpHead)
-    (cause : ProtectFault)
-    → rtp_head (take len buf) ≡ Some found → Err cause ≡ sent_index notes found
-    → WrapsTo (wrapping master suite notes (take len buf)) master suite notes context context buf buf (Err cause)
-refuses master suite notes context buf len found cause head is =
-    let P : Result Wrapped ProtectFault → Type 0 = λ o. WrapsTo o master suite notes context context buf buf (Err cause) in
-    subst P (sym (wrapping_is master suite notes (take len buf) found (Err cause) head is))
-    (record { answer = refl; buffer = refl; context = refl })
-
-pub sends : (master : List ℕ) (suite : Suite) (notes : List Note) (old new : OutRtp) (buf buf_new : List ℕ) (len size index : ℕ)
-    (found : RtpHead)
-    → rtp_head (take len buf) ≡ Some found → Ok index ≡ sent_index notes found
-    → Writes (protect master suite (take len buf) index) buf buf_new size
-    → OutFor master suite new (record { half = Rtp; ssrc = found.ssrc; index = index } ∷ notes)
-    → WrapsTo (wrapping master suite notes (take len buf)) master suite notes old new buf buf_new (Ok (size, index))
-sends master suite notes old new buf buf_new len size index found head is written for =
-    let P : Result Wrapped ProtectFault → Type 0 = λ o. WrapsTo o master suite notes old new buf buf_new (Ok (size, index)) in
-    subst P (sym (wrapping_is master suite notes (take len buf) found (Ok index) head is))
-    (record { answer = ap (λ n. Ok (n, index)) written.length_is; buffer = written.buffer; context = for })

@@ -1,16 +1,16 @@
 -- What a context stands for, and what its calls do to it and to the buffer.
-use Rattle.std.specs.Prelude.{ℕ, ◌≡◌, List, ◌∷◌, ◌++◌, Result, Ok, Err, length, drop}
+use Rattle.std.specs.Prelude.{ℕ, List, Result}
 use Rattle.rtp_packet.specs.declared.head.Half.TheVariants.{Rtp}
 use Rattle.sdes_lines.specs.declared.crypto_line.Suite.{Suite}
 use Rattle.srtp_keys.specs.declared.faults.UnprotectFault.{UnprotectFault}
 use Rattle.srtp_keys.specs.declared.faults.ProtectFault.{ProtectFault}
 use Rattle.srtp_sources.specs.Notes.{Note}
 use Rattle.srtp_sources.specs.Tables.{SourcesFor}
+use Rattle.srtp_sources.specs.Judged as judged
+use Rattle.srtp_sources.specs.Judged.{Opened, Wrapped}
 use Rattle.srtp_context.specs.declared.inbound.InRtp.{InRtp}
 use Rattle.srtp_context.specs.declared.outbound.OutRtp.{OutRtp}
 use Rattle.srtp_context.specs.Sessions.{SessionFor}
-use Rattle.srtp_context.specs.Opening.{Opened}
-use Rattle.srtp_context.specs.Wrapping.{Wrapped}
 
 -- the context is of this key and suite, and has taken the packets of these notes
 pub record InFor (master : List ℕ) (suite : Suite) (context : InRtp) (notes : List Note) : Type 0 where
@@ -22,34 +22,8 @@ pub record OutFor (master : List ℕ) (suite : Suite) (context : OutRtp) (notes 
   pub session : SessionFor master suite context.session
   pub sources : SourcesFor Rtp context.sources notes
 
--- a packet was taken: the plain packet stands at the buffer's front, the bytes after it are as before, and the context
--- has one more note
-pub record Takes (master : List ℕ) (suite : Suite) (notes : List Note) (packet : Opened) (new : InRtp) (buf_old buf_new : List ℕ)
-    (result : Result ℕ UnprotectFault) : Type 0 where
-  pub answer : result ≡ Ok (length packet.packet)
-  pub buffer : buf_new ≡ packet.packet ++ drop (length packet.packet) buf_old
-  pub context : InFor master suite new (packet.note ∷ notes)
+abbrev pub OpensTo : Result Opened UnprotectFault → List ℕ → Suite → List Note → InRtp → InRtp → List ℕ → List ℕ → Result ℕ UnprotectFault → Type 0
+OpensTo opening master suite notes = judged.OpensTo (InFor master suite) notes opening
 
--- a packet was refused, and nothing changed
-pub record Refuses {C T F : Type 0} (cause : F) (old new : C) (buf_old buf_new : List ℕ) (result : Result T F) : Type 0 where
-  pub answer : result ≡ Err cause
-  pub buffer : buf_new ≡ buf_old
-  pub context : new ≡ old
-
-abbrev pub OpensTo : Result Opened UnprotectFault → List ℕ → Suite → List Note → InRtp → InRtp → List ℕ → List ℕ
-    → Result ℕ UnprotectFault → Type 0
-OpensTo (Ok packet) master suite notes old new buf_old buf_new result = Takes master suite notes packet new buf_old buf_new result
-OpensTo (Err cause) master suite notes old new buf_old buf_new result = Refuses cause old new buf_old buf_new result
-
--- a packet was protected: its bytes stand at the buffer's front, the bytes after them are as before, and the context
--- has one more note
-pub record Sends (master : List ℕ) (suite : Suite) (notes : List Note) (packet : Wrapped) (new : OutRtp) (buf_old buf_new : List ℕ)
-    (result : Result (ℕ × ℕ) ProtectFault) : Type 0 where
-  pub answer : result ≡ Ok (length packet.bytes, packet.note.index)
-  pub buffer : buf_new ≡ packet.bytes ++ drop (length packet.bytes) buf_old
-  pub context : OutFor master suite new (packet.note ∷ notes)
-
-abbrev pub WrapsTo : Result Wrapped ProtectFault → List ℕ → Suite → List Note → OutRtp → OutRtp → List ℕ → List ℕ
-    → Result (ℕ × ℕ) ProtectFault → Type 0
-WrapsTo (Ok packet) master suite notes old new buf_old buf_new result = Sends master suite notes packet new buf_old buf_new result
-WrapsTo (Err cause) master suite notes old new buf_old buf_new result = Refuses cause old new buf_old buf_new result
+abbrev pub WrapsTo : Result Wrapped ProtectFault → List ℕ → Suite → List Note → OutRtp → OutRtp → List ℕ → List ℕ → Result (ℕ × ℕ) ProtectFault → Type 0
+WrapsTo wrapping master suite notes = judged.WrapsTo (OutFor master suite) notes wrapping

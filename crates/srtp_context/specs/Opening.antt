@@ -7,31 +7,17 @@ use Rattle.rtp_packet.specs.Head.{rtp_head}
 use Rattle.sdes_lines.specs.declared.crypto_line.Suite.{Suite}
 use Rattle.replay_window.specs.declared.answers.Near.{Near}
 use Rattle.replay_window.specs.declared.answers.Near.TheVariants.{At, Below, Beyond}
-use Rattle.replay_window.specs.declared.answers.Fresh.{Fresh}
-use Rattle.replay_window.specs.declared.answers.Fresh.TheVariants.{Yes, TooOld, Used}
-use Rattle.replay_window.specs.Indices.{near, fresh}
+use Rattle.replay_window.specs.Indices.{near}
 use Rattle.srtp_keys.specs.declared.faults.UnprotectFault.{UnprotectFault}
 use Rattle.srtp_keys.specs.declared.faults.UnprotectFault.TheVariants as fault
-use Rattle.srtp_sources.specs.Notes.{Note, indices, has_room}
+use Rattle.srtp_sources.specs.Notes.{Note, indices}
+pub use Rattle.srtp_sources.specs.Judged.{Opened, index_by, judged_index}
 use Rattle.srtp_context.specs.Packets.{tag_size, is_authentic, opened}
-
--- a packet that is taken: its note, and the plain packet
-pub record Opened : Type 0 where
-  pub note : Note
-  pub packet : List ℕ
-
--- an index that the window allows, where its source is known or has room
-abbrev pub index_by : ℕ → List Note → ℕ → Fresh → Result ℕ UnprotectFault
-index_by ssrc notes index TooOld = Err fault.TooOld
-index_by ssrc notes index Used = Err fault.Replayed
-index_by ssrc notes index Yes = if has_room Rtp ssrc notes then Ok index else Err fault.TooManySources
 
 -- the nearest index, where the tag is right for it
 abbrev pub index_near : List ℕ → Suite → ℕ → List Note → List ℕ → Near → Result ℕ UnprotectFault
 index_near master suite ssrc notes bytes (At index) =
-    if is_authentic master suite bytes index
-    then index_by ssrc notes index (fresh (indices Rtp ssrc notes) index)
-    else Err fault.NotAuthentic
+    if is_authentic master suite bytes index then judged_index Rtp ssrc notes index else Err fault.NotAuthentic
 index_near master suite ssrc notes bytes Below = Err fault.TooOld
 index_near master suite ssrc notes bytes Beyond = Err fault.TooOld
 

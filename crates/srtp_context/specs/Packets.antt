@@ -65,8 +65,3 @@ opened master suite bytes index =
 pub record OpensAs (master : List ℕ) (suite : Suite) (bytes : List ℕ) (index : ℕ) (packet : List ℕ) : Type 0 where
   pub authentic : is_authentic master suite bytes index ≡ true
   pub holds : opened master suite bytes index ≡ packet
-
--- these bytes, `size` of them, were written at a buffer's front, and the bytes after them are as before
-pub record Writes (bytes old new : List ℕ) (size : ℕ) : Type 0 where
-  pub length_is : size ≡ length bytes
-  pub buffer : new ≡ bytes ++ drop (length bytes) old

@@ -14,12 +14,8 @@ use Rattle.replay_window.specs.Indices.{near, fresh}
 use Rattle.srtp_keys.specs.declared.faults.ProtectFault.{ProtectFault}
 use Rattle.srtp_keys.specs.declared.faults.ProtectFault.TheVariants as fault
 use Rattle.srtp_sources.specs.Notes.{Note, indices, has_room}
+pub use Rattle.srtp_sources.specs.Judged.{Wrapped}
 use Rattle.srtp_context.specs.Packets.{protect}
-
--- a packet that is protected: its note, and its bytes
-pub record Wrapped : Type 0 where
-  pub note : Note
-  pub bytes : List ℕ
 
 -- an index that wasn't used, where its source is known or has room
 abbrev pub index_by : ℕ → List Note → ℕ → Fresh → Result ℕ ProtectFault

@@ -6,7 +6,7 @@ ghost use Rattle.srtp_context.specs.Opening.{opening};
 
 use crate::session::{RtpSession, tag_size};
 use relay_outside::KeyAndSalt;
-use replay_window::{Fresh, Near};
+use replay_window::Near;
 use rtp_packet::{RtpHead, rtp};
 use sdes_lines::Suite;
 use srtp_keys::UnprotectFault;
@@ -78,16 +78,8 @@ impl InRtp {
         if !self.session.is_authentic(&buf[..len], index) {
             return Err(UnprotectFault::NotAuthentic);
         }
-        match self.sources.fresh_of(source, index) {
-            Fresh::Yes => {}
-            Fresh::TooOld => return Err(UnprotectFault::TooOld),
-            Fresh::Used => return Err(UnprotectFault::Replayed),
-        }
-        if !self.sources.has_room_for(source) {
-            return Err(UnprotectFault::TooManySources);
-        }
+        self.sources.take(source, index)?;
         // The packet is taken: from here on nothing is refused.
-        self.sources.note_for(source, index);
         Ok(self.session.open(buf, len, found, index))
     }
 }

@@ -1,7 +1,8 @@
 ghost use Rattle.std.specs.Prelude.{ℕ, ◌≡◌, ◌+◌, ◌/◌, ◌<◌, ◌≤◌, ◌^◌, ◌++◌, List, Some, length, take};
 ghost use Rattle.sdes_lines.specs.declared.crypto_line.Suite.{Suite};
 ghost use Rattle.aes_ctr.specs.Keystream.{xored};
-ghost use Rattle.srtp_context.specs.Packets.{tag_size, packet_keystream, code_of, is_authentic, protect, opened, Writes};
+ghost use Rattle.srtp_sources.specs.Judged.{Writes};
+ghost use Rattle.srtp_context.specs.Packets.{tag_size, packet_keystream, code_of, is_authentic, protect, opened};
 ghost use Rattle.rtp_packet.specs.Head.{rtp_head};
 
 use aes_ctr::Cipher;

@@ -1,3 +1,4 @@
 pub mod Notes
 pub mod Tables
 pub mod Counter
+pub mod Judged

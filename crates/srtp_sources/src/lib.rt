@@ -3,7 +3,8 @@
 //! there gave, which the further calls for one packet take. `packet_counter` is the counter with which the keystream of a
 //! packet begins.
 //!
-//! Module `sources` has the table, `counter` the counter; `specs/Notes.antt` says what follows from a list of notes.
+//! Module `sources` has the table, `counter` the counter; `specs/Notes.antt` says what follows from a list of notes, and
+//! `specs/Judged.antt` what becomes of a packet.
 #![tactic(auto)]
 
 mod counter;

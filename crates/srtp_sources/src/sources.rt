@@ -1,6 +1,7 @@
 ghost use Rattle.std.specs.Prelude.{◌≤◌};
 
 use replay_window::{Fresh, Near, Window};
+use srtp_keys::UnprotectFault;
 
 /// How many sources a table keeps. None gives way to another, since that would forget which indices were used.
 pub const MOST_SOURCES: usize = 32;
@@ -28,7 +29,7 @@ pub struct Source {
 }
 
 impl Sources {
-    ghost use Rattle.std.specs.Prelude.{◌≡◌, ◌<◌, ◌^◌, ◌==◌, List, [], ◌∷◌, ℕ, IfSome, position, slice_index, slice_index_or, slice_set, ◌+◌, true, take};
+    ghost use Rattle.std.specs.Prelude.{◌≡◌, ◌<◌, ◌^◌, ◌==◌, List, [], ◌∷◌, ℕ, Ok, Err, IfSome, MatchResult, OnErr, position, slice_index, slice_index_or, slice_set, ◌+◌, true, take};
     ghost use Rattle.replay_window.specs.declared.window.Window.{Window};
     ghost use Rattle.rtp_packet.specs.declared.head.Half.{Half};
     ghost use Rattle.replay_window.specs.declared.answers.Fresh.TheVariants.{Yes};
@@ -36,6 +37,7 @@ impl Sources {
     ghost use Rattle.replay_window.specs.Windows.{IsIndex, StandsFor};
     ghost use Rattle.srtp_sources.specs.Notes.{Note, indices, has_room};
     ghost use Rattle.srtp_sources.specs.Tables.{SourcesFor, IsPlaced, can_note};
+    ghost use Rattle.srtp_sources.specs.Judged.{judged_index};
 
     /// A table without a source.
     pub fn new() -> Sources
@@ -114,38 +116,26 @@ impl Sources {
         }
     }
 
-    /// The index that a sequence number of a source most likely stands for.
-    pub fn near(&self, ssrc: u32, seq: u16) -> Near
-        ensures nearest { (half : Half) (notes : List Note) → SourcesFor half self.now notes → result ≡ near (indices half ssrc notes) seq }
-        ensures index { IsIndex result }
-    {
-        self.near_of(self.find(ssrc), seq)
-    }
-
-    /// Whether an index of a source may be taken.
-    pub fn fresh(&self, ssrc: u32, index: u64) -> Fresh
-        requires { index < 2 ^ 48 }
-        ensures { (half : Half) (notes : List Note) → SourcesFor half self.now notes → result ≡ fresh (indices half ssrc notes) index }
-    {
-        self.fresh_of(self.find(ssrc), index)
-    }
-
-    /// Whether the source is known or may still come in.
-    pub fn has_room(&self, ssrc: u32) -> bool
-        ensures room { result ≡ can_note self.now ssrc }
-        ensures notes { (half : Half) (notes : List Note) → SourcesFor half self.now notes → result ≡ has_room half ssrc notes }
-    {
-        self.has_room_for(self.find(ssrc))
-    }
-
-    /// Notes an index of a source, which `fresh` has to allow.
-    pub fn note(&mut self, ssrc: u32, index: u64)
+    /// Notes the index of an authentic packet of a source that was found. It is refused, in this order, where it is too old, where it was
+    /// noted before, and where the source is one too many (RFC 3711 section 3.3); nothing has changed then.
+    pub fn take(&mut self, source: Source, index: u64) -> Result<(), UnprotectFault>
+        requires placed { IsPlaced self.old source }
         requires index { index < 2 ^ 48 }
-        requires room { can_note self.old ssrc ≡ true }
-        ensures { (half : Half) (notes : List Note) → SourcesFor half self.old notes → fresh (indices half ssrc notes) index ≡ Yes → SourcesFor half self.new (record { half = half; ssrc = ssrc; index = index } ∷ notes) }
+        ensures refused { OnErr result (self.new ≡ self.old) }
+        ensures judged { (half : Half) (notes : List Note) → SourcesFor half self.old notes → MatchResult result
+            (λ noted. (judged_index half source.ssrc notes index ≡ Ok index) × SourcesFor half self.new (record { half = half; ssrc = source.ssrc; index = index } ∷ notes))
+            (λ cause. judged_index half source.ssrc notes index ≡ Err cause) }
     {
-        let source = self.find(ssrc);
+        match self.fresh_of(source, index) {
+            Fresh::Yes => {}
+            Fresh::TooOld => return Err(UnprotectFault::TooOld),
+            Fresh::Used => return Err(UnprotectFault::Replayed),
+        }
+        if !self.has_room_for(source) {
+            return Err(UnprotectFault::TooManySources);
+        }
         self.note_for(source, index);
+        Ok(())
     }
 
     // Takes in a new source with its first index.

@@ -1,5 +1,8 @@
+ghost use Rattle.std.specs.Prelude.{◌<◌, ◌^◌};
+
 use crate::cases::none_failed;
 use replay_window::{Fresh, Near};
+use srtp_keys::UnprotectFault;
 use srtp_sources::{Sources, packet_counter};
 
 // The counter of RFC 3711, appendix B.2, and the same salt with an SSRC and an index, added up by hand.
@@ -12,13 +15,13 @@ fn counters(rt: HostRuntime) {
     assert!(rt; mixed == 0xf0f1_f2f3_2a58_4818_eacd_ac83_6641_0000);
 }
 
-/// The first of 32 sources for which there is no room.
-fn without_room(sources: &mut Sources) -> Option<usize> {
+/// The first of 32 sources whose number 65,535 isn't taken.
+fn not_taken(sources: &mut Sources) -> Option<usize> {
     for ssrc in 0..32u32 {
-        if !sources.has_room(ssrc) {
+        let source = sources.find(ssrc);
+        if sources.take(source, 65_535).is_err() {
             return Some(ssrc as usize);
         }
-        sources.note(ssrc, 65_535);
     }
     None
 }
@@ -26,9 +29,9 @@ fn without_room(sources: &mut Sources) -> Option<usize> {
 /// The first of 32 sources whose number 65,535 isn't noted.
 fn not_noted(sources: &Sources) -> Option<usize> {
     for ssrc in 0..32u32 {
-        let is_noted = sources.has_room(ssrc)
-            && sources.near(ssrc, 0) == Near::At(65_536)
-            && sources.fresh(ssrc, 65_535) == Fresh::Used;
+        let source = sources.find(ssrc);
+        let is_noted = sources.near_of(source, 0) == Near::At(65_536)
+            && sources.fresh_of(source, 65_535) == Fresh::Used;
         if !is_noted {
             return Some(ssrc as usize);
         }
@@ -36,20 +39,26 @@ fn not_noted(sources: &Sources) -> Option<usize> {
     None
 }
 
+/// What becomes of an index of a source.
+fn take(sources: &mut Sources, ssrc: u32, index: u64) -> Result<(), UnprotectFault>
+    requires { index < 2 ^ 48 }
+{
+    let source = sources.find(ssrc);
+    sources.take(source, index)
+}
+
 #[test]
 fn sources_come_in_and_none_goes(rt: HostRuntime) {
     let mut sources = Sources::new();
-    assert!(rt; sources.near(0, 7) == Near::At(7) && sources.fresh(0, 7) == Fresh::Yes);
-    none_failed(&rt, "the sources that come in", without_room(&mut sources));
-    assert!(rt; !sources.has_room(32));
+    let source = sources.find(0);
+    assert!(rt; sources.near_of(source, 7) == Near::At(7));
+    none_failed(&rt, "the sources that come in", not_taken(&mut sources));
     none_failed(&rt, "the sources that stay", not_noted(&sources));
-    let room = sources.has_room(7);
-    assert!(rt; room);
-    sources.note(7, 65_536);
-    assert!(rt; sources.fresh(7, 65_536) == Fresh::Used && sources.fresh(8, 65_536) == Fresh::Yes);
-    assert!(rt;
-        sources.fresh(7, 65_408) == Fresh::TooOld && sources.fresh(8, 65_408) == Fresh::Yes
-    );
+    assert!(rt; take(&mut sources, 32, 7) == Err(UnprotectFault::TooManySources));
+    assert!(rt; take(&mut sources, 7, 65_536) == Ok(()));
+    assert!(rt; take(&mut sources, 7, 65_536) == Err(UnprotectFault::Replayed));
+    assert!(rt; take(&mut sources, 7, 65_408) == Err(UnprotectFault::TooOld));
+    assert!(rt; take(&mut sources, 8, 65_408) == Ok(()));
 }
 
 #[test]

@@ -156,7 +156,7 @@ abbrev by_tag : List Note → Bool → Judged
 by_tag notes authentic =
     opened_rtp
     (srtp_in.opened_at key Tag80 (sealed 100 10) (record { ssrc = 286331153; seq = 100; head = 12 })
-    (cond authentic (srtp_in.index_by 286331153 notes 100 (fresh (indices Rtp 286331153 notes) 100)) (Err NotAuthentic)))
+    (cond authentic (srtp_in.index_by Rtp 286331153 notes 100 (fresh (indices Rtp 286331153 notes) 100)) (Err NotAuthentic)))
 
 one_source_too_many : srtp.is_authentic key Tag80 (sealed 100 10) 100 ≡ true → judge Tag80 (of_sources (numbers 1 32)) (sealed 100 10) ≡ Stopped refused.TooManySources
 unfolding opened_under srtp_in.opening srtp_in.taken_index rtp_head near nearest_lifted fresh indices sources has_room
