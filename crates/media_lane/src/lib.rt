@@ -43,4 +43,4 @@ pub use main_relaying::relay_between;
 pub use main_sweep::sweep_between;
 pub use receipt::Receipt;
 pub use rooms::Rooms;
-pub use sweeping::{Media, count_pairs};
+pub use sweeping::Media;

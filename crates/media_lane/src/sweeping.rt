@@ -1,6 +1,5 @@
 //! A lane visits its pairs, one after the other, and waits where another hand has a turn.
-ghost use Rattle.std.specs.Prelude.{◌≡◌, ◌<◌, ◌≤◌, []};
-ghost use Rattle.port_pool.specs.Ports as ports;
+ghost use Rattle.std.specs.Prelude.{◌<◌, []};
 ghost use Rattle.port_pool.specs.Ports.{pair_count};
 ghost use Rattle.turn_table.specs.Hands.{IsHandOf};
 ghost use Rattle.media_lane.specs.Lanes.{hand_in, list_in, config_in, index_in, lanes_in, IsSameHandOf, hand_of, list_of, config_of, index_of, lanes_of, IsSameLane};
@@ -15,7 +14,7 @@ use crate::receiving::packet_in;
 use crate::rooms::Rooms;
 use call_cell::Outcome;
 use relay_core::Relay;
-use relay_outside::{Clock, Config, Gate, InEnd, OutEnd};
+use relay_outside::{Clock, Gate, InEnd, OutEnd};
 use rtp_packet::Half;
 use std::sync::Wait;
 use turn_table::Turns;
@@ -27,22 +26,6 @@ pub struct Media<'c, 'g, C, G> {
     pub clock: &'c C,
     /// It is passed at the relay's cell.
     pub gate: &'g G,
-}
-
-/// The first even port of the range.
-fn first_port(config: &Config) -> u32
-    ensures { result ≡ ports.first_port config.now }
-{
-    u32::from(config.port_min) + u32::from(config.port_min) % 2
-}
-
-/// How many port pairs there are: even ports of the range whose next port is in it too.
-#[tactic(auto, unfolding(port_pool::specs::Ports::pair_count))]
-pub fn count_pairs(config: &Config) -> u32
-    ensures count { result ≡ pair_count config.now }
-    ensures within { result ≤ 32768 }
-{
-    (u32::from(config.port_max) + 1).saturating_sub(first_port(config)) / 2
 }
 
 impl Totals {
@@ -114,7 +97,7 @@ impl<I: InEnd, O: OutEnd> LaneHand<I, O> {
         ensures list { KeepsList (config_in self.old) (list_in self.old) (list_in self.new) }
         ensures gated { GainsGated (G.passed media.now.gate.now) (list_in self.old) (list_in self.new) }
     {
-        let pairs = u64::from(count_pairs(&self.config));
+        let pairs = u64::from(self.config.pairs());
         let mut totals = Totals::none();
         let mut pair = u64::from(self.index);
         while pair < pairs {

@@ -10,7 +10,7 @@ ghost use Rattle.relay_runs.specs.declared.sharing.Due.{Due};
 use crate::lanes::OwnLane;
 use crate::threads::{MediaThread, Until};
 use crate::totals::no_totals;
-use media_lane::{LaneHand, Rooms, Totals, count_pairs};
+use media_lane::{LaneHand, Rooms, Totals};
 use relay_core::{Happening, Part, Relay};
 use relay_outside::{Config, InEnd, LaneShare, OutEnd, OutOfMemory};
 use std::alloc::Global;
@@ -61,7 +61,7 @@ pub(crate) fn serve_share(config: &Config, threads: u32) -> LaneShare
     if threads == 0 {
         return LaneShare::one_each(0);
     }
-    LaneShare::of_pairs(threads, count_pairs(config))
+    LaneShare::of_pairs(threads, config.pairs())
 }
 
 /// Threads of media before they have lanes, and room for those.

@@ -26,7 +26,7 @@ loop-pair-preserved g c =
     let lanes : c.from-pair-in-loop-pair.result ≡ lanes_in lane = c.from-pair-in-loop-pair.ensures ∙ two.same.lanes_is ∙ one.same.lanes_is ∙ so_far.covered.same.lanes_is in
     let below = c.loop-pair-test.true in
     let counted = c.from-pairs.ensures in
-    let count = c.count_pairs.ensures.count in
+    let count = c.pairs.ensures.count in
     let one_of = lane.one_of in
     record {
       covered =
@@ -41,6 +41,6 @@ pub returns-clause-swept : goal.returns-clause-swept
 returns-clause-swept g c =
     let end = c.loop-pair-test.false in
     let counted = c.from-pairs.ensures in
-    let count = c.count_pairs.ensures.count in
+    let count = c.pairs.ensures.count in
     covers_all (g.C.Clock.range c.args.media.now.clock.now) (g.G.Gate.passed c.args.media.now.gate.now) c.loop-pair.pair c.args.self.now c.loop-pair.self c.none-totals.result c.loop-pair.totals
     c.loop-pair.invariant.covered (omega (arith, end, counted, count)) c.none-totals.ensures
